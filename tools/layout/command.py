@@ -3,11 +3,12 @@ import glob
 import os
 import sys
 
-from .files import laid_out
+from . import clauses, files
 from .lines import WIDTH
 
 ROOT = os.path.dirname(os.path.dirname(os.path.dirname(os.path.abspath(__file__))))
 PATTERN = "crates/*/specs/**/*.antt"
+LAYOUTS = {".antt": files.laid_out, ".rt": clauses.laid_out}
 CHECK = "--check"
 
 
@@ -28,26 +29,27 @@ def shown(path):
 
 def files_of(words):
     """The files that are named, or all; None for a word that is no file."""
-    files = [it for it in words if it != CHECK]
-    if not files:
+    named = [it for it in words if it != CHECK]
+    if not named:
         return sorted(glob.glob(f"{ROOT}/{PATTERN}", recursive=True))
-    return files if all(it.endswith(".antt") and os.path.isfile(it) for it in files) else None
+    return named if all(os.path.splitext(it)[1] in LAYOUTS and os.path.isfile(it) for it in named) else None
 
 
-def long_lines(text):
-    return [it for it in text.split("\n") if len(it) > WIDTH]
+def long_lines(path, text):
+    """Lines that are too long: of definitions all, of a source none, since `rt fmt` breaks what is code there."""
+    return [it for it in text.split("\n") if len(it) > WIDTH] if path.endswith(".antt") else []
 
 
 def main(words, usage):
-    files = files_of(words)
-    if files is None:
+    paths = files_of(words)
+    if paths is None:
         print(usage, file=sys.stderr)
         return 2
     is_check, status, left = CHECK in words, 0, 0
-    for path in files:
+    for path in paths:
         before = read(path)
-        after, reasons = laid_out(before)
-        left += len(long_lines(after))
+        after, reasons = LAYOUTS[os.path.splitext(path)[1]](before)
+        left += len(long_lines(path, after))
         for why in reasons:
             print(f"{shown(path)}: {why}", file=sys.stderr)
         if after != before:

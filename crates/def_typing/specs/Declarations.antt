@@ -1,7 +1,9 @@
 -- What the names of a block stand for, and which rules are broken in its declarations.
-use Rattle.std.specs.Prelude.{◌≡◌, ◌⊎◌, ℕ, Bool, true, false, List, [], ◌∷◌, ◌++◌, length, map, Option, Some}
+use Rattle.std.specs.Prelude.{◌≡◌, ◌⊎◌, ℕ, Bool, true, false, ◌||◌, List, [], ◌∷◌, ◌++◌, map, Some}
+use Rattle.std.specs.List.{list_any}
+use Rattle.m2_tree.specs.Names.{same_name}
+use Rattle.typed_tree.specs.Names.{find_name}
 use Rattle.m2_rule.specs.declared.breach.Breach.{Breach}
-use Rattle.m2_rule.specs.declared.rule.Rule.TheVariants as rule
 use Rattle.m2_tree.specs.declared.name.Ident.{Ident}
 use Rattle.m2_tree.specs.declared.decl.Constant.{Constant}
 use Rattle.m2_tree.specs.declared.decl.TypeDecl.{TypeDecl}
@@ -12,14 +14,13 @@ use Rattle.m2_tree.specs.declared.decl.Block.{Block}
 use Rattle.m2_tree.specs.declared.decl.Section.{Section}
 use Rattle.m2_tree.specs.declared.decl.Heading.{Heading}
 use Rattle.typed_tree.specs.declared.types.TypeNo.{TypeNo}
-use Rattle.typed_tree.specs.declared.shape.Made.{Made}
 use Rattle.typed_tree.specs.declared.shape.Signature.{Signature}
 use Rattle.typed_tree.specs.declared.known_types.Types.{Types}
-use Rattle.def_typing.specs.Operators.{◌!◌, Kind}
+use Rattle.def_typing.specs.Operators.{Kind}
 use Rattle.def_typing.specs.Things.{Thing, AValue, AVariable, AType, AProcedure, ANested, Headless, Standing, Known, Ahead, Undeclared, Unknown}
-use Rattle.def_typing.specs.Parts.{Among}
+use Rattle.def_typing.specs.Parts.{Among, Named}
 use Rattle.def_typing.specs.Constants.{AConstant, Fixes, BrokenAsConstant}
-use Rattle.def_typing.specs.TypeExprs.{with_types, next_type, IsTypeOf, BrokenType}
+use Rattle.def_typing.specs.TypeExprs.{Twice, constants_in, with_types, next_type, Member, member_stands, Added, nothing_added, type_added, Setting, IsTypeOf, Adds, BrokenType}
 use Rattle.def_typing.specs.Headings.{procedure_made, IsHeading, BrokenHeading}
 
 -- ---- declarations
@@ -55,8 +56,15 @@ abbrev pub declarations_of : List Decl → List Declaration
 declarations_of [] = []
 declarations_of (d ∷ ds) = declared_by (out-Decl d) ++ declarations_of ds
 
+-- the constants of the enumerations in its type
+abbrev pub constants_of : Declaration → List Ident
+constants_of (OfType d) = constants_in d.of
+constants_of (OfVariables v) = constants_in v.of
+constants_of other = []
+
+-- Its own names come before these constants.
 abbrev pub Declares : Declaration → List ℕ → Type 0
-Declares d n = (x : Ident) × Among x (names_of d) × (x.name ≡ n)
+Declares d n = Named (names_of d ++ constants_of d) n
 
 abbrev pub AnyDeclares : List Declaration → List ℕ → Type 0
 AnyDeclares ds n = (d : Declaration) × Among d ds × Declares d n
@@ -67,18 +75,12 @@ pub data IsFirst (n : List ℕ) (d : Declaration) : List Declaration → Type 0 
   later_on : {x : Declaration} {ds : List Declaration} → (Declares x n → ⊥) → IsFirst n d ds
       → IsFirst n d (x ∷ ds)
 
--- A name that is there already is refused.
-abbrev pub Twice : (List ℕ → Type 0) → List Ident → Breach → Type 0
-Twice There [] f = ⊥
-Twice There (x ∷ xs) f =
-    (There x.name × (f ≡ x.pos ! rule.DeclaredTwice)) ⊎ Twice (λ n. (x.name ≡ n) ⊎ There n) xs f
-
 -- ---- declarations in front of a place, the nearest one first
 
--- a declaration with the types that it makes
+-- a declaration with the types that it makes and the constants that it brings
 pub record Declared : Type 0 where
   pub what : Declaration
-  pub makes : List Made
+  pub adds : Added
 
 -- the same in the order of the text
 abbrev pub in_order : List Declared → List Declaration
@@ -96,7 +98,15 @@ pub data IsNamed (n : List ℕ) (d : Declared) (before : List Declared) : List D
 
 abbrev pub types_behind : Types → List Declared → Types
 types_behind types [] = types
-types_behind types (d ∷ front) = with_types (types_behind types front) d.makes
+types_behind types (d ∷ front) = with_types (types_behind types front) d.adds.makes
+
+abbrev pub is_among : List ℕ → List Ident → Bool
+is_among n xs = list_any (λ x. same_name x.name n) xs
+
+-- whether a name is there behind these
+abbrev pub is_there : List Declared → List ℕ → Bool
+is_there [] n = false
+is_there (d ∷ front) n = is_among n (names_of d.what ++ constants_of d.what) || is_there front n
 
 -- ---- one declaration, by what names stand for
 
@@ -119,28 +129,41 @@ abbrev pub without : Declaration → Standing
 without (OfProcedure h) = Known Headless
 without other = Unknown
 
-module _ (types : Types) (names : Ident → Standing) (exports : ℕ → Ident → Standing) where
-  -- which types it makes, and what its names stand for
-  pub data Says (nested : Bool) : Declaration → List Made → Standing → Type 0 where
-    constant : {c : Constant} {k : Kind} → Fixes types names exports c.value (AConstant k)
-        → Says nested (OfConstant c) [] (Known (AValue k))
-    a_type : {d : TypeDecl} {ms : List Made} {t : TypeNo} → IsTypeOf names exports types d.of ms t
-        → Says nested (OfType d) ms (Known (AType t))
-    variables : {v : Variables} {ms : List Made} {t : TypeNo}
-        → IsTypeOf names exports types v.of ms t
-        → Says nested (OfVariables v) ms (Known (AVariable t))
-    a_procedure : {h : Heading} {s : Signature} → IsHeading types names exports h s
-        → Says nested (OfProcedure h) (procedure_made s ∷ [])
-        (Known (procedure nested (next_type types)))
+module _ (exports : ℕ → Ident → Standing) (w : Setting) where
+  -- what it adds, and what its own names stand for
+  pub data Says (nested : Bool) : Declaration → Added → Standing → Type 0 where
+    constant : {c : Constant} {k : Kind} → Fixes w.types w.names exports c.value (AConstant k)
+        → Says nested (OfConstant c) nothing_added (Known (AValue k))
+    a_type : {d : TypeDecl} {a : Added} {t : TypeNo} → IsTypeOf exports w d.of a t
+        → Says nested (OfType d) a (Known (AType t))
+    variables : {v : Variables} {a : Added} {t : TypeNo} → IsTypeOf exports w v.of a t
+        → Says nested (OfVariables v) a (Known (AVariable t))
+    a_procedure : {h : Heading} {s : Signature} → IsHeading w.types w.names exports h s
+        → Says nested (OfProcedure h) (type_added (procedure_made s))
+        (Known (procedure nested (next_type w.types)))
+
+  -- what it adds behind names that are there, whether rules are broken in it or not
+  pub data Brings (There : List ℕ → Type 0) : Declaration → Added → Type 0 where
+    constant_brings : {c : Constant} → Brings There (OfConstant c) nothing_added
+    type_brings : {d : TypeDecl} {a : Added} → Adds exports w d.of a → Brings There (OfType d) a
+    variables_bring : {v : Variables} {a : Added} → Adds exports w v.of a
+        → Brings There (OfVariables v) a
+    procedure_brings : {h : Heading} {s : Signature} → (There h.name.name → ⊥)
+        → IsHeading w.types w.names exports h s
+        → Brings There (OfProcedure h) (type_added (procedure_made s))
+    -- A procedure makes no type if its name is there, or if rules are broken in its heading.
+    name_there : {h : Heading} → There h.name.name → Brings There (OfProcedure h) nothing_added
+    no_heading : {h : Heading}
+        → ((s : Signature) → IsHeading w.types w.names exports h s → ⊥)
+        → Brings There (OfProcedure h) nothing_added
 
   pub data Misdeclares : Declaration → Breach → Type 0 where
-    in_constant : {c : Constant} {f : Breach} → BrokenAsConstant types names exports c.value f
+    in_constant : {c : Constant} {f : Breach} → BrokenAsConstant w.types w.names exports c.value f
         → Misdeclares (OfConstant c) f
-    in_type : {d : TypeDecl} {f : Breach} → BrokenType names exports types d.of f
-        → Misdeclares (OfType d) f
-    in_variables : {v : Variables} {f : Breach} → BrokenType names exports types v.of f
+    in_type : {d : TypeDecl} {f : Breach} → BrokenType exports w d.of f → Misdeclares (OfType d) f
+    in_variables : {v : Variables} {f : Breach} → BrokenType exports w v.of f
         → Misdeclares (OfVariables v) f
-    in_heading : {h : Heading} {f : Breach} → BrokenHeading types names exports h f
+    in_heading : {h : Heading} {f : Breach} → BrokenHeading w.types w.names exports h f
         → Misdeclares (OfProcedure h) f
 
 -- ---- a block
@@ -150,12 +173,28 @@ module _ (types : Types) (names : Ident → Standing) (exports : ℕ → Ident �
 -- block is a procedure's.
 module _ (types : Types) (exports : ℕ → Ident → Standing) (outside : Ident → Standing)
     (taken : List ℕ → Bool) (nested : Bool) (block : List Declaration) where
+  -- where the type of a declaration stands: its own names are there
+  abbrev pub setting : List Declared → Declaration → (Ident → Standing) → Setting
+  setting front d names = record {
+    types = types_behind types front;
+    names = names;
+    there = λ n. is_among n (names_of d) || (taken n || is_there front n);
+  }
+
+  abbrev pub There : List Declared → List ℕ → Type 0
+  There front n = (taken n ≡ true) ⊎ IsThere front n
+
   mutual
     -- what a name stands for behind these declarations
     pub data StandsFor : List Declared → Ident → Standing → Type 0 where
       declared : {front before : List Declared} {d : Declared} {name : Ident} {s : Standing}
-          → taken name.name ≡ false → IsNamed name.name d before front → Means before d s
-          → StandsFor front name s
+          → taken name.name ≡ false → IsNamed name.name d before front
+          → Named (names_of d.what) name.name → Means before d s → StandsFor front name s
+      -- a constant of an enumeration
+      enumerated : {front before : List Declared} {d : Declared} {name : Ident} {e : Member}
+          → taken name.name ≡ false → IsNamed name.name d before front
+          → (Named (names_of d.what) name.name → ⊥) → IsAdded before d
+          → find_name name.name d.adds.brings ≡ Some e → StandsFor front name (member_stands e)
       -- Names of a block mean the block's own declaration wherever they stand, and are declared
       -- before use.
       not_yet : {front : List Declared} {name : Ident} {d : Declaration} → taken name.name ≡ false
@@ -165,16 +204,23 @@ module _ (types : Types) (exports : ℕ → Ident → Standing) (outside : Ident
           → (taken name.name ≡ false → AnyDeclares block name.name → ⊥)
           → StandsFor front name (outside name)
 
-    -- what a declaration says behind these
+    -- what a declaration adds behind these
+    pub data IsAdded : List Declared → Declared → Type 0 where
+      is_added : {front : List Declared} {d : Declared} {names : Ident → Standing}
+          → ((x : Ident) → StandsFor front x (names x))
+          → Brings exports (setting front d.what names) (There front) d.what d.adds
+          → IsAdded front d
+
+    -- what a declaration says of its own names behind these
     pub data Means : List Declared → Declared → Standing → Type 0 where
       says : {front : List Declared} {d : Declared} {names : Ident → Standing} {s : Standing}
           → ((x : Ident) → StandsFor front x (names x))
-          → Says (types_behind types front) names exports nested d.what d.makes s → Means front d s
+          → Says exports (setting front d.what names) nested d.what d.adds s → Means front d s
       -- Rules are broken in it.
       says_nothing : {front : List Declared} {d : Declared} {names : Ident → Standing}
           → ((x : Ident) → StandsFor front x (names x))
-          → ((ms : List Made) (s : Standing)
-          → Says (types_behind types front) names exports nested d.what ms s → ⊥)
+          → ((a : Added) (s : Standing)
+          → Says exports (setting front d.what names) nested d.what a s → ⊥)
           → Means front d (without d.what)
 
   abbrev pub AllStand : List Declared → (Ident → Standing) → Type 0
@@ -183,19 +229,26 @@ module _ (types : Types) (exports : ℕ → Ident → Standing) (outside : Ident
   -- whether it is a variable that the block declares, or one of those outside that count as own
   pub data IsOwn (outer : Ident → Bool) (front : List Declared) (name : Ident) : Bool → Type 0 where
     of_block : {d : Declared} {before : List Declared} → taken name.name ≡ false
-        → IsNamed name.name d before front → IsOwn outer front name (is_variables d.what)
+        → IsNamed name.name d before front → Named (names_of d.what) name.name
+        → IsOwn outer front name (is_variables d.what)
+    of_enumeration : {d : Declared} {before : List Declared} → taken name.name ≡ false
+        → IsNamed name.name d before front → (Named (names_of d.what) name.name → ⊥)
+        → IsOwn outer front name false
     of_none : taken name.name ≡ false → AnyDeclares block name.name
         → (IsThere front name.name → ⊥) → IsOwn outer front name false
     of_outside : (taken name.name ≡ false → AnyDeclares block name.name → ⊥)
         → IsOwn outer front name (outer name)
 
-  abbrev pub There : List Declared → List ℕ → Type 0
-  There front n = (taken n ≡ true) ⊎ IsThere front n
+  -- Each declaration adds what the rules say.
+  pub data AllAdded : List Declared → Type 0 where
+    nothing_declared : AllAdded []
+    each_added : {front : List Declared} {d : Declared} → IsAdded front d → AllAdded front
+        → AllAdded (d ∷ front)
 
   -- the refusals in declarations
   pub data BrokenIn : List Declared → Breach → Type 0 where
     inside : {front : List Declared} {d : Declared} {names : Ident → Standing} {f : Breach}
-        → AllStand front names → Misdeclares (types_behind types front) names exports d.what f
+        → AllStand front names → Misdeclares exports (setting front d.what names) d.what f
         → BrokenIn (d ∷ front) f
     -- A name twice in a scope is refused at the second, and so is one of a formal.
     twice : {front : List Declared} {d : Declared} {f : Breach}

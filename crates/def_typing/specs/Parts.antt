@@ -1,6 +1,7 @@
--- Parts of expressions, and where they begin.
-use Rattle.std.specs.Prelude.{List, ◌∷◌, map, Option, Some, None}
+-- Parts of expressions, where they begin, and what is in lists.
+use Rattle.std.specs.Prelude.{◌≡◌, ℕ, List, ◌∷◌, map, Option, Some, None}
 use Rattle.m2_tree.specs.declared.pos.Pos.{Pos}
+use Rattle.m2_tree.specs.declared.name.Ident.{Ident}
 use Rattle.m2_tree.specs.declared.expr.MulOp.{MulOp}
 use Rattle.m2_tree.specs.declared.expr.AddOp.{AddOp}
 use Rattle.m2_tree.specs.declared.expr.RelOp.{RelOp}
@@ -51,6 +52,10 @@ addends xs = map (λ x. record { op = add_op x.0.op; spot = x.0.pos; of = x.1 })
 pub data Among {A : Type 0} (x : A) : List A → Type 0 where
   here : {xs : List A} → Among x (x ∷ xs)
   later : {y : A} {xs : List A} → Among x xs → Among x (y ∷ xs)
+
+-- These have a name.
+abbrev pub Named : List Ident → List ℕ → Type 0
+Named xs n = (x : Ident) × Among x xs × (x.name ≡ n)
 
 -- ---- parts that are operands
 

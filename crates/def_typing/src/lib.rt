@@ -1,5 +1,5 @@
 //! The rules of the language as rules: what expressions have, and which rules are broken in them and in statements. There is
-//! no code here, only definitions. Enumerations, records, imports, and calls in constant expressions are not there yet.
+//! no code here, only definitions. Imports, and calls in constant expressions are not there yet.
 //!
 //! - `specs/Shapes` says how types are made, and which headings agree.
 //! - `specs/Amounts` has operators on scalars, and `specs/Operators` operators on all values.
@@ -13,6 +13,7 @@
 //! - `specs/Returns` has RETURN and EXIT, `specs/Loops` what stands before the statements of a FOR, `specs/Fields` what a WITH
 //!   opens, `specs/Cases` the selector of a CASE and its labels, and `specs/Statements` all statements (`Obeys`, `Broken`).
 //! - `specs/TypeNames` has names of types, `specs/Headings` headings of procedures, `specs/Subranges` subranges, and
-//!   `specs/TypeExprs` types as they are written. `specs/Declarations` says what the names of a block stand for
+//!   `specs/TypeExprs` types as they are written (`IsTypeOf`, `BrokenType`), with the types that they make and the constants of
+//!   enumerations that they bring (`Adds`). `specs/Declarations` says what the names of a block stand for
 //!   (`StandsFor`), and which rules are broken in its declarations (`BrokenIn`).
 #![tactic(auto)]

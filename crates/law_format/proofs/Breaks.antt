@@ -51,10 +51,10 @@ pub room_free : (cells : List Cell) → room [] (byte_marks cells) ≡ Some []
 room_free [] = refl
 room_free (c ∷ cells) = room_free cells
 
-some_is : {A : Type 0} (x y : A) → ◌≡◌ {A = Option A} (Some x) (Some y) → x ≡ y
+pub some_is : {A : Type 0} (x y : A) → ◌≡◌ {A = Option A} (Some x) (Some y) → x ≡ y
 some_is x y e = cc
 
-no_room : (rooms : List ℕ) → ◌≡◌ {A = Rooms} None (Some rooms) → ⊥
+pub no_room : (rooms : List ℕ) → ◌≡◌ {A = Rooms} None (Some rooms) → ⊥
 no_room rooms e = cc
 
 abbrev more_room : ℕ → Rooms → Rooms
@@ -95,7 +95,7 @@ within_under (m ∷ rooms) n bytes = ap (take m) (within_under rooms n bytes)
 
 -- What decides, where these bytes are still within all stated sizes.
 abbrev pub Wrong : {F : Type 0} → (List ℕ → Result F WFault) → List ℕ → Place → List ℕ → WFault → Type 0
-Wrong free front place [] fault = fault ≡ Malformed
+Wrong free front place [] fault = (fault ≡ Malformed) × (IsBytes front → free front ≡ Err fault)
 Wrong free front place (b ∷ more) fault = (fault ≡ fault_at place) × ((follow : List ℕ) → IsBytes (front ++ (b ∷ follow)) → free (front ++ (b ∷ follow)) ≡ Err fault)
 
 abbrev pub Behind : {F : Type 0} → (List ℕ → Result F WFault) → List ℕ → List ℕ → WFault → Type 0
@@ -145,7 +145,13 @@ module _ {F G : Type 0} (free : List ℕ → Result F WFault) (all : List ℕ �
       ap all same ∙ reads (flat front ++ (b ∷ follow)) fault inner (h follow inner)
 
   pub wrong_into : (front : List Mark) (place : Place) (window : List ℕ) (fault : WFault) → Wrong free (flat front) place window fault → Wrong all (flat (pre ++ front)) place window fault
-  wrong_into front place [] fault h = h
+  wrong_into front place [] fault h = (
+    h.0,
+    λ fits.
+        let same : flat (pre ++ front) ≡ flat pre ++ flat front = flat-append pre front in
+        let inner : IsBytes (flat front) = IsBytes-behind (flat pre) (flat front) (subst IsBytes same fits) in
+        ap all same ∙ reads (flat front) fault inner (h.1 inner),
+  )
   wrong_into front place (b ∷ more) fault h = (h.0, decided_into front b fault h.1)
 
   behind_into : (front : List Mark) (window : List ℕ) (fault : WFault) → Behind free (flat front) window fault → Behind all (flat (pre ++ front)) window fault
@@ -183,7 +189,7 @@ take_front [] bs m k e = ap (λ (c : ℕ). take c bs) (e ∙ omega arith)
 take_front (d ∷ done) bs zero k e = absurd (omega arith)
 take_front (d ∷ done) bs (suc m) k e = ap (λ (t : List ℕ). d ∷ t) (take_front done bs m k (omega arith))
 
-same_behind : (front x y : List ℕ) → front ++ x ≡ front ++ y → x ≡ y
+pub same_behind : (front x y : List ℕ) → front ++ x ≡ front ++ y → x ≡ y
 same_behind front x y e = sym (drop_at front x (length front) refl) ∙ ap (drop (length front)) e ∙ drop_at front y (length front) refl
 
 too_large_under : (rooms : List ℕ) (k : ℕ) → TooLarge rooms → TooLarge (rooms ++ k ∷ [])

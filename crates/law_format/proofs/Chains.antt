@@ -85,7 +85,7 @@ module _ {Y : Type 0} (byte : ℕ) (real free : List ℕ → Ends) (m : Y → Li
     begins = refl;
     rooms = [];
     kept = refl;
-    why = sym (err_is {A = Unit {0}} Malformed fault e);
+    why = (sym (err_is {A = Unit {0}} Malformed fault e), λ fits. e);
   }
   skip_breaks (b ∷ bytes) fault fits e = elim (cases_Bool (eqb b byte)) [
     | inl same ↦
@@ -124,7 +124,7 @@ none_taken : (n : ℕ) → ◌≡◌ {A = List ℕ} (take n []) []
 none_taken zero = refl
 none_taken (suc n) = refl
 
-within_none : (rooms : List ℕ) → within rooms [] ≡ []
+pub within_none : (rooms : List ℕ) → within rooms [] ≡ []
 within_none [] = refl
 within_none (n ∷ rooms) = ap (take n) (within_none rooms) ∙ none_taken n
 
@@ -151,9 +151,13 @@ other_behind k [] rooms [] b more follow e h = absurd (no_cons b more (sym (with
 other_behind k [] rooms (c ∷ at) b more follow e h = subst (λ (d : ℕ). eqb d k ≡ false) (within_head rooms c at b more e) h
 other_behind k (c ∷ front) rooms at b more follow e h = h
 
+other_front : (k : ℕ) (front at : List ℕ) → Other k (front ++ at) → Other k front
+other_front k [] at h = tt
+other_front k (c ∷ front) at h = h
+
 module _ {F G : Type 0} (k : ℕ) (free : List ℕ → Result F WFault) (all : List ℕ → Result G WFault) (reads : (bs : List ℕ) (f : WFault) → Other k bs → free bs ≡ Err f → all bs ≡ Err f) where
   wrong_else : (front : List ℕ) (place : Place) (rooms at window : List ℕ) (fault : WFault) → within rooms at ≡ window → Other k (front ++ at) → Wrong free front place window fault → Wrong all front place window fault
-  wrong_else front place rooms at [] fault w o h = h
+  wrong_else front place rooms at [] fault w o h = (h.0, λ fits. reads front fault (other_front k front at o) (h.1 fits))
   wrong_else front place rooms at (b ∷ more) fault w o h = (h.0, λ follow fits. reads (front ++ (b ∷ follow)) fault (other_behind k front rooms at b more follow w o) (h.1 follow fits))
 
   behind_else : (front : List ℕ) (rooms at window : List ℕ) (fault : WFault) → within rooms at ≡ window → Other k (front ++ at) → Behind free front window fault → Behind all front window fault

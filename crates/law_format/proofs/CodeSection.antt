@@ -122,7 +122,7 @@ module _ {Y : Type 0} (real free : List ℕ → Ends) (m : Y → List Mark) (ok 
       begins = some_marks c.some;
       rooms = [];
       kept = refl;
-      why = sym (err_is {A = Unit {0}} Malformed fault e);
+      why = (sym (err_is {A = Unit {0}} Malformed fault e), λ g. e);
     }
     code_breaks (b ∷ bs) fault fits e = elim (cases_Bool (eqb b 10)) [
       | inl same ↦

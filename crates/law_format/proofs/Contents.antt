@@ -53,12 +53,13 @@ module _ {A : Type 0} (p : Format A) (cells : A → List Cell) where
   abbrev pub plain_res : A → A
   plain_res x = x
 
-  plain_why : (front : List Cell) (next : Cell) (at : List ℕ) (fault : WFault) → How p.reading (bytes_of front) next.0 at fault → Wrong p.reading (flat (byte_marks front)) next.0 at fault
-  plain_why front next [] fault h = h
-  plain_why front next (b ∷ more) fault h = (h.0, λ follow fits. ap (λ (t : List ℕ). p.reading (t ++ (b ∷ follow))) (flat-byte_marks front) ∙ h.1 follow (subst (λ (t : List ℕ). IsBytes (t ++ (b ∷ follow))) (flat-byte_marks front) fits))
+  plain_why : (bytes : List ℕ) (front : List Cell) (next : Cell) (at : List ℕ) (fault : WFault) → p.reading bytes ≡ Err fault → bytes ≡ bytes_of front ++ at → How p.reading (bytes_of front) next.0 at fault
+      → Wrong p.reading (flat (byte_marks front)) next.0 at fault
+  plain_why bytes front next [] fault e parts h = (h, λ fits. ap p.reading (flat-byte_marks front ∙ sym (append-nil (bytes_of front)) ∙ sym parts) ∙ e)
+  plain_why bytes front next (b ∷ more) fault e parts h = (h.0, λ follow fits. ap (λ (t : List ℕ). p.reading (t ++ (b ∷ follow))) (flat-byte_marks front) ∙ h.1 follow (subst (λ (t : List ℕ). IsBytes (t ++ (b ∷ follow))) (flat-byte_marks front) fits))
 
-  plain_break : (bytes : List ℕ) (fault : WFault) → Stop p cells bytes fault → Break plain_marks plain_fits p.reading bytes fault
-  plain_break bytes fault s = record {
+  plain_break : (bytes : List ℕ) (fault : WFault) → p.reading bytes ≡ Err fault → Stop p cells bytes fault → Break plain_marks plain_fits p.reading bytes fault
+  plain_break bytes fault e s = record {
     front = byte_marks s.front;
     at = s.at;
     parts = s.parts ∙ ap (λ (t : List ℕ). t ++ s.at) (sym (flat-byte_marks s.front));
@@ -69,7 +70,7 @@ module _ {A : Type 0} (p : Format A) (cells : A → List Cell) where
     begins = ap byte_marks s.begins ∙ byte_marks-append s.front (s.next ∷ s.rest);
     rooms = [];
     kept = room_free s.front;
-    why = plain_why s.front s.next s.at fault s.how;
+    why = plain_why bytes s.front s.next s.at fault e s.parts s.how;
   }
 
   plain_kept : (bytes : List ℕ) (x : A) (rest : List ℕ) → Front p cells bytes x rest → Kept plain_marks plain_fits plain_is p.reading plain_res bytes x rest
@@ -86,7 +87,7 @@ module _ {A : Type 0} (p : Format A) (cells : A → List Cell) where
   pub plain_content : Stopping p cells → Whole p cells → Content p.reading plain_marks plain_fits plain_is p.reading plain_res
   plain_content s w = record {
     takes = λ bytes x rest fits e. plain_kept bytes x rest (s.takes bytes x rest fits e);
-    breaks = λ bytes fault fits e. plain_break bytes fault (s.stops bytes fault fits e);
+    breaks = λ bytes fault fits e. plain_break bytes fault e (s.stops bytes fault fits e);
     whole = λ x fits follow. ap (λ (t : List ℕ). p.reading (t ++ follow)) (flat-byte_marks (cells x)) ∙ w x fits follow;
     some = s.some;
     some_fits = s.some_fits;

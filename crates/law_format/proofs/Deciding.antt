@@ -1,5 +1,5 @@
 -- The first fault of bytes that encode no module.
-use Rattle.std.proofs.Common.{◌≡◌, ℕ, zero, suc, ◌<◌, true, List, [], ◌∷◌, ◌++◌, length, Result, Ok, Err, refl, sym, ap, subst, ◌∙◌, arith}
+use Rattle.std.proofs.Common.{◌≡◌, ℕ, zero, suc, ◌<◌, true, List, [], ◌∷◌, ◌++◌, length, Result, Ok, Err, refl, sym, ap, subst, ◌∙◌, append-nil, arith}
 use Rattle.std.specs.List.{flat_map, list_all}
 use Rattle.std.proofs.lemmas.Bool.{and_parts}
 use Rattle.wasm_tree.specs.declared.fault.WFault.{WFault}
@@ -11,11 +11,12 @@ use Rattle.wasm_binary.specs.Binary.{header, func_type, table_type, memory_type,
 use Rattle.wasm_code.proofs.Laws.{IsBytes}
 use Rattle.law_format.specs.Places.{Cell, bytes_of, others, plain, vector_cells, func_type_cells, import_cells, global_cells, element_cells, data_cells}
 use Rattle.law_format.specs.Layouts.{Part, Mark, Byte, Opens, Closes, Last, byte_marks, flat, within, part_marks, section_marks, entry_marks, body_cells, bodies_marks, Layout, layout_marks, Fits, part_fits, body_content, body_fits}
-use Rattle.law_format.specs.FirstFault.{CannotStand, Decides, NoByte, WrongByte, ByteBehind, BytesLeft, FirstFaultDecides}
+use Rattle.law_format.specs.FirstFault.{Begins, CannotStand, Decides, NoByte, WrongByte, ByteBehind, BytesLeft, FirstFaultDecides}
 use Rattle.law_format.proofs.Combined.{ok_no_err}
 use Rattle.law_format.proofs.Breaks.{flat-append, flat-byte_marks, Why}
 use Rattle.law_format.proofs.Spelled.{no_bytes, more_bytes, both_bytes, unsigned_bytes}
 use Rattle.law_format.proofs.Spellings.{fit_bytes, Spelling, cells_bytes, entries_spelling, unsigned_spelling, func_type_spelling, import_spelling, table_type_spelling, memory_type_spelling, global_spelling, export_spelling, element_spelling, data_spelling, body_spelling}
+use Rattle.law_format.proofs.Endings.{layout_ended, last_is_end}
 use Rattle.law_format.proofs.Modules.{Y1, m1, m2, m3, m4, m5, m6, m7, m9, m10, m11, ok1, ok2, ok3, ok4, ok5, ok6, ok7, ok9, ok10, ok11, free1, skipping, module_chain, module_break}
 
 abbrev to_layout : Y1 → Layout
@@ -159,13 +160,22 @@ cannot_stand front b fault h place g =
     let fits : IsBytes (flat front ++ (b ∷ flat g.rest)) = subst IsBytes text (layout_bytes g.layout g.fits) in
     ok_no_err tt fault (sym (free_reads g.layout g.fits) ∙ ap free text ∙ h (flat g.rest) fits)
 
+-- a front that the free reading does not take is no module
+no_end : (front : List Mark) (fault : WFault) → (IsBytes (flat front) → free (flat front) ≡ Err fault) → ¬ (Begins front Last)
+no_end front fault h b =
+    let e = layout_ended b.layout in
+    let last = last_is_end e.front front b.rest e.inner (sym e.whole ∙ b.marks) in
+    let text : flat (layout_marks b.layout) ≡ flat front = ap flat b.marks ∙ flat-append front (Last ∷ b.rest) ∙ ap (λ (t : List Mark). flat front ++ flat t) last.1 ∙ append-nil (flat front) in
+    let fits : IsBytes (flat front) = subst IsBytes text (layout_bytes b.layout b.fits) in
+    ok_no_err tt fault (sym (free_reads b.layout b.fits) ∙ ap free text ∙ h fits)
+
 too_large : (front : List Mark) (rooms window : List ℕ) (fault : WFault) → Why free (flat front) Closes rooms window fault → Decides front Closes rooms window fault
 too_large front [] window fault h = absurd h.0
 too_large front (zero ∷ rooms) window fault h = absurd h.0
 too_large front (suc n ∷ rooms) window fault h = subst (λ (f : WFault). Decides front Closes (suc n ∷ rooms) window f) (sym h.1) (BytesLeft n rooms window)
 
 decided : (front : List Mark) (next : Mark) (rooms window : List ℕ) (fault : WFault) → Why free (flat front) next rooms window fault → Decides front next rooms window fault
-decided front (Byte cell) rooms [] fault h = subst (λ (f : WFault). Decides front (Byte cell) rooms [] f) (sym h) (NoByte cell rooms)
+decided front (Byte cell) rooms [] fault h = subst (λ (f : WFault). Decides front (Byte cell) rooms [] f) (sym h.0) (NoByte cell rooms (no_end front fault h.1))
 decided front (Byte (place, c)) rooms (b ∷ more) fault h = subst (λ (f : WFault). Decides front (Byte (place, c)) rooms (b ∷ more) f) (sym h.0) (WrongByte place c b more rooms (cannot_stand front b fault h.1))
 decided front (Opens size) rooms window fault h = absurd h
 decided front Closes rooms window fault h = too_large front rooms window fault h

@@ -19,4 +19,12 @@ pub mod Spelled
 pub mod Spellings
 pub mod CodeSection
 pub mod Modules
+pub mod Meeting
+pub mod MeetingCode
+pub mod MeetingEntries
+pub mod Endings
+pub mod Joining
+pub mod EncodedModules
+pub mod OneFault
 pub mod Deciding
+pub mod Readers

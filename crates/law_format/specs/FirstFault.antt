@@ -1,8 +1,9 @@
 -- When a byte decides that bytes encode no module, and which fault that is.
-use Rattle.std.specs.Prelude.{◌≡◌, ℕ, suc, ◌<◌, List, [], ◌∷◌, ◌++◌, get_or, Some, Err}
+use Rattle.std.specs.Prelude.{◌≡◌, ◌↔◌, ℕ, suc, ◌<◌, List, [], ◌∷◌, ◌++◌, get_or, Some, Err}
 use Rattle.wasm_tree.specs.declared.fault.WFault.{WFault}
 use Rattle.wasm_tree.specs.declared.fault.WFault.TheVariants.{Malformed}
-use Rattle.wasm_binary.specs.Binary.{module_at}
+use Rattle.wasm_tree.specs.declared.module.WModule.{WModule}
+use Rattle.wasm_binary.specs.Binary.{module_at, Encodes}
 use Rattle.law_format.specs.Places.{Place, SectionNumber, fault_at, Cell}
 use Rattle.law_format.specs.Layouts.{Mark, Byte, Closes, Last, Layout, Fits, layout_marks, flat, room, within}
 
@@ -21,8 +22,9 @@ CannotStand front b = (place : Place) → ¬ (Begins front (Byte (place, b)))
 -- The next mark, how many bytes the parts that are begun may still take, the bytes that are left
 -- within these sizes, and the fault.
 pub data Decides (front : List Mark) : Mark → List ℕ → List ℕ → WFault → Type 0 where
-  -- a byte is missing: there is none, or a stated size is used up
-  NoByte : (cell : Cell) (rooms : List ℕ) → Decides front (Byte cell) rooms [] Malformed
+  -- a byte is missing: there is none, or a stated size is used up, and no module ends there
+  NoByte : (cell : Cell) (rooms : List ℕ) → ¬ (Begins front Last)
+      → Decides front (Byte cell) rooms [] Malformed
   -- the next byte cannot stand there
   WrongByte : (place : Place) (c b : ℕ) (more rooms : List ℕ) → CannotStand front b
       → Decides front (Byte (place, c)) rooms (b ∷ more) (fault_at place)
@@ -49,3 +51,20 @@ FirstFaultDecides =
     (bytes : List ℕ) → ((i : ℕ) → get_or bytes i 0 < 256) → (fault : WFault)
     → module_at bytes ≡ Err fault
     → FirstFault bytes fault
+
+-- no bytes have two first faults
+abbrev pub OneFault : Type 0
+OneFault =
+    (bytes : List ℕ) (one other : WFault) → FirstFault bytes one → FirstFault bytes other
+    → one ≡ other
+
+-- bytes that encode a module have none
+abbrev pub ModulesHaveNone : Type 0
+ModulesHaveNone =
+    (bytes : List ℕ) (m : WModule) → Encodes bytes m → (fault : WFault) → ¬ (FirstFault bytes fault)
+
+-- so the reader answers a fault exactly if it is the first fault of these bytes
+abbrev pub ReaderAnswersFirst : Type 0
+ReaderAnswersFirst =
+    (bytes : List ℕ) → ((i : ℕ) → get_or bytes i 0 < 256) → (fault : WFault)
+    → (module_at bytes ≡ Err fault) ↔ FirstFault bytes fault

@@ -6,11 +6,22 @@
 //! - `specs/FirstFault` says when a byte decides that bytes encode no module, and which fault that is.
 //! - `proofs/Stops` to `proofs/LocalGroups` find where the reading of each part stops, `proofs/Breaks` to
 //!   `proofs/Modules` where parts with their sizes, sections and modules do, and `proofs/Deciding` is the law.
+//! - `proofs/Meeting` to `proofs/Joining` show where two modules differ first: in a byte, in one place, or at the end
+//!   of one of them. So no bytes have two faults (`proofs/OneFault`). `proofs/EncodedModules` has the marks of a
+//!   module that is encoded, and `proofs/Readers` shows that it has no fault.
 #![tactic(auto)]
 
-ghost use Rattle.law_format.specs.FirstFault.{FirstFaultDecides};
+ghost use Rattle.law_format.specs.FirstFault.{FirstFaultDecides, OneFault, ModulesHaveNone, ReaderAnswersFirst};
 
 /// If bytes encode no module, the first byte that cannot continue an encoding, or that breaks a stated size, decides.
 pub fn fault_laws()
     ensures { FirstFaultDecides }
+{}
+
+/// No bytes have two such faults, and bytes that encode a module have none: the reader answers a fault exactly if the
+/// bytes have it.
+pub fn one_fault_laws()
+    ensures one { OneFault }
+    ensures none { ModulesHaveNone }
+    ensures exact { ReaderAnswersFirst }
 {}

@@ -1,6 +1,7 @@
 -- Names of declarations are begun, and finished behind them.
-use Rattle.std.proofs.Common.{◌≡◌, ℕ, Bool, true, false, cond, List, [], ◌∷◌, Option, Some, Result, Ok, ◌⊎◌, inl, inr, refl, sym, ap, subst, ◌∙◌}
-use Rattle.std.specs.Prelude.{not}
+use Rattle.std.proofs.Common.{◌≡◌, ℕ, Bool, true, false, cond, List, [], ◌∷◌, Option, Some, None, Result, Ok, ◌⊎◌, inl, inr, refl, sym, ap, subst, ◌∙◌}
+use Rattle.std.specs.Prelude.{not, ◌++◌, ◌||◌}
+use Rattle.std.specs.Option.{is_some}
 use Rattle.std.specs.List.{fold}
 use Rattle.m2_rule.specs.declared.breach.Breach.{Breach}
 use Rattle.m2_rule.specs.declared.rule.Rule.TheVariants as rule
@@ -20,13 +21,17 @@ use Rattle.check_block.specs.declared.heading.Standing.{Standing as Place}
 use Rattle.check_block.specs.declared.heading.Standing.TheVariants as place
 use Rattle.def_typing.specs.Operators.{◌!◌}
 use Rattle.def_typing.specs.Things.{Standing, Undeclared}
-use Rattle.def_typing.specs.Parts.{Among, here, later}
-use Rattle.def_typing.specs.Declarations.{Declaration, OfConstant, OfType, OfVariables, OfProcedure, Declares, AnyDeclares, IsFirst, at_first, later_on, Declared, IsThere, nearest, farther, types_behind, in_front_of, Twice, There}
+use Rattle.def_typing.specs.Parts.{Among, here, later, Named}
+use Rattle.def_typing.specs.TypeExprs.{Twice, Member}
+use Rattle.def_typing.specs.Declarations.{Declaration, OfConstant, OfType, OfVariables, OfProcedure, names_of, constants_of, Declares, AnyDeclares, IsFirst, at_first, later_on, Declared, is_among, is_there, IsThere, nearest, farther, types_behind, in_front_of, There}
 use Rattle.law_typing.specs.Judging.{Judges}
-use Rattle.law_typing.specs.Exact.{TakenAs, is_taken}
-use Rattle.law_typing.proofs.Combining.{Lawful, Decided, holds, fails_it, Tells, silent, tells, tells_as, beside_tells, accounts_one, accounts_as}
-use Rattle.law_typing.proofs.Entering.{entered_all}
-use Rattle.law_typing.proofs.Declaring.{any_named, mark_of, Saying, KnownAs, outer, ahead, reading, behind, Same, KnowsBlock}
+use Rattle.law_typing.specs.Exact.{TakenAs, is_taken, not_taken}
+use Rattle.law_typing.proofs.Combining.{Lawful, Decided, holds, fails_it, decided_as, Tells, silent, tells, tells_as, beside_tells, accounts_one, accounts_as}
+use Rattle.law_typing.proofs.Entering.{named_left, named_right, named_split, among_decided, entered_all}
+use Rattle.law_typing.proofs.Declaring.{any_named, mark_of, Added, Saying, KnownAs, outer, ahead, reading, behind, a_member, Same, KnowsBlock}
+use Rattle.law_typing.proofs.Deciding.{decided_itself}
+use Rattle.law_typing.proofs.Meeting.{either_decided}
+use Rattle.law_typing.proofs.Enumerating.{member_known, entered, Enters}
 
 -- these names are there too
 abbrev pub Adding : List Ident → (List ℕ → Type 0) → List ℕ → Type 0
@@ -41,9 +46,6 @@ pub adding_name : (xs : List Ident) (Th : List ℕ → Type 0) (n : List ℕ) (x
 adding_name [] Th n x m e = elim m [ ]
 adding_name (x ∷ xs) Th n _ here e = adding_more xs (λ m. (x.name ≡ m) ⊎ Th m) n (inl e)
 adding_name (y ∷ xs) Th n x (later a) e = adding_name xs (λ m. (y.name ≡ m) ⊎ Th m) n x a e
-
-abbrev pub Named : List Ident → List ℕ → Type 0
-Named xs n = (x : Ident) × Among x xs × (x.name ≡ n)
 
 pub added : (xs : List Ident) (Th : List ℕ → Type 0) (n : List ℕ) → Adding xs Th n → Named xs n ⊎ Th n
 added [] Th n h = inr h
@@ -75,6 +77,9 @@ module _ (g : Gathers) (j : Judges g) (lawful : Lawful g j) (exports : ℕ → I
   abbrev KB : List Declared → List Declaration → (List ℕ → Type 0) → Scope g.Reported → Type 0
   KB = KnowsBlock g j exports outside start taken nested block
 
+  abbrev Add : List Declared → Declared → Type 0
+  Add = Added g j exports outside start taken nested block
+
   abbrev Says : List Declared → Declared → Known g.Reported → Type 0
   Says = Saying g j exports outside start taken nested block
 
@@ -101,13 +106,15 @@ module _ (g : Gathers) (j : Judges g) (lawful : Lawful g j) (exports : ℕ → I
     free_decided (outer c e) = let q = outer_taken c e in subst (λ (b : Bool). Decided (Th n) (not b)) (sym q.1.0) (holds q.0)
     free_decided (ahead d t i c h) = subst (λ (b : Bool). Decided (Th n) (not b)) (sym (mark_free g.Reported d)) (fails_it h)
     free_decided (reading d t i c h e) = holds h
-    free_decided (behind k t i s) = subst (λ (b : Bool). Decided (Th n) (not b)) (sym s.not_free) (holds (includes n (inr (any_named i))))
+    free_decided (behind k t i o s) = subst (λ (b : Bool). Decided (Th n) (not b)) (sym s.not_free) (holds (includes n (inr (any_named i))))
+    free_decided (a_member t i o w e) = holds (includes n (inr (any_named i)))
 
     pub first_time : {k : Option (Known g.Reported)} → KA front Th n k → (Th n → ⊥) → (taken n ≡ false) × (IsThere front n → ⊥) × ((d : Declaration) × IsFirst n d block)
     first_time (outer c e) h = absurd (h (outer_taken c e).0)
     first_time (ahead d t i c b) h = (t, c, (d, i))
     first_time (reading d t i c b e) h = absurd (h b)
-    first_time (behind k t i s) h = absurd (h (includes n (inr (any_named i))))
+    first_time (behind k t i o s) h = absurd (h (includes n (inr (any_named i))))
+    first_time (a_member t i o w e) h = absurd (h (includes n (inr (any_named i))))
 
     -- whether a heading may stand here, if nothing is begun
     pub data PlaceIs : Place → Type 0 where
@@ -118,14 +125,16 @@ module _ (g : Gathers) (j : Judges g) (lawful : Lawful g j) (exports : ℕ → I
     place_is never (outer c e) = let q = outer_taken c e in subst PlaceIs (sym q.1.2) (place_taken q.0)
     place_is never (ahead d t i c h) = subst PlaceIs (sym (mark_place g.Reported d)) (place_free h)
     place_is never (reading d t i c h e) = absurd (never d i t c h)
-    place_is never (behind k t i s) = subst PlaceIs (sym s.settled) (place_taken (includes n (inr (any_named i))))
+    place_is never (behind k t i o s) = subst PlaceIs (sym s.settled) (place_taken (includes n (inr (any_named i))))
+    place_is never (a_member t i o w e) = place_taken (includes n (inr (any_named i)))
 
   -- one name more is there
   pub widen : {front : List Declared} {Th : List ℕ → Type 0} (x : Ident) {n : List ℕ} {k : Option (Known g.Reported)} → (x.name ≡ n → Th n) → KA front Th n k → KA front (λ n. (x.name ≡ n) ⊎ Th n) n k
   widen x h (outer c e) = outer c e
   widen x h (ahead d t i c b) = ahead d t i c (λ z. elim z [ inl e ↦ b (h e) | inr y ↦ b y ])
   widen x h (reading d t i c b e) = reading d t i c (inr b) e
-  widen x h (behind k t i s) = behind k t i s
+  widen x h (behind k t i o s) = behind k t i o s
+  widen x h (a_member t i o w e) = a_member t i o w e
 
   module _ (O : Breach → Type 0) (front : List Declared) (d : Declaration) (ds : List Declaration) (undeclared : in_front_of d ≡ Undeclared) (Th : List ℕ → Type 0) (x : Ident) (named : Declares d x.name) where
     abbrev Next : List ℕ → Type 0
@@ -167,35 +176,121 @@ module _ (g : Gathers) (j : Judges g) (lawful : Lawful g j) (exports : ℕ → I
   begin_all O front d ds u (x ∷ xs) Th a {s = s} {B = B} k t = let q = begin_one O front d ds u Th x (a x here) k in let r = begin_all O front d ds u xs (λ n. (x.name ≡ n) ⊎ Th n) (λ y m. a y (later m)) q.0 (beside_tells g j lawful O t q.1) in
       (r.0, tells_as g j lawful O (λ f z. elim z [ inl y ↦ elim y [ inl b ↦ inl b | inr w ↦ inr (inl w) ] | inr b ↦ inr (inr b) ]) (λ f z. elim z [ inl b ↦ inl (inl b) | inr y ↦ elim y [ inl w ↦ inl (inr w) | inr b ↦ inr b ] ]) r.1)
 
+  -- ---- names that are there
+
+  decided_true : {P : Type 0} {b : Bool} → Decided P b → P → b ≡ true
+  decided_true (holds p) q = refl
+  decided_true (fails_it n) q = absurd (n q)
+
+  decided_false : {P : Type 0} {b : Bool} → Decided P b → (P → ⊥) → b ≡ false
+  decided_false (holds p) n = absurd (n p)
+  decided_false (fails_it m) n = refl
+
+  there_decided : (front : List Declared) (n : List ℕ) → Decided (IsThere front n) (is_there front n)
+  there_decided [] n = fails_it (λ a. elim a.1 [ ])
+  there_decided (d ∷ front) n = decided_as (λ z. more z) (λ z. parts z) (either_decided (among_decided (names_of d.what ++ constants_of d.what) n) (there_decided front n))
+    where
+      more : Declares d.what n ⊎ IsThere front n → IsThere (d ∷ front) n
+      more (inl h) = (d.what, here, h)
+      more (inr (c, m, h)) = (c, later m, h)
+
+      parts : IsThere (d ∷ front) n → Declares d.what n ⊎ IsThere front n
+      parts (c, here, h) = inl h
+      parts (c, later m, h) = inr (c, m, h)
+
+  module _ (front : List Declared) (xs : List Ident) (n : List ℕ) (within : IsThere front n → AnyDeclares block n) (in_block : Named xs n → AnyDeclares block n) where
+    abbrev There_now : Type 0
+    There_now = Named xs n ⊎ ((taken n ≡ true) ⊎ IsThere front n)
+
+    abbrev there_now : Bool
+    there_now = is_among n xs || (taken n || is_there front n)
+
+    now_decided : Decided There_now there_now
+    now_decided = either_decided (among_decided xs n) (either_decided (decided_itself (taken n)) (there_decided front n))
+
+    free_outer : {k o : Option (Known g.Reported)} (t : Bool) → taken n ≡ t → (taken n ≡ false → AnyDeclares block n → ⊥) → TakenAs g j t o → k ≡ o → there_now ≡ not (is_free k)
+    free_outer true q c (is_taken s) e = decided_true now_decided (inr (inl q)) ∙ sym (ap (λ (k : Option (Known g.Reported)). not (is_free k)) e)
+    free_outer false q c not_taken e = decided_false now_decided (λ z. none z) ∙ sym (ap (λ (k : Option (Known g.Reported)). not (is_free k)) e)
+      where
+        none : There_now → ⊥
+        none (inl h) = c q (in_block h)
+        none (inr (inl u)) = clash u q
+        none (inr (inr a)) = c q (within a)
+
+    pub free_now : {k : Option (Known g.Reported)} → KA front (Adding xs (Theres front)) n k → there_now ≡ not (is_free k)
+    free_now (outer c e) = free_outer (taken n) refl c (takes n) e
+    free_now (ahead d t i c h) = decided_false now_decided (λ z. none z) ∙ sym (ap (λ (b : Bool). not b) (mark_free g.Reported d))
+      where
+        none : There_now → ⊥
+        none (inl (x, m, e)) = h (adding_name xs (Theres front) n x m e)
+        none (inr (inl u)) = clash u t
+        none (inr (inr a)) = c a
+    free_now (reading d t i c h e) = decided_true now_decided (elim (added xs (Theres front) n h) [ inl z ↦ inl z | inr z ↦ inr z ])
+    free_now (behind k t i o s) = decided_true now_decided (inr (inr (any_named i))) ∙ sym (ap (λ (b : Bool). not b) s.not_free)
+    free_now (a_member t i o w e) = decided_true now_decided (inr (inr (any_named i)))
+
   -- ---- names that are finished
 
   module _ (front : List Declared) (d : Declared) (ds : List Declaration) (Th : List ℕ → Type 0) where
-    -- if these of its names are finished
+    abbrev Own : List ℕ → Type 0
+    Own n = Named (names_of d.what) n
+
+    -- if these of its own names are finished
     pub data MidAs (done : List ℕ → Type 0) (n : List ℕ) : Option (Known g.Reported) → Type 0 where
-      is_done : (k : Known g.Reported) → taken n ≡ false → (IsThere front n → ⊥) → done n → Says front d k → MidAs done n (Some k)
-      is_other : {k : Option (Known g.Reported)} → (taken n ≡ false → (IsThere front n → ⊥) → done n → ⊥) → KA front Th n k → MidAs done n k
+      is_done : (k : Known g.Reported) → taken n ≡ false → (IsThere front n → ⊥) → done n → Own n → Says front d k → MidAs done n (Some k)
+      is_member : {e : Member} → taken n ≡ false → (IsThere front n → ⊥) → Declares d.what n → (Own n → ⊥) → Add front d → find_name n d.adds.brings ≡ Some e → MidAs done n (Some (member_known e))
+      is_other : {k : Option (Known g.Reported)} → (taken n ≡ false → (IsThere front n → ⊥) → done n → ⊥) → (taken n ≡ false → (IsThere front n → ⊥) → (Own n → ⊥) → Named (constants_of d.what) n → ⊥) → KA front Th n k → MidAs done n k
 
     pub record KnowsMid (done : List ℕ → Type 0) (s : Scope g.Reported) : Type 0 where
       pub same : SameScope (types_behind start.types (d ∷ front)) s
       pub own : (n : List ℕ) → MidAs done n (find_name n s.own)
 
-    pub mid_begins : {s t : Scope g.Reported} {rest : List Declaration} → KB front rest Th s → SameScope (types_behind start.types (d ∷ front)) t → t.own ≡ s.own → KnowsMid (λ n. ⊥) t
-    mid_begins k same e = record { same = same; own = λ n. is_other (λ t c z. z) (subst (λ (own : List (List ℕ × Known g.Reported)). KA front Th n (find_name n own)) (sym e) (k.own n)) }
+    -- ---- behind its type
+
+    module _ (includes : (n : List ℕ) → Theres front n → Th n) (reads : (n : List ℕ) → Own n → Th n) (only : (n : List ℕ) → Th n → Own n ⊎ Theres front n) (in_block : (n : List ℕ) → Declares d.what n → AnyDeclares block n) (add : Add front d) (constants : (n : List ℕ) → Decided (Named (constants_of d.what) n) (is_some (find_name n d.adds.brings))) where
+      apart : {n : List ℕ} → taken n ≡ false → (IsThere front n → ⊥) → (Own n → ⊥) → Th n → ⊥
+      apart {n = n} t c o h = elim (only n h) [ inl w ↦ o w | inr y ↦ elim y [ inl u ↦ clash u t | inr a ↦ c a ] ]
+
+      -- a name that is there stays what it is
+      kept : {n : List ℕ} (e : Member) {k : Option (Known g.Reported)} → is_free k ≡ false → (taken n ≡ false → (IsThere front n → ⊥) → (Own n → ⊥) → Named (constants_of d.what) n → ⊥) → KA front Th n k → MidAs (λ n. ⊥) n (entered (Some e) k)
+      kept {n = n} e {k = k} q p ka = subst (λ (o : Option (Known g.Reported)). MidAs (λ n. ⊥) n o) (sym (ap (λ (b : Bool). cond b (Some (member_known e)) k) q)) (is_other (λ t c z. z) p ka)
+
+      is_constant : {n : List ℕ} {b : Bool} → Decided (Named (constants_of d.what) n) b → b ≡ true → Declares d.what n
+      is_constant (holds m) e = named_right (names_of d.what) m
+      is_constant (fails_it c) e = absurd cc
+
+      no_constant : {n : List ℕ} {b : Bool} → Decided (Named (constants_of d.what) n) b → b ≡ false → Named (constants_of d.what) n → ⊥
+      no_constant (holds m) e = absurd cc
+      no_constant (fails_it c) e = c
+
+      mid_by : (n : List ℕ) (o : Option Member) → find_name n d.adds.brings ≡ o → {k : Option (Known g.Reported)} → KA front Th n k → MidAs (λ n. ⊥) n (entered o k)
+      mid_by n None e ka = is_other (λ t c z. z) (λ t c o m. no_constant (constants n) (ap (λ (o : Option Member). is_some o) e) m) ka
+      mid_by n (Some x) e (outer c q) = let a = in_block n (is_constant (constants n) (ap (λ (o : Option Member). is_some o) e)) in kept x (outer_taken front Th includes n a c q).1.0 (λ t v o m. c t a) (outer c q)
+      mid_by n (Some x) e (ahead b t i c h) = subst (λ (f : Bool). MidAs (λ n. ⊥) n (cond f (Some (member_known x)) (Some (mark_of b)))) (sym (mark_free g.Reported b))
+          (is_member t c (is_constant (constants n) (ap (λ (o : Option Member). is_some o) e)) (λ o. h (reads n o)) add e)
+      mid_by n (Some x) e (reading b t i c h q) = is_other (λ t c z. z) (λ t c o m. apart t c o h) (reading b t i c h q)
+      mid_by n (Some x) e (behind k t i w s) = kept x s.not_free (λ t c o m. c (any_named i)) (behind k t i w s)
+      mid_by n (Some x) e (a_member t i w a q) = is_other (λ t c z. z) (λ t c o m. c (any_named i)) (a_member t i w a q)
+
+      pub mid_begins : {s t : Scope g.Reported} {rest : List Declaration} → KB front rest Th s → SameScope (types_behind start.types (d ∷ front)) t → Enters d.adds.brings s.own t.own → KnowsMid (λ n. ⊥) t
+      mid_begins {s = s} k same e = record { same = same; own = λ n. subst (λ (o : Option (Known g.Reported)). MidAs (λ n. ⊥) n o) (sym (e n)) (mid_by n (find_name n d.adds.brings) refl (k.own n)) }
 
     mid_one : {P Q : List ℕ → Type 0} {n : List ℕ} {k : Option (Known g.Reported)} → (P n → Q n) → (Q n → P n) → MidAs P n k → MidAs Q n k
-    mid_one pq qp (is_done k t c w s) = is_done k t c (pq w) s
-    mid_one pq qp (is_other o k) = is_other (λ t c w. o t c (qp w)) k
+    mid_one pq qp (is_done k t c w o s) = is_done k t c (pq w) o s
+    mid_one pq qp (is_member t c w o a e) = is_member t c w o a e
+    mid_one pq qp (is_other o p k) = is_other (λ t c w. o t c (qp w)) p k
 
     pub mid_as : {P Q : List ℕ → Type 0} {s : Scope g.Reported} → ((n : List ℕ) → P n → Q n) → ((n : List ℕ) → Q n → P n) → KnowsMid P s → KnowsMid Q s
     mid_as pq qp k = record { same = k.same; own = λ n. mid_one (pq n) (qp n) (k.own n) }
 
-    module _ (includes : (n : List ℕ) → Theres front n → Th n) (x : Ident) (a : AnyDeclares block x.name) (th : Th x.name) (m : Result Meaning g.Reported) (say : Says front d (known.Declared Here m)) (done : List ℕ → Type 0) where
+    module _ (includes : (n : List ℕ) → Theres front n → Th n) (x : Ident) (mine : Own x.name) (a : AnyDeclares block x.name) (th : Th x.name) (m : Result Meaning g.Reported) (say : Says front d (known.Declared Here m)) (done : List ℕ → Type 0) where
       abbrev Done : List ℕ → Type 0
       Done n = (x.name ≡ n) ⊎ done n
 
       mid_more : {n : List ℕ} {k : Option (Known g.Reported)} → (x.name ≡ n → taken n ≡ false → (IsThere front n → ⊥) → done n) → MidAs done n k → MidAs Done n k
-      mid_more h (is_done k t c w s) = is_done k t c (inr w) s
-      mid_more h (is_other o k) = is_other (λ t c z. elim z [ inl e ↦ o t c (h e t c) | inr w ↦ o t c w ]) k
+      mid_more h (is_done k t c w o s) = is_done k t c (inr w) o s
+      mid_more h (is_member t c w o b e) = is_member t c w o b e
+      mid_more h (is_other o p k) = is_other (λ t c z. elim z [ inl e ↦ o t c (h e t c) | inr w ↦ o t c w ]) p k
 
       abbrev Ends : Scope g.Reported → Type 0
       Ends s = KnowsMid Done s
@@ -208,22 +303,24 @@ module _ (g : Gathers) (j : Judges g) (lawful : Lawful g j) (exports : ℕ → I
       changed k t c false e = absurd cc
       changed {s = s} k t c true e = record {
         same = record { withs = k.same.withs; outer = k.same.outer; types = k.same.types; tables = k.same.tables; level = k.same.level };
-        own = entered_all (λ n o. MidAs Done n o) x.name (known.Declared Here m) s.own (is_done (known.Declared Here m) t c (inl refl) say) (λ n z. mid_more (λ e. absurd (z e)) (k.own n));
+        own = entered_all (λ n o. MidAs Done n o) x.name (known.Declared Here m) s.own (is_done (known.Declared Here m) t c (inl refl) mine say) (λ n z. mid_more (λ e. absurd (z e)) (k.own n));
       }
 
       ends : {s : Scope g.Reported} {k : Option (Known g.Reported)} → KnowsMid done s → find_name x.name s.own ≡ k → MidAs done x.name k → Ends (finish_name s x m)
-      ends k e (is_done w t c z q) = unchanged k (λ u v. z) _ (ap (λ (o : Option (Known g.Reported)). is_begun o) e ∙ q.not_begun)
-      ends k e (is_other o (outer c q)) = unchanged k (λ t u. absurd (c t a)) _ (ap (λ (o : Option (Known g.Reported)). is_begun o) e ∙ (outer_taken front Th includes x.name a c q).1.1)
-      ends k e (is_other o (ahead d t i c h)) = absurd (h th)
-      ends k e (is_other o (reading d t i c h q)) = changed k t c _ (ap (λ (o : Option (Known g.Reported)). is_begun o) e)
-      ends k e (is_other o (behind w t i q)) = unchanged k (λ t c. absurd (c (any_named i))) _ (ap (λ (o : Option (Known g.Reported)). is_begun o) e ∙ q.not_begun)
+      ends k e (is_done w t c z o q) = unchanged k (λ u v. z) _ (ap (λ (o : Option (Known g.Reported)). is_begun o) e ∙ q.not_begun)
+      ends k e (is_member t c w o b q) = absurd (o mine)
+      ends k e (is_other o p (outer c q)) = unchanged k (λ t u. absurd (c t a)) _ (ap (λ (o : Option (Known g.Reported)). is_begun o) e ∙ (outer_taken front Th includes x.name a c q).1.1)
+      ends k e (is_other o p (ahead d t i c h)) = absurd (h th)
+      ends k e (is_other o p (reading d t i c h q)) = changed k t c _ (ap (λ (o : Option (Known g.Reported)). is_begun o) e)
+      ends k e (is_other o p (behind w t i v q)) = unchanged k (λ t c. absurd (c (any_named i))) _ (ap (λ (o : Option (Known g.Reported)). is_begun o) e ∙ q.not_begun)
+      ends k e (is_other o p (a_member t i v b q)) = unchanged k (λ t c. absurd (c (any_named i))) _ (ap (λ (o : Option (Known g.Reported)). is_begun o) e)
 
       pub finish_one : {s : Scope g.Reported} → KnowsMid done s → Ends (finish_name s x m)
       finish_one {s = s} k = ends k refl (k.own x.name)
 
     -- behind the declaration
     module _ (within : (n : List ℕ) → IsThere front n → AnyDeclares block n) (in_block : (n : List ℕ) → AnyDeclares (d.what ∷ ds) n → AnyDeclares block n) (left : (n : List ℕ) (c : Declaration) → IsFirst n c block → (IsThere front n → ⊥) → IsFirst n c (d.what ∷ ds))
-        (reads : (n : List ℕ) → Declares d.what n → Th n) (only : (n : List ℕ) → Th n → Declares d.what n ⊎ Theres front n) where
+        (reads : (n : List ℕ) → Own n → Th n) (only : (n : List ℕ) → Th n → Own n ⊎ Theres front n) where
       there_parts : (n : List ℕ) → IsThere (d ∷ front) n → Declares d.what n ⊎ IsThere front n
       there_parts n (c, here, h) = inl h
       there_parts n (c, later m, h) = inr (c, m, h)
@@ -236,18 +333,23 @@ module _ (g : Gathers) (j : Judges g) (lawful : Lawful g j) (exports : ℕ → I
       neither t c (inl q) = clash q t
       neither t c (inr q) = c q
 
-      behind_it : {n : List ℕ} {k : Option (Known g.Reported)} → MidAs (Declares d.what) n k → KA (d ∷ front) (Theres (d ∷ front)) n k
-      behind_it (is_done k t c w s) = behind k t (nearest w c) s
-      behind_it (is_other o (outer c e)) = outer c e
-      behind_it {n = n} (is_other o (ahead b t i c h)) = ahead b t i (λ z. elim (there_parts n z) [ inl w ↦ h (reads n w) | inr y ↦ c y ]) (λ z. elim (there_more n z) [ inl w ↦ h (reads n w) | inr y ↦ neither t c y ])
-      behind_it {n = n} (is_other o (reading b t i c h e)) = absurd (elim (only n h) [ inl w ↦ o t c w | inr y ↦ neither t c y ])
-      behind_it (is_other o (behind k t i s)) = behind k t (farther i) s
+      undeclared : {n : List ℕ} → ((Own n → ⊥) → Named (constants_of d.what) n → ⊥) → (Th n → ⊥) → Declares d.what n → ⊥
+      undeclared {n = n} p h w = elim (named_split (names_of d.what) w) [ inl o ↦ h (reads n o) | inr m ↦ p (λ o. h (reads n o)) m ]
+
+      behind_it : {n : List ℕ} {k : Option (Known g.Reported)} → MidAs Own n k → KA (d ∷ front) (Theres (d ∷ front)) n k
+      behind_it (is_done k t c w o s) = behind k t (nearest (named_left (constants_of d.what) o) c) o s
+      behind_it (is_member t c w o a e) = a_member t (nearest w c) o a e
+      behind_it (is_other o p (outer c e)) = outer c e
+      behind_it {n = n} (is_other o p (ahead b t i c h)) = ahead b t i (λ z. elim (there_parts n z) [ inl w ↦ undeclared (p t c) h w | inr y ↦ c y ]) (λ z. elim (there_more n z) [ inl w ↦ undeclared (p t c) h w | inr y ↦ neither t c y ])
+      behind_it {n = n} (is_other o p (reading b t i c h e)) = absurd (elim (only n h) [ inl w ↦ o t c w | inr y ↦ neither t c y ])
+      behind_it (is_other o p (behind k t i v s)) = behind k t (farther i) v s
+      behind_it (is_other o p (a_member t i v a e)) = a_member t (farther i) v a e
 
       left_more : {n : List ℕ} {c : Declaration} → (Declares d.what n → ⊥) → IsFirst n c (d.what ∷ ds) → IsFirst n c ds
       left_more h (at_first w) = absurd (h w)
       left_more h (later_on n i) = i
 
-      pub finish_end : {s : Scope g.Reported} → KnowsMid (Declares d.what) s → KB (d ∷ front) ds (Theres (d ∷ front)) s
+      pub finish_end : {s : Scope g.Reported} → KnowsMid Own s → KB (d ∷ front) ds (Theres (d ∷ front)) s
       finish_end k = record {
         same = k.same;
         within = λ n a. elim (there_parts n a) [ inl w ↦ in_block n (d.what, here, w) | inr y ↦ within n y ];

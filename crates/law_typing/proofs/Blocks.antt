@@ -48,21 +48,24 @@ use Rattle.check_block.specs.declared.heading.Standing.{Standing as Place}
 use Rattle.check_block.specs.declared.heading.Standing.TheVariants as place
 use Rattle.check_block.specs.Headings.{standing_of, new_procedure, with_new, headed_as, with_heading}
 use Rattle.def_typing.specs.Operators.{◌!◌}
+use Rattle.def_typing.specs.Headings.{procedure_made}
 use Rattle.def_typing.specs.Things as things
 use Rattle.def_typing.specs.Things.{Standing, Undeclared, Unknown}
-use Rattle.def_typing.specs.Parts.{Among, here, later}
+use Rattle.def_typing.specs.Parts.{Among, here, later, Named}
 use Rattle.def_typing.specs.Declarations as rules
-use Rattle.def_typing.specs.Declarations.{Declaration, OfConstant, OfType, OfVariables, OfProcedure, declared_by, declarations_of, names_of, names_in, formals_in, Declares, AnyDeclares, Declared as Resolved, in_order, IsThere, types_behind, procedure, is_variables, in_front_of, without, Twice, Misdeclares, BrokenIn}
-use Rattle.law_typing.specs.Judging.{Judges, Answers, Reports, reports_nothing, reports_broken}
+use Rattle.def_typing.specs.Declarations.{Declaration, OfConstant, OfType, OfVariables, OfProcedure, declared_by, declarations_of, names_of, constants_of, names_in, formals_in, Declares, AnyDeclares, Declared as Resolved, in_order, IsThere, types_behind, procedure, is_variables, in_front_of, without, Says, Brings, Misdeclares, AllAdded, BrokenIn}
+use Rattle.law_typing.specs.Judging.{Judges, Answers, means, refuses, Reports, reports_nothing, reports_broken}
 use Rattle.law_typing.specs.Exact.{standing, is_own_variable, TakenAs, Knows, Repeats, IsCallFree, IsPlainType, IsPlainLayer, ArePlainDecls, is_nested, IsBlockExact}
-use Rattle.law_typing.proofs.Combining.{Lawful, Tells, silent, tells, tells_as, beside_tells, accounts_as, accounts_one}
+use Rattle.law_typing.proofs.Combining.{Lawful, Decided, fails_it, Tells, silent, tells, tells_as, beside_tells, accounts_as, accounts_one}
 use Rattle.law_typing.proofs.Heading.{nil_right, append_assoc}
-use Rattle.law_typing.proofs.Entering.{entered_all}
-use Rattle.law_typing.proofs.Declaring.{All, Elsewhere, Saying, KnownAs, Same, KnowsBlock, knowing, repeating, standings, all_stand, home_same, owning, some_own}
-use Rattle.law_typing.proofs.Beginning.{Adding, adding_name, added, clash, Theres, widen, begin_one, begin_all, place_is, PlaceIs, place_free, place_taken, MidAs, is_done, is_other, KnowsMid, mid_begins, mid_as, finish_one, finish_end}
-use Rattle.law_typing.proofs.Sayings.{Saids, said_constant, said_type, said_variables, said_procedure, Exactly, saying, saying_heading, says_tells, more_answers, constant_says, of_type_says, variables_say, procedure_says}
-use Rattle.def_typing.specs.TypeExprs.{with_types, next_type, IsTypeOf, BrokenType}
-use Rattle.law_typing.proofs.TypeReading.{MadeType, with_made_types, no_types, no_made, TypeRead, TypeIs, TypeFails, type_read}
+use Rattle.law_typing.proofs.Entering.{named_left, entered_all}
+use Rattle.law_typing.proofs.Declaring.{All, Added as Added_there, Elsewhere, Saying, KnownAs, Same, KnowsBlock, knowing, repeating, standings, all_stand, home_same, owning, some_own}
+use Rattle.law_typing.proofs.Beginning.{Adding, adding_name, added, clash, Theres, free_now, widen, begin_one, begin_all, place_is, PlaceIs, place_free, place_taken, MidAs, is_done, is_other, KnowsMid, mid_begins, mid_as, finish_one, finish_end}
+use Rattle.law_typing.proofs.Sayings.{Set, Saids, said_constant, said_type, said_variables, said_procedure, Exactly, saying, saying_heading, says_tells, more_answers, constant_says, of_type_says, variables_say, procedure_says}
+use Rattle.def_typing.specs.TypeExprs.{Twice, constants_in, with_types, next_type, Added, nothing_added, type_added, Setting, IsTypeOf, Adds, BrokenType}
+use Rattle.law_typing.proofs.Enumerating.{MadeType, scope_with, Enters, Frees}
+use Rattle.law_typing.proofs.TypeReading.{no_types, no_made, Read as Read_type}
+use Rattle.law_typing.proofs.Recording.{type_read}
 use Rattle.law_typing.proofs.Marking.{block_begins}
 
 module _ (g : Gathers) (j : Judges g) (lawful : Lawful g j) (exports : ℕ → Ident → Standing) (outside : Ident → Standing) (start : Scope g.Reported) (taken : List ℕ → Bool) (nested : Bool) (block : List Declaration)
@@ -88,15 +91,21 @@ module _ (g : Gathers) (j : Judges g) (lawful : Lawful g j) (exports : ℕ → I
   abbrev T : List Resolved → Types
   T front = types_behind start.types front
 
+  abbrev SetAt : List Resolved → Declaration → (Ident → Standing) → Setting
+  SetAt = Set g j lawful exports outside start taken nested block
+
+  abbrev Add : List Resolved → Resolved → Type 0
+  Add = Added_there g j exports outside start taken nested block
+
   abbrev Told : List Resolved → Result (Unit {0}) g.Reported → Type 0
   Told front r = Tells g j lawful Rep (BI front) r
 
   abbrev Mis : List Resolved → Declaration → Breach → Type 0
-  Mis front d f = (i : (names : Ident → Standing) × Stand front names) × Misdeclares (T front) i.0 exports d f
+  Mis front d f = (i : (names : Ident → Standing) × Stand front names) × Misdeclares exports (SetAt front d i.0) d f
 
   -- behind one declaration more
   abbrev Stepped : List Resolved → Resolved → List Declaration → State (Unit {0}) g.Reported → Type 0
-  Stepped front d ds st = KB (d ∷ front) ds (Th (d ∷ front)) st.0 × Told (d ∷ front) st.1
+  Stepped front d ds st = KB (d ∷ front) ds (Th (d ∷ front)) st.0 × Told (d ∷ front) st.1 × Add front d
 
   -- ---- what is reported
 
@@ -137,7 +146,7 @@ module _ (g : Gathers) (j : Judges g) (lawful : Lawful g j) (exports : ℕ → I
     Begun = Adding (names_of d.what) (Th front)
 
     named : (x : Ident) → Among x (names_of d.what) → Declares d.what x.name
-    named x m = (x, m, refl)
+    named x m = named_left (constants_of d.what) (x, m, refl)
 
     formals_silent : (f : Breach) → Twice (λ n. ⊥) (formals_in d.what) f → ⊥
     formals_silent f t = subst (λ (xs : List Ident). Twice (λ n. ⊥) xs f) no_formals t
@@ -162,22 +171,25 @@ module _ (g : Gathers) (j : Judges g) (lawful : Lawful g j) (exports : ℕ → I
       abbrev Exact : {A : Type 0} → (A → Saids) → Result A g.Reported → Type 0
       Exact said r = Exactly g j lawful exports outside start taken nested block said front d.what r
 
-      begun_mid : {t : Scope g.Reported} → Same g j exports outside start taken nested block (T (d ∷ front)) t → t.own ≡ s.own → Mid (λ n. ⊥) t
-      begun_mid same e = mid_begins g j lawful exports outside start taken nested block takes front d ds Begun k same e
+      -- the names that are there are not free
+      frees_here : Frees s (SetAt front d.what names_here).there
+      frees_here n = free_now g j lawful exports outside start taken nested block takes front (names_of d.what) n (k.within n) (λ h. k.in_block n (d.what, here, named_left (constants_of d.what) h)) (k.own n)
 
-      begun_same : {ms : List Made} → d.makes ≡ ms → {t : Scope g.Reported} → t ≡ with_made_types s ms → Same g j exports outside start taken nested block (T (d ∷ front)) t
-      begun_same {ms = ms} q e = subst (λ (t : Scope g.Reported). Same g j exports outside start taken nested block (T (d ∷ front)) t) (sym e) (record { withs = k.same.withs; outer = k.same.outer; types = ap (λ (t : Types). with_types t ms) k.same.types ∙ ap (λ (ns : List Made). with_types (T front) ns) (sym q); tables = k.same.tables; level = k.same.level })
+      begun_mid : {t : Scope g.Reported} (own : List (List ℕ × Known g.Reported)) → t ≡ scope_with s d.adds.makes own → Enters d.adds.brings s.own own → ((n : List ℕ) → Decided (Named (constants_of d.what) n) (is_some (find_name n d.adds.brings))) → Brings exports (SetAt front d.what names_here) (Th front) d.what d.adds → Mid (λ n. ⊥) t
+      begun_mid own e enters constants b = subst (λ (t : Scope g.Reported). Mid (λ n. ⊥) t) (sym e) (mid_begins g j lawful exports outside start taken nested block takes front d ds Begun k.includes
+          (λ n h. adding_name (names_of d.what) (Th front) n h.0 h.1 h.2) (λ n h. added (names_of d.what) (Th front) n h) (λ n h. k.in_block n (d.what, here, h)) (rules.is_added stand_here b) constants k
+          (record { withs = k.same.withs; outer = k.same.outer; types = ap (λ (t : Types). with_types t d.adds.makes) k.same.types; tables = k.same.tables; level = k.same.level }) enters)
 
       one_finished : (x : Ident) → Among x (names_of d.what) → {m : Result Meaning g.Reported} → Saying g j exports outside start taken nested block front d (known.Declared Here m) → (done : List ℕ → Type 0) {t : Scope g.Reported} → Mid done t → Mid (λ n. (x.name ≡ n) ⊎ done n) (finish_name t x m)
-      one_finished x a {m = m} say done q = finish_one g j lawful exports outside start taken nested block takes front d ds Begun k.includes x (k.in_block x.name (d.what, here, named x a)) (adding_name (names_of d.what) (Th front) x.name x a refl) m say done q
+      one_finished x a {m = m} say done q = finish_one g j lawful exports outside start taken nested block takes front d ds Begun k.includes x (x, a, refl) (k.in_block x.name (d.what, here, named x a)) (adding_name (names_of d.what) (Th front) x.name x a refl) m say done q
 
-      ended : {t : Scope g.Reported} → Mid (Declares d.what) t → KB (d ∷ front) ds (Th (d ∷ front)) t
+      ended : {t : Scope g.Reported} → Mid (Named (names_of d.what)) t → KB (d ∷ front) ds (Th (d ∷ front)) t
       ended q = finish_end g j lawful exports outside start taken nested block takes front d ds Begun k.within k.in_block k.left (λ n h. adding_name (names_of d.what) (Th front) n h.0 h.1 h.2) (λ n h. added (names_of d.what) (Th front) n h) q
 
       telling : {A : Type 0} (said : A → Saids) {r : Result A g.Reported} → Exact said r → Tells g j lawful (O front) (Mis front d.what) (r ▷ λ a. Ok tt)
       telling said h = says_tells g j lawful exports outside start taken nested block said front d h stand_here
 
-      says_it : {A : Type 0} (said : A → Saids) (made : A → Meaning) → ((a : A) → (said a).1 ≡ standing (made a)) → ((a : A) → d.makes ≡ (said a).0) → ((a : A) → standing_of (made a) ≡ place.Taken) → ((a : A) → is_own_variable start (made a) ≡ is_variables d.what) → {r : Result A g.Reported} → Exact said r
+      says_it : {A : Type 0} (said : A → Saids) (made : A → Meaning) → ((a : A) → (said a).1 ≡ standing (made a)) → ((a : A) → d.adds ≡ (said a).0) → ((a : A) → standing_of (made a) ≡ place.Taken) → ((a : A) → is_own_variable start (made a) ≡ is_variables d.what) → {r : Result A g.Reported} → Exact said r
           → Saying g j exports outside start taken nested block front d (known.Declared Here (r ▷ λ a. Ok (made a)))
       says_it said made i e t w h = saying g j lawful exports outside start taken nested block said front d made i h (λ a q. e a) unknown t w stand_here
 
@@ -216,45 +228,58 @@ module _ (g : Gathers) (j : Judges g) (lawful : Lawful g j) (exports : ℕ → I
   name_only (y, later m, e) = elim m [ ]
 
   abbrev plain_one : Declaration → Resolved
-  plain_one d = record { what = d; makes = [] }
+  plain_one d = record { what = d; adds = nothing_added }
 
   -- ---- constants
 
   module _ (front : List Resolved) (c : Constant) (ds : List Declaration) (free : IsCallFree c.value) where
     constant_exact : {s : Scope g.Reported} (k : KB front (OfConstant c ∷ ds) (Adding (c.name ∷ []) (Th front)) s) → Exactly g j lawful exports outside start taken nested block said_constant front (OfConstant c) (constant g s (part g c.value))
-    constant_exact {s = s} k names all = more_answers g j lawful (O front) (Repeat front (plain_one (OfConstant c)) ds refl refl refl k all) (constant_says g j lawful nested (T front) names exports s (Read front (plain_one (OfConstant c)) ds refl refl refl k all) k.same.types c free)
+    constant_exact {s = s} k names all = more_answers g j lawful (O front) (Repeat front (plain_one (OfConstant c)) ds refl refl refl k all) (constant_says g j lawful nested (T front) names (SetAt front (OfConstant c) names).there exports s (Read front (plain_one (OfConstant c)) ds refl refl refl k all) k.same.types c free)
 
     declare_constant : {s : Scope g.Reported} {r : Result (Unit {0}) g.Reported} → KB front (OfConstant c ∷ ds) (Th front) s → Told front r → Stepped front (plain_one (OfConstant c)) ds (with_constant g (s, r) c)
     declare_constant k t = let b = begin_one g j lawful exports outside start taken nested block takes (O front) front (OfConstant c) ds refl (Th front) c.name (c.name, here, refl) k in
         let h = constant_exact b.0 in (
           ended front (plain_one (OfConstant c)) ds refl refl refl b.0 (mid_as g j lawful exports outside start taken nested block takes front (plain_one (OfConstant c)) ds (Adding (c.name ∷ []) (Th front)) (λ n z. only_name z) (λ n z. name_only z)
-              (one_finished front (plain_one (OfConstant c)) ds refl refl refl b.0 c.name here (says_it front (plain_one (OfConstant c)) ds refl refl refl b.0 said_constant (λ v. meaning.Constant v) (λ v. refl) (λ v. refl) (λ v. refl) (λ v. refl) h) (λ n. ⊥) (begun_mid front (plain_one (OfConstant c)) ds refl refl refl b.0 (begun_same front (plain_one (OfConstant c)) ds refl refl refl b.0 refl (no_made (begin_name g _ c.name).0)) refl))),
+              (one_finished front (plain_one (OfConstant c)) ds refl refl refl b.0 c.name here (says_it front (plain_one (OfConstant c)) ds refl refl refl b.0 said_constant (λ v. meaning.Constant v) (λ v. refl) (λ v. refl) (λ v. refl) (λ v. refl) h) (λ n. ⊥) (begun_mid front (plain_one (OfConstant c)) ds refl refl refl b.0 (begin_name g _ c.name).0.own (no_made (begin_name g _ c.name).0) (λ n. refl) (λ n. fails_it (λ z. elim z.1 [ ])) rules.constant_brings))),
           told_one front (plain_one (OfConstant c)) ds refl refl refl refl t b.1 (telling front (plain_one (OfConstant c)) ds refl refl refl b.0 said_constant h),
+          rules.is_added (stand_here front (plain_one (OfConstant c)) ds refl refl refl b.0) rules.constant_brings,
         )
 
   -- ---- types
 
-  abbrev typed_one : Declaration → List Made → Resolved
-  typed_one d ms = record { what = d; makes = ms }
+  abbrev typed_one : Declaration → Added → Resolved
+  typed_one d a = record { what = d; adds = a }
 
   abbrev ReadType : Scope g.Reported → TypeExpr → State TypeNo g.Reported → Type 0
-  ReadType s e q = TypeRead g j lawful exports s (TypeIs g j lawful exports s e) (TypeFails g j lawful exports s e) q
+  ReadType s e q = Read_type g j lawful exports s e q
+
+  -- where types are known to be others
+  abbrev at_types : Types → (Ident → Standing) → (List ℕ → Bool) → Setting
+  at_types types names there = record { types = types; names = names; there = there }
 
   module _ (front : List Resolved) (d : TypeDecl) (ds : List Declaration) {s : Scope g.Reported} (k : KB front (OfType d ∷ ds) (Adding (d.name ∷ []) (Th front)) s) (q : State TypeNo g.Reported) (read : ReadType s d.of q) where
     abbrev one : Resolved
-    one = typed_one (OfType d) read.ms
+    one = typed_one (OfType d) read.adds
 
-    type_exact : Exactly g j lawful exports outside start taken nested block (said_type read.ms) front (OfType d) q.1
-    type_exact names all = more_answers g j lawful (O front) (Repeat front one ds refl refl refl k all) (of_type_says g j lawful nested (T front) names exports s (Read front one ds refl refl refl k all) k.same.types d read.ms
-        (subst (λ (types : Types). Answers g j (Repeats g j names s) (λ a k. k ≡ (read.ms, a)) (λ (k : MadeType). IsTypeOf names exports types d.of k.0 k.1) (BrokenType names exports types d.of) q.1) k.same.types (read.exact names (Read front one ds refl refl refl k all))))
+    abbrev names_in_type : Ident → Standing
+    names_in_type = names_here front one ds refl refl refl k
+
+    type_brings : Brings exports (SetAt front (OfType d) names_in_type) (Th front) (OfType d) read.adds
+    type_brings = rules.type_brings (subst (λ (types : Types). Adds exports (at_types types names_in_type (SetAt front (OfType d) names_in_type).there) d.of read.adds) k.same.types
+        (read.added names_in_type (SetAt front (OfType d) names_in_type).there (Read front one ds refl refl refl k (stand_here front one ds refl refl refl k)) (frees_here front one ds refl refl refl k)))
+
+    type_exact : Exactly g j lawful exports outside start taken nested block (said_type read.adds) front (OfType d) q.1
+    type_exact names all = more_answers g j lawful (O front) (Repeat front one ds refl refl refl k all) (of_type_says g j lawful nested (T front) names (SetAt front (OfType d) names).there exports s (Read front one ds refl refl refl k all) k.same.types d read.adds
+        (subst (λ (types : Types). Answers g j (Repeats g j names s) (λ a k. k ≡ (read.adds, a)) (λ (k : MadeType). IsTypeOf exports (at_types types names (SetAt front (OfType d) names).there) d.of k.0 k.1) (BrokenType exports (at_types types names (SetAt front (OfType d) names).there) d.of) q.1) k.same.types (read.exact names (SetAt front (OfType d) names).there (Read front one ds refl refl refl k all) (frees_here front one ds refl refl refl k))))
 
     type_ended : {r b : Result (Unit {0}) g.Reported} → Told front r → Tells g j lawful (O front) (λ f. Th front d.name.name × (f ≡ d.name.pos ! rule.DeclaredTwice)) b
         → Stepped front one ds (finish_name q.0 d.name (type_meaning q.1 (brings_with d.of)), beside g r (beside g b (nothing_of q.1)))
     type_ended t w = let h = type_exact in (
       ended front one ds refl refl refl k (mid_as g j lawful exports outside start taken nested block takes front one ds (Adding (d.name ∷ []) (Th front)) (λ n z. only_name z) (λ n z. name_only z)
-          (one_finished front one ds refl refl refl k d.name here (says_it front one ds refl refl refl k (said_type read.ms) (λ t. meaning.Type t (brings_with d.of)) (λ t. refl) (λ t. refl) (λ t. refl) (λ t. refl) h) (λ n. ⊥)
-          (begun_mid front one ds refl refl refl k (begun_same front one ds refl refl refl k refl read.is) (ap (λ (u : Scope g.Reported). u.own) read.is)))),
-      told_one front one ds refl refl refl refl t w (telling front one ds refl refl refl k (said_type read.ms) h),
+          (one_finished front one ds refl refl refl k d.name here (says_it front one ds refl refl refl k (said_type read.adds) (λ t. meaning.Type t (brings_with d.of)) (λ t. refl) (λ t. refl) (λ t. refl) (λ t. refl) h) (λ n. ⊥)
+          (begun_mid front one ds refl refl refl k read.own read.is read.enters read.constants type_brings))),
+      told_one front one ds refl refl refl refl t w (telling front one ds refl refl refl k (said_type read.adds) h),
+      rules.is_added (stand_here front one ds refl refl refl k) type_brings,
     )
 
   abbrev One : List Resolved → Declaration → List Declaration → State (Unit {0}) g.Reported → Type 0
@@ -263,17 +288,24 @@ module _ (g : Gathers) (j : Judges g) (lawful : Lawful g j) (exports : ℕ → I
   declare_type : (front : List Resolved) (d : TypeDecl) (ds : List Declaration) → IsPlainType d.of → {s : Scope g.Reported} {r : Result (Unit {0}) g.Reported} → KB front (OfType d ∷ ds) (Th front) s → Told front r → One front (OfType d) ds (with_type g (s, r) d)
   declare_type front d ds i {s = s} k t = let b = begin_one g j lawful exports outside start taken nested block takes (O front) front (OfType d) ds refl (Th front) d.name (d.name, here, refl) k in
       let read = type_read g j lawful exports i (begin_name g s d.name).0 b.0.same.withs in
-      (typed_one (OfType d) read.ms, refl, type_ended front d ds b.0 (type_of g d.of (begin_name g s d.name).0) read t b.1)
+      (typed_one (OfType d) read.adds, refl, type_ended front d ds b.0 (type_of g d.of (begin_name g s d.name).0) read t b.1)
 
   -- ---- variables
 
   module _ (front : List Resolved) (v : Variables) (ds : List Declaration) {s : Scope g.Reported} (k : KB front (OfVariables v ∷ ds) (Adding v.names (Th front)) s) (q : State TypeNo g.Reported) (read : ReadType s v.of q) where
     abbrev many : Resolved
-    many = typed_one (OfVariables v) read.ms
+    many = typed_one (OfVariables v) read.adds
 
-    variables_exact : Exactly g j lawful exports outside start taken nested block (said_variables read.ms) front (OfVariables v) q.1
-    variables_exact names all = more_answers g j lawful (O front) (Repeat front many ds refl refl refl k all) (variables_say g j lawful nested (T front) names exports s (Read front many ds refl refl refl k all) k.same.types v read.ms
-        (subst (λ (types : Types). Answers g j (Repeats g j names s) (λ a k. k ≡ (read.ms, a)) (λ (k : MadeType). IsTypeOf names exports types v.of k.0 k.1) (BrokenType names exports types v.of) q.1) k.same.types (read.exact names (Read front many ds refl refl refl k all))))
+    abbrev names_in_list : Ident → Standing
+    names_in_list = names_here front many ds refl refl refl k
+
+    variables_bring : Brings exports (SetAt front (OfVariables v) names_in_list) (Th front) (OfVariables v) read.adds
+    variables_bring = rules.variables_bring (subst (λ (types : Types). Adds exports (at_types types names_in_list (SetAt front (OfVariables v) names_in_list).there) v.of read.adds) k.same.types
+        (read.added names_in_list (SetAt front (OfVariables v) names_in_list).there (Read front many ds refl refl refl k (stand_here front many ds refl refl refl k)) (frees_here front many ds refl refl refl k)))
+
+    variables_exact : Exactly g j lawful exports outside start taken nested block (said_variables read.adds) front (OfVariables v) q.1
+    variables_exact names all = more_answers g j lawful (O front) (Repeat front many ds refl refl refl k all) (variables_say g j lawful nested (T front) names (SetAt front (OfVariables v) names).there exports s (Read front many ds refl refl refl k all) k.same.types v read.adds
+        (subst (λ (types : Types). Answers g j (Repeats g j names s) (λ a k. k ≡ (read.adds, a)) (λ (k : MadeType). IsTypeOf exports (at_types types names (SetAt front (OfVariables v) names).there) v.of k.0 k.1) (BrokenType exports (at_types types names (SetAt front (OfVariables v) names).there) v.of) q.1) k.same.types (read.exact names (SetAt front (OfVariables v) names).there (Read front many ds refl refl refl k all) (frees_here front many ds refl refl refl k))))
 
     abbrev MidOf : (List ℕ → Type 0) → Scope g.Reported → Type 0
     MidOf done t = Mid front many ds refl refl refl k done t
@@ -287,22 +319,22 @@ module _ (g : Gathers) (j : Judges g) (lawful : Lawful g j) (exports : ℕ → I
     OwnMade made = (t : Scope g.Reported) → t.types ≡ T (many ∷ front) → t.level ≡ start.level → (a : TypeNo) → is_own_variable start (made t a) ≡ true
 
     -- one variable after another
-    finish_each : (made : Scope g.Reported → TypeNo → Meaning) → ((t : Scope g.Reported) (a : TypeNo) → (said_variables read.ms a).1 ≡ standing (made t a)) → ((t : Scope g.Reported) (a : TypeNo) → standing_of (made t a) ≡ place.Taken) → OwnMade made → (xs : List Ident) → ((x : Ident) → Among x xs → Among x v.names) → (done : List ℕ → Type 0) {t : Scope g.Reported} → MidOf done t
+    finish_each : (made : Scope g.Reported → TypeNo → Meaning) → ((t : Scope g.Reported) (a : TypeNo) → (said_variables read.adds a).1 ≡ standing (made t a)) → ((t : Scope g.Reported) (a : TypeNo) → standing_of (made t a) ≡ place.Taken) → OwnMade made → (xs : List Ident) → ((x : Ident) → Among x xs → Among x v.names) → (done : List ℕ → Type 0) {t : Scope g.Reported} → MidOf done t
         → MidOf (Adding xs done) (fold (λ t x. finish_name (with_variable_type t q.1) x (q.1 ▷ λ a. Ok (made t a))) t xs)
     finish_each made i z w [] a done m = m
     finish_each made i z w (x ∷ xs) a done {t = t} m = finish_each made i z w xs (λ y n. a y (later n)) (λ n. (x.name ≡ n) ⊎ done n)
-        (one_finished front many ds refl refl refl k x (a x here) (says_it front many ds refl refl refl k (said_variables read.ms) (made t) (i t) (λ u. refl) (z t) (w t m.same.types m.same.level) variables_exact) done (typed_mid q.1 m))
+        (one_finished front many ds refl refl refl k x (a x here) (says_it front many ds refl refl refl k (said_variables read.adds) (made t) (i t) (λ u. refl) (z t) (w t m.same.types m.same.level) variables_exact) done (typed_mid q.1 m))
 
-    names_done : (n : List ℕ) → Adding v.names (λ n. ⊥) n → Declares (OfVariables v) n
+    names_done : (n : List ℕ) → Adding v.names (λ n. ⊥) n → Named v.names n
     names_done n h = elim (added v.names (λ n. ⊥) n h) [ inl w ↦ w | inr z ↦ absurd z ]
 
-    variables_ended : (made : Scope g.Reported → TypeNo → Meaning) → ((t : Scope g.Reported) (a : TypeNo) → (said_variables read.ms a).1 ≡ standing (made t a)) → ((t : Scope g.Reported) (a : TypeNo) → standing_of (made t a) ≡ place.Taken) → OwnMade made
+    variables_ended : (made : Scope g.Reported → TypeNo → Meaning) → ((t : Scope g.Reported) (a : TypeNo) → (said_variables read.adds a).1 ≡ standing (made t a)) → ((t : Scope g.Reported) (a : TypeNo) → standing_of (made t a) ≡ place.Taken) → OwnMade made
         → KB (many ∷ front) ds (Th (many ∷ front)) (fold (λ t x. finish_name (with_variable_type t q.1) x (q.1 ▷ λ a. Ok (made t a))) q.0 v.names)
     variables_ended made i z w = ended front many ds refl refl refl k (mid_as g j lawful exports outside start taken nested block takes front many ds (Adding v.names (Th front)) names_done (λ n h. adding_name v.names (λ n. ⊥) n h.0 h.1 h.2)
-        (finish_each made i z w v.names (λ x m. m) (λ n. ⊥) (begun_mid front many ds refl refl refl k (begun_same front many ds refl refl refl k refl read.is) (ap (λ (u : Scope g.Reported). u.own) read.is))))
+        (finish_each made i z w v.names (λ x m. m) (λ n. ⊥) (begun_mid front many ds refl refl refl k read.own read.is read.enters read.constants variables_bring)))
 
     variables_told : {b : Result (Unit {0}) g.Reported} → Tells g j lawful (O front) (λ f. BI front f ⊎ Twice (Th front) v.names f) b → Told (many ∷ front) (beside g b (nothing_of q.1))
-    variables_told t = told_list front many ds refl refl refl t (telling front many ds refl refl refl k (said_variables read.ms) variables_exact)
+    variables_told t = told_list front many ds refl refl refl t (telling front many ds refl refl refl k (said_variables read.adds) variables_exact)
 
     abbrev variable_made : Scope g.Reported → TypeNo → Meaning
     variable_made t a = meaning.Variable (record { home = t.types.home; number = length t.variables; of = a })
@@ -317,26 +349,26 @@ module _ (g : Gathers) (j : Judges g) (lawful : Lawful g j) (exports : ℕ → I
     own_local t e l a = let z : t.level ≡ start.level = l in grind (arith, nat_tests, z)
 
     module_ended : {b : Result (Unit {0}) g.Reported} → Tells g j lawful (O front) (λ f. BI front f ⊎ Twice (Th front) v.names f) b → Stepped front many ds (fold (finished_variable q.1) q.0 v.names, beside g b (nothing_of q.1))
-    module_ended t = (variables_ended variable_made (λ t a. refl) (λ t a. refl) own_made, variables_told t)
+    module_ended t = (variables_ended variable_made (λ t a. refl) (λ t a. refl) own_made, variables_told t, rules.is_added (stand_here front many ds refl refl refl k) variables_bring)
 
     local_ended : {b : Result (Unit {0}) g.Reported} → Tells g j lawful (O front) (λ f. BI front f ⊎ Twice (Th front) v.names f) b → Stepped front many ds (fold (finished_local q.1) q.0 v.names, beside g b (nothing_of q.1))
-    local_ended t = (variables_ended local_made (λ t a. refl) (λ t a. refl) own_local, variables_told t)
+    local_ended t = (variables_ended local_made (λ t a. refl) (λ t a. refl) own_local, variables_told t, rules.is_added (stand_here front many ds refl refl refl k) variables_bring)
 
   begun_list : (front : List Resolved) (v : Variables) (ds : List Declaration) {s : Scope g.Reported} {r : Result (Unit {0}) g.Reported} → KB front (OfVariables v ∷ ds) (Th front) s → Told front r
       → KB front (OfVariables v ∷ ds) (Adding v.names (Th front)) (fold (begun_name g) (s, r) v.names).0 × Tells g j lawful (O front) (λ f. BI front f ⊎ Twice (Th front) v.names f) (fold (begun_name g) (s, r) v.names).1
-  begun_list front v ds k t = begin_all g j lawful exports outside start taken nested block takes (O front) front (OfVariables v) ds refl v.names (Th front) (λ x m. (x, m, refl)) k (told_here t)
+  begun_list front v ds k t = begin_all g j lawful exports outside start taken nested block takes (O front) front (OfVariables v) ds refl v.names (Th front) (λ x m. named_left (constants_in v.of) (x, m, refl)) k (told_here t)
 
   declare_variables : (front : List Resolved) (v : Variables) (ds : List Declaration) → IsPlainType v.of → {s : Scope g.Reported} {r : Result (Unit {0}) g.Reported} → KB front (OfVariables v ∷ ds) (Th front) s → Told front r → One front (OfVariables v) ds (with_variables g (s, r) v)
   declare_variables front v ds i {s = s} {r = r} k t = let b = begun_list front v ds k t in
       let u = (fold (begun_name g) (s, r) v.names).0 in
       let read = type_read g j lawful exports i u b.0.same.withs in
-      (typed_one (OfVariables v) read.ms, refl, module_ended front v ds b.0 (type_of g v.of u) read b.1)
+      (typed_one (OfVariables v) read.adds, refl, module_ended front v ds b.0 (type_of g v.of u) read b.1)
 
   declare_locals : (front : List Resolved) (v : Variables) (ds : List Declaration) → IsPlainType v.of → {s : Scope g.Reported} {r : Result (Unit {0}) g.Reported} → KB front (OfVariables v ∷ ds) (Th front) s → Told front r → One front (OfVariables v) ds (with_locals g (s, r) v)
   declare_locals front v ds i {s = s} {r = r} k t = let b = begun_list front v ds k t in
       let u = (fold (begun_name g) (s, r) v.names).0 in
       let read = type_read g j lawful exports i u b.0.same.withs in
-      (typed_one (OfVariables v) read.ms, refl, local_ended front v ds b.0 (type_of g v.of u) read b.1)
+      (typed_one (OfVariables v) read.adds, refl, local_ended front v ds b.0 (type_of g v.of u) read b.1)
 
   -- ---- names of formals
 
@@ -414,10 +446,13 @@ module _ (g : Gathers) (j : Judges g) (lawful : Lawful g j) (exports : ℕ → I
     stand_now = all_stand g j exports outside start taken nested block knows no_withs k
 
     procedure_exact : ExactHeading (heading_of g s h)
-    procedure_exact names all = more_answers g j lawful (O front) (repeating g j exports outside start taken nested block knows no_withs k all) (procedure_says g j lawful nested (T front) names exports s (knowing g j exports outside start taken nested block knows no_withs k all) k.same.types h)
+    procedure_exact names all = more_answers g j lawful (O front) (repeating g j exports outside start taken nested block knows no_withs k all) (procedure_says g j lawful nested (T front) names (SetAt front (OfProcedure h) names).there exports s (knowing g j exports outside start taken nested block knows no_withs k all) k.same.types h)
+
+    abbrev heading_adds : List Made → Added
+    heading_adds ms = record { makes = ms; brings = [] }
 
     abbrev heading_with : List Made → Resolved
-    heading_with ms = record { what = OfProcedure h; makes = ms }
+    heading_with ms = record { what = OfProcedure h; adds = heading_adds ms }
 
     theres_apart : {n : List ℕ} → taken n ≡ false → (IsThere front n → ⊥) → Th front n → ⊥
     theres_apart t c (inl u) = clash u t
@@ -431,7 +466,7 @@ module _ (g : Gathers) (j : Judges g) (lawful : Lawful g j) (exports : ℕ → I
     taken_ends th = finish_end g j lawful exports outside start taken nested block takes front (heading_with []) ds (Th front) k.within k.in_block k.left (λ n m. subst (Th front) (declared_name m) th) (λ n t. inr t)
         (record {
           same = record { withs = k.same.withs; outer = k.same.outer; types = k.same.types ∙ sym (no_types (T front)); tables = k.same.tables; level = k.same.level };
-          own = λ n. is_other (λ t c m. theres_apart t c (subst (Th front) (declared_name m) th)) (k.own n);
+          own = λ n. is_other (λ t c m. theres_apart t c (subst (Th front) (declared_name m) th)) (λ t c o m. elim m.1 [ ]) (k.own n);
         })
 
     -- a new name
@@ -441,8 +476,8 @@ module _ (g : Gathers) (j : Judges g) (lawful : Lawful g j) (exports : ℕ → I
         (record {
           same = record { withs = same.withs; outer = same.outer; types = same.types; tables = same.tables; level = same.level };
           own = entered_all (λ n o. MidAs g j lawful exports outside start taken nested block takes front (heading_with ms) ds (λ n. (h.name.name ≡ n) ⊎ Th front n) (Declares (OfProcedure h)) n o) h.name.name m t.own
-              (is_done m (no_taken (taken h.name.name) refl) (λ a. new (inr a)) (h.name, here, refl) say)
-              (λ n c. is_other (λ u w z. c (declared_name z)) (subst (λ (own : List (List ℕ × Known g.Reported)). KnownAs g j exports outside start taken nested block front (λ n. (h.name.name ≡ n) ⊎ Th front n) n (find_name n own)) (sym e) (widen g j lawful exports outside start taken nested block takes h.name (λ q. absurd (c q)) (k.own n))));
+              (is_done m (no_taken (taken h.name.name) refl) (λ a. new (inr a)) (h.name, here, refl) (h.name, here, refl) say)
+              (λ n c. is_other (λ u w z. c (declared_name z)) (λ t w o z. elim z.1 [ ]) (subst (λ (own : List (List ℕ × Known g.Reported)). KnownAs g j exports outside start taken nested block front (λ n. (h.name.name ≡ n) ⊎ Th front n) n (find_name n own)) (sym e) (widen g j lawful exports outside start taken nested block takes h.name (λ q. absurd (c q)) (k.own n))));
         })
       where
         no_taken : (b : Bool) → taken h.name.name ≡ b → taken h.name.name ≡ false
@@ -451,7 +486,7 @@ module _ (g : Gathers) (j : Judges g) (lawful : Lawful g j) (exports : ℕ → I
 
     -- what its heading means
     says_heading : (ms : List Made) (made : Made → Meaning) → ((m : Made) → (said m).1 ≡ standing (made m)) → ((m : Made) → is_own_variable start (made m) ≡ false) → {r : Result Made g.Reported} → ExactHeading r → ((m : Made) → r ≡ Ok m → ms ≡ m ∷ []) → Saying g j exports outside start taken nested block front (heading_with ms) (known.Headed (r ▷ λ m. Ok (made m)))
-    says_heading ms made i w x e = saying_heading g j lawful exports outside start taken nested block said front (heading_with ms) made i x e refl (λ m. w m) stand_now
+    says_heading ms made i w x e = saying_heading g j lawful exports outside start taken nested block said front (heading_with ms) made i x (λ m z. ap (λ (ms : List Made). heading_adds ms) (e m z)) refl (λ m. w m) stand_now
 
     types_next : next_type (T front) ≡ next_type s.types
     types_next = ap (λ (t : Types). next_type t) (sym k.same.types)
@@ -528,26 +563,42 @@ module _ (g : Gathers) (j : Judges g) (lawful : Lawful g j) (exports : ℕ → I
 
     -- all of it
     abbrev DoneHeading : State (Unit {0}) g.Reported → Result (Unit {0}) g.Reported → Type 0
-    DoneHeading st r = (ms : List Made) × KB (heading_with ms ∷ front) ds (Th (heading_with ms ∷ front)) st.0 × Told (heading_with ms ∷ front) (beside g r (beside g (formals_told g h) st.1))
+    DoneHeading st r = (ms : List Made) × KB (heading_with ms ∷ front) ds (Th (heading_with ms ∷ front)) st.0 × Told (heading_with ms ∷ front) (beside g r (beside g (formals_told g h) st.1)) × Add front (heading_with ms)
+
+    -- the type that it makes
+    abbrev BringsHere : Added → Type 0
+    BringsHere a = Brings exports (SetAt front (OfProcedure h) names_now) (Th front) (OfProcedure h) a
+
+    heading_brings : {a : Added} {s : Standing} → (Th front h.name.name → ⊥) → Says exports (SetAt front (OfProcedure h) names_now) nested (OfProcedure h) a s → BringsHere a
+    heading_brings new (rules.a_procedure i) = rules.procedure_brings new i
+
+    made_brings : (m : Made) → (Th front h.name.name → ⊥) → Answers g j (O front) (λ a k. k ≡ said a) (λ k. Says exports (SetAt front (OfProcedure h) names_now) nested (OfProcedure h) k.0 k.1) (Misdeclares exports (SetAt front (OfProcedure h) names_now) (OfProcedure h)) (Ok m) → BringsHere (heading_adds (m ∷ []))
+    made_brings m new (means _ k i z u n) = subst BringsHere (ap (λ (x : Saids). x.0) i) (heading_brings new z)
+
+    none_brings : (r : g.Reported) → Answers g j (O front) (λ a k. k ≡ said a) (λ k. Says exports (SetAt front (OfProcedure h) names_now) nested (OfProcedure h) k.0 k.1) (Misdeclares exports (SetAt front (OfProcedure h) names_now) (OfProcedure h)) (Err r) → BringsHere nothing_added
+    none_brings r (refuses _ c n) = rules.no_heading (λ x i. n (type_added (procedure_made x), things.Known (procedure nested (next_type (T front)))) (rules.a_procedure i))
 
     new_by : (n : ℕ) (made : Result Made g.Reported) → ExactHeading made → (Th front h.name.name → ⊥) → {r : Result (Unit {0}) g.Reported} → Told front r → DoneHeading (with_new s h.name.name n made) r
-    new_by n (Ok m) x new t = (m ∷ [], made_ends n m x new (s.level == 0) refl level_same, told_new (m ∷ []) new t (formals_tell (O front) h) (telling_heading x))
-    new_by n (Err e) x new t = ([], none_ends n e x new (s.level == 0) refl level_same, told_new [] new t (formals_tell (O front) h) (telling_heading x))
+    new_by n (Ok m) x new t = (m ∷ [], made_ends n m x new (s.level == 0) refl level_same, told_new (m ∷ []) new t (formals_tell (O front) h) (telling_heading x), rules.is_added stand_now (made_brings m new (x names_now stand_now)))
+    new_by n (Err e) x new t = ([], none_ends n e x new (s.level == 0) refl level_same, told_new [] new t (formals_tell (O front) h) (telling_heading x), rules.is_added stand_now (none_brings e (x names_now stand_now)))
 
     headed_by : (n : ℕ) (made : Result Made g.Reported) → ExactHeading made → {pl : Place} → PlaceIs g j lawful exports outside start taken nested block takes front (Th front) k.includes h.name.name (k.in_block h.name.name (OfProcedure h, here, (h.name, here, refl))) pl → {r : Result (Unit {0}) g.Reported} → Told front r → DoneHeading (headed_as g s h n made pl) r
     headed_by n made x (place_free new) t = new_by n made x new t
-    headed_by n made x (place_taken th) t = ([], taken_ends th, told_taken th t (formals_tell (O front) h) (telling_heading x))
+    headed_by n made x (place_taken th) t = ([], taken_ends th, told_taken th t (formals_tell (O front) h) (telling_heading x), rules.is_added stand_now (rules.name_there th))
 
     declare_procedure : (n : ℕ) {r : Result (Unit {0}) g.Reported} → Told front r → (ms : List Made) × Stepped front (heading_with ms) ds ((with_heading g s n h).0, beside g r (with_heading g s n h).1)
-    declare_procedure n t = let q = headed_by n (heading_of g s h) procedure_exact (place_is g j lawful exports outside start taken nested block takes front (Th front) k.includes h.name.name (k.in_block h.name.name (OfProcedure h, here, (h.name, here, refl))) (λ d i t c. theres_apart t c) (k.own h.name.name)) t in (q.0, (q.1, q.2))
+    declare_procedure n t = let q = headed_by n (heading_of g s h) procedure_exact (place_is g j lawful exports outside start taken nested block takes front (Th front) k.includes h.name.name (k.in_block h.name.name (OfProcedure h, here, (h.name, here, refl))) (λ d i t c. theres_apart t c) (k.own h.name.name)) t in (q.0, (q.1, q.2, q.3))
 
   -- ---- one declaration after another
 
+  abbrev AddAll : List Resolved → Type 0
+  AddAll = AllAdded start.types exports outside taken nested block
+
   abbrev Ran : List Resolved → List Declaration → List Declaration → State (Unit {0}) g.Reported → Type 0
-  Ran front xs rest st = (fs : List Resolved) × (in_order fs ≡ in_order front ++ xs) × (KB fs rest (Th fs) st.0 × Told fs st.1)
+  Ran front xs rest st = (fs : List Resolved) × (in_order fs ≡ in_order front ++ xs) × (KB fs rest (Th fs) st.0 × Told fs st.1 × (AddAll front → AddAll fs))
 
   ran_nothing : {front : List Resolved} {rest : List Declaration} {s : Scope g.Reported} {r : Result (Unit {0}) g.Reported} → KB front rest (Th front) s → Told front r → Ran front [] rest (s, r)
-  ran_nothing {front = front} k t = (front, sym (nil_right (in_order front)), (k, t))
+  ran_nothing {front = front} k t = (front, sym (nil_right (in_order front)), (k, t, λ a. a))
 
   in_order_more : (front fs : List Resolved) (d : Resolved) (xs : List Declaration) {x : Declaration} → d.what ≡ x → in_order fs ≡ in_order (d ∷ front) ++ xs → in_order fs ≡ in_order front ++ x ∷ xs
   in_order_more front fs d xs e q = q ∙ append_assoc (in_order front) (d.what ∷ []) xs ∙ ap (λ (x : Declaration). in_order front ++ x ∷ xs) e
@@ -561,7 +612,7 @@ module _ (g : Gathers) (j : Judges g) (lawful : Lawful g j) (exports : ℕ → I
     section_ran [] h front rest k t = ran_nothing k t
     section_ran (x ∷ xs) h front rest {s = s} {r = r} k t = let q = h x here front (map of xs ++ rest) s r k t in
         let z = section_ran xs (λ y m. h y (later m)) (q.0 ∷ front) rest q.2.0 q.2.1 in
-        (z.0, in_order_more front z.0 q.0 (map of xs) q.1 z.1, z.2)
+        (z.0, in_order_more front z.0 q.0 (map of xs) q.1 z.1, (z.2.0, z.2.1, λ a. z.2.2 (rules.each_added q.2.2 a)))
 
   -- ---- all of a block
 
@@ -576,7 +627,7 @@ module _ (g : Gathers) (j : Judges g) (lawful : Lawful g j) (exports : ℕ → I
 
     procedure_ran : (h : Heading) (n : ℕ) (front : List Resolved) (rest : List Declaration) {s : Scope g.Reported} {r : Result (Unit {0}) g.Reported} → KB front (OfProcedure h ∷ rest) (Th front) s → Told front r
         → Ran front (OfProcedure h ∷ []) rest ((with_heading g s n h).0, beside g r (with_heading g s n h).1)
-    procedure_ran h n front rest k t = let q = declare_procedure level front h rest k n t in (record { what = OfProcedure h; makes = q.0 } ∷ front, refl, q.1)
+    procedure_ran h n front rest k t = let q = declare_procedure level front h rest k n t in (record { what = OfProcedure h; adds = record { makes = q.0; brings = [] } } ∷ front, refl, (q.1.0, q.1.1, λ a. rules.each_added q.1.2 a))
 
     layer_ran : (y : Decl-F Decl Block) → IsPlainLayer y → (front : List Resolved) (rest : List Declaration) (n : ℕ) {s : Scope g.Reported} {r : Result (Unit {0}) g.Reported} → KB front (declared_by y ++ rest) (Th front) s → Told front r
         → Ran front (declared_by y) rest ((decl_layer g ends (s, r, n) y).0, (decl_layer g ends (s, r, n) y).1)
@@ -590,7 +641,7 @@ module _ (g : Gathers) (j : Judges g) (lawful : Lawful g j) (exports : ℕ → I
     all_ran [] i front n k t = ran_nothing k t
     all_ran (d ∷ ds) i front n k t = let q = layer_ran (out-Decl d) (i d here) front (declarations_of ds) n k t in
         let z = all_ran ds (λ c m. i c (later m)) q.0 _ q.2.0 q.2.1 in
-        (z.0, z.1 ∙ ap (λ (xs : List Declaration). xs ++ declarations_of ds) q.1 ∙ append_assoc (in_order front) (declared_by (out-Decl d)) (declarations_of ds), z.2)
+        (z.0, z.1 ∙ ap (λ (xs : List Declaration). xs ++ declarations_of ds) q.1 ∙ append_assoc (in_order front) (declared_by (out-Decl d)) (declarations_of ds), (z.2.0, z.2.1, λ a. z.2.2 (q.2.2 a)))
 
 module _ (g : Gathers) (j : Judges g) (lawful : Lawful g j) (exports : ℕ → Ident → Standing) (outside : Ident → Standing) (start : Scope g.Reported) (taken : List ℕ → Bool) (knows : Knows g j outside exports start) (no_withs : start.withs ≡ []) (takes : (n : List ℕ) → TakenAs g j (taken n) (find_name n start.own)) (ends : List ℕ) (first : ℕ) (ds : List Decl) (plain : ArePlainDecls ds) where
   abbrev block : List Declaration
@@ -612,6 +663,7 @@ module _ (g : Gathers) (j : Judges g) (lawful : Lawful g j) (exports : ℕ → I
     in_text = all_of_it.1;
     reported = reports all_of_it.2.1;
     types = all_of_it.2.0.same.types;
+    added = all_of_it.2.2 rules.nothing_declared;
     stand = (standings g j exports outside start taken (is_nested start) block knows no_withs all_of_it.2.0, all_stand g j exports outside start taken (is_nested start) block knows no_withs all_of_it.2.0);
     owned = λ outers own owns all. owning g j exports outside start taken (is_nested start) block knows no_withs all_of_it.2.0 outers owns own all;
     own = λ outers owns. some_own g j exports outside start taken (is_nested start) block knows no_withs all_of_it.2.0 outers owns;

@@ -1,6 +1,6 @@
 -- What a scope knows of the names of a block.
 use Rattle.std.proofs.Common.{◌≡◌, ℕ, Bool, true, false, List, [], ◌∷◌, Option, Some, Result, Err, ◌⊎◌, inl, inr, sym, ap, subst, ◌∙◌, Ok, refl}
-use Rattle.std.specs.Prelude.{slice_get, ◌&&◌, ◌==◌}
+use Rattle.std.specs.Prelude.{slice_get, pos, ◌&&◌, ◌==◌}
 use Rattle.check_stmt_parts.specs.Control.{is_own}
 use Rattle.m2_rule.specs.declared.breach.Breach.{Breach}
 use Rattle.m2_tree.specs.declared.pos.Pos.{Pos}
@@ -12,6 +12,7 @@ use Rattle.typed_tree.specs.declared.known_types.Types.{Types}
 use Rattle.typed_tree.specs.Names.{find_name}
 use Rattle.check_scope.specs.declared.known.Known.{Known}
 use Rattle.check_scope.specs.declared.known.Known.TheVariants as known
+use Rattle.check_type_expr.specs.Made.{enumeration_constant}
 use Rattle.check_scope.specs.declared.meaningless.Meaningless.{Meaningless}
 use Rattle.check_scope.specs.declared.meaningless.Meaningless.TheVariants as meaningless
 use Rattle.check_scope.specs.declared.scope.Block.{Block}
@@ -24,10 +25,12 @@ use Rattle.check_block.specs.Headings.{standing_known}
 use Rattle.check_block.specs.declared.heading.Standing.TheVariants as place
 use Rattle.def_typing.specs.Things as things
 use Rattle.def_typing.specs.Things.{Headless, Standing, Undeclared, Unknown}
-use Rattle.def_typing.specs.Parts.{here, later}
+use Rattle.def_typing.specs.Parts.{here, later, Named}
+use Rattle.def_typing.specs.TypeExprs.{Member, member_stands}
 use Rattle.def_typing.specs.Declarations as rules
-use Rattle.def_typing.specs.Declarations.{Declaration, OfConstant, OfType, OfVariables, OfProcedure, Declares, AnyDeclares, IsFirst, at_first, later_on, Declared, IsThere, IsNamed, nearest, farther, types_behind, is_variables, in_front_of, IsOwn, StandsFor, Means, AllStand, There, BrokenIn}
+use Rattle.def_typing.specs.Declarations.{Declaration, OfConstant, OfType, OfVariables, OfProcedure, names_of, Declares, AnyDeclares, IsFirst, at_first, later_on, Declared, IsThere, IsNamed, nearest, farther, types_behind, is_variables, in_front_of, IsOwn, StandsFor, IsAdded, Means, AllStand, There, BrokenIn}
 use Rattle.law_typing.specs.Judging.{Judges}
+use Rattle.law_typing.proofs.Enumerating.{member_known}
 use Rattle.law_typing.specs.Exact.{is_own_variable, KnowsOwn, Sees, sees, sees_nothing, Exports, Knows, Repeats, of_heading, of_declaration}
 
 -- ---- the first declaration of a name
@@ -52,6 +55,9 @@ one_first P (at_first h) (later_on n k) p = absurd (n h)
 one_first P (later_on n i) (at_first k) p = absurd (n k)
 one_first P (later_on n i) (later_on m k) p = one_first P i k p
 
+one_member : {x y : Member} → ◌≡◌ {A = Option Member} (Some x) (Some y) → x ≡ y
+one_member e = cc
+
 -- how a name is marked before its declaration
 abbrev pub mark_of : {T : Type 0} → Declaration → Known T
 mark_of (OfProcedure h) = known.Ahead
@@ -63,6 +69,9 @@ module _ (g : Gathers) (j : Judges g) (exports : ℕ → Ident → Standing) (ou
 
   abbrev Meant : List Declared → Declared → Standing → Type 0
   Meant = Means start.types exports outside taken nested block
+
+  abbrev pub Added : List Declared → Declared → Type 0
+  Added = IsAdded start.types exports outside taken nested block
 
   abbrev pub All : List Declared → (Ident → Standing) → Type 0
   All = AllStand start.types exports outside taken nested block
@@ -87,7 +96,8 @@ module _ (g : Gathers) (j : Judges g) (exports : ℕ → Ident → Standing) (ou
     outer : {k : Option (Known g.Reported)} → (taken n ≡ false → AnyDeclares block n → ⊥) → k ≡ find_name n start.own → KnownAs front Th n k
     ahead : (d : Declaration) → taken n ≡ false → IsFirst n d block → (IsThere front n → ⊥) → (Th n → ⊥) → KnownAs front Th n (Some (mark_of d))
     reading : (d : Declaration) → taken n ≡ false → IsFirst n d block → (IsThere front n → ⊥) → Th n → in_front_of d ≡ Undeclared → KnownAs front Th n (Some known.Begun)
-    behind : {d : Declared} {before : List Declared} (k : Known g.Reported) → taken n ≡ false → IsNamed n d before front → Saying before d k → KnownAs front Th n (Some k)
+    behind : {d : Declared} {before : List Declared} (k : Known g.Reported) → taken n ≡ false → IsNamed n d before front → Named (names_of d.what) n → Saying before d k → KnownAs front Th n (Some k)
+    a_member : {d : Declared} {before : List Declared} {e : Member} → taken n ≡ false → IsNamed n d before front → (Named (names_of d.what) n → ⊥) → Added before d → find_name n d.adds.brings ≡ Some e → KnownAs front Th n (Some (member_known e))
 
   -- the scope is that at the start but for names of its own, types, variables and procedures
   pub record Same (known_types : Types) (s : Scope g.Reported) : Type 0 where
@@ -149,46 +159,61 @@ module _ (g : Gathers) (j : Judges g) (exports : ℕ → Ident → Standing) (ou
       K k = KnownAs front Th name.name k
 
       seen_known : {k : Option (Known g.Reported)} {s : Standing} → K k → Behind front name s → Sees g j name.pos s (looked k name)
-      seen_known (outer c e) (rules.declared t i m) = absurd (c t (within name.name (any_named i)))
+      seen_known (outer c e) (rules.declared t i o m) = absurd (c t (within name.name (any_named i)))
+      seen_known (outer c e) (rules.enumerated t i o a m) = absurd (c t (within name.name (any_named i)))
       seen_known (outer c e) (rules.not_yet t i n) = absurd (c t (any_first i))
       seen_known (outer c e) (rules.from_outside d) = outer_seen name e
-      seen_known (ahead d t i n b) (rules.declared u k m) = absurd (n (any_named k))
+      seen_known (ahead d t i n b) (rules.declared u k o m) = absurd (n (any_named k))
+      seen_known (ahead d t i n b) (rules.enumerated u k o a m) = absurd (n (any_named k))
       seen_known (ahead d t i n b) (rules.not_yet {d = c} u k m) = one_first (λ (x : Declaration). Sees g j name.pos (in_front_of c) (looked (Some (mark_of x)) name)) i k (mark_seen name c)
       seen_known (ahead d t i n b) (rules.from_outside c) = absurd (c t (any_first i))
-      seen_known (reading d t i n b e) (rules.declared u k m) = absurd (n (any_named k))
+      seen_known (reading d t i n b e) (rules.declared u k o m) = absurd (n (any_named k))
+      seen_known (reading d t i n b e) (rules.enumerated u k o a m) = absurd (n (any_named k))
       seen_known (reading d t i n b e) (rules.not_yet {d = c} u k m) = subst (λ (s : Standing). Sees g j name.pos s (looked (Some known.Begun) name)) (sym (one_first (λ (x : Declaration). in_front_of x ≡ Undeclared) k i e)) sees_nothing
       seen_known (reading d t i n b e) (rules.from_outside c) = absurd (c t (any_first i))
-      seen_known {s = st} (behind k t i s) (rules.declared u q m) = s.seen st (one_named (λ b d. Meant b d st) i q m) name.pos
-      seen_known (behind k t i s) (rules.not_yet u q n) = absurd (n (any_named i))
-      seen_known (behind k t i s) (rules.from_outside c) = absurd (c t (within name.name (any_named i)))
+      seen_known {s = st} (behind k t i o s) (rules.declared u q w m) = s.seen st (one_named (λ b d. Meant b d st) i q m) name.pos
+      seen_known (behind {d = d} k t i o s) (rules.enumerated u q w a m) = absurd (one_named (λ b c. Named (names_of c.what) name.name → ⊥) i q w o)
+      seen_known (behind k t i o s) (rules.not_yet u q n) = absurd (n (any_named i))
+      seen_known (behind k t i o s) (rules.from_outside c) = absurd (c t (within name.name (any_named i)))
+      seen_known (a_member t i o a e) (rules.declared u q w m) = absurd (o (one_named (λ b c. Named (names_of c.what) name.name) i q w))
+      seen_known (a_member {e = x} t i o a e) (rules.enumerated {e = y} u q w b m) = subst (λ (z : Member). Sees g j name.pos (member_stands z) (looked (Some (member_known x)) name)) (one_member (sym e ∙ one_named (λ b c. find_name name.name c.adds.brings ≡ Some y) i q m)) (sees (enumeration_constant x.0 (pos x.1)))
+      seen_known (a_member t i o a e) (rules.not_yet u q n) = absurd (n (any_named i))
+      seen_known (a_member t i o a e) (rules.from_outside c) = absurd (c t (within name.name (any_named i)))
 
       pub stands_known : {k : Option (Known g.Reported)} → K k → (s : Standing) × Behind front name s
       stands_known (outer c e) = (outside name, rules.from_outside c)
       stands_known (ahead d t i n b) = (in_front_of d, rules.not_yet t i n)
       stands_known (reading d t i n b e) = (in_front_of d, rules.not_yet t i n)
-      stands_known (behind k t i s) = (s.stands.0, rules.declared t i s.stands.1)
+      stands_known (behind k t i o s) = (s.stands.0, rules.declared t i o s.stands.1)
+      stands_known (a_member {e = x} t i o a e) = (member_stands x, rules.enumerated t i o a e)
 
       -- what is repeated
 
       heading_repeats : {k : Option (Known g.Reported)} {s : Standing} {r : g.Reported} {f : Breach} → K k → Behind front name s → s ≡ things.Known Headless → looked k name ≡ Err (meaningless.Headless r) → j.Among r f → Elsewhere front f
       heading_repeats (outer c e) (rules.from_outside d) q l m = inl (of_heading q (looked_first name ∙ ap (λ (k : Option (Known g.Reported)). looked k name) (sym e) ∙ l) m)
-      heading_repeats (outer c e) (rules.declared t i z) q l m = absurd (c t (within name.name (any_named i)))
+      heading_repeats (outer c e) (rules.declared t i o z) q l m = absurd (c t (within name.name (any_named i)))
+      heading_repeats (outer c e) (rules.enumerated t i o a z) q l m = absurd (c t (within name.name (any_named i)))
       heading_repeats (outer c e) (rules.not_yet t i n) q l m = absurd (c t (any_first i))
       heading_repeats (ahead d t i n b) z q l m = absurd (mark_heading name d l)
       heading_repeats (reading d t i n b e) z q l m = absurd cc
-      heading_repeats {r = r} {f = f} (behind k t i s) z q l m = in_more i (s.heading name.pos r l f m)
+      heading_repeats {r = r} {f = f} (behind k t i o s) z q l m = in_more i (s.heading name.pos r l f m)
+      heading_repeats (a_member t i o a e) z q l m = absurd cc
 
       broken_repeats : {k : Option (Known g.Reported)} {s : Standing} {r : g.Reported} {f : Breach} → K k → Behind front name s → s ≡ Unknown → looked k name ≡ Err (meaningless.Broken r) → j.Among r f → Elsewhere front f
       broken_repeats (outer c e) (rules.from_outside d) q l m = inl (of_declaration q (looked_first name ∙ ap (λ (k : Option (Known g.Reported)). looked k name) (sym e) ∙ l) m)
-      broken_repeats (outer c e) (rules.declared t i z) q l m = absurd (c t (within name.name (any_named i)))
+      broken_repeats (outer c e) (rules.declared t i o z) q l m = absurd (c t (within name.name (any_named i)))
+      broken_repeats (outer c e) (rules.enumerated t i o a z) q l m = absurd (c t (within name.name (any_named i)))
       broken_repeats (outer c e) (rules.not_yet t i n) q l m = absurd (c t (any_first i))
-      broken_repeats (ahead d t i n b) (rules.declared u k z) q l m = absurd (n (any_named k))
+      broken_repeats (ahead d t i n b) (rules.declared u k o z) q l m = absurd (n (any_named k))
+      broken_repeats (ahead d t i n b) (rules.enumerated u k o a z) q l m = absurd (n (any_named k))
       broken_repeats (ahead d t i n b) (rules.not_yet {d = c} u k z) q l m = absurd (front_known c q)
       broken_repeats (ahead d t i n b) (rules.from_outside c) q l m = absurd (c t (any_first i))
-      broken_repeats (reading d t i n b e) (rules.declared u k z) q l m = absurd (n (any_named k))
+      broken_repeats (reading d t i n b e) (rules.declared u k o z) q l m = absurd (n (any_named k))
+      broken_repeats (reading d t i n b e) (rules.enumerated u k o a z) q l m = absurd (n (any_named k))
       broken_repeats (reading d t i n b e) (rules.not_yet {d = c} u k z) q l m = absurd (front_known c q)
       broken_repeats (reading d t i n b e) (rules.from_outside c) q l m = absurd (c t (any_first i))
-      broken_repeats {r = r} {f = f} (behind k t i s) z q l m = in_more i (s.broken name.pos r l f m)
+      broken_repeats {r = r} {f = f} (behind k t i o s) z q l m = in_more i (s.broken name.pos r l f m)
+      broken_repeats (a_member t i o a e) z q l m = absurd cc
 
     -- ---- variables of its own
 
@@ -221,23 +246,34 @@ module _ (g : Gathers) (j : Judges g) (exports : ℕ → Ident → Standing) (ou
           ap_ok : {m : Meaning} → ◌≡◌ {A = Result Meaning (Meaningless g.Reported)} (Ok meaning.Ahead) (Ok m) → is_own_variable start m ≡ false
           ap_ok {m = m} q = let same : meaning.Ahead ≡ m = cc in subst (λ (m : Meaning). is_own_variable start m ≡ false) same refl
 
+      member_own : (x : Member) {m : Meaning} → looked (Some (member_known x)) name ≡ Ok m → is_own_variable start m ≡ false
+      member_own x {m = m} q = let same : enumeration_constant x.0 (pos x.1) ≡ m = cc in subst (λ (m : Meaning). is_own_variable start m ≡ false) same refl
+
       own_known : {k : Option (Known g.Reported)} {b : Bool} {m : Meaning} → KnownAs front Th name.name k → Own b → looked k name ≡ Ok m → b ≡ is_own_variable start m
       own_known {m = m} (outer c e) (rules.of_outside d) q = owns name m (looked_first name ∙ ap (λ (k : Option (Known g.Reported)). looked k name) (sym e) ∙ q)
-      own_known (outer c e) (rules.of_block t i) q = absurd (c t (within name.name (any_named i)))
+      own_known (outer c e) (rules.of_block t i o) q = absurd (c t (within name.name (any_named i)))
+      own_known (outer c e) (rules.of_enumeration t i o) q = absurd (c t (within name.name (any_named i)))
       own_known (outer c e) (rules.of_none t a n) q = absurd (c t a)
-      own_known (ahead d t i n b) (rules.of_block u k) q = absurd (n (any_named k))
+      own_known (ahead d t i n b) (rules.of_block u k o) q = absurd (n (any_named k))
+      own_known (ahead d t i n b) (rules.of_enumeration u k o) q = absurd (n (any_named k))
       own_known (ahead d t i n b) (rules.of_none u a c) q = sym (mark_own d q)
       own_known (ahead d t i n b) (rules.of_outside c) q = absurd (c t (any_first i))
       own_known (reading d t i n b e) z q = absurd cc
-      own_known {m = m} (behind k t i s) (rules.of_block {d = c} u p) q = sym (s.own name.pos m q ∙ one_named (λ b x. is_variables x.what ≡ is_variables c.what) i p refl)
-      own_known (behind k t i s) (rules.of_none u a c) q = absurd (c (any_named i))
-      own_known (behind k t i s) (rules.of_outside c) q = absurd (c t (within name.name (any_named i)))
+      own_known {m = m} (behind k t i o s) (rules.of_block {d = c} u p w) q = sym (s.own name.pos m q ∙ one_named (λ b x. is_variables x.what ≡ is_variables c.what) i p refl)
+      own_known (behind k t i o s) (rules.of_enumeration u p w) q = absurd (one_named (λ b c. Named (names_of c.what) name.name → ⊥) i p w o)
+      own_known (behind k t i o s) (rules.of_none u a c) q = absurd (c (any_named i))
+      own_known (behind k t i o s) (rules.of_outside c) q = absurd (c t (within name.name (any_named i)))
+      own_known (a_member t i o a e) (rules.of_block u p w) q = absurd (o (one_named (λ b c. Named (names_of c.what) name.name) i p w))
+      own_known (a_member {e = x} t i o a e) (rules.of_enumeration u p w) q = sym (member_own x q)
+      own_known (a_member t i o a e) (rules.of_none u b c) q = absurd (c (any_named i))
+      own_known (a_member t i o a e) (rules.of_outside c) q = absurd (c t (within name.name (any_named i)))
 
       own_there : {k : Option (Known g.Reported)} → KnownAs front Th name.name k → (b : Bool) × Own b
       own_there (outer c e) = (outers name, rules.of_outside c)
       own_there (ahead d t i n b) = (false, rules.of_none t (any_first i) n)
       own_there (reading d t i n b e) = (false, rules.of_none t (any_first i) n)
-      own_there (behind k t i s) = (_, rules.of_block t i)
+      own_there (behind k t i o s) = (_, rules.of_block t i o)
+      own_there (a_member t i o a e) = (false, rules.of_enumeration t i o)
 
     module _ {front : List Declared} {rest : List Declaration} {Th : List ℕ → Type 0} {s : Scope g.Reported} (b : KnowsBlock front rest Th s) where
       pub knowing : {names : Ident → Standing} → All front names → Knows g j names exports s

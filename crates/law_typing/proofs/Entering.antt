@@ -1,9 +1,13 @@
 -- Names that are entered in a list, and found there.
-use Rattle.std.proofs.Common.{◌≡◌, ℕ, Bool, true, false, cond, List, [], ◌∷◌, Option, Some, None, refl, sym, ap, subst, ◌∙◌}
+use Rattle.std.proofs.Common.{◌≡◌, ℕ, Bool, true, false, cond, List, [], ◌∷◌, ◌++◌, Option, Some, None, ◌⊎◌, inl, inr, refl, sym, ap, subst, ◌∙◌}
+use Rattle.std.specs.List.{list_any}
 use lib.Pointwise.{bytes_decides}
 use Rattle.m2_tree.specs.Names.{same_name}
+use Rattle.m2_tree.specs.declared.name.Ident.{Ident}
 use Rattle.typed_tree.specs.Names.{find_name, enter_name}
-use Rattle.law_typing.proofs.Combining.{Decided, holds, fails_it}
+use Rattle.def_typing.specs.Parts.{Among, here, later, Named}
+use Rattle.law_typing.proofs.Combining.{Decided, holds, fails_it, decided_as}
+use Rattle.law_typing.proofs.Meeting.{either_decided}
 
 same_refl : (name : List ℕ) → same_name name name ≡ true
 same_refl name = (bytes_decides name name).1 refl
@@ -60,3 +64,39 @@ module _ {V : Type 0} where
       by : Compared n name → P n (find_name n (enter_name name v es))
       by (are_one e) = subst (λ (m : List ℕ). P m (find_name m (enter_name name v es))) (sym e) (subst (λ (o : Option V). P name o) (sym (found_self name v es)) h)
       by (are_two c t) = subst (λ (o : Option V). P n o) (sym (found_other name n v es t)) (k n (λ e. c (sym e)))
+
+-- ---- names in lists
+
+among_left : {x : Ident} {xs : List Ident} (ys : List Ident) → Among x xs → Among x (xs ++ ys)
+among_left ys here = here
+among_left ys (later m) = later (among_left ys m)
+
+among_right : {x : Ident} (xs : List Ident) {ys : List Ident} → Among x ys → Among x (xs ++ ys)
+among_right [] m = m
+among_right (y ∷ xs) m = later (among_right xs m)
+
+among_split : {x : Ident} (xs : List Ident) {ys : List Ident} → Among x (xs ++ ys) → Among x xs ⊎ Among x ys
+among_split [] m = inr m
+among_split (y ∷ xs) here = inl here
+among_split (y ∷ xs) (later m) = elim (among_split xs m) [ inl q ↦ inl (later q) | inr q ↦ inr q ]
+
+pub named_left : {xs : List Ident} (ys : List Ident) {n : List ℕ} → Named xs n → Named (xs ++ ys) n
+named_left ys h = (h.0, among_left ys h.1, h.2)
+
+pub named_right : (xs : List Ident) {ys : List Ident} {n : List ℕ} → Named ys n → Named (xs ++ ys) n
+named_right xs h = (h.0, among_right xs h.1, h.2)
+
+pub named_split : (xs : List Ident) {ys : List Ident} {n : List ℕ} → Named (xs ++ ys) n → Named xs n ⊎ Named ys n
+named_split xs h = elim (among_split xs h.1) [ inl m ↦ inl (h.0, m, h.2) | inr m ↦ inr (h.0, m, h.2) ]
+
+pub among_decided : (xs : List Ident) (n : List ℕ) → Decided (Named xs n) (list_any (λ x. same_name x.name n) xs)
+among_decided [] n = fails_it (λ z. elim z.1 [ ])
+among_decided (x ∷ xs) n = decided_as (λ z. more z) (λ z. parts z) (either_decided (name_decided x.name n) (among_decided xs n))
+  where
+    more : (x.name ≡ n) ⊎ Named xs n → Named (x ∷ xs) n
+    more (inl e) = (x, here, e)
+    more (inr (y, m, e)) = (y, later m, e)
+
+    parts : Named (x ∷ xs) n → (x.name ≡ n) ⊎ Named xs n
+    parts (y, here, e) = inl e
+    parts (y, later m, e) = inr (y, m, e)

@@ -36,10 +36,12 @@ pub mod Obeying
 pub mod TypeNaming
 pub mod Heading
 pub mod Subranges
-pub mod TypeReading
 pub mod Entering
+pub mod Enumerating
+pub mod TypeReading
 pub mod Declaring
 pub mod Beginning
 pub mod Sayings
+pub mod Recording
 pub mod Marking
 pub mod Blocks

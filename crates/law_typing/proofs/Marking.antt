@@ -6,7 +6,7 @@ use Rattle.m2_tree.specs.declared.name.Ident.{Ident}
 use Rattle.m2_tree.specs.declared.decl.Constant.{Constant}
 use Rattle.m2_tree.specs.declared.decl.TypeDecl.{TypeDecl}
 use Rattle.m2_tree.specs.declared.decl.Variables.{Variables}
-use Rattle.m2_tree.specs.declared.decl.Field.{Field}
+use Rattle.m2_tree.specs.declared.decl.Field.{Field, out-Field, fold_out-Field}
 use Rattle.m2_tree.specs.declared.decl.Simple.{Simple}
 use Rattle.m2_tree.specs.declared.decl.Simple.TheVariants as simple
 use Rattle.m2_tree.specs.declared.decl.TypeExpr.{TypeExpr, TypeExpr-F, out-TypeExpr, map-TypeExpr, fold_out-TypeExpr}
@@ -24,31 +24,19 @@ use Rattle.check_definition.specs.Marking as marking
 use Rattle.check_definition.specs.Marking.{Marks, marked_later, marked_in, marked_field, marked_constant, marked_type, marked_variables}
 use Rattle.check_block.specs.Naming.{marked_layer, marked_decl, with_marks, all_marked}
 use Rattle.def_typing.specs.Things.{Standing}
-use Rattle.def_typing.specs.Parts.{Among, here, later}
-use Rattle.def_typing.specs.Declarations.{Declaration, OfConstant, OfType, OfVariables, OfProcedure, names_of, declared_by, declarations_of, Declares, AnyDeclares, IsFirst, at_first, later_on, There}
+use Rattle.def_typing.specs.Parts.{Among, here, later, Named}
+use Rattle.def_typing.specs.TypeExprs.{constants_listed, all_listed, constants_in, constants_in_field}
+use Rattle.def_typing.specs.Declarations.{Declaration, OfConstant, OfType, OfVariables, OfProcedure, names_of, constants_of, declared_by, declarations_of, Declares, AnyDeclares, IsFirst, at_first, later_on, There}
 use Rattle.law_typing.specs.Judging.{Judges}
-use Rattle.law_typing.specs.Exact.{TakenAs, is_taken, not_taken, IsPlainType, plain_simple, plain_array, plain_procedure, IsPlainSimple, IsPlainLayer, ArePlainDecls}
-use Rattle.std.specs.List.{list_any}
-use Rattle.m2_tree.specs.Names.{same_name}
-use Rattle.law_typing.proofs.Combining.{Decided, holds, fails_it, decided_as}
-use Rattle.law_typing.proofs.Meeting.{either_decided}
-use Rattle.law_typing.proofs.Entering.{Compared, are_one, are_two, compared, name_decided, entered_all}
+use Rattle.law_typing.specs.Exact.{TakenAs, is_taken, not_taken, IsPlainType, plain_simple, plain_array, plain_record, plain_procedure, ArePlainFields, no_plain_field, one_plain_field, IsPlainLayer, ArePlainDecls}
+use Rattle.law_typing.proofs.Combining.{Decided, holds, fails_it}
+use Rattle.law_typing.proofs.Entering.{Compared, are_one, are_two, compared, among_decided, entered_all}
+use Rattle.law_typing.proofs.TypeReading.{constants_at}
+use Rattle.law_typing.proofs.Recording.{field_constants}
 use Rattle.law_typing.proofs.Declaring.{any_first, mark_of, KnownAs, outer, ahead, Same, KnowsBlock}
-use Rattle.law_typing.proofs.Beginning.{Named, clash}
+use Rattle.law_typing.proofs.Beginning.{clash}
 
 -- ---- the first declaration of a name
-
-named_by : (xs : List Ident) (n : List ℕ) → Decided (Named xs n) (list_any (λ x. same_name x.name n) xs)
-named_by [] n = fails_it (λ z. elim z.1 [ ])
-named_by (x ∷ xs) n = decided_as (λ z. more z) (λ z. parts z) (either_decided (name_decided x.name n) (named_by xs n))
-  where
-    more : (x.name ≡ n) ⊎ Named xs n → Named (x ∷ xs) n
-    more (inl e) = (x, here, e)
-    more (inr (y, m, e)) = (y, later m, e)
-
-    parts : Named (x ∷ xs) n → (x.name ≡ n) ⊎ Named xs n
-    parts (y, here, e) = inl e
-    parts (y, later m, e) = inr (y, m, e)
 
 -- what is first, if something is
 abbrev First : List Declaration → List ℕ → Type 0
@@ -65,7 +53,7 @@ first_by {d = d} {ds = ds} {n = n} (fails_it c) (inr no_more) = inr none
 
 first_there : (ds : List Declaration) (n : List ℕ) → First ds n
 first_there [] n = inr (λ a. elim a.1 [ ])
-first_there (d ∷ ds) n = first_by (named_by (names_of d) n) (first_there ds n)
+first_there (d ∷ ds) n = first_by (among_decided (names_of d ++ constants_of d) n) (first_there ds n)
 
 first_left : {n : List ℕ} {d : Declaration} {ds : List Declaration} (es : List Declaration) → IsFirst n d ds → IsFirst n d (ds ++ es)
 first_left es (at_first h) = at_first h
@@ -88,7 +76,11 @@ first_split (x ∷ ds) {n = n} (later_on c i) = by (first_split ds i)
     by (inl k) = inl (later_on c k)
     by (inr k) = inr (none k.0, k.1)
 
--- ---- types that are names mark nothing
+-- ---- types mark their constants
+
+fold_both : {A X : Type 0} (f : A → X → A) (a : A) (xs ys : List X) → fold f (fold f a xs) ys ≡ fold f a (xs ++ ys)
+fold_both f a [] ys = refl
+fold_both f a (x ∷ xs) ys = fold_both f (f a x) xs ys
 
 module _ {T : Type 0} where
   abbrev opened : TypeExpr-F TypeExpr Field → TypeExpr-F (Marks T) (Marks T)
@@ -98,15 +90,30 @@ module _ {T : Type 0} where
   unfolding marked_in marked_field
   marks_at e x h = fold_out-TypeExpr (Marks T) (Marks T) marking.type_layer marking.field_layer e ∙ ap (λ (y : TypeExpr-F TypeExpr Field). marking.type_layer (opened y)) h
 
-  simple_marks : (x : Simple) → IsPlainSimple x → (s : Scope T) → marking.marked_simple x s ≡ s
-  simple_marks (simple.Named q) i s = refl
-  simple_marks (simple.Enumeration at names) i s = absurd i
-  simple_marks (simple.Subrange of at low high) i s = refl
+  abbrev marked : Scope T → List Ident → Scope T
+  marked s xs = fold marked_later s xs
 
-  named_marks : (e : TypeExpr) → IsPlainType e → (s : Scope T) → marked_in e s ≡ s
-  named_marks e (plain_simple {x = x} h i) s = ap (λ (m : Marks T). m s) (marks_at e (layer.Simple x) h) ∙ simple_marks x i s
-  named_marks e (plain_procedure {at = at} {xs = xs} {q = q} h) s = ap (λ (m : Marks T). m s) (marks_at e (layer.Procedure at xs q) h)
-  named_marks e (plain_array {of = of} {at = at} {index = x} h i k) s = ap (λ (m : Marks T). m s) (marks_at e (layer.Array at x of) h) ∙ ap (λ (t : Scope T). marked_in of t) (simple_marks x i s) ∙ named_marks of k s
+  simple_marks : (x : Simple) (s : Scope T) → marking.marked_simple x s ≡ marked s (constants_listed x)
+  simple_marks (simple.Named q) s = refl
+  simple_marks (simple.Enumeration at names) s = refl
+  simple_marks (simple.Subrange of at low high) s = refl
+
+  fields_marks : (f : Field) → marked_field {T = T} f ≡ marked_in (out-Field f).of
+  unfolding marked_in marked_field
+  fields_marks f = fold_out-Field (Marks T) (Marks T) marking.type_layer marking.field_layer f
+
+  mutual
+    type_marked : (e : TypeExpr) → IsPlainType e → (s : Scope T) → marked_in e s ≡ marked s (constants_in e)
+    type_marked e (plain_simple {x = x} h i) s = ap (λ (m : Marks T). m s) (marks_at e (layer.Simple x) h) ∙ simple_marks x s ∙ sym (ap (λ (xs : List Ident). marked s xs) (constants_at e (layer.Simple x) h))
+    type_marked e (plain_procedure {at = at} {xs = xs} {q = q} h) s = ap (λ (m : Marks T). m s) (marks_at e (layer.Procedure at xs q) h) ∙ sym (ap (λ (xs : List Ident). marked s xs) (constants_at e (layer.Procedure at xs q) h))
+    type_marked e (plain_array {of = of} {at = at} {index = x} h i k) s = ap (λ (m : Marks T). m s) (marks_at e (layer.Array at x of) h) ∙ ap (λ (t : Scope T). marked_in of t) (simple_marks x s) ∙ type_marked of k (marked s (constants_listed x))
+        ∙ fold_both marked_later s (constants_listed x) (constants_in of) ∙ sym (ap (λ (xs : List Ident). marked s xs) (constants_at e (layer.Array at x of) h))
+    type_marked e (plain_record {at = at} {fields = fs} h i) s = ap (λ (m : Marks T). m s) (marks_at e (layer.Record at fs) h) ∙ fields_marked fs i s ∙ sym (ap (λ (xs : List Ident). marked s xs) (constants_at e (layer.Record at fs) h))
+
+    fields_marked : (fs : List Field) → ArePlainFields fs → (s : Scope T) → fold marking.then_marks s (map marked_field fs) ≡ marked s (all_listed (map constants_in_field fs))
+    fields_marked [] no_plain_field s = refl
+    fields_marked (f ∷ fs) (one_plain_field i k) s = ap (λ (t : Scope T). fold marking.then_marks t (map marked_field fs)) (ap (λ (m : Marks T). m s) (fields_marks f) ∙ type_marked (out-Field f).of i s ∙ ap (λ (xs : List Ident). marked s xs) (sym (field_constants f)))
+        ∙ fields_marked fs k (marked s (constants_in_field f)) ∙ fold_both marked_later s (constants_in_field f) (all_listed (map constants_in_field fs))
 
 module _ (g : Gathers) (j : Judges g) (exports : ℕ → Ident → Standing) (outside : Ident → Standing) (start : Scope g.Reported) (taken : List ℕ → Bool) (nested : Bool) (block : List Declaration)
     (takes : (n : List ℕ) → TakenAs g j (taken n) (find_name n start.own)) where
@@ -195,9 +202,9 @@ module _ (g : Gathers) (j : Judges g) (exports : ℕ → Ident → Standing) (ou
   -- ---- declarations
 
   abbrev With : MarkedNames → Declaration → MarkedNames
-  With M d = Names M (names_of d) (mark_of d)
+  With M d = Names M (names_of d ++ constants_of d) (mark_of d)
 
-  one_with : (d : Declaration) (x : Ident) → names_of d ≡ x ∷ [] → (M : MarkedNames) (s : Scope g.Reported) → Marking M s → Marking (With M d) (mark_name x (mark_of d) s)
+  one_with : (d : Declaration) (x : Ident) → names_of d ++ constants_of d ≡ x ∷ [] → (M : MarkedNames) (s : Scope g.Reported) → Marking M s → Marking (With M d) (mark_name x (mark_of d) s)
   one_with d x e M s m = marking_as (λ n k z. to n k z) (λ n k z. from n k z) (mark_one M x (mark_of d) m)
     where
       to : (n : List ℕ) (k : K) → Next M x (mark_of d) n k → With M d n k
@@ -216,10 +223,10 @@ module _ (g : Gathers) (j : Judges g) (exports : ℕ → Ident → Standing) (ou
   constant_marks c M s m = one_with (OfConstant c) c.name refl M s m
 
   type_marks : (d : TypeDecl) → IsPlainType d.of → (M : MarkedNames) (s : Scope g.Reported) → Marking M s → Marking (With M (OfType d)) (marked_type s d)
-  type_marks d i M s m = subst (Marking (With M (OfType d))) (sym (named_marks d.of i (mark_name d.name known.Later s))) (one_with (OfType d) d.name refl M s m)
+  type_marks d i M s m = subst (Marking (With M (OfType d))) (sym (type_marked d.of i (mark_name d.name known.Later s))) (mark_names (d.name ∷ constants_in d.of) M m)
 
   variable_marks : (v : Variables) → IsPlainType v.of → (M : MarkedNames) (s : Scope g.Reported) → Marking M s → Marking (With M (OfVariables v)) (marked_variables s v)
-  variable_marks v i M s m = subst (Marking (With M (OfVariables v))) (sym (named_marks v.of i (fold marked_later s v.names))) (mark_names v.names M m)
+  variable_marks v i M s m = subst (Marking (With M (OfVariables v))) (sym (type_marked v.of i (fold marked_later s v.names) ∙ fold_both marked_later s v.names (constants_in v.of))) (mark_names (v.names ++ constants_in v.of) M m)
 
   -- ---- sections and blocks
 

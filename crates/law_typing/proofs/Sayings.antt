@@ -1,5 +1,5 @@
 -- Declarations say exactly what their parts give.
-use Rattle.std.proofs.Common.{◌≡◌, ℕ, Bool, List, [], ◌∷◌, Result, Ok, Err, inl, inr, refl, sym, ap, subst, ◌∙◌}
+use Rattle.std.proofs.Common.{◌≡◌, ℕ, Bool, List, ◌∷◌, Result, Ok, Err, inl, inr, refl, sym, ap, subst, ◌∙◌}
 use Rattle.m2_rule.specs.declared.breach.Breach.{Breach}
 use Rattle.m2_tree.specs.declared.pos.Pos.{Pos}
 use Rattle.m2_tree.specs.declared.name.Ident.{Ident}
@@ -32,13 +32,13 @@ use Rattle.def_typing.specs.Headings.{procedure_made, IsHeading, BrokenHeading}
 use Rattle.law_typing.proofs.Heading.{heading_answers}
 use Rattle.def_typing.specs.Constants.{AConstant, Fixes, BrokenAsConstant}
 use Rattle.def_typing.specs.Declarations as rules
-use Rattle.def_typing.specs.Declarations.{Declaration, OfConstant, OfType, OfVariables, OfProcedure, Declared, types_behind, procedure, is_variables, without, Means, Says, Misdeclares}
-use Rattle.def_typing.specs.TypeExprs.{next_type, IsTypeOf, BrokenType}
+use Rattle.def_typing.specs.Declarations.{Declaration, OfConstant, OfType, OfVariables, OfProcedure, Declared, types_behind, setting, procedure, is_variables, without, Means, Says, Misdeclares}
+use Rattle.def_typing.specs.TypeExprs.{next_type, Added, nothing_added, type_added, Setting, IsTypeOf, BrokenType}
 use Rattle.law_typing.specs.Judging.{Judges, Answers, means, refuses}
 use Rattle.law_typing.specs.Exact.{IsConst, is_const, kind_of, standing, is_own_variable, Sees, sees, sees_unknown, sees_headless, Knows, Repeats, IsCallFree}
 use Rattle.law_typing.proofs.Combining.{Lawful, Tells, silent, tells}
 use Rattle.law_typing.proofs.Constants.{exactly_fixed}
-use Rattle.law_typing.proofs.TypeReading.{MadeType}
+use Rattle.law_typing.proofs.Enumerating.{MadeType}
 use Rattle.law_typing.proofs.Declaring.{All, Elsewhere, Saying}
 
 module _ (g : Gathers) (j : Judges g) (lawful : Lawful g j) (O : Breach → Type 0) where
@@ -74,19 +74,19 @@ module _ (g : Gathers) (j : Judges g) (lawful : Lawful g j) (O : Breach → Type
 -- ---- what a declaration says
 
 abbrev pub Saids : Type 0
-Saids = List Made × Standing
+Saids = Added × Standing
 
 abbrev pub said_constant : Value → Saids
-said_constant v = ([], Known (AValue (kind_of v)))
+said_constant v = (nothing_added, Known (AValue (kind_of v)))
 
-abbrev pub said_type : List Made → TypeNo → Saids
-said_type ms t = (ms, Known (AType t))
+abbrev pub said_type : Added → TypeNo → Saids
+said_type a t = (a, Known (AType t))
 
-abbrev pub said_variables : List Made → TypeNo → Saids
-said_variables ms t = (ms, Known (AVariable t))
+abbrev pub said_variables : Added → TypeNo → Saids
+said_variables a t = (a, Known (AVariable t))
 
 abbrev pub said_procedure : Bool → Types → Made → Saids
-said_procedure nested types m = (m ∷ [], Known (procedure nested (next_type types)))
+said_procedure nested types m = (type_added m, Known (procedure nested (next_type types)))
 
 module _ (g : Gathers) (j : Judges g) (lawful : Lawful g j) (exports : ℕ → Ident → Standing) (outside : Ident → Standing) (start : Scope g.Reported) (taken : List ℕ → Bool) (nested : Bool) (block : List Declaration) where
   abbrev Stand : List Declared → (Ident → Standing) → Type 0
@@ -95,11 +95,14 @@ module _ (g : Gathers) (j : Judges g) (lawful : Lawful g j) (exports : ℕ → I
   abbrev O : List Declared → Breach → Type 0
   O = Elsewhere g j exports outside start taken nested block
 
+  abbrev pub Set : List Declared → Declaration → (Ident → Standing) → Setting
+  Set = setting start.types exports outside taken nested block
+
   abbrev SaysHere : List Declared → (Ident → Standing) → Declaration → Saids → Type 0
-  SaysHere front names d k = Says (types_behind start.types front) names exports nested d k.0 k.1
+  SaysHere front names d k = Says exports (Set front d names) nested d k.0 k.1
 
   abbrev Mis : List Declared → (Ident → Standing) → Declaration → Breach → Type 0
-  Mis front names d = Misdeclares (types_behind start.types front) names exports d
+  Mis front names d = Misdeclares exports (Set front d names) d
 
   -- A result stands for what a declaration says, whatever its names stand for.
   abbrev pub Exactly : {A : Type 0} → (A → Saids) → List Declared → Declaration → Result A g.Reported → Type 0
@@ -109,19 +112,19 @@ module _ (g : Gathers) (j : Judges g) (lawful : Lawful g j) (exports : ℕ → I
     abbrev MeansHere : Standing → Type 0
     MeansHere = Means start.types exports outside taken nested block front d
 
-    stands_by : {names : Ident → Standing} {r : Result A g.Reported} → ((a : A) → r ≡ Ok a → d.makes ≡ (said a).0) → Stand front names → Answers g j (O front) (λ a k. k ≡ said a) (SaysHere front names d.what) (Mis front names d.what) r → (s : Standing) × MeansHere s
-    stands_by {names = names} h all (means a k i m u n) = (k.1, rules.says all (subst (λ (ms : List Made). SaysHere front names d.what (ms, k.1)) (ap (λ (x : Saids). x.0) i ∙ sym (h a refl)) m))
+    stands_by : {names : Ident → Standing} {r : Result A g.Reported} → ((a : A) → r ≡ Ok a → d.adds ≡ (said a).0) → Stand front names → Answers g j (O front) (λ a k. k ≡ said a) (SaysHere front names d.what) (Mis front names d.what) r → (s : Standing) × MeansHere s
+    stands_by {names = names} h all (means a k i m u n) = (k.1, rules.says all (subst (λ (b : Added). SaysHere front names d.what (b, k.1)) (ap (λ (x : Saids). x.0) i ∙ sym (h a refl)) m))
     stands_by h all (refuses r c n) = (without d.what, rules.says_nothing all (λ ms s m. n (ms, s) m))
 
     module _ (made : A → Meaning) (is_made : (a : A) → (said a).1 ≡ standing (made a)) where
       abbrev meant : Result A g.Reported → Result Meaning g.Reported
       meant r = r ▷ λ a. Ok (made a)
 
-      seen_says : {names : Ident → Standing} {r : Result A g.Reported} {s : Standing} (at : Pos) → Answers g j (O front) (λ a k. k ≡ said a) (SaysHere front names d.what) (Mis front names d.what) r → SaysHere front names d.what (d.makes, s) → (q : A) × (r ≡ Ok q) × (s ≡ standing (made q))
-      seen_says {s = s} at (means a k i w u n) m = (a, refl, ap (λ (x : Saids). x.1) (u (d.makes, s) m ∙ i) ∙ is_made a)
-      seen_says {s = s} at (refuses r c n) m = absurd (n (d.makes, s) m)
+      seen_says : {names : Ident → Standing} {r : Result A g.Reported} {s : Standing} (at : Pos) → Answers g j (O front) (λ a k. k ≡ said a) (SaysHere front names d.what) (Mis front names d.what) r → SaysHere front names d.what (d.adds, s) → (q : A) × (r ≡ Ok q) × (s ≡ standing (made q))
+      seen_says {s = s} at (means a k i w u n) m = (a, refl, ap (λ (x : Saids). x.1) (u (d.adds, s) m ∙ i) ∙ is_made a)
+      seen_says {s = s} at (refuses r c n) m = absurd (n (d.adds, s) m)
 
-      seen_nothing : {names : Ident → Standing} {r : Result A g.Reported} → Answers g j (O front) (λ a k. k ≡ said a) (SaysHere front names d.what) (Mis front names d.what) r → ((ms : List Made) (s : Standing) → SaysHere front names d.what (ms, s) → ⊥) → (q : g.Reported) × (r ≡ Err q)
+      seen_nothing : {names : Ident → Standing} {r : Result A g.Reported} → Answers g j (O front) (λ a k. k ≡ said a) (SaysHere front names d.what) (Mis front names d.what) r → ((ms : Added) (s : Standing) → SaysHere front names d.what (ms, s) → ⊥) → (q : g.Reported) × (r ≡ Err q)
       seen_nothing (means a k i w u c) n = absurd (n k.0 k.1 w)
       seen_nothing (refuses r c w) n = (r, refl)
 
@@ -164,7 +167,7 @@ module _ (g : Gathers) (j : Judges g) (lawful : Lawful g j) (exports : ℕ → I
       settled_by h (Ok a) = h a
       settled_by h (Err e) = refl
 
-      pub saying : {r : Result A g.Reported} → Exactly said front d.what r → ((a : A) → r ≡ Ok a → d.makes ≡ (said a).0) → without d.what ≡ Unknown → ((a : A) → standing_of (made a) ≡ place.Taken) → ((a : A) → is_own_variable start (made a) ≡ is_variables d.what) → {names : Ident → Standing} → Stand front names
+      pub saying : {r : Result A g.Reported} → Exactly said front d.what r → ((a : A) → r ≡ Ok a → d.adds ≡ (said a).0) → without d.what ≡ Unknown → ((a : A) → standing_of (made a) ≡ place.Taken) → ((a : A) → is_own_variable start (made a) ≡ is_variables d.what) → {names : Ident → Standing} → Stand front names
           → Saying g j exports outside start taken nested block front d (known.Declared Here (meant r))
       saying {r = r} h e u t w {names = names} all = record {
         stands = stands_by e all (h names all);
@@ -177,7 +180,7 @@ module _ (g : Gathers) (j : Judges g) (lawful : Lawful g j) (exports : ℕ → I
         settled = settled_by t r;
       }
 
-      pub saying_heading : {r : Result A g.Reported} → Exactly said front d.what r → ((a : A) → r ≡ Ok a → d.makes ≡ (said a).0) → without d.what ≡ Known Headless → ((a : A) → is_own_variable start (made a) ≡ is_variables d.what) → {names : Ident → Standing} → Stand front names
+      pub saying_heading : {r : Result A g.Reported} → Exactly said front d.what r → ((a : A) → r ≡ Ok a → d.adds ≡ (said a).0) → without d.what ≡ Known Headless → ((a : A) → is_own_variable start (made a) ≡ is_variables d.what) → {names : Ident → Standing} → Stand front names
           → Saying g j exports outside start taken nested block front d (known.Headed (meant r))
       saying_heading {r = r} h e u w {names = names} all = record {
         stands = stands_by e all (h names all);
@@ -198,15 +201,18 @@ module _ (g : Gathers) (j : Judges g) (lawful : Lawful g j) (exports : ℕ → I
 
 -- ---- each declaration
 
-module _ (g : Gathers) (j : Judges g) (lawful : Lawful g j) (nested : Bool) (types : Types) (names : Ident → Standing) (exports : ℕ → Ident → Standing) (s : Scope g.Reported) (knows : Knows g j names exports s) (same : s.types ≡ types) where
+module _ (g : Gathers) (j : Judges g) (lawful : Lawful g j) (nested : Bool) (types : Types) (names : Ident → Standing) (there : List ℕ → Bool) (exports : ℕ → Ident → Standing) (s : Scope g.Reported) (knows : Knows g j names exports s) (same : s.types ≡ types) where
+  abbrev w : Setting
+  w = record { types = types; names = names; there = there }
+
   abbrev R : Breach → Type 0
   R = Repeats g j names s
 
   abbrev SaysIt : Declaration → Saids → Type 0
-  SaysIt d k = Says types names exports nested d k.0 k.1
+  SaysIt d k = Says exports w nested d k.0 k.1
 
   abbrev MisIt : Declaration → Breach → Type 0
-  MisIt d = Misdeclares types names exports d
+  MisIt d = Misdeclares exports w d
 
   abbrev So : {A : Type 0} → (A → Saids) → Declaration → Result A g.Reported → Type 0
   So said d r = Answers g j R (λ a k. k ≡ said a) (SaysIt d) (MisIt d) r
@@ -223,10 +229,10 @@ module _ (g : Gathers) (j : Judges g) (lawful : Lawful g j) (nested : Bool) (typ
   const_says : {c : Constant} (v : Value) (k : Kind) → IsConst v k → Fixes types names exports c.value (AConstant k) → SaysIt (OfConstant c) (said_constant v)
   const_says _ _ (is_const v) m = rules.constant m
 
-  const_parts : {c : Constant} {ms : List Made} {st : Standing} → Says types names exports nested (OfConstant c) ms st → (k : Kind) × Fixes types names exports c.value (AConstant k) × ((v : Value) → IsConst v k → ◌≡◌ {A = Saids} (ms, st) (said_constant v))
+  const_parts : {c : Constant} {ms : Added} {st : Standing} → Says exports w nested (OfConstant c) ms st → (k : Kind) × Fixes types names exports c.value (AConstant k) × ((v : Value) → IsConst v k → ◌≡◌ {A = Saids} (ms, st) (said_constant v))
   const_parts (rules.constant {k = k} m) = (k, m, λ v i. by v k i)
     where
-      by : (v : Value) (k : Kind) → IsConst v k → ◌≡◌ {A = Saids} ([], Known (AValue k)) (said_constant v)
+      by : (v : Value) (k : Kind) → IsConst v k → ◌≡◌ {A = Saids} (nothing_added, Known (AValue k)) (said_constant v)
       by _ _ (is_const v) = refl
 
   pub constant_says : (c : Constant) → IsCallFree c.value → So said_constant (OfConstant c) (constant g s (part g c.value))
@@ -236,35 +242,35 @@ module _ (g : Gathers) (j : Judges g) (lawful : Lawful g j) (nested : Bool) (typ
   -- ---- types
 
   -- what a type is, and which types it makes
-  abbrev pub TypeSo : TypeExpr → List Made → Result TypeNo g.Reported → Type 0
-  TypeSo e ms r = Answers g j R (λ a k. k ≡ (ms, a)) (λ (k : MadeType). IsTypeOf names exports types e k.0 k.1) (BrokenType names exports types e) r
+  abbrev pub TypeSo : TypeExpr → Added → Result TypeNo g.Reported → Type 0
+  TypeSo e ms r = Answers g j R (λ a k. k ≡ (ms, a)) (λ (k : MadeType). IsTypeOf exports w e k.0 k.1) (BrokenType exports w e) r
 
-  abbrev IsMadeType : List Made → TypeNo → MadeType → Type 0
+  abbrev IsMadeType : Added → TypeNo → MadeType → Type 0
   IsMadeType ms a k = k ≡ (ms, a)
 
-  of_type_parts : {d : TypeDecl} {ms : List Made} {st : Standing} → Says types names exports nested (OfType d) ms st → (k : MadeType) × IsTypeOf names exports types d.of k.0 k.1 × (◌≡◌ {A = Saids} (ms, st) (k.0, Known (AType k.1)))
-  of_type_parts (rules.a_type {ms = ms} {t = t} m) = ((ms, t), m, refl)
+  of_type_parts : {d : TypeDecl} {ms : Added} {st : Standing} → Says exports w nested (OfType d) ms st → (k : MadeType) × IsTypeOf exports w d.of k.0 k.1 × (◌≡◌ {A = Saids} (ms, st) (k.0, Known (AType k.1)))
+  of_type_parts (rules.a_type {a = ms} {t = t} m) = ((ms, t), m, refl)
 
-  of_type_fails : {d : TypeDecl} (f : Breach) → MisIt (OfType d) f → BrokenType names exports types d.of f
+  of_type_fails : {d : TypeDecl} (f : Breach) → MisIt (OfType d) f → BrokenType exports w d.of f
   of_type_fails f (rules.in_type b) = b
 
-  pub of_type_says : (d : TypeDecl) (ms : List Made) {r : Result TypeNo g.Reported} → TypeSo d.of ms r → So (said_type ms) (OfType d) r
-  of_type_says d ms h = by_part {Is = IsMadeType ms} (said_type ms) (OfType d) (λ a k i m. rules.a_type (subst (λ (k : MadeType). IsTypeOf names exports types d.of k.0 k.1) i m))
+  pub of_type_says : (d : TypeDecl) (ms : Added) {r : Result TypeNo g.Reported} → TypeSo d.of ms r → So (said_type ms) (OfType d) r
+  of_type_says d ms h = by_part {Is = IsMadeType ms} (said_type ms) (OfType d) (λ a k i m. rules.a_type (subst (λ (k : MadeType). IsTypeOf exports w d.of k.0 k.1) i m))
       (λ l z. let q = of_type_parts z in (q.0, q.1, λ a i. q.2 ∙ ap (λ (k : MadeType). let y : Saids = (k.0, Known (AType k.1)) in y) i)) (λ f b. rules.in_type b) of_type_fails h
 
-  variable_parts : {v : Variables} {ms : List Made} {st : Standing} → Says types names exports nested (OfVariables v) ms st → (k : MadeType) × IsTypeOf names exports types v.of k.0 k.1 × (◌≡◌ {A = Saids} (ms, st) (k.0, Known (AVariable k.1)))
-  variable_parts (rules.variables {ms = ms} {t = t} m) = ((ms, t), m, refl)
+  variable_parts : {v : Variables} {ms : Added} {st : Standing} → Says exports w nested (OfVariables v) ms st → (k : MadeType) × IsTypeOf exports w v.of k.0 k.1 × (◌≡◌ {A = Saids} (ms, st) (k.0, Known (AVariable k.1)))
+  variable_parts (rules.variables {a = ms} {t = t} m) = ((ms, t), m, refl)
 
-  variable_fails : {v : Variables} (f : Breach) → MisIt (OfVariables v) f → BrokenType names exports types v.of f
+  variable_fails : {v : Variables} (f : Breach) → MisIt (OfVariables v) f → BrokenType exports w v.of f
   variable_fails f (rules.in_variables b) = b
 
-  pub variables_say : (v : Variables) (ms : List Made) {r : Result TypeNo g.Reported} → TypeSo v.of ms r → So (said_variables ms) (OfVariables v) r
-  variables_say v ms h = by_part {Is = IsMadeType ms} (said_variables ms) (OfVariables v) (λ a k i m. rules.variables (subst (λ (k : MadeType). IsTypeOf names exports types v.of k.0 k.1) i m))
+  pub variables_say : (v : Variables) (ms : Added) {r : Result TypeNo g.Reported} → TypeSo v.of ms r → So (said_variables ms) (OfVariables v) r
+  variables_say v ms h = by_part {Is = IsMadeType ms} (said_variables ms) (OfVariables v) (λ a k i m. rules.variables (subst (λ (k : MadeType). IsTypeOf exports w v.of k.0 k.1) i m))
       (λ l z. let q = variable_parts z in (q.0, q.1, λ a i. q.2 ∙ ap (λ (k : MadeType). let y : Saids = (k.0, Known (AVariable k.1)) in y) i)) (λ f b. rules.in_variables b) variable_fails h
 
   -- ---- procedures
 
-  heading_parts : {h : Heading} {ms : List Made} {st : Standing} → Says types names exports nested (OfProcedure h) ms st → (x : Signature) × IsHeading types names exports h x × ((m : Made) → m ≡ procedure_made x → ◌≡◌ {A = Saids} (ms, st) (said_procedure nested types m))
+  heading_parts : {h : Heading} {ms : Added} {st : Standing} → Says exports w nested (OfProcedure h) ms st → (x : Signature) × IsHeading types names exports h x × ((m : Made) → m ≡ procedure_made x → ◌≡◌ {A = Saids} (ms, st) (said_procedure nested types m))
   heading_parts (rules.a_procedure {s = x} i) = (x, i, λ m e. ap (λ (m : Made). said_procedure nested types m) (sym e))
 
   heading_fails : {h : Heading} (f : Breach) → MisIt (OfProcedure h) f → BrokenHeading types names exports h f

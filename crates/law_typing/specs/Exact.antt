@@ -22,6 +22,7 @@ use Rattle.m2_tree.specs.declared.decl.Simple.{Simple}
 use Rattle.m2_tree.specs.declared.decl.Simple.TheVariants as simple
 use Rattle.m2_tree.specs.declared.decl.TypeExpr.{TypeExpr, out-TypeExpr}
 use Rattle.m2_tree.specs.declared.decl.TypeExpr.TheOpen as type_layer
+use Rattle.m2_tree.specs.declared.decl.Field.{Field, out-Field}
 use Rattle.m2_tree.specs.declared.decl.Decl.{Decl, Decl-F, out-Decl}
 use Rattle.m2_tree.specs.declared.decl.Decl.TheOpen as decl_layer
 use Rattle.m2_tree.specs.declared.decl.Block.{Block}
@@ -88,7 +89,7 @@ use Rattle.typed_tree.specs.Names.{find_name}
 use Rattle.check_block.specs.Declarations.{declared_block}
 use Rattle.check_block.specs.Headings.{standing_from}
 use Rattle.check_block.specs.declared.heading.Standing.TheVariants as heading
-use Rattle.def_typing.specs.Declarations.{Declared as Resolved, declarations_of, in_order, types_behind, AllStand, IsOwn, BrokenIn}
+use Rattle.def_typing.specs.Declarations.{Declared as Resolved, declarations_of, in_order, types_behind, AllStand, IsOwn, AllAdded, BrokenIn}
 use Rattle.check_stmt.specs.Statements.{stmt}
 use Rattle.def_typing.specs.Statements.{arguments, labels_of, Spot, Obeys, Broken}
 use Rattle.check_expr.specs.Meanings.{meanings_of, head, part, value_of}
@@ -351,22 +352,29 @@ mutual
     one_arm : {x : Arm} {xs : List Arm} → ArePlainStmts (out-Arm x).body → ArePlainArms xs
         → ArePlainArms (x ∷ xs)
 
--- ---- declarations of which this is known: constants call nothing, and types are names or
--- subranges
+-- ---- declarations of which this is known: constants and bounds call nothing
 
 abbrev pub IsPlainSimple : Simple → Type 0
 IsPlainSimple (simple.Named q) = Unit {0}
-IsPlainSimple (simple.Enumeration at names) = ⊥
+IsPlainSimple (simple.Enumeration at names) = Unit {0}
 IsPlainSimple (simple.Subrange of at low high) = IsCallFree low × IsCallFree high
 
-pub data IsPlainType : TypeExpr → Type 0 where
-  plain_simple : {e : TypeExpr} {x : Simple} → out-TypeExpr e ≡ type_layer.Simple x
-      → IsPlainSimple x → IsPlainType e
-  plain_array : {e of : TypeExpr} {at : Pos} {index : Simple}
-      → out-TypeExpr e ≡ type_layer.Array at index of → IsPlainSimple index → IsPlainType of
-      → IsPlainType e
-  plain_procedure : {e : TypeExpr} {at : Pos} {xs : List Parameter} {q : Option Qualified}
-      → out-TypeExpr e ≡ type_layer.Procedure at xs q → IsPlainType e
+mutual
+  pub data IsPlainType : TypeExpr → Type 0 where
+    plain_simple : {e : TypeExpr} {x : Simple} → out-TypeExpr e ≡ type_layer.Simple x
+        → IsPlainSimple x → IsPlainType e
+    plain_array : {e of : TypeExpr} {at : Pos} {index : Simple}
+        → out-TypeExpr e ≡ type_layer.Array at index of → IsPlainSimple index → IsPlainType of
+        → IsPlainType e
+    plain_record : {e : TypeExpr} {at : Pos} {fields : List Field}
+        → out-TypeExpr e ≡ type_layer.Record at fields → ArePlainFields fields → IsPlainType e
+    plain_procedure : {e : TypeExpr} {at : Pos} {xs : List Parameter} {q : Option Qualified}
+        → out-TypeExpr e ≡ type_layer.Procedure at xs q → IsPlainType e
+
+  pub data ArePlainFields : List Field → Type 0 where
+    no_plain_field : ArePlainFields []
+    one_plain_field : {f : Field} {fs : List Field} → IsPlainType (out-Field f).of
+        → ArePlainFields fs → ArePlainFields (f ∷ fs)
 
 abbrev pub IsPlainLayer : Decl-F Decl Block → Type 0
 IsPlainLayer (decl_layer.Constants cs) = (c : ConstantDecl) → Among c cs → IsCallFree c.value
@@ -408,6 +416,8 @@ pub record IsBlockExact (g : Gathers) (j : Judges g) (exports : ℕ → Ident �
       (BrokenIn s.types exports outside taken (is_nested s) (declarations_of ds) whole)
       (declared_block g ends (s, Ok tt) first ds).1
   pub types : (declared_block g ends (s, Ok tt) first ds).0.types ≡ types_behind s.types whole
+  -- Each declaration adds the types and constants that the rules say.
+  pub added : AllAdded s.types exports outside taken (is_nested s) (declarations_of ds) whole
   -- Each name stands for something behind them.
   pub stand : (names : Ident → Standing)
       × AllStand s.types exports outside taken (is_nested s) (declarations_of ds) whole names

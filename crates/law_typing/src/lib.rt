@@ -19,8 +19,9 @@
 //!   the selector of a CASE, `proofs/Bounds` the bounds of its labels, `proofs/Labelling` each label, `proofs/Meeting` and
 //!   `proofs/Twice` labels that are there twice, `proofs/Choosing` all of a CASE, `proofs/Opening` what a WITH opens,
 //!   `proofs/Inside` what is known inside, and `proofs/Obeying` the induction over statements.
-//! - `proofs/TypeNaming` has names of types, `proofs/Heading` headings of procedures, `proofs/Subranges` subranges, and
-//!   `proofs/TypeReading` types as they are written. `proofs/Declaring` says what a scope knows of the names of a block, and
+//! - `proofs/TypeNaming` has names of types, `proofs/Heading` headings of procedures, `proofs/Subranges` subranges,
+//!   `proofs/Enumerating` enumerations, `proofs/TypeReading` other types as they are written but records, and
+//!   `proofs/Recording` records and all types. `proofs/Declaring` says what a scope knows of the names of a block, and
 //!   `proofs/Marking`, `proofs/Beginning` and `proofs/Sayings` that it does before the declarations, inside them and behind
 //!   each. `proofs/Blocks` goes from one to the next.
 #![tactic(auto)]
@@ -116,8 +117,8 @@ pub fn subrange_laws()
 {}
 
 /// What is reported of the declarations of a block are exactly the rules that are broken in them, and what is known of names
-/// behind them is what the rules say: constants that call nothing, types but enumerations and records, variables of
-/// these, and headings of procedures that no definition awaits.
+/// behind them is what the rules say: constants that call nothing, types whose bounds call nothing, variables of these, and
+/// headings of procedures that no definition awaits.
 pub fn block_laws()
     ensures every_rule { BlocksAreExact every all_of_them }
     ensures least_rule { BlocksAreExact least the_least }

@@ -5,7 +5,7 @@ use Rattle.std.specs.String.{string_bytes}
 use Rattle.std.specs.Global.{Global, Vec}
 use Rattle.pool_board.specs.Seats.{max_workers}
 use Rattle.def_scheme.specs.Modules.{max_pages}
-use Rattle.run_directory.specs.Directory.{Files, Reading, Read, HasRead}
+use Rattle.run_directory.specs.Directory.{Files, FileRead, Read, HasRead}
 use Rattle.run_directory.specs.Reported.{Says}
 use Rattle.build_jobs.specs.declared.file.SourceFile.{SourceFile}
 use Rattle.m2_tree.specs.declared.refusal.Refusal.{Refusal}
@@ -46,35 +46,36 @@ Checks o (Err fault) = IsWrong o fault
 -- ---- the files
 
 -- the file of this name, with the bytes that it gave
-abbrev pub IsGiven : Reading → (name : List ℕ) → SourceFile → Type 0
-IsGiven reading name file =
-    (string_bytes file.name ≡ name) × (reading ≡ Read name (Some file.bytes.items))
+abbrev pub IsGiven : FileRead → (name : List ℕ) → SourceFile → Type 0
+IsGiven read name file =
+    (string_bytes file.name ≡ name) × (read ≡ Read name (Some file.bytes.items))
 
 -- each name's file, in their order
-pub data AreGiven : List Reading → List (List ℕ) → List SourceFile → Type 0 where
+pub data AreGiven : List FileRead → List (List ℕ) → List SourceFile → Type 0 where
   Empty : AreGiven [] [] []
-  More : (reading : Reading) (name : List ℕ) (file : SourceFile) (reads : List Reading)
+  More : (read : FileRead) (name : List ℕ) (file : SourceFile) (reads : List FileRead)
       (names : List (List ℕ)) (files : List SourceFile)
-      → IsGiven reading name file → AreGiven reads names files
-      → AreGiven (reading ∷ reads) (name ∷ names) (file ∷ files)
+      → IsGiven read name file → AreGiven reads names files
+      → AreGiven (read ∷ reads) (name ∷ names) (file ∷ files)
 
 -- the file of this name cannot be read, or memory was refused behind it
-abbrev pub Lacks : Reading → (name : List ℕ) → Ending → Type 0
-Lacks reading name (Unread reported) = (reported.now ≡ name) × (reading ≡ Read name None)
-Lacks reading name (Unbuilt fault) =
-    (fault ≡ NoMemory) × ((bytes : List ℕ) × (reading ≡ Read name (Some bytes)))
-Lacks reading name (Refused all) = ⊥
-Lacks reading name (Saved answer) = ⊥
+abbrev pub Lacks : FileRead → (name : List ℕ) → Ending → Type 0
+Lacks read name (Unread reported) = (reported.now ≡ name) × (read ≡ Read name None)
+Lacks read name (Unbuilt fault) =
+    (fault ≡ NoMemory) × ((bytes : List ℕ) × (read ≡ Read name (Some bytes)))
+Lacks read name (Refused all) = ⊥
+Lacks read name (Saved answer) = ⊥
 
 -- of the files of these names the first that is not there ends the compilation, and it is the last
 -- that was asked for
-pub record FirstLack (reads : List Reading) (names : List (List ℕ)) (ending : Ending) : Type 0 where
+pub record FirstLack (reads : List FileRead) (names : List (List ℕ)) (ending : Ending)
+    : Type 0 where
   pub before : List (List ℕ)
   pub name : List ℕ
   pub after : List (List ℕ)
   pub are : names ≡ before ++ name ∷ after
-  pub reads_before : List Reading
-  pub last : Reading
+  pub reads_before : List FileRead
+  pub last : FileRead
   pub all_reads : reads ≡ reads_before ++ last ∷ []
   pub files : List SourceFile
   pub there : AreGiven reads_before before files
@@ -116,7 +117,7 @@ module _ {D S : Type 0} (calls : D → Option (List Call)) (failures : D → ℕ
   ComesOf files pages (Saved answer) dir dir_after out out_after =
       IsSaved files pages answer dir dir_after out out_after
 
-  module _ {I : Type 0} (readings : I → Option (List Reading)) (gives : I → Files) where
+  module _ {I : Type 0} (noted : I → Option (List FileRead)) (gives : I → Files) where
     -- the options are wrong, and nothing is done
     pub record AreWrong (options : Options) (ending : Ending) (files files_after : I)
         (dir dir_after : D) (out out_after : S) : Type 0 where
@@ -131,8 +132,8 @@ module _ {D S : Type 0} (calls : D → Option (List Call)) (failures : D → ℕ
     pub record IsLacking (names : List (List ℕ)) (options : Options) (ending : Ending)
         (files files_after : I) (dir dir_after : D) (out out_after : S) : Type 0 where
       pub fine : AreFine options
-      pub reads : List Reading
-      pub has_read : HasRead readings gives reads files files_after
+      pub reads : List FileRead
+      pub has_read : HasRead noted gives reads files files_after
       pub lack : FirstLack reads names ending
       pub same_dir : dir_after ≡ dir
       pub same_out : out_after ≡ out
@@ -141,8 +142,8 @@ module _ {D S : Type 0} (calls : D → Option (List Call)) (failures : D → ℕ
     pub record IsOfBuild (names : List (List ℕ)) (options : Options) (ending : Ending)
         (files files_after : I) (dir dir_after : D) (out out_after : S) : Type 0 where
       pub fine : AreFine options
-      pub reads : List Reading
-      pub has_read : HasRead readings gives reads files files_after
+      pub reads : List FileRead
+      pub has_read : HasRead noted gives reads files files_after
       pub sources : List SourceFile
       pub given : AreGiven reads names sources
       pub comes : ComesOf sources options.pages ending dir dir_after out out_after

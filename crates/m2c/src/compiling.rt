@@ -82,7 +82,7 @@ fn ending_of<'n, R: Threads + Sync, I: InDir, D: OutDir, S: Sink>(
 ) -> Ending<'n>
     requires dir { D.failed dir.old + 2 < 2 ^ 64 }
     requires out { S.failed out.old + 1 < 2 ^ 64 }
-    ensures { Comes D.calls D.failed S.reported S.failed I.readings I.gives
+    ensures { Comes D.calls D.failed S.reported S.failed I.reads I.gives
         (map string_bytes names.now) options result files.old files.new dir.old dir.new out.old
         out.new }
 {
@@ -116,7 +116,7 @@ pub fn compile<R: Threads + Sync, I: InDir, D: OutDir, S: Sink, E: Sink>(
     requires dir { D.failed dir.old + 2 < 2 ^ 64 }
     requires out { S.failed out.old + 1 < 2 ^ 64 }
     requires err { E.failed err.old + 1 < 2 ^ 64 }
-    ensures { Compiles D.calls D.failed S.reported S.failed I.readings I.gives I.in_front I.behind
+    ensures { Compiles D.calls D.failed S.reported S.failed I.reads I.gives I.in_front I.behind
         E.reported E.failed (map string_bytes names.now) options result files.old files.new dir.old
         dir.new out.old out.new err.old err.new }
 {

@@ -2,7 +2,7 @@
 
 ghost use Rattle.std.specs.Prelude.{◌≡◌, ◌++◌, ◌∷◌, [], List, map, IfOk, IfErr};
 ghost use Rattle.std.specs.String.{string_bytes};
-ghost use Rattle.run_directory.specs.Directory.{Reading, HasRead};
+ghost use Rattle.run_directory.specs.Directory.{FileRead, HasRead};
 ghost use Rattle.build_jobs.specs.declared.file.SourceFile.{SourceFile};
 ghost use Rattle.m2c.specs.Compiles.{IsGiven, AreGiven, Lacks, FirstLack};
 
@@ -20,15 +20,15 @@ fn add_file<'n, I: InDir>(
     files: &mut Vec<SourceFile>,
 ) -> Result<(), Ending<'n>>
     ensures ok { IfOk result (λ _.
-        (reading : Reading)
-        × HasRead I.readings I.gives (reading ∷ []) dir.old dir.new
+        (read : FileRead)
+        × HasRead I.reads I.gives (read ∷ []) dir.old dir.new
         × (file : SourceFile)
         × (files.new.items ≡ files.old.items ++ file ∷ [])
-        × IsGiven reading name.now file) }
+        × IsGiven read name.now file) }
     ensures err { IfErr result (λ e.
-        (reading : Reading)
-        × HasRead I.readings I.gives (reading ∷ []) dir.old dir.new
-        × Lacks reading name.now e) }
+        (read : FileRead)
+        × HasRead I.reads I.gives (read ∷ []) dir.old dir.new
+        × Lacks read name.now e) }
 {
     let Some(bytes) = dir.read(alloc, name) else {
         return Err(Ending::Unread(name));
@@ -49,12 +49,12 @@ pub fn read_files<'n, I: InDir>(
     names: &'n [String],
 ) -> Result<Vec<SourceFile>, Ending<'n>>
     ensures ok { IfOk result (λ files.
-        (reads : List Reading)
-        × HasRead I.readings I.gives reads dir.old dir.new
+        (reads : List FileRead)
+        × HasRead I.reads I.gives reads dir.old dir.new
         × AreGiven reads (map string_bytes names.now) files.items) }
     ensures err { IfErr result (λ e.
-        (reads : List Reading)
-        × HasRead I.readings I.gives reads dir.old dir.new
+        (reads : List FileRead)
+        × HasRead I.reads I.gives reads dir.old dir.new
         × FirstLack reads (map string_bytes names.now) e) }
 {
     let mut files = Vec::new(alloc);

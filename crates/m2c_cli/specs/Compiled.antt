@@ -16,6 +16,6 @@ abbrev pub HasCompiled : {R P Q : Type 0} → (names : List (List ℕ)) → Opti
     (out out_after : LineStream P) (err err_after : LineStream Q) → Type 0
 HasCompiled names options status files files_after dir dir_after out out_after err err_after =
     Compiles (λ d. Some d.noted.calls) (λ d. d.failures) (λ s. Some s.taken.bytes)
-    (λ s. s.failures) (λ f. Some f.noted.readings) (λ f. any_files) (λ f. f.front.now)
+    (λ s. s.failures) (λ f. Some f.noted.reads) (λ f. any_files) (λ f. f.front.now)
     (λ f. string_bytes f.reason) (λ s. Some s.taken.bytes) (λ s. s.failures) names options status
     files files_after dir dir_after out out_after err err_after

@@ -12,7 +12,7 @@ use Rattle.run_directory.specs.Reported.{Executes}
 abbrev pub HasExecuted : {R P Q : Type 0} → (steps status : ℕ) → (dir dir_after : InFolder R)
     (out out_after : ByteStream P) (err err_after : ByteStream Q) → Type 0
 HasExecuted steps status dir dir_after out out_after err err_after =
-    Executes (λ f. Some f.noted.readings) (λ f. any_files) (λ f. f.front.now)
+    Executes (λ f. Some f.noted.reads) (λ f. any_files) (λ f. f.front.now)
     (λ f. string_bytes f.reason) (λ s. Some s.written.bytes) (λ s. s.failures)
     (λ s. Some s.written.bytes) (λ s. s.failures) steps status dir dir_after out out_after err
     err_after

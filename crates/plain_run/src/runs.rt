@@ -40,7 +40,8 @@ pub fn value<'a>(
     e: &TypedExpr,
     st: &mut State,
 ) -> Result<Answer<i64>, RunFault>
-    ensures { IfOk result (λ j. answer_meaning j st.new ≡ value_in around.now e.now (view_of st.old)) }
+    ensures { IfOk result (λ j.
+        answer_meaning j st.new ≡ value_in around.now e.now (view_of st.old)) }
 {
     let room = deeper(room)?;
     match e {
@@ -74,7 +75,8 @@ fn function_value<'a>(
     e: &TypedExpr,
     st: &mut State,
 ) -> Result<Answer<i64>, RunFault>
-    ensures { IfOk result (λ j. answer_meaning j st.new ≡ value_in around.now e.now (view_of st.old)) }
+    ensures { IfOk result (λ j.
+        answer_meaning j st.new ≡ value_in around.now e.now (view_of st.old)) }
 {
     let room = deeper(room)?;
     match e {
@@ -100,7 +102,8 @@ fn operands<'a>(
     b: &TypedExpr,
     st: &mut State,
 ) -> Result<Answer<Operands>, RunFault>
-    ensures { IfOk result (λ j. answer_meaning j st.new ≡ pair_in around.now a.now b.now (view_of st.old)) }
+    ensures { IfOk result (λ j.
+        answer_meaning j st.new ≡ pair_in around.now a.now b.now (view_of st.old)) }
 {
     let room = deeper(room)?;
     match value(around, room, a, st)? {
@@ -122,7 +125,8 @@ fn in_value<'a>(
     b: &TypedExpr,
     st: &mut State,
 ) -> Result<Answer<i64>, RunFault>
-    ensures { IfOk result (λ j. answer_meaning j st.new ≡ in_in around.now a.now b.now (view_of st.old)) }
+    ensures { IfOk result (λ j.
+        answer_meaning j st.new ≡ in_in around.now a.now b.now (view_of st.old)) }
 {
     let room = deeper(room)?;
     match value(around, room, a, st)? {
@@ -144,7 +148,8 @@ fn links_value<'a>(
     first: i64,
     st: &mut State,
 ) -> Result<Answer<i64>, RunFault>
-    ensures { IfOk result (λ j. answer_meaning j st.new ≡ links_in around.now links.now first (view_of st.old)) }
+    ensures { IfOk result (λ j.
+        answer_meaning j st.new ≡ links_in around.now links.now first (view_of st.old)) }
 {
     let room = deeper(room)?;
     let mut x = first;
@@ -167,7 +172,8 @@ fn link_value<'a>(
     x: i64,
     st: &mut State,
 ) -> Result<Answer<i64>, RunFault>
-    ensures { IfOk result (λ j. answer_meaning j st.new ≡ linked_in around.now link.now x (view_of st.old)) }
+    ensures { IfOk result (λ j.
+        answer_meaning j st.new ≡ linked_in around.now link.now x (view_of st.old)) }
 {
     let room = deeper(room)?;
     match link {
@@ -201,7 +207,8 @@ pub fn location_of<'a>(
     d: &Place,
     st: &mut State,
 ) -> Result<Answer<Items<usize>>, RunFault>
-    ensures { IfOk result (λ j. answer_meaning j st.new ≡ located_in around.now d.now (view_of st.old)) }
+    ensures { IfOk result (λ j.
+        answer_meaning j st.new ≡ located_in around.now d.now (view_of st.old)) }
 {
     let room = deeper(room)?;
     let l = root_location(around, d.root)?;
@@ -219,7 +226,8 @@ fn reached_all<'a>(
     st: &mut State,
 ) -> Result<Answer<Items<usize>>, RunFault>
     ensures { let cs = components.now in
-        IfOk result (λ j. answer_meaning j st.new ≡ components_in around.now cs first (view_of st.old)) }
+        IfOk result (λ j.
+        answer_meaning j st.new ≡ components_in around.now cs first (view_of st.old)) }
 {
     let room = deeper(room)?;
     let mut l = first;
@@ -242,7 +250,8 @@ fn component_value<'a>(
     l: Items<usize>,
     st: &mut State,
 ) -> Result<Answer<Items<usize>>, RunFault>
-    ensures { IfOk result (λ j. answer_meaning j st.new ≡ reached_in around.now of.now l (view_of st.old)) }
+    ensures { IfOk result (λ j.
+        answer_meaning j st.new ≡ reached_in around.now of.now l (view_of st.old)) }
 {
     let room = deeper(room)?;
     match of {
@@ -263,7 +272,8 @@ pub fn call_value<'a>(
     call: &Call,
     st: &mut State,
 ) -> Result<Answer<i64>, RunFault>
-    ensures { IfOk result (λ j. answer_meaning j st.new ≡ called_in around.now call.now (view_of st.old)) }
+    ensures { IfOk result (λ j.
+        answer_meaning j st.new ≡ called_in around.now call.now (view_of st.old)) }
 {
     let room = deeper(room)?;
     match call {
@@ -307,7 +317,8 @@ fn call_with<'a>(
     st: &mut State,
 ) -> Result<Answer<i64>, RunFault>
     ensures { let c = option_map callee_of callee.entry in
-        IfOk result (λ j. answer_meaning j st.new ≡ asked_in around.now c arguments.now (view_of st.old)) }
+        IfOk result (λ j.
+        answer_meaning j st.new ≡ asked_in around.now c arguments.now (view_of st.old)) }
 {
     let room = deeper(room)?;
     match given_all(around, room, arguments, st)? {
@@ -364,7 +375,8 @@ fn argument_value<'a>(
     x: &Argument,
     st: &mut State,
 ) -> Result<Answer<Passed>, RunFault>
-    ensures { IfOk result (λ j. answered_sent j st.new ≡ given_in around.now x.now (view_of st.old)) }
+    ensures { IfOk result (λ j.
+        answered_sent j st.new ≡ given_in around.now x.now (view_of st.old)) }
 {
     let room = deeper(room)?;
     match x {
@@ -388,11 +400,14 @@ fn body_run<'a>(
     request: Request<'a>,
     st: &mut State,
 ) -> Result<Answer<i64>, RunFault>
-    ensures { let p = modules_of program.now in let n = program.now.bound in
+    ensures { let p = modules_of program.now in
+        let n = program.now.bound in
         let vs = map argument_sent request.entry.passed in
         let c = callee_of request.entry.callee in
-        IfOk result (λ j. answer_meaning j st.new
-        ≡ runs p n (calling p n depth) c vs request.entry.next request.entry.left (view_of st.old)) }
+        IfOk result (λ j.
+        answer_meaning j st.new
+        ≡ runs p n (calling p n depth) c vs request.entry.next request.entry.left
+        (view_of st.old)) }
 {
     let room = deeper(room)?;
     match rest_of(program.alloc, &request)? {
@@ -422,7 +437,8 @@ pub fn steps<'a>(
     body: &[TypedStmt],
     st: &mut State,
 ) -> Result<Outcome, RunFault>
-    ensures { IfOk result (λ o. outcome_course o st.new ≡ steps_in around.now body.now (view_of st.old)) }
+    ensures { IfOk result (λ o.
+        outcome_course o st.new ≡ steps_in around.now body.now (view_of st.old)) }
 {
     let room = deeper(room)?;
     for stmt in body {
@@ -445,7 +461,8 @@ fn step<'a>(
     stmt: &TypedStmt,
     st: &mut State,
 ) -> Result<Outcome, RunFault>
-    ensures { IfOk result (λ o. outcome_course o st.new ≡ does_in around.now stmt.now (view_of st.old)) }
+    ensures { IfOk result (λ o.
+        outcome_course o st.new ≡ does_in around.now stmt.now (view_of st.old)) }
 {
     let room = deeper(room)?;
     match stmt {
@@ -577,7 +594,8 @@ fn for_run<'a>(
     of: &Turns,
     st: &mut State,
 ) -> Result<Outcome, RunFault>
-    ensures { IfOk result (λ o. outcome_course o st.new ≡ for_begun around.now t by.now body.now of.now (view_of st.old)) }
+    ensures { IfOk result (λ o.
+        outcome_course o st.new ≡ for_begun around.now t by.now body.now of.now (view_of st.old)) }
 {
     let room = deeper(room)?;
     if begin_for(around, by, of, st)? {
@@ -596,7 +614,8 @@ fn target<'a>(
     e: &TypedExpr,
     st: &mut State,
 ) -> Result<Answer<Target>, RunFault>
-    ensures { IfOk result (λ j. answer_meaning j st.new ≡ target_in around.now d.now e.now (view_of st.old)) }
+    ensures { IfOk result (λ j.
+        answer_meaning j st.new ≡ target_in around.now d.now e.now (view_of st.old)) }
 {
     let room = deeper(room)?;
     match location_of(around, room, d, st)? {
@@ -618,7 +637,8 @@ fn ends<'a>(
     from: &Place,
     st: &mut State,
 ) -> Result<Answer<Ends>, RunFault>
-    ensures { IfOk result (λ j. answer_meaning j st.new ≡ ends_in around.now to.now from.now (view_of st.old)) }
+    ensures { IfOk result (λ j.
+        answer_meaning j st.new ≡ ends_in around.now to.now from.now (view_of st.old)) }
 {
     let room = deeper(room)?;
     match location_of(around, room, to, st)? {
@@ -641,7 +661,8 @@ fn while_turns<'a>(
     st: &mut State,
 ) -> Result<Outcome, RunFault>
     ensures { let n = around.now.program.now.bound in
-        IfOk result (λ o. outcome_course o st.new ≡ while_in around.now e.now body.now n (view_of st.old)) }
+        IfOk result (λ o.
+        outcome_course o st.new ≡ while_in around.now e.now body.now n (view_of st.old)) }
 {
     let room = deeper(room)?;
     for _ in 0..around.program.bound {
@@ -682,7 +703,8 @@ fn repeat_turns<'a>(
     st: &mut State,
 ) -> Result<Outcome, RunFault>
     ensures { let n = around.now.program.now.bound in
-        IfOk result (λ o. outcome_course o st.new ≡ repeat_in around.now body.now e.now n (view_of st.old)) }
+        IfOk result (λ o.
+        outcome_course o st.new ≡ repeat_in around.now body.now e.now n (view_of st.old)) }
 {
     let room = deeper(room)?;
     for _ in 0..around.program.bound {
@@ -714,7 +736,8 @@ fn loop_turns<'a>(
     st: &mut State,
 ) -> Result<Outcome, RunFault>
     ensures { let n = around.now.program.now.bound in
-        IfOk result (λ o. outcome_course o st.new ≡ loop_in around.now body.now n (view_of st.old)) }
+        IfOk result (λ o.
+        outcome_course o st.new ≡ loop_in around.now body.now n (view_of st.old)) }
 {
     let room = deeper(room)?;
     for _ in 0..around.program.bound {
@@ -741,7 +764,8 @@ fn turns<'a>(
     st: &mut State,
 ) -> Result<Answer<Turns>, RunFault>
     ensures { let a = around.now in
-        IfOk result (λ j. answer_meaning j st.new ≡ turns_in a d.now t start.now limit.now (view_of st.old)) }
+        IfOk result (λ j.
+        answer_meaning j st.new ≡ turns_in a d.now t start.now limit.now (view_of st.old)) }
 {
     let room = deeper(room)?;
     match location_of(around, room, d, st)? {

@@ -170,7 +170,8 @@ pub fn nested_callee<'a>(
 ) -> Result<Option<Callee<'a>>, AllocError>
     ensures { let a = surroundings around.now in
         let home = slice_get (modules_of around.now.program.now) a.place in
-        IfOk result (λ c. option_map callee_of c ≡ nested_in a.place home (drop up a.frames) number) }
+        IfOk result (λ c.
+        option_map callee_of c ≡ nested_in a.place home (drop up a.frames) number) }
 {
     match home_at(around.program.modules, around.place) {
         None => Ok(None),

@@ -137,7 +137,8 @@ fn pass_elements(
     st: &mut State,
 ) -> Result<(), RunFault>
     ensures begun { OnOk result (begun_of begun.new (view_of st.new)
-        ≡ with_passed false activation (begun_of begun.old (view_of st.old)) (Array from.now high)) }
+        ≡ with_passed false activation (begun_of begun.old (view_of st.old))
+        (Array from.now high)) }
     ensures out { OnOk result ((view_of st.new).out ≡ (view_of st.old).out) }
 {
     let l = instance(alloc, begun.next)?;
@@ -175,7 +176,8 @@ fn pass(
     st: &mut State,
 ) -> Result<(), RunFault>
     ensures begun { OnOk result (begun_of begun.new (view_of st.new)
-        ≡ with_passed is_var activation (begun_of begun.old (view_of st.old)) (argument_sent v.now)) }
+        ≡ with_passed is_var activation (begun_of begun.old (view_of st.old))
+        (argument_sent v.now)) }
     ensures out { OnOk result ((view_of st.new).out ≡ (view_of st.old).out) }
 {
     match v {
@@ -209,7 +211,8 @@ fn pass_all(
     st: &mut State,
 ) -> Result<(), RunFault>
     ensures begun { OnOk result (begun_of begun.new (view_of st.new)
-        ≡ with_all activation formals.now (map argument_sent vs.now) (begun_of begun.old (view_of st.old))) }
+        ≡ with_all activation formals.now (map argument_sent vs.now)
+        (begun_of begun.old (view_of st.old))) }
     ensures out { OnOk result ((view_of st.new).out ≡ (view_of st.old).out) }
 {
     match formals {
@@ -385,8 +388,10 @@ fn enter_with(
     st: &mut State,
 ) -> Result<Begun, RunFault>
     ensures begun { let types = home.now.body.now.types in
-        IfOk result (λ b. begun_of b (view_of st.new)
-        ≡ enter_call types routine.now activation (map argument_sent vs.now) (view_of st.old).store) }
+        IfOk result (λ b.
+        begun_of b (view_of st.new)
+        ≡ enter_call types routine.now activation (map argument_sent vs.now)
+        (view_of st.old).store) }
     ensures out { OnOk result ((view_of st.new).out ≡ (view_of st.old).out) }
 {
     let blank = frame_held(alloc, home, routine)?;
@@ -403,9 +408,12 @@ fn enter_with(
 
 /// The names of the formals of a call, and the number of the next instance.
 pub fn enter(alloc: Global, request: &Request<'_>, st: &mut State) -> Result<Begun, RunFault>
-    ensures begun { let q = request.now in let types = q.callee.home.body.now.types in
-        let vs = map argument_sent q.passed in let r = q.callee.routine.now in
-        IfOk result (λ b. begun_of b (view_of st.new) ≡ enter_call types r q.next vs (view_of st.old).store) }
+    ensures begun { let q = request.now in
+        let types = q.callee.home.body.now.types in
+        let vs = map argument_sent q.passed in
+        let r = q.callee.routine.now in
+        IfOk result (λ b.
+        begun_of b (view_of st.new) ≡ enter_call types r q.next vs (view_of st.old).store) }
     ensures out { OnOk result ((view_of st.new).out ≡ (view_of st.old).out) }
 {
     let (home, routine) = (&request.callee.home, request.callee.routine);

@@ -19,7 +19,8 @@ use typed_tree::{Slot, TypeNo};
 /// The number at the location that is given.
 #[tactic(auto, using(plain_store::proofs::Threads::threads))]
 pub fn load_number(given: Answer<Items<usize>>, st: &State) -> Answer<i64>
-    ensures { answer_meaning result st.now ≡ (answer_meaning given st.now ▷ (λ l st. Value (st.store l) st)) }
+    ensures { answer_meaning result st.now
+        ≡ (answer_meaning given st.now ▷ (λ l st. Value (st.store l) st)) }
 {
     match given {
         Answer::Value(l) => Answer::Value(load(l.as_slice(), st)),
@@ -36,7 +37,9 @@ pub fn number_passed(
     st: &State,
 ) -> Answer<Passed>
     ensures { let types = (surroundings around.now).types in
-        answered_sent result st.now ≡ (answer_meaning given st.now ▷ (λ v st. as_type types t v st ▷ λ v st. Value (Number v) st)) }
+        answered_sent result st.now
+        ≡ (answer_meaning given st.now
+        ▷ (λ v st. as_type types t v st ▷ λ v st. Value (Number v) st)) }
 {
     match given {
         Answer::Value(v) => match as_type(around, t, v, st) {
@@ -99,7 +102,8 @@ pub fn in_front(
     first: Passed,
     others: Items<Passed>,
 ) -> Result<Items<Passed>, AllocError>
-    ensures { IfOk result (λ all. map argument_sent all ≡ argument_sent first ∷ map argument_sent others) }
+    ensures { IfOk result (λ all.
+        map argument_sent all ≡ argument_sent first ∷ map argument_sent others) }
 {
     let mut all = Items::new(alloc);
     all.push(first)?;

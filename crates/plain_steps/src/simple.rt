@@ -54,7 +54,11 @@ pub fn assign(
     st: &mut State,
 ) -> Result<Outcome, RunFault>
     ensures { let types = (surroundings around.now).types in
-        IfOk result (λ o. outcome_course o st.new ≡ (answer_meaning given st.old ▷ λ x st. as_type types t x.v st ▷ λ v st. Value Normal (store_number x.l v st))) }
+        IfOk result (λ o.
+        outcome_course o st.new
+        ≡ (answer_meaning given st.old ▷ λ x st.
+        as_type types t x.v st ▷ λ v st.
+        Value Normal (store_number x.l v st))) }
 {
     match given {
         Answer::Value(x) => match as_type(around, t, x.v, st) {
@@ -71,7 +75,10 @@ pub fn assign(
 /// Copies an array or a record.
 #[tactic(auto, using(plain_store::proofs::Threads::threads))]
 pub fn copy(around: &Around<'_>, given: Answer<Ends>, st: &mut State) -> Result<Outcome, RunFault>
-    ensures { IfOk result (λ o. outcome_course o st.new ≡ (answer_meaning given st.old ▷ λ x st. Value Normal (with_store (copy_whole x.to x.from st.store) st))) }
+    ensures { IfOk result (λ o.
+        outcome_course o st.new
+        ≡ (answer_meaning given st.old ▷ λ x st.
+        Value Normal (with_store (copy_whole x.to x.from st.store) st))) }
 {
     match given {
         Answer::Value(x) => {
@@ -90,7 +97,8 @@ pub fn copy_text(
     text: &[u8],
     st: &mut State,
 ) -> Result<Outcome, RunFault>
-    ensures { IfOk result (λ o. outcome_course o st.new ≡ (answer_meaning given st.old ▷ (text_put text.now))) }
+    ensures { IfOk result (λ o.
+        outcome_course o st.new ≡ (answer_meaning given st.old ▷ (text_put text.now))) }
 {
     match given {
         Answer::Value(l) => {
@@ -104,7 +112,8 @@ pub fn copy_text(
 /// The end of a call as a statement.
 #[tactic(auto, using(plain_store::proofs::Threads::threads))]
 pub fn gone(given: Answer<i64>, st: &State) -> Outcome
-    ensures { outcome_course result st.now ≡ (answer_meaning given st.now ▷ (λ v st. Value Normal st)) }
+    ensures { outcome_course result st.now
+        ≡ (answer_meaning given st.now ▷ (λ v st. Value Normal st)) }
 {
     match given {
         Answer::Value(_) => Outcome::Normal,
@@ -116,7 +125,11 @@ pub fn gone(given: Answer<i64>, st: &State) -> Outcome
 #[tactic(auto, using(plain_store::proofs::Threads::threads))]
 pub fn put(around: &Around<'_>, given: Answer<i64>, st: &mut State) -> Result<Outcome, RunFault>
     ensures { let types = (surroundings around.now).types in
-        IfOk result (λ o. outcome_course o st.new ≡ (answer_meaning given st.old ▷ λ v st. as_type types char v st ▷ λ v st. Value Normal (with_byte v st))) }
+        IfOk result (λ o.
+        outcome_course o st.new
+        ≡ (answer_meaning given st.old ▷ λ v st.
+        as_type types char v st ▷ λ v st.
+        Value Normal (with_byte v st))) }
 {
     match given {
         Answer::Value(v) => match as_type(around, CHAR, v, st) {
@@ -151,7 +164,8 @@ fn base_of(t: TypeNo, scalar: Option<Scalar>) -> TypeNo
 /// A result as one of the base type, and then as one of the variable's.
 #[tactic(auto, using(plain_store::proofs::Threads::threads), unfolding(plain_values::specs::Surroundings::surroundings))]
 fn recheck_value(around: &Around<'_>, t: TypeNo, v: i64, st: &State) -> Answer<i64>
-    ensures { answer_meaning result st.now ≡ recheck_value (surroundings around.now).types t v (view_of st.now) }
+    ensures { answer_meaning result st.now
+        ≡ recheck_value (surroundings around.now).types t v (view_of st.now) }
 {
     let base = base_of(t, scalar_of(&around.home.body.types, t));
     match in_base(around, base, v, st) {
@@ -170,7 +184,11 @@ pub fn change(
     st: &mut State,
 ) -> Result<Outcome, RunFault>
     ensures { let types = (surroundings around.now).types in
-        IfOk result (λ o. outcome_course o st.new ≡ (answer_meaning given st.old ▷ λ x st. recheck_value types t (change_by how (st.store x.l) x.v) st ▷ λ v st. Value Normal (store_number x.l v st))) }
+        IfOk result (λ o.
+        outcome_course o st.new
+        ≡ (answer_meaning given st.old ▷ λ x st.
+        recheck_value types t (change_by how (st.store x.l) x.v) st ▷ λ v st.
+        Value Normal (store_number x.l v st))) }
 {
     match given {
         Answer::Value(x) => {
@@ -195,7 +213,11 @@ pub fn membership(
     given: Answer<Target>,
     st: &mut State,
 ) -> Result<Outcome, RunFault>
-    ensures { IfOk result (λ o. outcome_course o st.new ≡ (answer_meaning given st.old ▷ λ x st. within (pos 0) (pos 31) range_fault x.v st ▷ λ v st. Value Normal (store_number x.l (with_element how (st.store x.l) v) st))) }
+    ensures { IfOk result (λ o.
+        outcome_course o st.new
+        ≡ (answer_meaning given st.old ▷ λ x st.
+        within (pos 0) (pos 31) range_fault x.v st ▷ λ v st.
+        Value Normal (store_number x.l (with_element how (st.store x.l) v) st))) }
 {
     match given {
         Answer::Value(x) => match within(0, 31, 1, x.v, st) {
@@ -214,7 +236,9 @@ pub fn membership(
 #[tactic(auto, using(plain_store::proofs::Threads::threads))]
 pub fn give(around: &Around<'_>, t: TypeNo, given: Answer<i64>, st: &State) -> Outcome
     ensures { let types = (surroundings around.now).types in
-        outcome_course result st.now ≡ (answer_meaning given st.now ▷ (λ v st. as_type types t v st ▷ λ v st. Value (Returned v) st)) }
+        outcome_course result st.now
+        ≡ (answer_meaning given st.now
+        ▷ (λ v st. as_type types t v st ▷ λ v st. Value (Returned v) st)) }
 {
     match given {
         Answer::Value(v) => match as_type(around, t, v, st) {
@@ -264,7 +288,8 @@ pub fn begin_for(
     of: &Turns,
     st: &mut State,
 ) -> Result<bool, RunFault>
-    ensures stored { OnOk result (view_of st.new ≡ store_number of.now.l of.now.v (view_of st.old)) }
+    ensures stored { OnOk result
+        (view_of st.new ≡ store_number of.now.l of.now.v (view_of st.old)) }
     ensures passed { IfOk result (λ b. b
         ≡ has_passed by.now of.now.last ((view_of st.new).store of.now.l)) }
 {
@@ -296,7 +321,10 @@ fn keep_control(
     st: &mut State,
 ) -> Result<Answer<bool>, RunFault>
     ensures { let types = (surroundings around.now).types in
-        IfOk result (λ j. answer_meaning j st.new ≡ (as_type types t next.now (view_of st.old) ▷ λ v st. Value false (store_number of.now.l v st))) }
+        IfOk result (λ j.
+        answer_meaning j st.new
+        ≡ (as_type types t next.now (view_of st.old) ▷ λ v st.
+        Value false (store_number of.now.l v st))) }
 {
     match as_type(around, t, *next, st) {
         Answer::Value(v) => {

@@ -323,7 +323,8 @@ fn with_made(
     before: &[Kept],
     made: &Made,
 ) -> Result<Kept, RunFault>
-    ensures { let old = own in let bs = with_made types.now before.now old.home old.blanks made.now in
+    ensures { let old = own in
+        let bs = with_made types.now before.now old.home old.blanks made.now in
         IfOk result (λ k. k ≡ keep_blanks old.home bs) }
 {
     let t = TypeNo {
@@ -345,7 +346,8 @@ fn all_made(
     home: u32,
     all: &[Made],
 ) -> Result<Kept, RunFault>
-    ensures { IfOk result (λ k. k ≡ keep_blanks home (module_blanks types.now before.now home all.now)) }
+    ensures { IfOk result (λ k.
+        k ≡ keep_blanks home (module_blanks types.now before.now home all.now)) }
 {
     let mut own = Kept {
         home,

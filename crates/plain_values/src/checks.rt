@@ -50,7 +50,8 @@ fn within_range(range: Option<Scalar>, fault: u32, v: i64, st: &State) -> Answer
 /// The value as one of a type.
 #[tactic(auto, unfolding(crate::specs::Surroundings::surroundings))]
 pub fn as_type(around: &Around<'_>, t: TypeNo, v: i64, st: &State) -> Answer<i64>
-    ensures { answer_meaning result st.now ≡ as_type (surroundings around.now).types t v (view_of st.now) }
+    ensures { answer_meaning result st.now
+        ≡ as_type (surroundings around.now).types t v (view_of st.now) }
 {
     within_range(scalar_of(&around.home.body.types, t), 1, v, st)
 }
@@ -58,7 +59,8 @@ pub fn as_type(around: &Around<'_>, t: TypeNo, v: i64, st: &State) -> Answer<i64
 /// The result of an operation in a base type.
 #[tactic(auto, unfolding(crate::specs::Surroundings::surroundings))]
 pub fn in_base(around: &Around<'_>, t: TypeNo, v: i64, st: &State) -> Answer<i64>
-    ensures { answer_meaning result st.now ≡ in_base (surroundings around.now).types t v (view_of st.now) }
+    ensures { answer_meaning result st.now
+        ≡ in_base (surroundings around.now).types t v (view_of st.now) }
 {
     within_range(scalar_of(&around.home.body.types, t), 2, v, st)
 }
@@ -73,7 +75,8 @@ pub fn arithmetic_result(
     st: &State,
 ) -> Result<Answer<i64>, RunFault>
     ensures { let types = (surroundings around.now).types in
-        IfOk result (λ j. answer_meaning j st.now ≡ arithmetic_result types o t x y (view_of st.now)) }
+        IfOk result (λ j.
+        answer_meaning j st.now ≡ arithmetic_result types o t x y (view_of st.now)) }
 {
     match o {
         Arithmetic::Add => Ok(in_base(around, t, sum(x, y)?, st)),
@@ -153,7 +156,9 @@ pub fn negation_of(
 /// Whether a relation holds.
 #[tactic(auto, using(plain_store::proofs::Threads::threads))]
 pub fn comparison_holds(o: Comparison, given: Answer<Operands>, st: &State) -> Answer<i64>
-    ensures { answer_meaning result st.now ≡ (answer_meaning given st.now ▷ (λ xy st. Value (truth (comparison_holds o xy.first xy.second)) st)) }
+    ensures { answer_meaning result st.now
+        ≡ (answer_meaning given st.now
+        ▷ (λ xy st. Value (truth (comparison_holds o xy.first xy.second)) st)) }
 {
     match given {
         Answer::Value(xy) => {
@@ -166,7 +171,9 @@ pub fn comparison_holds(o: Comparison, given: Answer<Operands>, st: &State) -> A
 /// Whether one set holds the other.
 #[tactic(auto, using(plain_store::proofs::Threads::threads))]
 pub fn inclusion_holds(o: Inclusion, given: Answer<Operands>, st: &State) -> Answer<i64>
-    ensures { answer_meaning result st.now ≡ (answer_meaning given st.now ▷ (λ xy st. Value (truth (inclusion_holds o xy.first xy.second)) st)) }
+    ensures { answer_meaning result st.now
+        ≡ (answer_meaning given st.now
+        ▷ (λ xy st. Value (truth (inclusion_holds o xy.first xy.second)) st)) }
 {
     match given {
         Answer::Value(xy) => {

@@ -22,7 +22,8 @@ use typed_tree::{Made, Root, Scalar, Shape, Slot, TypeNo, Types, made_of, scalar
 /// What a slot stands for.
 #[tactic(auto, using(crate::proofs::Lists::named_none, crate::proofs::Lists::named_some), unfolding(crate::specs::Surroundings::surroundings))]
 fn slot_named<'a>(around: &'a Around<'_>, slot: Slot) -> Option<&'a Named>
-    ensures { option_map name_of (option_copied result) ≡ slot_named (surroundings around.now) slot }
+    ensures { option_map name_of (option_copied result)
+        ≡ slot_named (surroundings around.now) slot }
 {
     match around.frames.get(slot.up) {
         None => None,
@@ -126,7 +127,8 @@ fn pair(alloc: Global, first: usize, second: usize) -> Result<Items<usize>, Allo
 /// Where a variable stands. The only error is that memory ran out.
 pub fn root_location(around: &Around<'_>, root: Root) -> Result<Items<usize>, AllocError>
     ensures { let a = around.now in
-        IfOk result (λ l. l ≡ root_layer (modules_of a.program.now) (asks_of a) root (surroundings a)) }
+        IfOk result (λ l.
+        l ≡ root_layer (modules_of a.program.now) (asks_of a) root (surroundings a)) }
 {
     match root {
         Root::Global(v) => { pair(around.program.alloc, module_place(around, v.home), v.number) }

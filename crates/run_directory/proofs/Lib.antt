@@ -1,5 +1,5 @@
 pub mod Saying
-pub mod Readings
+pub mod FileReads
 pub mod Missing
 mod Running
 mod Words

@@ -12,12 +12,12 @@ use Rattle.wasm_binary.specs.Binary.{Encodes, module_at}
 use Rattle.wasm_tree.specs.Validity.{IsValid}
 use Rattle.run_directory.specs.declared.report.Report.{Report}
 use Rattle.run_directory.specs.declared.report.Report.TheVariants.{Refused}
-use Rattle.run_directory.specs.Directory.{Files, Reading, Read, HasRead, file_of, module_names, IsModule, AreModules, Empty, More}
+use Rattle.run_directory.specs.Directory.{Files, FileRead, Read, HasRead, file_of, module_names, IsModule, AreModules, Empty, More}
 use Rattle.run_directory.specs.Reported.{IsMissing, FirstMissing, IsRefused, Unencoded, NotValid, Memory, ComesOf, Comes}
-use Rattle.run_directory.proofs.Readings.{none_read, more_read}
+use Rattle.run_directory.proofs.FileReads.{none_read, more_read}
 
 module _ (name : Bor (List ℕ)) (bytes slice : List ℕ) (same : slice ≡ bytes) where
-  abbrev reads : List Reading
+  abbrev reads : List FileRead
   reads = Read (file_of name.now) (Some bytes) ∷ []
 
   pub unencoded : (fault : WFault) → Fails fault (module_at slice) → IsMissing reads name.now (Refused name fault)
@@ -33,31 +33,31 @@ module _ (name : Bor (List ℕ)) (bytes slice : List ℕ) (same : slice ≡ byte
   not_valid tree fault s (inr e) = (refl, subst (λ (f : WFault). IsRefused (file_of name.now) reads f) (sym e) (Memory bytes))
 
 -- memory was refused behind a module that is there
-pub refused_behind : (reading : Reading) (name : Bor (List ℕ)) (tree : WModule) → IsModule reading name.now tree → IsMissing (reading ∷ []) name.now (Refused name NoMemory)
-refused_behind reading name tree h = (refl, subst (λ (r : Reading). IsRefused (file_of name.now) (r ∷ []) NoMemory) (sym h.is_read) (Memory h.bytes))
+pub refused_behind : (read : FileRead) (name : Bor (List ℕ)) (tree : WModule) → IsModule read name.now tree → IsMissing (read ∷ []) name.now (Refused name NoMemory)
+refused_behind read name tree h = (refl, subst (λ (r : FileRead). IsRefused (file_of name.now) (r ∷ []) NoMemory) (sym h.is_read) (Memory h.bytes))
 
 -- ---- the modules so far
 
-and_one : (reads : List Reading) (names : List (List ℕ)) (trees : List WModule) (reading : Reading) (name : List ℕ) (tree : WModule) → AreModules reads names trees → IsModule reading name tree
-    → AreModules (reads ++ reading ∷ []) (names ++ name ∷ []) (trees ++ tree ∷ [])
-and_one _ _ _ reading name tree Empty h = More reading name tree [] [] [] h Empty
-and_one _ _ _ reading name tree (More r n t rs ns ts first others) h = More r n t (rs ++ reading ∷ []) (ns ++ name ∷ []) (ts ++ tree ∷ []) first (and_one rs ns ts reading name tree others h)
+and_one : (reads : List FileRead) (names : List (List ℕ)) (trees : List WModule) (read : FileRead) (name : List ℕ) (tree : WModule) → AreModules reads names trees → IsModule read name tree
+    → AreModules (reads ++ read ∷ []) (names ++ name ∷ []) (trees ++ tree ∷ [])
+and_one _ _ _ read name tree Empty h = More read name tree [] [] [] h Empty
+and_one _ _ _ read name tree (More r n t rs ns ts first others) h = More r n t (rs ++ read ∷ []) (ns ++ name ∷ []) (ts ++ tree ∷ []) first (and_one rs ns ts read name tree others h)
 
-module _ {D : Type 0} (readings : D → Option (List Reading)) (gives : D → Files) where
+module _ {D : Type 0} (noted : D → Option (List FileRead)) (gives : D → Files) where
   -- behind the first ones the modules of these names
   abbrev pub NamedSoFar : (dir now : D) (first : List WModule) (names : List (List ℕ)) (modules : List WModule) → Type 0
   NamedSoFar dir now first names modules =
-      (reads : List Reading) × HasRead readings gives reads dir now
+      (reads : List FileRead) × HasRead noted gives reads dir now
       × (others : List WModule) × (modules ≡ first ++ others) × AreModules reads names others
 
   pub none_so_far : (dir : D) (first : List WModule) → NamedSoFar dir dir first [] first
-  none_so_far dir first = ([], none_read readings gives dir, [], sym (append-nil first), Empty)
+  none_so_far dir first = ([], none_read noted gives dir, [], sym (append-nil first), Empty)
 
   pub one_behind : (dir now after : D) (first : List WModule) (names more : List (List ℕ)) (name : List ℕ) (modules new : List WModule) → NamedSoFar dir now first names modules → more ≡ names ++ name ∷ []
-      → (reading : Reading) × HasRead readings gives (reading ∷ []) now after × (tree : WModule) × (new ≡ modules ++ tree ∷ []) × IsModule reading name tree → NamedSoFar dir after first more new
+      → (read : FileRead) × HasRead noted gives (read ∷ []) now after × (tree : WModule) × (new ≡ modules ++ tree ∷ []) × IsModule read name tree → NamedSoFar dir after first more new
   one_behind dir now after first names more name modules new so_far is found = (
     so_far.0 ++ found.0 ∷ [],
-    more_read readings gives so_far.0 (found.0 ∷ []) dir now after so_far.1 found.1,
+    more_read noted gives so_far.0 (found.0 ∷ []) dir now after so_far.1 found.1,
     so_far.2 ++ found.2 ∷ [],
     found.3 ∙ ap (λ (ms : List WModule). ms ++ found.2 ∷ []) so_far.3 ∙ append_assoc first so_far.2 (found.2 ∷ []),
     subst (λ (ns : List (List ℕ)). AreModules (so_far.0 ++ found.0 ∷ []) ns (so_far.2 ++ found.2 ∷ [])) (sym is)
@@ -66,13 +66,13 @@ module _ {D : Type 0} (readings : D → Option (List Reading)) (gives : D → Fi
 
   -- what comes of the modules behind link
   pub comes_behind : {S : Type 0} (reported : S → Option (List ℕ)) (failed : S → ℕ) (dir now after : D) (link_tree : WModule)
-      → (reading : Reading) × HasRead readings gives (reading ∷ []) dir now × IsModule reading link_name link_tree
+      → (read : FileRead) × HasRead noted gives (read ∷ []) dir now × IsModule read link_name link_tree
       → (steps : ℕ) (r : Report) (before out : S) (first : List WModule) (names : List (List ℕ)) → first ≡ link_tree ∷ [] → names ≡ module_names link_tree.exports
-      → (reads : List Reading) × HasRead readings gives reads now after × ComesOf reported failed reads first names steps r before out
-      → (reads : List Reading) × HasRead readings gives reads dir after × Comes reported failed reads steps r before out
+      → (reads : List FileRead) × HasRead noted gives reads now after × ComesOf reported failed reads first names steps r before out
+      → (reads : List FileRead) × HasRead noted gives reads dir after × Comes reported failed reads steps r before out
   comes_behind reported failed dir now after link_tree held steps r before out first names alone are h = (
     held.0 ∷ h.0,
-    more_read readings gives (held.0 ∷ []) h.0 dir now after held.1 h.1,
+    more_read noted gives (held.0 ∷ []) h.0 dir now after held.1 h.1,
     inl (record {
       link_tree = link_tree;
       first = held.0;
@@ -98,14 +98,14 @@ module _ {X Y : Type 0} (f : X → Y) (xs : List X) (k : ℕ) (x : X) (y : Y) (h
       ∙ ap (λ (z : Y). map f (take k xs) ++ z ∷ map f (drop (suc k) xs)) (sym (of ∙ ap f is))
 
 -- all before one that is missing are there
-module _ {D : Type 0} (readings : D → Option (List Reading)) (gives : D → Files) where
+module _ {D : Type 0} (noted : D → Option (List FileRead)) (gives : D → Files) where
   pub stops_at : {X : Type 0} (f : X → List ℕ) (xs : List X) (k : ℕ) (x : X) (name : List ℕ) → k < length xs → x ≡ get_or xs k x → name ≡ f x
-      → (dir now after : D) (first modules : List WModule) → NamedSoFar readings gives dir now first (map f (take k xs)) modules
-      → (r : Report) → (reads : List Reading) × HasRead readings gives reads now after × IsMissing reads name r
-      → (reads : List Reading) × HasRead readings gives reads dir after × FirstMissing reads (map f xs) r
+      → (dir now after : D) (first modules : List WModule) → NamedSoFar noted gives dir now first (map f (take k xs)) modules
+      → (r : Report) → (reads : List FileRead) × HasRead noted gives reads now after × IsMissing reads name r
+      → (reads : List FileRead) × HasRead noted gives reads dir after × FirstMissing reads (map f xs) r
   stops_at f xs k x name h is of dir now after first modules so_far r missing = (
     so_far.0 ++ missing.0,
-    more_read readings gives so_far.0 missing.0 dir now after so_far.1 missing.1,
+    more_read noted gives so_far.0 missing.0 dir now after so_far.1 missing.1,
     record {
       before = map f (take k xs);
       name = name;

@@ -39,7 +39,7 @@ module_named export =
 abbrev pub module_names : List Export → List (List ℕ)
 module_names exports = flat_map (λ e. option_to_list (module_named e.name)) exports
 
--- ---- what reading a directory may give: a relation of names and bytes, or nothing
+-- ---- what read a directory may give: a relation of names and bytes, or nothing
 
 abbrev pub Files : Type 1
 Files = List ℕ → Option (List ℕ) → Type 0
@@ -51,27 +51,27 @@ Stays now later = (name : List ℕ) (bytes : Option (List ℕ)) → later name b
 -- ---- what was read
 
 -- a file was asked for by this name, and gave these bytes, or nothing
-pub data Reading : Type 0 where
-  Read : (name : List ℕ) → (bytes : Option (List ℕ)) → Reading
+pub data FileRead : Type 0 where
+  Read : (name : List ℕ) → (bytes : Option (List ℕ)) → FileRead
 
 -- what a call that read a file answered
 abbrev pub items_of : Option (Vec ℕ) → Option (List ℕ)
 items_of None = None
 items_of (Some bytes) = Some bytes.items
 
--- the readings with others behind them, where they are noted
-abbrev pub with_readings : Option (List Reading) → List Reading → Option (List Reading)
-with_readings None more = None
-with_readings (Some readings) more = Some (readings ++ more)
+-- the reads with others behind them, where they are noted
+abbrev pub with_reads : Option (List FileRead) → List FileRead → Option (List FileRead)
+with_reads None more = None
+with_reads (Some reads) more = Some (reads ++ more)
 
 -- it is one that may be
-abbrev pub MayBe : (gives : Files) → Reading → Type 0
+abbrev pub MayBe : (gives : Files) → FileRead → Type 0
 MayBe gives (Read name bytes) = gives name bytes
 
 -- From before to after a directory was asked for these files, in their order, and for no other.
-pub record HasRead {D : Type 0} (readings : D → Option (List Reading)) (gives : D → Files)
-    (reads : List Reading) (before after : D) : Type 0 where
-  pub noted : readings after ≡ with_readings (readings before) reads
+pub record HasRead {D : Type 0} (noted : D → Option (List FileRead)) (gives : D → Files)
+    (reads : List FileRead) (before after : D) : Type 0 where
+  pub is_noted : noted after ≡ with_reads (noted before) reads
   pub may_be : AllByRecursion (MayBe (gives before)) reads
   pub stays : Stays (gives before) (gives after)
 
@@ -81,17 +81,17 @@ abbrev pub file_of : List ℕ → List ℕ
 file_of name = name ++ codes ".wasm"
 
 -- the file of the module of this name was read, it encodes the module, and the module is valid
-pub record IsModule (reading : Reading) (name : List ℕ) (tree : WModule) : Type 0 where
+pub record IsModule (read : FileRead) (name : List ℕ) (tree : WModule) : Type 0 where
   pub bytes : List ℕ
-  pub is_read : reading ≡ Read (file_of name) (Some bytes)
+  pub is_read : read ≡ Read (file_of name) (Some bytes)
   pub encoded : Encodes bytes tree
   pub valid : IsValid tree
 
 -- each name's module, in their order
-pub data AreModules : List Reading → List (List ℕ) → List WModule → Type 0 where
+pub data AreModules : List FileRead → List (List ℕ) → List WModule → Type 0 where
   Empty : AreModules [] [] []
-  More : (reading : Reading) (name : List ℕ) (tree : WModule) (reads : List Reading)
+  More : (read : FileRead) (name : List ℕ) (tree : WModule) (reads : List FileRead)
       (names : List (List ℕ)) (trees : List WModule)
-      → IsModule reading name tree
+      → IsModule read name tree
       → AreModules reads names trees
-      → AreModules (reading ∷ reads) (name ∷ names) (tree ∷ trees)
+      → AreModules (read ∷ reads) (name ∷ names) (tree ∷ trees)

@@ -16,7 +16,7 @@ use Rattle.wasm_engine.specs.Instances.{IsEnd}
 use Rattle.wasm_engine.specs.Reported.{with_bytes}
 use Rattle.run_directory.specs.declared.report.Report.{Report}
 use Rattle.run_directory.specs.declared.report.Report.TheVariants.{Ran, Unread, Refused, Broken}
-use Rattle.run_directory.specs.Directory.{Files, Reading, Read, HasRead, file_of, module_names, IsModule, AreModules}
+use Rattle.run_directory.specs.Directory.{Files, FileRead, Read, HasRead, file_of, module_names, IsModule, AreModules}
 
 -- ---- the status and the words
 
@@ -143,7 +143,7 @@ IsOf reported failed trees steps (Unread name) before after = ⊥
 
 -- memory was refused for a file, before it was asked for or behind it, or its bytes encode no
 -- module, or one that is not valid
-pub data IsRefused (file : List ℕ) : List Reading → WFault → Type 0 where
+pub data IsRefused (file : List ℕ) : List FileRead → WFault → Type 0 where
   Unasked : IsRefused file [] faults.NoMemory
   Memory : (bytes : List ℕ) → IsRefused file (Read file (Some bytes) ∷ []) faults.NoMemory
   Unencoded : (bytes : List ℕ) (fault : WFault) → module_at bytes ≡ Err fault
@@ -151,8 +151,8 @@ pub data IsRefused (file : List ℕ) : List Reading → WFault → Type 0 where
   NotValid : (bytes : List ℕ) (tree : WModule) → Encodes bytes tree → (IsValid tree → ⊥)
       → IsRefused file (Read file (Some bytes) ∷ []) faults.Invalid
 
--- by these readings the module of this name is not there, and the report names it
-abbrev pub IsMissing : (reads : List Reading) (name : List ℕ) → Report → Type 0
+-- by these reads the module of this name is not there, and the report names it
+abbrev pub IsMissing : (reads : List FileRead) (name : List ℕ) → Report → Type 0
 IsMissing reads name (Unread reported) =
     (reported.now ≡ name) × (reads ≡ Read (file_of name) None ∷ [])
 IsMissing reads name (Refused reported fault) =
@@ -162,14 +162,14 @@ IsMissing reads name (Broken fault) = ⊥
 
 -- of the modules of these names the report names the first that is not there, and it is the last
 -- that was asked for
-pub record FirstMissing (reads : List Reading) (names : List (List ℕ)) (report : Report)
+pub record FirstMissing (reads : List FileRead) (names : List (List ℕ)) (report : Report)
     : Type 0 where
   pub before : List (List ℕ)
   pub name : List ℕ
   pub after : List (List ℕ)
   pub are : names ≡ before ++ name ∷ after
-  pub reads_before : List Reading
-  pub last : List Reading
+  pub reads_before : List FileRead
+  pub last : List FileRead
   pub all_reads : reads ≡ reads_before ++ last
   pub trees : List WModule
   pub there : AreModules reads_before before trees
@@ -179,7 +179,7 @@ pub record FirstMissing (reads : List Reading) (names : List (List ℕ)) (report
 
 -- what comes of modules that are there, and of those of these names behind them: these are there as
 -- well and the report is of all, or it names the first that is not
-abbrev pub ComesOf : {S : Type 0} → (S → Option (List ℕ)) → (S → ℕ) → (reads : List Reading)
+abbrev pub ComesOf : {S : Type 0} → (S → Option (List ℕ)) → (S → ℕ) → (reads : List FileRead)
     (first : List WModule) (names : List (List ℕ)) (steps : ℕ) → Report → (before after : S)
     → Type 0
 ComesOf reported failed reads first names steps report before after =
@@ -189,17 +189,17 @@ ComesOf reported failed reads first names steps report before after =
 
 -- link is there, and behind it come the modules that its exports name
 pub record ComesOfLink {S : Type 0} (reported : S → Option (List ℕ)) (failed : S → ℕ)
-    (reads : List Reading) (steps : ℕ) (report : Report) (before after : S) : Type 0 where
+    (reads : List FileRead) (steps : ℕ) (report : Report) (before after : S) : Type 0 where
   pub link_tree : WModule
-  pub first : Reading
-  pub others : List Reading
+  pub first : FileRead
+  pub others : List FileRead
   pub all_reads : reads ≡ first ∷ others
   pub link_is : IsModule first link_name link_tree
   pub comes : ComesOf reported failed others (link_tree ∷ []) (module_names link_tree.exports) steps
       report before after
 
 -- that, or the report names link
-abbrev pub Comes : {S : Type 0} → (S → Option (List ℕ)) → (S → ℕ) → (reads : List Reading)
+abbrev pub Comes : {S : Type 0} → (S → Option (List ℕ)) → (S → ℕ) → (reads : List FileRead)
     (steps : ℕ) → Report → (before after : S) → Type 0
 Comes reported failed reads steps report before after =
     ComesOfLink reported failed reads steps report before after
@@ -207,13 +207,13 @@ Comes reported failed reads steps report before after =
 
 -- Files of a directory are read, and a report comes of them. The status and the words are those of
 -- the report.
-pub record Executes {D S E : Type 0} (readings : D → Option (List Reading)) (gives : D → Files)
+pub record Executes {D S E : Type 0} (noted : D → Option (List FileRead)) (gives : D → Files)
     (front reason : D → List ℕ) (reported : S → Option (List ℕ)) (failed : S → ℕ)
     (reported_words : E → Option (List ℕ)) (failed_words : E → ℕ) (steps : ℕ) (answer : ℕ)
     (dir dir_after : D) (before after : S) (words_before words_after : E) : Type 0 where
   pub report : Report
-  pub reads : List Reading
-  pub has_read : HasRead readings gives reads dir dir_after
+  pub reads : List FileRead
+  pub has_read : HasRead noted gives reads dir dir_after
   pub comes : Comes reported failed reads steps report before after
   pub answers : answer ≡ status report
   pub all_said : Bool

@@ -1,14 +1,14 @@
 //! Where modules are read from.
 
 ghost use Rattle.std.specs.Prelude.{◌≡◌, ◌∷◌, [], List, ℕ, Option, None};
-ghost use Rattle.run_directory.specs.Directory.{Reading, Read, Stays, items_of, with_readings};
+ghost use Rattle.run_directory.specs.Directory.{FileRead, Read, Stays, items_of, with_reads};
 
 use std::alloc::Global;
 
 /// A directory, or what stands for one.
 pub trait InDir {
     /// The files that it was asked for, in order and with what they gave, where it notes them.
-    ghost readings: { Self → Option (List Reading) } = { λ _. None };
+    ghost reads: { Self → Option (List FileRead) } = { λ _. None };
 
     /// What reading the file of that name in it may give: its bytes, or nothing.
     ghost gives: { Self → List ℕ → Option (List ℕ) → Type 0 };
@@ -21,8 +21,8 @@ pub trait InDir {
 
     /// The bytes of the file of this name. `None` where the file or memory failed.
     fn read(&mut self, alloc: Global, name: &str) -> Option<Vec<u8>>
-        ensures noted { readings self.new
-            ≡ with_readings (readings self.old) (Read name.now (items_of result) ∷ []) }
+        ensures noted { reads self.new
+            ≡ with_reads (reads self.old) (Read name.now (items_of result) ∷ []) }
         ensures given { gives self.old name.now (items_of result) }
         ensures stays { Stays (gives self.old) (gives self.new) };
 

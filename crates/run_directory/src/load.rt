@@ -3,7 +3,7 @@
 ghost use Rattle.std.specs.Prelude.{◌≡◌, ◌∷◌, [], ◌++◌, List, Some, map, IfOk, IfErr};
 ghost use Rattle.std.specs.String.{string_bytes};
 ghost use Rattle.wasm_tree.specs.declared.module.WModule.{WModule};
-ghost use Rattle.run_directory.specs.Directory.{Reading, Read, HasRead, file_of, IsModule, AreModules};
+ghost use Rattle.run_directory.specs.Directory.{FileRead, Read, HasRead, file_of, IsModule, AreModules};
 ghost use Rattle.run_directory.specs.Reported.{IsMissing, FirstMissing};
 
 use crate::dir::InDir;
@@ -15,11 +15,11 @@ use wasm_valid::{ValidModule, validate};
 
 /// The bytes of a module's file.
 fn bytes_of<'n, D: InDir>(alloc: Global, dir: &mut D, name: &'n str) -> Result<Vec<u8>, Report<'n>>
-    ensures ok { IfOk result (λ bytes. HasRead D.readings D.gives
+    ensures ok { IfOk result (λ bytes. HasRead D.reads D.gives
         (Read (file_of name.now) (Some bytes.items) ∷ []) dir.old dir.new) }
     ensures err { IfErr result (λ r.
-        (reads : List Reading)
-        × HasRead D.readings D.gives reads dir.old dir.new
+        (reads : List FileRead)
+        × HasRead D.reads D.gives reads dir.old dir.new
         × IsMissing reads name.now r) }
 {
     let Ok(file) = format!(in alloc; "{name}.wasm") else {
@@ -38,12 +38,12 @@ pub fn module_of<'n, D: InDir>(
     name: &'n str,
 ) -> Result<ValidModule, Report<'n>>
     ensures ok { IfOk result (λ tree.
-        (reading : Reading)
-        × HasRead D.readings D.gives (reading ∷ []) dir.old dir.new
-        × IsModule reading name.now tree) }
+        (read : FileRead)
+        × HasRead D.reads D.gives (read ∷ []) dir.old dir.new
+        × IsModule read name.now tree) }
     ensures err { IfErr result (λ r.
-        (reads : List Reading)
-        × HasRead D.readings D.gives reads dir.old dir.new
+        (reads : List FileRead)
+        × HasRead D.reads D.gives reads dir.old dir.new
         × IsMissing reads name.now r) }
 {
     let bytes = bytes_of(alloc, dir, name)?;
@@ -64,14 +64,14 @@ fn add_module<'n, D: InDir>(
     modules: &mut Vec<ValidModule>,
 ) -> Result<(), Report<'n>>
     ensures ok { IfOk result (λ _.
-        (reading : Reading)
-        × HasRead D.readings D.gives (reading ∷ []) dir.old dir.new
+        (read : FileRead)
+        × HasRead D.reads D.gives (read ∷ []) dir.old dir.new
         × (tree : WModule)
         × (modules.new.items ≡ modules.old.items ++ tree ∷ [])
-        × IsModule reading name.now tree) }
+        × IsModule read name.now tree) }
     ensures err { IfErr result (λ r.
-        (reads : List Reading)
-        × HasRead D.readings D.gives reads dir.old dir.new
+        (reads : List FileRead)
+        × HasRead D.reads D.gives reads dir.old dir.new
         × IsMissing reads name.now r) }
 {
     let module = module_of(alloc, dir, name)?;
@@ -98,14 +98,14 @@ pub fn modules_of<'n, D: InDir>(
     names: &'n [String],
 ) -> Result<Vec<ValidModule>, Report<'n>>
     ensures ok { IfOk result (λ v.
-        (reads : List Reading)
-        × HasRead D.readings D.gives reads dir.old dir.new
+        (reads : List FileRead)
+        × HasRead D.reads D.gives reads dir.old dir.new
         × (others : List WModule)
         × (v.items ≡ first.items ++ others)
         × AreModules reads (map string_bytes names.now) others) }
     ensures err { IfErr result (λ r.
-        (reads : List Reading)
-        × HasRead D.readings D.gives reads dir.old dir.new
+        (reads : List FileRead)
+        × HasRead D.reads D.gives reads dir.old dir.new
         × FirstMissing reads (map string_bytes names.now) r) }
 {
     let mut modules = first;

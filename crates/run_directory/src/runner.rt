@@ -2,7 +2,7 @@
 
 ghost use Rattle.std.specs.Prelude.{◌≡◌, ◌+◌, ◌<◌, ◌^◌, List, map};
 ghost use Rattle.std.specs.String.{string_bytes};
-ghost use Rattle.run_directory.specs.Directory.{Reading, HasRead};
+ghost use Rattle.run_directory.specs.Directory.{FileRead, HasRead};
 ghost use Rattle.run_directory.specs.Reported.{IsOf, ComesOf, Executes};
 
 use crate::dir::InDir;
@@ -44,8 +44,8 @@ fn run_named<'n, D: InDir, S: Sink>(
     out: &mut S,
 ) -> Report<'n>
     requires { S.failed out.old + 1 < 2 ^ 64 }
-    ensures { (reads : List Reading)
-        × HasRead D.readings D.gives reads dir.old dir.new
+    ensures { (reads : List FileRead)
+        × HasRead D.reads D.gives reads dir.old dir.new
         × ComesOf S.reported S.failed reads first.items (map string_bytes names.now) steps result
         out.old out.new }
 {
@@ -72,7 +72,7 @@ pub fn execute<D: InDir, S: Sink, E: Sink>(
 ) -> u8
     requires out { S.failed out.old + 1 < 2 ^ 64 }
     requires err { E.failed err.old + 1 < 2 ^ 64 }
-    ensures { Executes D.readings D.gives D.in_front D.behind S.reported S.failed E.reported E.failed
+    ensures { Executes D.reads D.gives D.in_front D.behind S.reported S.failed E.reported E.failed
         steps result dir.old dir.new out.old out.new err.old err.new }
 {
     let link = match module_of(alloc, dir, "link") {

@@ -2,7 +2,7 @@
 
 ghost use Rattle.std.specs.Prelude.{◌≡◌, ℕ, List, [], ◌∷◌, ◌++◌, Some, None};
 ghost use Rattle.std.specs.Borrow.{ftrue};
-ghost use Rattle.run_directory.specs.Directory.{Reading, Read};
+ghost use Rattle.run_directory.specs.Directory.{FileRead, Read};
 ghost use Rattle.write_directory.specs.Calls.{Call, Remove, Write};
 
 use std::marker::Model;
@@ -13,7 +13,7 @@ pub struct Notes {
     /// The bytes that it took, in order.
     pub ghost bytes: { List ℕ },
     /// The files that it was asked to read, in order and with what they gave.
-    pub ghost readings: { List Reading },
+    pub ghost reads: { List FileRead },
     /// The files that it was asked to remove or to write, in order and with its answers.
     pub ghost calls: { List Call },
 }
@@ -24,7 +24,7 @@ impl Model for Notes {
 
 /// No notes.
 pub fn nothing() -> Notes
-    ensures { (result.bytes ≡ []) × (result.readings ≡ []) × (result.calls ≡ []) }
+    ensures { (result.bytes ≡ []) × (result.reads ≡ []) × (result.calls ≡ []) }
 {
     Notes {}
 }
@@ -39,16 +39,16 @@ pub fn with_bytes(_notes: &Notes, _more: &[u8]) -> Notes
 
 /// The notes, and a file that was read behind them. It does nothing.
 #[inline(always)]
-pub fn with_reading(_notes: &Notes, _name: &[u8], _bytes: &[u8]) -> Notes
-    ensures { result.readings ≡ _notes.now.readings ++ Read _name.now (Some _bytes.now) ∷ [] }
+pub fn with_read(_notes: &Notes, _name: &[u8], _bytes: &[u8]) -> Notes
+    ensures { result.reads ≡ _notes.now.reads ++ Read _name.now (Some _bytes.now) ∷ [] }
 {
     Notes {}
 }
 
 /// The notes, and a file that could not be read behind them. It does nothing.
 #[inline(always)]
-pub fn with_failed_reading(_notes: &Notes, _name: &[u8]) -> Notes
-    ensures { result.readings ≡ _notes.now.readings ++ Read _name.now None ∷ [] }
+pub fn with_failed_read(_notes: &Notes, _name: &[u8]) -> Notes
+    ensures { result.reads ≡ _notes.now.reads ++ Read _name.now None ∷ [] }
 {
     Notes {}
 }

@@ -2,7 +2,7 @@
 
 ghost use Rattle.std.specs.Prelude.{◌≡◌, []};
 
-use crate::notes::{Notes, nothing, with_failed_reading, with_reading};
+use crate::notes::{Notes, nothing, with_failed_read, with_read};
 use run_directory::InDir;
 use std::alloc::Global;
 use std::rt::Files;
@@ -22,7 +22,7 @@ pub struct InFolder<'a, R> {
 impl<'a, R: Files + AllocGlobal> InFolder<'a, R> {
     /// The folder of this path, with what stands in front of messages on its files. It was asked for nothing.
     pub fn at(rt: &'a R, path: &'a str, front: &'a str) -> InFolder<'a, R>
-        ensures { result.noted.readings ≡ [] }
+        ensures { result.noted.reads ≡ [] }
     {
         InFolder {
             rt,
@@ -35,7 +35,7 @@ impl<'a, R: Files + AllocGlobal> InFolder<'a, R> {
 
     /// The files whose names are their paths, with what stands in front of messages on them. It was asked for nothing.
     pub fn of_paths(rt: &'a R, front: &'a str) -> InFolder<'a, R>
-        ensures { result.noted.readings ≡ [] }
+        ensures { result.noted.reads ≡ [] }
     {
         InFolder {
             rt,
@@ -63,7 +63,7 @@ impl<R: Files + AllocGlobal> InDir for InFolder<'_, R> {
     ghost use Rattle.std.specs.String.{string_bytes};
     ghost use Rattle.system_streams.specs.Folders.{any_files};
 
-    ghost readings = { λ f. Some f.noted.readings };
+    ghost reads = { λ f. Some f.noted.reads };
 
     ghost gives = { λ f. any_files };
 
@@ -74,11 +74,11 @@ impl<R: Files + AllocGlobal> InDir for InFolder<'_, R> {
     fn read(&mut self, alloc: Global, name: &str) -> Option<Vec<u8>> {
         match self.bytes_of(alloc, name) {
             Ok(bytes) => {
-                self.noted = with_reading(&self.noted, name.as_bytes(), &bytes);
+                self.noted = with_read(&self.noted, name.as_bytes(), &bytes);
                 Some(bytes)
             }
             Err(error) => {
-                self.noted = with_failed_reading(&self.noted, name.as_bytes());
+                self.noted = with_failed_read(&self.noted, name.as_bytes());
                 self.reason = format!(in alloc; ": {error}").ok()?;
                 None
             }

@@ -7,6 +7,6 @@ pub returns-clause-ok : goal.returns-clause-ok
 returns-clause-ok g c =
     let file : SourceFile = record { name = c.in-Ok.name; bytes = c.in-Some.bytes } in
     let pushed : c.push.new.self.items ≡ c.args.files.now.items ++ file ∷ [] = search rules in
-    let reading = Read c.args.name.now (Some c.in-Some.bytes.items) in
-    let was_read : HasRead g.I.InDir.readings g.I.InDir.gives (reading ∷ []) c.args.dir.now c.read.new.self = search rules in
-    (reading, was_read, file, pushed, (c.in-Ok.ensures.ok, refl))
+    let read = Read c.args.name.now (Some c.in-Some.bytes.items) in
+    let was_read : HasRead g.I.InDir.reads g.I.InDir.gives (read ∷ []) c.args.dir.now c.read.new.self = search rules in
+    (read, was_read, file, pushed, (c.in-Ok.ensures.ok, refl))

@@ -49,7 +49,7 @@ returns-in-Err g c =
 
 pub returns : goal.returns
 returns g c =
-    let all = comes_behind g.D.InDir.readings g.D.InDir.gives g.S.Sink.reported g.S.Sink.failed c.args.dir.now c.module_of.new.dir c.run_named-report.new.dir c.in-Ok.link c.in-Ok.ensures.ok c.args.steps c.run_named-report.result c.args.out.now c.run_named-report.new.out
+    let all = comes_behind g.D.InDir.reads g.D.InDir.gives g.S.Sink.reported g.S.Sink.failed c.args.dir.now c.module_of.new.dir c.run_named-report.new.dir c.in-Ok.link c.in-Ok.ensures.ok c.args.steps c.run_named-report.result c.args.out.now c.run_named-report.new.out
     c.in-Ok-alone.first.items (map string_bytes c.deref.result.now) c.in-Ok-alone.ensures (ap (map string_bytes) c.deref.ensures.value ∙ c.in-Ok-module_names.ensures ∙ ap module_names c.exports.ensures) c.run_named-report.ensures in
     record {
       report = c.run_named-report.result;

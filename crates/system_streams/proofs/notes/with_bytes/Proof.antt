@@ -52,7 +52,7 @@ module _ {M : Type 1} {𝓤 : Ura M} (𝓛 : Logic 𝓤) (mem : Memory → SProp
     more = slice_val a.1.0.ref_ptr (length a.1.0.now)
 
     abbrev noted : Notes
-    noted = record { bytes = a.0.now.bytes ++ a.1.0.now; readings = []; calls = [] }
+    noted = record { bytes = a.0.now.bytes ++ a.1.0.now; reads = []; calls = [] }
 
     abbrev bound : (walk_of 𝓛 f.ended stayed (f.clauses 𝓛 mem run)).Ghost
     bound = ((κs, qs, tt, a, (notes ∷ [], (more ∷ [], tt))), tt)

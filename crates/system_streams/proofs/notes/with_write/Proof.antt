@@ -60,7 +60,7 @@ module _ {M : Type 1} {𝓤 : Ura M} (𝓛 : Logic 𝓤) (mem : Memory → SProp
     answer = vbool a.1.1.1.0
 
     abbrev noted : Notes
-    noted = record { bytes = []; readings = []; calls = a.0.now.calls ++ Write a.1.0.now a.1.1.0.now a.1.1.1.0 ∷ [] }
+    noted = record { bytes = []; reads = []; calls = a.0.now.calls ++ Write a.1.0.now a.1.1.0.now a.1.1.1.0 ∷ [] }
 
     abbrev bound : (walk_of 𝓛 f.ended stayed (f.clauses 𝓛 mem run)).Ghost
     bound = ((κs, qs, tt, a, (notes ∷ [], (name ∷ [], (bytes ∷ [], (answer ∷ [], tt))))), tt)

@@ -34,10 +34,10 @@ use denote.Triple.Table.{entered}
 use denote.Triple.Walked.{says, stay_none_ref, stay_none_slice, Stays, walk_of, Walks, ends_at, walked, Goes-none_ref, Goes-none_slice, walk_Meets}
 use Rattle.run_directory.specs.Directory.{Read}
 use Rattle.system_streams.specs.declared.notes.Notes.{Notes}
-use Rattle.system_streams.specs.contracts.notes.with_failed_reading.Key.{name as key}
-use Rattle.system_streams.specs.contracts.notes.with_failed_reading as f
-use Rattle.system_streams.proofs.notes.with_failed_reading.Statement as stated
-use Rattle.system_streams.proofs.notes.with_failed_reading.Code as code
+use Rattle.system_streams.specs.contracts.notes.with_failed_read.Key.{name as key}
+use Rattle.system_streams.specs.contracts.notes.with_failed_read as f
+use Rattle.system_streams.proofs.notes.with_failed_read.Statement as stated
+use Rattle.system_streams.proofs.notes.with_failed_read.Code as code
 use Rattle.system_streams.specs.contracts.notes.Notes as made
 
 abbrev stayed : Stays (f.ended).signature.params (f.ended).kept
@@ -54,7 +54,7 @@ module _ {M : Type 1} {𝓤 : Ura M} (𝓛 : Logic 𝓤) (mem : Memory → SProp
     name = slice_val a.1.0.ref_ptr (length a.1.0.now)
 
     abbrev noted : Notes
-    noted = record { bytes = []; readings = a.0.now.readings ++ Read a.1.0.now None ∷ []; calls = [] }
+    noted = record { bytes = []; reads = a.0.now.reads ++ Read a.1.0.now None ∷ []; calls = [] }
 
     abbrev bound : (walk_of 𝓛 f.ended stayed (f.clauses 𝓛 mem run)).Ghost
     bound = ((κs, qs, tt, a, (notes ∷ [], (name ∷ [], tt))), tt)
@@ -85,9 +85,9 @@ meets {𝓤 = 𝓤} 𝓛 mem run 𝓣 =
     (f.clauses 𝓛 mem run) (WpFn 𝓤 𝓛.H 𝓣.C 𝓣.Λ code.function)
     (WpFn-mono 𝓤 𝓛.H 𝓛.laws 𝓣 code.function) (walks 𝓛 mem run 𝓣.C 𝓣.Λ)
 
-pub with_failed_reading_spec : {M : Type 1} → stated.statement M
+pub with_failed_read_spec : {M : Type 1} → stated.statement M
 unfolding tables_of
-with_failed_reading_spec 𝓤 𝓛 𝓜 𝓡 wired =
+with_failed_read_spec 𝓤 𝓛 𝓜 𝓡 wired =
     entered 𝓤 𝓛.H (triple_of 𝓛 f.signature (f.spec 𝓛 𝓜.mem 𝓡.returns))
     (tables 𝓤 𝓛.H 𝓜 𝓡 𝓡.env).C (tables 𝓤 𝓛.H 𝓜 𝓡 𝓡.env).Λ key code.function (code.unfolded 𝓤 𝓛.H 𝓜 𝓡 wired)
     (meets 𝓛 𝓜.mem 𝓡.returns (tables_of 𝓤 𝓛.H 𝓜 (tables 𝓤 𝓛.H 𝓜 𝓡 𝓡.env)))
