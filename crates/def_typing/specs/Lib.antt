@@ -10,6 +10,7 @@ pub mod Headings
 pub mod Subranges
 pub mod TypeExprs
 pub mod Declarations
+pub mod Imports
 pub mod Expressions
 pub mod Assignments
 pub mod Actions
