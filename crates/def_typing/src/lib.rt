@@ -1,8 +1,9 @@
 //! The rules of the language as rules: what expressions have, and which rules are broken in them and in statements. There is
-//! no code here, only definitions. Imports, and calls in constant expressions are not there yet.
+//! no code here, only definitions. Calls in constant expressions are not there yet.
 //!
 //! - `specs/Shapes` says how types are made, and which headings agree.
 //! - `specs/Amounts` has operators on scalars, and `specs/Operators` operators on all values.
+//! - `specs/Imports` says what imports bring (`Brings`), and which rules are broken in them.
 //! - `specs/Things` says what names stand for, what is taken as a value, what suits a type, and what a component is.
 //! - `specs/Functions` has the standard functions, and which arguments formals take.
 //! - `specs/Parts` has the parts of expressions, and where they begin.
