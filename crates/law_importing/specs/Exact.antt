@@ -86,7 +86,8 @@ pub record AreImportsExact (g : Gathers) (j : Judges g) (own : List ℕ → Bool
   -- Nothing but names is new in the scope.
   pub rest : (imported_all g s imports).0
       ≡ record s { own = (imported_all g s imports).0.own }
-  -- Each name stands for something behind imports, and whatever names stand for, the scope knows it.
+  -- Each name stands for something behind imports, and whatever names stand for, the scope knows
+  -- it.
   pub stand : (outside : Ident → Standing) → (names : Ident → Standing)
       × ((name : Ident)
       → StandsFor s.tables own (all_imported imports) outside name (names name))
