@@ -31,7 +31,8 @@ use Rattle.law_typing.specs.Judging.{Judges}
 use Rattle.law_typing.specs.Exact.{TakenAs, is_taken, awaits, not_taken}
 use Rattle.law_typing.proofs.Combining.{Lawful, Decided, holds, fails_it, decided_as, Tells, silent, tells, tells_as, beside_tells, accounts_one, accounts_as}
 use Rattle.law_typing.proofs.Entering.{named_left, named_right, named_split, among_decided, entered_all}
-use Rattle.law_typing.proofs.Declaring.{any_named, clash, no_heads, mark_of, Added, Saying, KnownAs, outer, headed, ahead, reading, behind, a_member, Same, KnowsBlock}
+pub use Rattle.law_typing.proofs.Declaring.{clash}
+use Rattle.law_typing.proofs.Declaring.{any_named, no_heads, mark_of, Added, Saying, KnownAs, outer, headed, ahead, reading, behind, a_member, Same, KnowsBlock}
 use Rattle.law_typing.proofs.Deciding.{decided_itself}
 use Rattle.law_typing.proofs.Meeting.{either_decided}
 use Rattle.law_typing.proofs.Enumerating.{member_known, entered, Enters}
