@@ -4,6 +4,8 @@ use Rattle.std.specs.List.{list_any}
 use Rattle.m2_tree.specs.Names.{same_name}
 use Rattle.typed_tree.specs.Names.{find_name}
 use Rattle.m2_rule.specs.declared.breach.Breach.{Breach}
+use Rattle.m2_rule.specs.declared.rule.Rule.TheVariants as rule
+use Rattle.m2_tree.specs.declared.pos.Pos.{Pos}
 use Rattle.m2_tree.specs.declared.name.Ident.{Ident}
 use Rattle.m2_tree.specs.declared.decl.Constant.{Constant}
 use Rattle.m2_tree.specs.declared.decl.TypeDecl.{TypeDecl}
@@ -16,7 +18,7 @@ use Rattle.m2_tree.specs.declared.decl.Heading.{Heading}
 use Rattle.typed_tree.specs.declared.types.TypeNo.{TypeNo}
 use Rattle.typed_tree.specs.declared.shape.Signature.{Signature}
 use Rattle.typed_tree.specs.declared.known_types.Types.{Types}
-use Rattle.def_typing.specs.Operators.{Kind}
+use Rattle.def_typing.specs.Operators.{◌!◌, Kind}
 use Rattle.def_typing.specs.Things.{Thing, AValue, AVariable, AType, AProcedure, ANested, Headless, Standing, Known, Ahead, Undeclared, Unknown}
 use Rattle.def_typing.specs.Parts.{Among, Named}
 use Rattle.def_typing.specs.Constants.{AConstant, Fixes, BrokenAsConstant}
@@ -205,6 +207,12 @@ module _ (types : Types) (exports : ℕ → Ident → Standing) (outside : Ident
   pub data IsAwaited (front : List Declared) (t : TypeNo) : Declaration → Type 0 where
     is_awaited : {h : Heading} → awaited h.name.name ≡ Some t
         → (IsHeaded front h.name.name → ⊥) → IsAwaited front t (OfProcedure h)
+
+  -- A procedure of the definition has a heading in the implementation; else the refusal is at the
+  -- module's name.
+  pub data Lacks (at : Pos) (front : List Declared) : Breach → Type 0 where
+    missing : {n : List ℕ} {t : TypeNo} → awaited n ≡ Some t → (IsHeaded front n → ⊥)
+        → Lacks at front (at ! rule.MissingProcedure)
 
   mutual
     -- what a name stands for behind these declarations

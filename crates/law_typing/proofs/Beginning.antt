@@ -28,9 +28,9 @@ use Rattle.def_typing.specs.Parts.{Among, here, later, Named}
 use Rattle.def_typing.specs.TypeExprs.{Twice, Member}
 use Rattle.def_typing.specs.Declarations.{Declaration, OfConstant, OfType, OfVariables, OfProcedure, names_of, constants_of, Declares, AnyDeclares, Heads, IsFirst, at_first, later_on, Declared, is_among, is_there, IsThere, IsHeaded, nearest, farther, types_behind, in_front_of, There}
 use Rattle.law_typing.specs.Judging.{Judges}
-use Rattle.law_typing.specs.Exact.{TakenAs, is_taken, awaits, not_taken}
+use Rattle.law_typing.specs.Exact.{TakenAs, is_taken, awaits, not_taken, AreOnce}
 use Rattle.law_typing.proofs.Combining.{Lawful, Decided, holds, fails_it, decided_as, Tells, silent, tells, tells_as, beside_tells, accounts_one, accounts_as}
-use Rattle.law_typing.proofs.Entering.{named_left, named_right, named_split, among_decided, entered_all}
+use Rattle.law_typing.proofs.Entering.{named_left, named_right, named_split, among_decided, entered_all, once_more}
 pub use Rattle.law_typing.proofs.Declaring.{clash}
 use Rattle.law_typing.proofs.Declaring.{any_named, no_heads, mark_of, Added, Saying, KnownAs, outer, headed, ahead, reading, behind, a_member, Same, KnowsBlock}
 use Rattle.law_typing.proofs.Deciding.{decided_itself}
@@ -64,7 +64,7 @@ mark_free T (OfType d) = refl
 mark_free T (OfVariables v) = refl
 mark_free T (OfProcedure h) = refl
 
-mark_place : (T : Type 0) (d : Declaration) → name_standing (Some (mark_of {T = T} d)) ≡ place.Free
+pub mark_place : (T : Type 0) (d : Declaration) → name_standing (Some (mark_of {T = T} d)) ≡ place.Free
 mark_place T (OfConstant c) = refl
 mark_place T (OfType d) = refl
 mark_place T (OfVariables v) = refl
@@ -178,11 +178,12 @@ module _ (g : Gathers) (j : Judges g) (lawful : Lawful g j) (exports : ℕ → I
         left = k.left;
         includes = λ n t. inr (k.includes n t);
         own = entered_all (λ n o. KA front Next n o) x.name known.Begun s.own (reading q.2.0 q.0 q.2.1 q.1 (inl refl) (first_here (k.left x.name q.2.0 q.2.1 q.1))) (λ n c. widen x (λ e. absurd (c e)) (k.own n));
+        once = λ o. once_more x.name known.Begun (k.once o);
       },
       silent (λ f z. h z.0),
     )
     begins {s = s} k false (holds h) = (
-      record { same = k.same; within = k.within; in_block = k.in_block; left = k.left; includes = λ n t. inr (k.includes n t); own = λ n. widen x (λ e. subst Th e h) (k.own n) },
+      record { same = k.same; within = k.within; in_block = k.in_block; left = k.left; includes = λ n t. inr (k.includes n t); own = λ n. widen x (λ e. subst Th e h) (k.own n); once = k.once },
       tells (g.one (x.pos ! rule.DeclaredTwice)) (accounts_as g j lawful O (λ f e. (h, e)) (λ f z. z.1) (accounts_one g j lawful O (x.pos ! rule.DeclaredTwice))),
     )
 
@@ -270,6 +271,7 @@ module _ (g : Gathers) (j : Judges g) (lawful : Lawful g j) (exports : ℕ → I
     pub record KnowsMid (done : List ℕ → Type 0) (s : Scope g.Reported) : Type 0 where
       pub same : SameScope (types_behind start.types (d ∷ front)) s
       pub own : (n : List ℕ) → MidAs done n (find_name n s.own)
+      pub once : AreOnce start.own → AreOnce s.own
 
     -- ---- behind its type
 
@@ -303,7 +305,7 @@ module _ (g : Gathers) (j : Judges g) (lawful : Lawful g j) (exports : ℕ → I
       mid_by n (Some x) e (a_member t i w a q) = is_other (λ t c z. z) (λ t c o m. c (any_named i)) before (a_member t i w a q)
 
       pub mid_begins : {s t : Scope g.Reported} {rest : List Declaration} → KB front rest Th s → SameScope (types_behind start.types (d ∷ front)) t → Enters d.adds.brings s.own t.own → KnowsMid (λ n. ⊥) t
-      mid_begins {s = s} k same e = record { same = same; own = λ n. subst (λ (o : Option (Known g.Reported)). MidAs (λ n. ⊥) n o) (sym (e n)) (mid_by n (find_name n d.adds.brings) refl (k.own n)) }
+      mid_begins {s = s} k same e = record { same = same; own = λ n. subst (λ (o : Option (Known g.Reported)). MidAs (λ n. ⊥) n o) (sym (e.found n)) (mid_by n (find_name n d.adds.brings) refl (k.own n)); once = λ o. e.once (k.once o) }
 
     mid_one : {P Q : List ℕ → Type 0} {n : List ℕ} {k : Option (Known g.Reported)} → (P n → Q n) → (Q n → P n) → MidAs P n k → MidAs Q n k
     mid_one pq qp (is_done k t c w o s) = is_done k t c (pq w) o s
@@ -312,7 +314,7 @@ module _ (g : Gathers) (j : Judges g) (lawful : Lawful g j) (exports : ℕ → I
     mid_one pq qp (is_headed p y w e) = is_headed p y w e
 
     pub mid_as : {P Q : List ℕ → Type 0} {s : Scope g.Reported} → ((n : List ℕ) → P n → Q n) → ((n : List ℕ) → Q n → P n) → KnowsMid P s → KnowsMid Q s
-    mid_as pq qp k = record { same = k.same; own = λ n. mid_one (pq n) (qp n) (k.own n) }
+    mid_as pq qp k = record { same = k.same; own = λ n. mid_one (pq n) (qp n) (k.own n); once = k.once }
 
     module _ (includes : (n : List ℕ) → Theres front n → Th n) (x : Ident) (mine : Own x.name) (a : AnyDeclares block x.name) (th : Th x.name) (m : Result Meaning g.Reported) (say : Says front d (known.Declared Here m)) (done : List ℕ → Type 0) where
       abbrev Done : List ℕ → Type 0
@@ -329,13 +331,14 @@ module _ (g : Gathers) (j : Judges g) (lawful : Lawful g j) (exports : ℕ → I
 
       unchanged : {s : Scope g.Reported} → KnowsMid done s → (taken x.name ≡ false → (IsThere front x.name → ⊥) → done x.name) → (b : Bool) → b ≡ false → Ends (cond b (with_known x.name (known.Declared Here m) s) s)
       unchanged k h true e = absurd cc
-      unchanged k h false e = record { same = k.same; own = λ n. mid_more (λ q. subst (λ (n : List ℕ). taken n ≡ false → (IsThere front n → ⊥) → done n) q h) (k.own n) }
+      unchanged k h false e = record { same = k.same; own = λ n. mid_more (λ q. subst (λ (n : List ℕ). taken n ≡ false → (IsThere front n → ⊥) → done n) q h) (k.own n); once = k.once }
 
       changed : {s : Scope g.Reported} → KnowsMid done s → taken x.name ≡ false → (IsThere front x.name → ⊥) → (b : Bool) → b ≡ true → Ends (cond b (with_known x.name (known.Declared Here m) s) s)
       changed k t c false e = absurd cc
       changed {s = s} k t c true e = record {
         same = record { withs = k.same.withs; outer = k.same.outer; types = k.same.types; tables = k.same.tables; level = k.same.level };
         own = entered_all (λ n o. MidAs Done n o) x.name (known.Declared Here m) s.own (is_done (known.Declared Here m) t c (inl refl) mine say) (λ n z. mid_more (λ e. absurd (z e)) (k.own n));
+        once = λ o. once_more x.name (known.Declared Here m) (k.once o);
       }
 
       ends : {s : Scope g.Reported} {k : Option (Known g.Reported)} → KnowsMid done s → find_name x.name s.own ≡ k → MidAs done x.name k → Ends (finish_name s x m)
@@ -397,4 +400,5 @@ module _ (g : Gathers) (j : Judges g) (lawful : Lawful g j) (exports : ℕ → I
         left = λ n c i h. left_more (λ w. h (d.what, here, w)) (left n c i (λ y. h (y.0, later y.1, y.2)));
         includes = λ n t. t;
         own = λ n. behind_it (k.own n);
+        once = k.once;
       }

@@ -4,6 +4,7 @@ use Rattle.std.specs.Prelude.{map, not, ◌==◌}
 use Rattle.std.specs.List.{fold}
 use Rattle.std.proofs.lemmas.Bool.Decides.{nat_tests}
 use Rattle.m2_rule.specs.declared.breach.Breach.{Breach}
+use Rattle.m2_tree.specs.declared.pos.Pos.{Pos}
 use Rattle.m2_tree.specs.declared.name.Ident.{Ident}
 use Rattle.m2_tree.specs.declared.decl.Constant.{Constant}
 use Rattle.m2_tree.specs.declared.decl.TypeDecl.{TypeDecl}
@@ -24,7 +25,7 @@ use Rattle.check_definition.specs.Declare.{with_constant, brings_with, type_mean
 use Rattle.m2_tree.specs.declared.decl.Decl.{Decl, Decl-F, out-Decl}
 use Rattle.m2_tree.specs.declared.decl.Decl.TheOpen as decl
 use Rattle.m2_tree.specs.declared.decl.Block.{Block}
-use Rattle.check_block.specs.Declarations.{finished_local, with_locals, with_variables_of, decl_layer, with_decl, Declared, declared_block}
+use Rattle.check_block.specs.Declarations.{finished_local, with_locals, with_variables_of, decl_layer, with_decl, Declared, declared_block, is_awaited}
 use Rattle.m2_rule.specs.declared.rule.Rule.TheVariants as rule
 use Rattle.m2_tree.specs.declared.decl.Section.{Section}
 use Rattle.m2_tree.specs.declared.decl.Heading.{Heading}
@@ -59,18 +60,19 @@ use Rattle.def_typing.specs.Things as things
 use Rattle.def_typing.specs.Things.{Standing, Undeclared, Unknown}
 use Rattle.def_typing.specs.Parts.{Among, here, later, Named}
 use Rattle.def_typing.specs.Declarations as rules
-use Rattle.def_typing.specs.Declarations.{Declaration, OfConstant, OfType, OfVariables, OfProcedure, declared_by, declarations_of, names_of, constants_of, names_in, formals_in, Declares, AnyDeclares, Declared as Resolved, in_order, IsThere, IsHeaded, types_behind, procedure, is_variables, in_front_of, without, Says, Brings, Misdeclares, Differs, IsAwaited, AllAdded, BrokenIn}
+use Rattle.def_typing.specs.Declarations.{Declaration, OfConstant, OfType, OfVariables, OfProcedure, declared_by, declarations_of, names_of, constants_of, names_in, formals_in, Declares, AnyDeclares, Declared as Resolved, in_order, IsThere, IsHeaded, types_behind, procedure, is_variables, in_front_of, without, Says, Brings, Misdeclares, Differs, IsAwaited, AllAdded, Lacks, BrokenIn}
 use Rattle.law_typing.specs.Judging.{Judges, Answers, means, refuses, Reports, reports_nothing, reports_broken}
-use Rattle.law_typing.specs.Exact.{standing, is_own_variable, TakenAs, is_taken, awaits, not_taken, Knows, Repeats, IsCallFree, IsPlainType, IsPlainLayer, ArePlainDecls, is_nested, IsBlockExact}
+use Rattle.law_typing.specs.Exact.{standing, is_own_variable, TakenAs, is_taken, awaits, not_taken, Knows, Repeats, IsCallFree, IsPlainType, IsPlainLayer, ArePlainDecls, is_nested, IsBlockExact, AreOnce}
 use Rattle.law_typing.proofs.Combining.{Lawful, Decided, holds, fails_it, Tells, silent, tells, tells_as, beside_tells, accounts_as, accounts_one}
 use Rattle.law_typing.proofs.Heading.{nil_right, append_assoc, heading_answers}
 use Rattle.law_typing.proofs.Agreeing.{agreement_decided}
-use Rattle.law_typing.proofs.Entering.{named_left, entered_all}
+use Rattle.law_typing.proofs.Entering.{named_left, entered_all, once_more}
+use Rattle.law_typing.proofs.Lacking.{Awaits, AnyAwaits, lacks_decided}
 use Rattle.law_typing.proofs.Declaring.{clash, All, Added as Added_there, Elsewhere, Saying, KnownAs, outer, headed, ahead, reading, behind, a_member, Same, KnowsBlock, knowing, repeating, standings, all_stand, home_same, owning, some_own}
-use Rattle.law_typing.proofs.Beginning.{Adding, adding_name, added, unawaited, Theres, free_now, widen, begin_one, begin_all, place_is, PlaceIs, place_free, place_taken, place_awaited, MidAs, is_done, is_other, is_headed, KnowsMid, mid_begins, mid_as, finish_one, finish_end}
+use Rattle.law_typing.proofs.Beginning.{Adding, adding_name, added, mark_place, unawaited, Theres, free_now, widen, begin_one, begin_all, place_is, PlaceIs, place_free, place_taken, place_awaited, MidAs, is_done, is_other, is_headed, KnowsMid, mid_begins, mid_as, finish_one, finish_end}
 use Rattle.law_typing.proofs.Sayings.{Set, Saids, said_constant, said_type, said_variables, said_procedure, Exactly, saying, saying_heading, tells_all, says_tells, more_answers, constant_says, of_type_says, variables_say, procedure_says}
 use Rattle.def_typing.specs.TypeExprs.{Twice, constants_in, with_types, next_type, Added, nothing_added, type_added, Setting, IsTypeOf, Adds, BrokenType}
-use Rattle.law_typing.proofs.Enumerating.{MadeType, scope_with, Enters, Frees}
+use Rattle.law_typing.proofs.Enumerating.{MadeType, scope_with, Enters, Frees, enters_nothing}
 use Rattle.law_typing.proofs.TypeReading.{no_types, no_made, Read as Read_type}
 use Rattle.law_typing.proofs.Recording.{type_read}
 use Rattle.law_typing.proofs.Marking.{block_begins}
@@ -266,7 +268,7 @@ module _ (g : Gathers) (j : Judges g) (lawful : Lawful g j) (exports : ℕ → I
     declare_constant k t = let b = begin_one g j lawful exports outside start taken awaited nested block takes (O front) front (OfConstant c) ds refl (Th front) c.name (c.name, here, refl) k in
         let h = constant_exact b.0 in (
           ended front (plain_one (OfConstant c)) ds refl refl refl b.0 (mid_as g j lawful exports outside start taken awaited nested block takes front (plain_one (OfConstant c)) ds (Adding (c.name ∷ []) (Th front)) (λ n z. only_name z) (λ n z. name_only z)
-              (one_finished front (plain_one (OfConstant c)) ds refl refl refl b.0 c.name here (says_it front (plain_one (OfConstant c)) ds refl refl refl b.0 said_constant (λ v. meaning.Constant v) (λ v. refl) (λ v. refl) (λ v. refl) (λ v. refl) h) (λ n. ⊥) (begun_mid front (plain_one (OfConstant c)) ds refl refl refl b.0 (begin_name g _ c.name).0.own (no_made (begin_name g _ c.name).0) (λ n. refl) (λ n. fails_it (λ z. elim z.1 [ ])) rules.constant_brings))),
+              (one_finished front (plain_one (OfConstant c)) ds refl refl refl b.0 c.name here (says_it front (plain_one (OfConstant c)) ds refl refl refl b.0 said_constant (λ v. meaning.Constant v) (λ v. refl) (λ v. refl) (λ v. refl) (λ v. refl) h) (λ n. ⊥) (begun_mid front (plain_one (OfConstant c)) ds refl refl refl b.0 (begin_name g _ c.name).0.own (no_made (begin_name g _ c.name).0) (enters_nothing (begin_name g _ c.name).0.own) (λ n. fails_it (λ z. elim z.1 [ ])) rules.constant_brings))),
           told_one front (plain_one (OfConstant c)) ds refl refl refl refl t b.1 (telling front (plain_one (OfConstant c)) ds refl refl refl b.0 said_constant h),
           rules.is_added (stand_here front (plain_one (OfConstant c)) ds refl refl refl b.0) rules.constant_brings,
         )
@@ -337,7 +339,7 @@ module _ (g : Gathers) (j : Judges g) (lawful : Lawful g j) (exports : ℕ → I
     MidOf done t = Mid front many ds refl refl refl k done t
 
     typed_mid : {done : List ℕ → Type 0} {t : Scope g.Reported} (r : Result TypeNo g.Reported) → MidOf done t → MidOf done (with_variable_type t r)
-    typed_mid (Ok u) m = record { same = record { withs = m.same.withs; outer = m.same.outer; types = m.same.types; tables = m.same.tables; level = m.same.level }; own = m.own }
+    typed_mid (Ok u) m = record { same = record { withs = m.same.withs; outer = m.same.outer; types = m.same.types; tables = m.same.tables; level = m.same.level }; own = m.own; once = m.once }
     typed_mid (Err e) m = m
 
     -- its variables count as own
@@ -500,6 +502,7 @@ module _ (g : Gathers) (j : Judges g) (lawful : Lawful g j) (exports : ℕ → I
         (record {
           same = record { withs = k.same.withs; outer = k.same.outer; types = k.same.types ∙ sym (no_types (T front)); tables = k.same.tables; level = k.same.level };
           own = λ n. is_other (λ t c m. theres_apart t c (subst (Th front) (declared_name m) th)) (λ t c o m. elim m.1 [ ]) (λ t v q. subst HeadedHere q w t v) (k.own n);
+          once = k.once;
         })
 
     -- a new name
@@ -511,6 +514,7 @@ module _ (g : Gathers) (j : Judges g) (lawful : Lawful g j) (exports : ℕ → I
           own = entered_all (λ n o. MidAs g j lawful exports outside start taken awaited nested block takes front (heading_with ms) ds (λ n. (h.name.name ≡ n) ⊎ Th front n) (Declares (OfProcedure h)) n o) h.name.name m t.own
               (is_done m (no_taken (taken h.name.name) refl) (λ a. new (inr a)) (h.name, here, refl) (h.name, here, refl) say)
               (λ n c. is_other (λ u w z. c (declared_name z)) (λ t w o z. elim z.1 [ ]) (λ t v q. absurd (c q)) (subst (λ (own : List (List ℕ × Known g.Reported)). KnownAs g j exports outside start taken awaited nested block front (λ n. (h.name.name ≡ n) ⊎ Th front n) n (find_name n own)) (sym e) (widen g j lawful exports outside start taken awaited nested block takes h.name (λ q. absurd (c q)) (k.own n))));
+          once = λ o. once_more h.name.name m (subst (λ (own : List (List ℕ × Known g.Reported)). AreOnce own) (sym e) (k.once o));
         })
       where
         no_taken : (b : Bool) → taken h.name.name ≡ b → taken h.name.name ≡ false
@@ -525,6 +529,7 @@ module _ (g : Gathers) (j : Judges g) (lawful : Lawful g j) (exports : ℕ → I
           own = entered_all (λ n o. MidAs g j lawful exports outside start taken awaited nested block takes front (heading_with []) ds (Th front) (Named (h.name ∷ [])) n o) h.name.name (known.Headed (Ok (meaning.Procedure p))) s.own
               (is_headed p y (heading_with [], here, refl) e)
               (λ n c. is_other (λ u w z. c (declared_name z)) (λ t w o z. elim z.1 [ ]) (λ t v q. absurd (c q)) (k.own n));
+          once = λ o. once_more h.name.name (known.Headed (Ok (meaning.Procedure p))) (k.once o);
         })
 
     -- what its heading means
@@ -806,6 +811,59 @@ module _ (g : Gathers) (j : Judges g) (lawful : Lawful g j) (exports : ℕ → I
   number_known n p e i (behind k t f o s) = absurd (clash (awaits_heading (takes n) e).0 t)
   number_known n p e i (a_member t f o a q) = absurd (clash (awaits_heading (takes n) e).0 t)
 
+  -- ---- procedures that lack a heading
+
+  taken_awaits : {b : Bool} {u : Option TypeNo} {o : Option (Known g.Reported)} → TakenAs g j b u o → Awaits o → (t : TypeNo) × (u ≡ Some t)
+  taken_awaits (is_taken s) w = let z : false ≡ true = sym (ap (λ (p : Place). is_awaited p) s) ∙ w in absurd cc
+  taken_awaits (awaits p) w = (p.heading, refl)
+  taken_awaits not_taken w = absurd cc
+
+  awaits_taken : {b : Bool} {u : Option TypeNo} {t : TypeNo} {o : Option (Known g.Reported)} → TakenAs g j b u o → u ≡ Some t → Awaits o
+  awaits_taken (is_taken s) e = absurd cc
+  awaits_taken (awaits p) e = refl
+  awaits_taken not_taken e = absurd cc
+
+  module _ (fs : List Resolved) (Th : List ℕ → Type 0) (n : List ℕ) where
+    abbrev KA : Option (Known g.Reported) → Type 0
+    KA = KnownAs g j exports outside start taken awaited (is_nested start) block fs Th n
+
+    settles : {p : Place} → p ≡ place.Taken → is_awaited p ≡ true → ⊥
+    settles s w = let z : false ≡ true = sym (ap (λ (p : Place). is_awaited p) s) ∙ w in absurd cc
+
+    frees : {p : Place} → p ≡ place.Free → is_awaited p ≡ true → ⊥
+    frees s w = let z : false ≡ true = sym (ap (λ (p : Place). is_awaited p) s) ∙ w in absurd cc
+
+    waits_still : {o : Option (Known g.Reported)} → KA o → Awaits o → (t : TypeNo) × (awaited n ≡ Some t) × (IsHeaded fs n → ⊥)
+    waits_still (outer c w e) z = let q = taken_awaits (takes n) (subst (λ (o : Option (Known g.Reported)). Awaits o) e z) in (q.0, q.1, w q.0 q.1)
+    waits_still (headed p y w e) z = absurd cc
+    waits_still (ahead d t f c b) z = absurd (frees (mark_place g.Reported d) z)
+    waits_still (reading d t f c b q) z = absurd cc
+    waits_still (behind k t f o s) z = absurd (settles s.settled z)
+    waits_still (a_member t f o a q) z = absurd cc
+
+    still_waits : {o : Option (Known g.Reported)} → KA o → {t : TypeNo} → awaited n ≡ Some t → (IsHeaded fs n → ⊥) → Awaits o
+    still_waits (outer c w e) v h = subst (λ (o : Option (Known g.Reported)). Awaits o) (sym e) (awaits_taken (takes n) v)
+    still_waits (headed p y w e) v h = absurd (h w)
+    still_waits (ahead d t f c b) {t = u} v h = absurd (unawaited g j lawful exports outside start taken awaited (is_nested start) block takes n t u v)
+    still_waits (reading d t f c b q) {t = u} v h = absurd (unawaited g j lawful exports outside start taken awaited (is_nested start) block takes n t u v)
+    still_waits (behind k t f o s) {t = u} v h = absurd (unawaited g j lawful exports outside start taken awaited (is_nested start) block takes n t u v)
+    still_waits (a_member t f o a q) {t = u} v h = absurd (unawaited g j lawful exports outside start taken awaited (is_nested start) block takes n t u v)
+
+  abbrev Lacked : Pos → List Resolved → Breach → Type 0
+  Lacked at fs = Lacks start.types exports outside taken awaited (is_nested start) block at fs
+
+  module _ (at : Pos) {fs : List Resolved} {s : Scope g.Reported} (k : KnowsBlock g j exports outside start taken awaited (is_nested start) block fs [] (Theres g j lawful exports outside start taken awaited (is_nested start) block takes fs) s) where
+    lack_by : {b : Bool} → Decided (AnyAwaits s.own) b → Reports g j (λ f. ⊥) (Lacked at fs) (reported_where g b at rule.MissingProcedure (Ok tt))
+    lack_by (holds a) = let q = waits_still fs _ a.0 (k.own a.0) a.1 in
+        reports_broken (g.one (at ! rule.MissingProcedure)) (accounts_as g j lawful (λ f. ⊥) (λ f e. subst (Lacked at fs) (sym e) (rules.missing q.1 q.2)) (λ f l. one l) (accounts_one g j lawful (λ f. ⊥) (at ! rule.MissingProcedure)))
+      where
+        one : {f : Breach} → Lacked at fs f → f ≡ at ! rule.MissingProcedure
+        one (rules.missing v h) = refl
+    lack_by (fails_it c) = reports_nothing (λ f l. none l)
+      where
+        none : {f : Breach} → Lacked at fs f → ⊥
+        none (rules.missing {n = n} v h) = c (n, still_waits fs _ n (k.own n) v h)
+
   pub block_answers : IsBlockExact g j exports outside start taken awaited ends first ds
   block_answers = record {
     whole = all_of_it.0;
@@ -813,6 +871,7 @@ module _ (g : Gathers) (j : Judges g) (lawful : Lawful g j) (exports : ℕ → I
     reported = reports all_of_it.2.1;
     types = all_of_it.2.0.same.types;
     numbers = λ n p e i. number_known n p e i (all_of_it.2.0.own n);
+    lack = λ o at. lack_by at all_of_it.2.0 (lacks_decided (all_of_it.2.0.once o));
     added = all_of_it.2.2 rules.nothing_declared;
     stand = (standings g j exports outside start taken awaited (is_nested start) block knows no_withs all_of_it.2.0, all_stand g j exports outside start taken awaited (is_nested start) block knows no_withs all_of_it.2.0);
     owned = λ outers own owns all. owning g j exports outside start taken awaited (is_nested start) block knows no_withs all_of_it.2.0 outers owns own all;

@@ -34,7 +34,7 @@ use Rattle.def_typing.specs.Declarations as rules
 use Rattle.def_typing.specs.Declarations.{Declaration, OfConstant, OfType, OfVariables, OfProcedure, names_of, Declares, AnyDeclares, IsFirst, at_first, later_on, Heads, Declared, IsThere, IsHeaded, IsNamed, nearest, farther, types_behind, is_variables, in_front_of, IsOwn, StandsFor, IsAdded, Means, AllStand, There, BrokenIn}
 use Rattle.law_typing.specs.Judging.{Judges}
 use Rattle.law_typing.proofs.Enumerating.{member_known}
-use Rattle.law_typing.specs.Exact.{is_own_variable, KnowsOwn, Sees, sees, sees_nothing, Exports, Knows, Repeats, of_heading, of_declaration}
+use Rattle.law_typing.specs.Exact.{is_own_variable, KnowsOwn, Sees, sees, sees_nothing, Exports, Knows, Repeats, of_heading, of_declaration, AreOnce}
 
 -- ---- the first declaration of a name
 
@@ -129,6 +129,7 @@ module _ (g : Gathers) (j : Judges g) (exports : ℕ → Ident → Standing) (ou
     pub left : (n : List ℕ) (d : Declaration) → IsFirst n d block → (IsThere front n → ⊥) → IsFirst n d rest
     pub includes : (n : List ℕ) → There start.types exports outside taken awaited nested block front n → Th n
     pub own : (n : List ℕ) → KnownAs front Th n (find_name n s.own)
+    pub once : AreOnce start.own → AreOnce s.own
 
   in_more : {n : List ℕ} {d : Declared} {before front : List Declared} {f : Breach} → IsNamed n d before front → Elsewhere (d ∷ before) f → Elsewhere front f
   in_more i (inl o) = inl o

@@ -36,6 +36,7 @@ pub mod Obeying
 pub mod TypeNaming
 pub mod Heading
 pub mod Agreeing
+pub mod Lacking
 pub mod Subranges
 pub mod Entering
 pub mod Enumerating

@@ -29,9 +29,9 @@ use Rattle.def_typing.specs.Parts.{Among, here, later, Named}
 use Rattle.def_typing.specs.TypeExprs.{constants_listed, all_listed, constants_in, constants_in_field}
 use Rattle.def_typing.specs.Declarations.{Declaration, OfConstant, OfType, OfVariables, OfProcedure, names_of, constants_of, declared_by, declarations_of, Declares, AnyDeclares, IsFirst, at_first, later_on, There}
 use Rattle.law_typing.specs.Judging.{Judges}
-use Rattle.law_typing.specs.Exact.{TakenAs, is_taken, awaits, not_taken, IsPlainType, plain_simple, plain_array, plain_record, plain_procedure, ArePlainFields, no_plain_field, one_plain_field, IsPlainLayer, ArePlainDecls}
+use Rattle.law_typing.specs.Exact.{TakenAs, is_taken, awaits, not_taken, IsPlainType, plain_simple, plain_array, plain_record, plain_procedure, ArePlainFields, no_plain_field, one_plain_field, IsPlainLayer, ArePlainDecls, AreOnce}
 use Rattle.law_typing.proofs.Combining.{Decided, holds, fails_it}
-use Rattle.law_typing.proofs.Entering.{Compared, are_one, are_two, compared, among_decided, entered_all}
+use Rattle.law_typing.proofs.Entering.{Compared, are_one, are_two, compared, among_decided, entered_all, once_more}
 use Rattle.law_typing.proofs.TypeReading.{constants_at}
 use Rattle.law_typing.proofs.Recording.{field_constants}
 use Rattle.law_typing.proofs.Declaring.{any_first, clash, mark_of, KnownAs, outer, ahead, Same, KnowsBlock}
@@ -138,6 +138,7 @@ module _ (g : Gathers) (j : Judges g) (exports : ℕ → Ident → Standing) (ou
   record Marking (M : MarkedNames) (s : Scope g.Reported) : Type 0 where
     same : SameScope s
     marks : (n : List ℕ) → MarkedAs M n (find_name n s.own)
+    once : AreOnce start.own → AreOnce s.own
 
   marked_one : {P Q : MarkedNames} {n : List ℕ} {k : Option K} → ((k : K) → P n k → Q n k) → ((k : K) → Q n k → P n k) → MarkedAs P n k → MarkedAs Q n k
   marked_one pq qp (at_start t e) = at_start t e
@@ -145,7 +146,7 @@ module _ (g : Gathers) (j : Judges g) (exports : ℕ → Ident → Standing) (ou
   marked_one pq qp (is_unmarked t n) = is_unmarked t (λ k q. n k (qp k q))
 
   marking_as : {P Q : MarkedNames} {s : Scope g.Reported} → ((n : List ℕ) (k : K) → P n k → Q n k) → ((n : List ℕ) (k : K) → Q n k → P n k) → Marking P s → Marking Q s
-  marking_as pq qp m = record { same = m.same; marks = λ n. marked_one (pq n) (qp n) (m.marks n) }
+  marking_as pq qp m = record { same = m.same; marks = λ n. marked_one (pq n) (qp n) (m.marks n); once = m.once }
 
   -- ---- one name
 
@@ -159,7 +160,7 @@ module _ (g : Gathers) (j : Judges g) (exports : ℕ → Ident → Standing) (ou
     mark_more h (is_unmarked t c) = is_unmarked t (λ k z. elim z [ inl p ↦ c k p | inr q ↦ h q.1 t c ])
 
     unchanged : {s : Scope g.Reported} → Marking M s → (taken x.name ≡ false → Unmarked M x.name → ⊥) → Marking Next s
-    unchanged m h = record { same = m.same; marks = λ n. mark_more (λ e. subst (λ (n : List ℕ). taken n ≡ false → Unmarked M n → ⊥) e h) (m.marks n) }
+    unchanged m h = record { same = m.same; marks = λ n. mark_more (λ e. subst (λ (n : List ℕ). taken n ≡ false → Unmarked M n → ⊥) e h) (m.marks n); once = m.once }
 
     taken_marks : {s : Scope g.Reported} {k o : Option K} {w : Option TypeNo} → Marking M s → (t : Bool) → taken x.name ≡ t → taken x.name ≡ true → TakenAs g j t w o → k ≡ o → Marking Next (unless_marked x.name l s k)
     taken_marks {s = s} m true q u (is_taken p) e = subst (λ (k : Option K). Marking Next (unless_marked x.name l s k)) (sym e) (unchanged m (λ w c. clash u w))
@@ -172,6 +173,7 @@ module _ (g : Gathers) (j : Judges g) (exports : ℕ → Ident → Standing) (ou
     marks_by {s = s} m (is_unmarked t c) = record {
       same = record { withs = m.same.withs; outer = m.same.outer; types = m.same.types; tables = m.same.tables; level = m.same.level };
       marks = entered_all (λ n o. MarkedAs Next n o) x.name l s.own (is_marked t (inr (c, refl, refl))) (λ n z. mark_more (λ e. absurd (z e)) (m.marks n));
+      once = λ o. once_more x.name l (m.once o);
     }
 
     mark_one : {s : Scope g.Reported} → Marking M s → Marking Next (mark_name x l s)
@@ -289,7 +291,7 @@ module _ (g : Gathers) (j : Judges g) (exports : ℕ → Ident → Standing) (ou
   start_marks n false q _ e not_taken = is_unmarked q (λ k z. z)
 
   begins : start.withs ≡ [] → Marking Nothing start
-  begins e = record { same = record { withs = e; outer = refl; types = refl; tables = refl; level = refl }; marks = λ n. start_marks n (taken n) refl (find_name n start.own) refl (takes n) }
+  begins e = record { same = record { withs = e; outer = refl; types = refl; tables = refl; level = refl }; marks = λ n. start_marks n (taken n) refl (find_name n start.own) refl (takes n); once = λ o. o }
 
   abbrev Th : List ℕ → Type 0
   Th n = There start.types exports outside taken awaited nested block [] n
@@ -316,4 +318,4 @@ module _ (g : Gathers) (j : Judges g) (exports : ℕ → Ident → Standing) (ou
 
   pub block_begins : (ds : List Decl) → ArePlainDecls ds → start.withs ≡ [] → declarations_of ds ≡ block → KnowsBlock g j exports outside start taken awaited nested block [] block Th (all_marked marked_decl start ds).0
   block_begins ds i e q = let m = subst (λ (block : List Declaration). Marking (Plus Nothing block) (all_marked marked_decl start ds).0) q (all_marks ds i Nothing start [] (begins e)) in
-      record { same = m.same; within = λ n a. elim a.1 [ ]; in_block = λ n a. a; left = λ n d k c. k; includes = λ n t. t; own = λ n. known_marked n (m.marks n) }
+      record { same = m.same; within = λ n a. elim a.1 [ ]; in_block = λ n a. a; left = λ n d k c. k; includes = λ n t. t; own = λ n. known_marked n (m.marks n); once = m.once }

@@ -87,10 +87,10 @@ use Rattle.typed_tree.specs.declared.shape.Signature.{Signature}
 use Rattle.check_type_expr.specs.Headings.{heading_of}
 use Rattle.def_typing.specs.Headings.{procedure_made, IsHeading, BrokenHeading}
 use Rattle.typed_tree.specs.Names.{find_name}
-use Rattle.check_block.specs.Declarations.{declared_block}
+use Rattle.check_block.specs.Declarations.{declared_block, reported_of_lack}
 use Rattle.check_block.specs.Headings.{standing_from}
 use Rattle.check_block.specs.declared.heading.Standing.TheVariants as heading
-use Rattle.def_typing.specs.Declarations.{Declared as Resolved, declarations_of, in_order, IsHeaded, types_behind, AllStand, IsOwn, AllAdded, BrokenIn}
+use Rattle.def_typing.specs.Declarations.{Declared as Resolved, declarations_of, in_order, IsHeaded, types_behind, AllStand, IsOwn, AllAdded, Lacks, BrokenIn}
 use Rattle.check_stmt.specs.Statements.{stmt}
 use Rattle.def_typing.specs.Statements.{arguments, labels_of, Spot, Obeys, Broken}
 use Rattle.check_expr.specs.Meanings.{meanings_of, head, part, value_of}
@@ -409,6 +409,12 @@ AllOwn outer s exports outside taken awaited ds whole own =
     → IsOwn s.types exports outside taken awaited (is_nested s) (declarations_of ds) outer whole
     name (own name)
 
+-- Each name is there once.
+pub data AreOnce {V : Type 0} : List (List ℕ × V) → Type 0 where
+  no_names : AreOnce []
+  one_name : {e : List ℕ × V} {es : List (List ℕ × V)} → find_name e.0 es ≡ None → AreOnce es
+      → AreOnce (e ∷ es)
+
 -- what is known behind the declarations of a block
 pub record IsBlockExact (g : Gathers) (j : Judges g) (exports : ℕ → Ident → Standing)
     (outside : Ident → Standing) (s : Scope g.Reported) (taken : List ℕ → Bool)
@@ -429,6 +435,11 @@ pub record IsBlockExact (g : Gathers) (j : Judges g) (exports : ℕ → Ident �
       → find_name n s.own ≡ Some (Declared Here (Ok (meaning.Procedure p))) → IsHeaded whole n
       → find_name n (declared_block g ends (s, Ok tt) first ds).0.own
       ≡ Some (Headed (Ok (meaning.Procedure p)))
+  -- It is reported exactly if a procedure of the definition lacks a heading.
+  pub lack : AreOnce s.own → (at : Pos)
+      → Reports g j (λ f. ⊥)
+      (Lacks s.types exports outside taken awaited (is_nested s) (declarations_of ds) at whole)
+      (reported_of_lack g at (declared_block g ends (s, Ok tt) first ds).0)
   -- Each name stands for something behind them.
   pub stand : (names : Ident → Standing)
       × AllStand s.types exports outside taken awaited (is_nested s) (declarations_of ds) whole names
