@@ -442,10 +442,12 @@ pub record IsBlockExact (g : Gathers) (j : Judges g) (exports : ℕ → Ident �
       (reported_of_lack g at (declared_block g ends (s, Ok tt) first ds).0)
   -- Each name stands for something behind them.
   pub stand : (names : Ident → Standing)
-      × AllStand s.types exports outside taken awaited (is_nested s) (declarations_of ds) whole names
+      × AllStand s.types exports outside taken awaited (is_nested s) (declarations_of ds) whole
+      names
   -- Whatever names stand for, the scope knows it.
   pub known : (names : Ident → Standing)
-      → AllStand s.types exports outside taken awaited (is_nested s) (declarations_of ds) whole names
+      → AllStand s.types exports outside taken awaited (is_nested s) (declarations_of ds) whole
+      names
       → Knows g j names exports (declared_block g ends (s, Ok tt) first ds).0
   -- It is known which variables count as own ones.
   pub own : (outer : Ident → Bool) → KnowsOwn g j outer s
@@ -455,7 +457,8 @@ pub record IsBlockExact (g : Gathers) (j : Judges g) (exports : ℕ → Ident �
       → KnowsOwn g j own (declared_block g ends (s, Ok tt) first ds).0
   -- So all is known of the spot at which a statement of the body stands.
   pub spot : (outer own : Ident → Bool) (names : Ident → Standing) → KnowsOwn g j outer s
-      → AllStand s.types exports outside taken awaited (is_nested s) (declarations_of ds) whole names
+      → AllStand s.types exports outside taken awaited (is_nested s) (declarations_of ds) whole
+      names
       → AllOwn outer s exports outside taken awaited ds whole own → (gives : Giving)
       (a : Around g.Reported)
       → KnowsResult g j gives a.gives
