@@ -1,9 +1,11 @@
 -- What the names of a block stand for, and which rules are broken in its declarations.
-use Rattle.std.specs.Prelude.{◌≡◌, ◌⊎◌, ℕ, Bool, true, false, ◌||◌, List, [], ◌∷◌, ◌++◌, map, Some}
+use Rattle.std.specs.Prelude.{◌≡◌, ◌⊎◌, ℕ, Bool, true, false, ◌||◌, List, [], ◌∷◌, ◌++◌, map, Option, Some}
 use Rattle.std.specs.List.{list_any}
 use Rattle.m2_tree.specs.Names.{same_name}
 use Rattle.typed_tree.specs.Names.{find_name}
 use Rattle.m2_rule.specs.declared.breach.Breach.{Breach}
+use Rattle.m2_rule.specs.declared.rule.Rule.TheVariants as rule
+use Rattle.m2_tree.specs.declared.pos.Pos.{Pos}
 use Rattle.m2_tree.specs.declared.name.Ident.{Ident}
 use Rattle.m2_tree.specs.declared.decl.Constant.{Constant}
 use Rattle.m2_tree.specs.declared.decl.TypeDecl.{TypeDecl}
@@ -16,12 +18,13 @@ use Rattle.m2_tree.specs.declared.decl.Heading.{Heading}
 use Rattle.typed_tree.specs.declared.types.TypeNo.{TypeNo}
 use Rattle.typed_tree.specs.declared.shape.Signature.{Signature}
 use Rattle.typed_tree.specs.declared.known_types.Types.{Types}
-use Rattle.def_typing.specs.Operators.{Kind}
+use Rattle.def_typing.specs.Operators.{◌!◌, Kind}
 use Rattle.def_typing.specs.Things.{Thing, AValue, AVariable, AType, AProcedure, ANested, Headless, Standing, Known, Ahead, Undeclared, Unknown}
 use Rattle.def_typing.specs.Parts.{Among, Named}
 use Rattle.def_typing.specs.Constants.{AConstant, Fixes, BrokenAsConstant}
 use Rattle.def_typing.specs.TypeExprs.{Twice, constants_in, with_types, next_type, Member, member_stands, Added, nothing_added, type_added, Setting, IsTypeOf, Adds, BrokenType}
 use Rattle.def_typing.specs.Headings.{procedure_made, IsHeading, BrokenHeading}
+use Rattle.def_typing.specs.Agreements.{Disagrees}
 
 -- ---- declarations
 
@@ -69,6 +72,11 @@ Declares d n = Named (names_of d ++ constants_of d) n
 abbrev pub AnyDeclares : List Declaration → List ℕ → Type 0
 AnyDeclares ds n = (d : Declaration) × Among d ds × Declares d n
 
+-- It is a heading of this name.
+abbrev pub Heads : Declaration → List ℕ → Type 0
+Heads (OfProcedure h) n = h.name.name ≡ n
+Heads other n = ⊥
+
 -- the first declaration of a name in a block
 pub data IsFirst (n : List ℕ) (d : Declaration) : List Declaration → Type 0 where
   at_first : {ds : List Declaration} → Declares d n → IsFirst n d (d ∷ ds)
@@ -89,6 +97,10 @@ in_order (d ∷ front) = in_order front ++ d.what ∷ []
 
 abbrev pub IsThere : List Declared → List ℕ → Type 0
 IsThere front n = AnyDeclares (map (λ d. d.what) front) n
+
+-- A heading of this name is there.
+abbrev pub IsHeaded : List Declared → List ℕ → Type 0
+IsHeaded front n = (d : Declared) × Among d front × Heads d.what n
 
 -- the first declaration of a name, and those in front of it
 pub data IsNamed (n : List ℕ) (d : Declared) (before : List Declared) : List Declared → Type 0 where
@@ -166,13 +178,19 @@ module _ (exports : ℕ → Ident → Standing) (w : Setting) where
     in_heading : {h : Heading} {f : Breach} → BrokenHeading w.types w.names exports h f
         → Misdeclares (OfProcedure h) f
 
+  -- the refusals of a heading that a procedure of this type awaits
+  pub data Differs (t : TypeNo) : Declaration → Breach → Type 0 where
+    differs : {h : Heading} {f : Breach} → Disagrees w.types w.names exports t h f
+        → Differs t (OfProcedure h) f
+
 -- ---- a block
 
 -- The types that are known where it begins, what modules export, what names stand for outside,
--- which names are taken by imports, by formals or by the module's own definition, and whether the
--- block is a procedure's.
+-- which names are taken by imports, by formals or by the module's own definition, the types of this
+-- definition's procedures, which await their headings, and whether the block is a procedure's.
 module _ (types : Types) (exports : ℕ → Ident → Standing) (outside : Ident → Standing)
-    (taken : List ℕ → Bool) (nested : Bool) (block : List Declaration) where
+    (taken : List ℕ → Bool) (awaited : List ℕ → Option TypeNo) (nested : Bool)
+    (block : List Declaration) where
   -- where the type of a declaration stands: its own names are there
   abbrev pub setting : List Declared → Declaration → (Ident → Standing) → Setting
   setting front d names = record {
@@ -183,6 +201,18 @@ module _ (types : Types) (exports : ℕ → Ident → Standing) (outside : Ident
 
   abbrev pub There : List Declared → List ℕ → Type 0
   There front n = (taken n ≡ true) ⊎ IsThere front n
+
+  -- A heading is awaited until one of this name stands in the block. Its name stands for the
+  -- definition's procedure, in front of it and behind it.
+  pub data IsAwaited (front : List Declared) (t : TypeNo) : Declaration → Type 0 where
+    is_awaited : {h : Heading} → awaited h.name.name ≡ Some t
+        → (IsHeaded front h.name.name → ⊥) → IsAwaited front t (OfProcedure h)
+
+  -- A procedure of the definition has a heading in the implementation; else the refusal is at the
+  -- module's name.
+  pub data Lacks (at : Pos) (front : List Declared) : Breach → Type 0 where
+    missing : {n : List ℕ} {t : TypeNo} → awaited n ≡ Some t → (IsHeaded front n → ⊥)
+        → Lacks at front (at ! rule.MissingProcedure)
 
   mutual
     -- what a name stands for behind these declarations
@@ -250,9 +280,15 @@ module _ (types : Types) (exports : ℕ → Ident → Standing) (outside : Ident
     inside : {front : List Declared} {d : Declared} {names : Ident → Standing} {f : Breach}
         → AllStand front names → Misdeclares exports (setting front d.what names) d.what f
         → BrokenIn (d ∷ front) f
-    -- A name twice in a scope is refused at the second, and so is one of a formal.
+    -- A name twice in a scope is refused at the second, but for a heading that is awaited, and so
+    -- is one of a formal.
     twice : {front : List Declared} {d : Declared} {f : Breach}
+        → ((t : TypeNo) → IsAwaited front t d.what → ⊥)
         → Twice (There front) (names_of d.what) f → BrokenIn (d ∷ front) f
+    -- A heading that is awaited agrees with the definition's.
+    other_heading : {front : List Declared} {d : Declared} {names : Ident → Standing} {t : TypeNo}
+        {f : Breach} → IsAwaited front t d.what → AllStand front names
+        → Differs exports (setting front d.what names) t d.what f → BrokenIn (d ∷ front) f
     formal_twice : {front : List Declared} {d : Declared} {f : Breach}
         → Twice (λ n. ⊥) (formals_in d.what) f → BrokenIn (d ∷ front) f
     in_front : {front : List Declared} {d : Declared} {f : Breach} → BrokenIn front f

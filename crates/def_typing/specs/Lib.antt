@@ -7,6 +7,7 @@ pub mod Parts
 pub mod Constants
 pub mod TypeNames
 pub mod Headings
+pub mod Agreements
 pub mod Subranges
 pub mod TypeExprs
 pub mod Declarations

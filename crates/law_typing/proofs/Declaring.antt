@@ -7,11 +7,14 @@ use Rattle.m2_tree.specs.declared.pos.Pos.{Pos}
 use Rattle.m2_tree.specs.declared.name.Ident.{Ident}
 use Rattle.typed_tree.specs.declared.meaning.Meaning.{Meaning}
 use Rattle.typed_tree.specs.declared.meaning.Meaning.TheVariants as meaning
+use Rattle.typed_tree.specs.declared.meaning.Procedure.{Procedure}
+use Rattle.typed_tree.specs.declared.types.TypeNo.{TypeNo}
 use Rattle.typed_tree.specs.declared.table.Table.{Table}
 use Rattle.typed_tree.specs.declared.known_types.Types.{Types}
 use Rattle.typed_tree.specs.Names.{find_name}
 use Rattle.check_scope.specs.declared.known.Known.{Known}
 use Rattle.check_scope.specs.declared.known.Known.TheVariants as known
+use Rattle.check_scope.specs.declared.known.Origin.TheVariants.{Here}
 use Rattle.check_type_expr.specs.Made.{enumeration_constant}
 use Rattle.check_scope.specs.declared.meaningless.Meaningless.{Meaningless}
 use Rattle.check_scope.specs.declared.meaningless.Meaningless.TheVariants as meaningless
@@ -28,10 +31,10 @@ use Rattle.def_typing.specs.Things.{Headless, Standing, Undeclared, Unknown}
 use Rattle.def_typing.specs.Parts.{here, later, Named}
 use Rattle.def_typing.specs.TypeExprs.{Member, member_stands}
 use Rattle.def_typing.specs.Declarations as rules
-use Rattle.def_typing.specs.Declarations.{Declaration, OfConstant, OfType, OfVariables, OfProcedure, names_of, Declares, AnyDeclares, IsFirst, at_first, later_on, Declared, IsThere, IsNamed, nearest, farther, types_behind, is_variables, in_front_of, IsOwn, StandsFor, IsAdded, Means, AllStand, There, BrokenIn}
+use Rattle.def_typing.specs.Declarations.{Declaration, OfConstant, OfType, OfVariables, OfProcedure, names_of, Declares, AnyDeclares, IsFirst, at_first, later_on, Heads, Declared, IsThere, IsHeaded, IsNamed, nearest, farther, types_behind, is_variables, in_front_of, IsOwn, StandsFor, IsAdded, Means, AllStand, There, BrokenIn}
 use Rattle.law_typing.specs.Judging.{Judges}
 use Rattle.law_typing.proofs.Enumerating.{member_known}
-use Rattle.law_typing.specs.Exact.{is_own_variable, KnowsOwn, Sees, sees, sees_nothing, Exports, Knows, Repeats, of_heading, of_declaration}
+use Rattle.law_typing.specs.Exact.{is_own_variable, KnowsOwn, Sees, sees, sees_nothing, Exports, Knows, Repeats, of_heading, of_declaration, AreOnce}
 
 -- ---- the first declaration of a name
 
@@ -58,27 +61,37 @@ one_first P (later_on n i) (later_on m k) p = one_first P i k p
 one_member : {x y : Member} → ◌≡◌ {A = Option Member} (Some x) (Some y) → x ≡ y
 one_member e = cc
 
+pub clash : {b : Bool} → b ≡ true → b ≡ false → ⊥
+clash e f = let z : true ≡ false = sym e ∙ f in absurd cc
+
+-- a heading is a declaration of its name
+pub no_heads : (d : Declaration) → in_front_of d ≡ Undeclared → (n : List ℕ) → Heads d n → ⊥
+no_heads (OfConstant c) e n h = h
+no_heads (OfType d) e n h = h
+no_heads (OfVariables v) e n h = h
+no_heads (OfProcedure p) e n h = absurd cc
+
 -- how a name is marked before its declaration
 abbrev pub mark_of : {T : Type 0} → Declaration → Known T
 mark_of (OfProcedure h) = known.Ahead
 mark_of other = known.Later
 
-module _ (g : Gathers) (j : Judges g) (exports : ℕ → Ident → Standing) (outside : Ident → Standing) (start : Scope g.Reported) (taken : List ℕ → Bool) (nested : Bool) (block : List Declaration) where
+module _ (g : Gathers) (j : Judges g) (exports : ℕ → Ident → Standing) (outside : Ident → Standing) (start : Scope g.Reported) (taken : List ℕ → Bool) (awaited : List ℕ → Option TypeNo) (nested : Bool) (block : List Declaration) where
   abbrev Behind : List Declared → Ident → Standing → Type 0
-  Behind = StandsFor start.types exports outside taken nested block
+  Behind = StandsFor start.types exports outside taken awaited nested block
 
   abbrev Meant : List Declared → Declared → Standing → Type 0
-  Meant = Means start.types exports outside taken nested block
+  Meant = Means start.types exports outside taken awaited nested block
 
   abbrev pub Added : List Declared → Declared → Type 0
-  Added = IsAdded start.types exports outside taken nested block
+  Added = IsAdded start.types exports outside taken awaited nested block
 
   abbrev pub All : List Declared → (Ident → Standing) → Type 0
-  All = AllStand start.types exports outside taken nested block
+  All = AllStand start.types exports outside taken awaited nested block
 
   -- what may be repeated behind these declarations
   abbrev pub Elsewhere : List Declared → Breach → Type 0
-  Elsewhere front f = Repeats g j outside start f ⊎ BrokenIn start.types exports outside taken nested block front f
+  Elsewhere front f = Repeats g j outside start f ⊎ BrokenIn start.types exports outside taken awaited nested block front f
 
   -- what is known of a declaration
   pub record Saying (before : List Declared) (d : Declared) (k : Known g.Reported) : Type 0 where
@@ -93,7 +106,8 @@ module _ (g : Gathers) (j : Judges g) (exports : ℕ → Ident → Standing) (ou
 
   -- what the scope has of a name, if these declarations stand in front and these names are there
   pub data KnownAs (front : List Declared) (Th : List ℕ → Type 0) (n : List ℕ) : Option (Known g.Reported) → Type 0 where
-    outer : {k : Option (Known g.Reported)} → (taken n ≡ false → AnyDeclares block n → ⊥) → k ≡ find_name n start.own → KnownAs front Th n k
+    outer : {k : Option (Known g.Reported)} → (taken n ≡ false → AnyDeclares block n → ⊥) → ((t : TypeNo) → awaited n ≡ Some t → IsHeaded front n → ⊥) → k ≡ find_name n start.own → KnownAs front Th n k
+    headed : (p : Procedure) → taken n ≡ true → IsHeaded front n → Some (known.Declared Here (Ok (meaning.Procedure p))) ≡ find_name n start.own → KnownAs front Th n (Some (known.Headed (Ok (meaning.Procedure p))))
     ahead : (d : Declaration) → taken n ≡ false → IsFirst n d block → (IsThere front n → ⊥) → (Th n → ⊥) → KnownAs front Th n (Some (mark_of d))
     reading : (d : Declaration) → taken n ≡ false → IsFirst n d block → (IsThere front n → ⊥) → Th n → in_front_of d ≡ Undeclared → KnownAs front Th n (Some known.Begun)
     behind : {d : Declared} {before : List Declared} (k : Known g.Reported) → taken n ≡ false → IsNamed n d before front → Named (names_of d.what) n → Saying before d k → KnownAs front Th n (Some k)
@@ -113,8 +127,9 @@ module _ (g : Gathers) (j : Judges g) (exports : ℕ → Ident → Standing) (ou
     pub within : (n : List ℕ) → IsThere front n → AnyDeclares block n
     pub in_block : (n : List ℕ) → AnyDeclares rest n → AnyDeclares block n
     pub left : (n : List ℕ) (d : Declaration) → IsFirst n d block → (IsThere front n → ⊥) → IsFirst n d rest
-    pub includes : (n : List ℕ) → There start.types exports outside taken nested block front n → Th n
+    pub includes : (n : List ℕ) → There start.types exports outside taken awaited nested block front n → Th n
     pub own : (n : List ℕ) → KnownAs front Th n (find_name n s.own)
+    pub once : AreOnce start.own → AreOnce s.own
 
   in_more : {n : List ℕ} {d : Declared} {before front : List Declared} {f : Breach} → IsNamed n d before front → Elsewhere (d ∷ before) f → Elsewhere front f
   in_more i (inl o) = inl o
@@ -159,10 +174,14 @@ module _ (g : Gathers) (j : Judges g) (exports : ℕ → Ident → Standing) (ou
       K k = KnownAs front Th name.name k
 
       seen_known : {k : Option (Known g.Reported)} {s : Standing} → K k → Behind front name s → Sees g j name.pos s (looked k name)
-      seen_known (outer c e) (rules.declared t i o m) = absurd (c t (within name.name (any_named i)))
-      seen_known (outer c e) (rules.enumerated t i o a m) = absurd (c t (within name.name (any_named i)))
-      seen_known (outer c e) (rules.not_yet t i n) = absurd (c t (any_first i))
-      seen_known (outer c e) (rules.from_outside d) = outer_seen name e
+      seen_known (outer c w e) (rules.declared t i o m) = absurd (c t (within name.name (any_named i)))
+      seen_known (outer c w e) (rules.enumerated t i o a m) = absurd (c t (within name.name (any_named i)))
+      seen_known (outer c w e) (rules.not_yet t i n) = absurd (c t (any_first i))
+      seen_known (outer c w e) (rules.from_outside d) = outer_seen name e
+      seen_known (headed p y w e) (rules.declared t i o m) = absurd (clash y t)
+      seen_known (headed p y w e) (rules.enumerated t i o a m) = absurd (clash y t)
+      seen_known (headed p y w e) (rules.not_yet t i n) = absurd (clash y t)
+      seen_known (headed p y w e) (rules.from_outside d) = outer_seen name e
       seen_known (ahead d t i n b) (rules.declared u k o m) = absurd (n (any_named k))
       seen_known (ahead d t i n b) (rules.enumerated u k o a m) = absurd (n (any_named k))
       seen_known (ahead d t i n b) (rules.not_yet {d = c} u k m) = one_first (λ (x : Declaration). Sees g j name.pos (in_front_of c) (looked (Some (mark_of x)) name)) i k (mark_seen name c)
@@ -181,7 +200,8 @@ module _ (g : Gathers) (j : Judges g) (exports : ℕ → Ident → Standing) (ou
       seen_known (a_member t i o a e) (rules.from_outside c) = absurd (c t (within name.name (any_named i)))
 
       pub stands_known : {k : Option (Known g.Reported)} → K k → (s : Standing) × Behind front name s
-      stands_known (outer c e) = (outside name, rules.from_outside c)
+      stands_known (outer c w e) = (outside name, rules.from_outside c)
+      stands_known (headed p y w e) = (outside name, rules.from_outside (λ t a. clash y t))
       stands_known (ahead d t i n b) = (in_front_of d, rules.not_yet t i n)
       stands_known (reading d t i n b e) = (in_front_of d, rules.not_yet t i n)
       stands_known (behind k t i o s) = (s.stands.0, rules.declared t i o s.stands.1)
@@ -190,20 +210,22 @@ module _ (g : Gathers) (j : Judges g) (exports : ℕ → Ident → Standing) (ou
       -- what is repeated
 
       heading_repeats : {k : Option (Known g.Reported)} {s : Standing} {r : g.Reported} {f : Breach} → K k → Behind front name s → s ≡ things.Known Headless → looked k name ≡ Err (meaningless.Headless r) → j.Among r f → Elsewhere front f
-      heading_repeats (outer c e) (rules.from_outside d) q l m = inl (of_heading q (looked_first name ∙ ap (λ (k : Option (Known g.Reported)). looked k name) (sym e) ∙ l) m)
-      heading_repeats (outer c e) (rules.declared t i o z) q l m = absurd (c t (within name.name (any_named i)))
-      heading_repeats (outer c e) (rules.enumerated t i o a z) q l m = absurd (c t (within name.name (any_named i)))
-      heading_repeats (outer c e) (rules.not_yet t i n) q l m = absurd (c t (any_first i))
+      heading_repeats (outer c w e) (rules.from_outside d) q l m = inl (of_heading q (looked_first name ∙ ap (λ (k : Option (Known g.Reported)). looked k name) (sym e) ∙ l) m)
+      heading_repeats (outer c w e) (rules.declared t i o z) q l m = absurd (c t (within name.name (any_named i)))
+      heading_repeats (outer c w e) (rules.enumerated t i o a z) q l m = absurd (c t (within name.name (any_named i)))
+      heading_repeats (outer c w e) (rules.not_yet t i n) q l m = absurd (c t (any_first i))
+      heading_repeats (headed p y w e) z q l m = absurd cc
       heading_repeats (ahead d t i n b) z q l m = absurd (mark_heading name d l)
       heading_repeats (reading d t i n b e) z q l m = absurd cc
       heading_repeats {r = r} {f = f} (behind k t i o s) z q l m = in_more i (s.heading name.pos r l f m)
       heading_repeats (a_member t i o a e) z q l m = absurd cc
 
       broken_repeats : {k : Option (Known g.Reported)} {s : Standing} {r : g.Reported} {f : Breach} → K k → Behind front name s → s ≡ Unknown → looked k name ≡ Err (meaningless.Broken r) → j.Among r f → Elsewhere front f
-      broken_repeats (outer c e) (rules.from_outside d) q l m = inl (of_declaration q (looked_first name ∙ ap (λ (k : Option (Known g.Reported)). looked k name) (sym e) ∙ l) m)
-      broken_repeats (outer c e) (rules.declared t i o z) q l m = absurd (c t (within name.name (any_named i)))
-      broken_repeats (outer c e) (rules.enumerated t i o a z) q l m = absurd (c t (within name.name (any_named i)))
-      broken_repeats (outer c e) (rules.not_yet t i n) q l m = absurd (c t (any_first i))
+      broken_repeats (outer c w e) (rules.from_outside d) q l m = inl (of_declaration q (looked_first name ∙ ap (λ (k : Option (Known g.Reported)). looked k name) (sym e) ∙ l) m)
+      broken_repeats (outer c w e) (rules.declared t i o z) q l m = absurd (c t (within name.name (any_named i)))
+      broken_repeats (outer c w e) (rules.enumerated t i o a z) q l m = absurd (c t (within name.name (any_named i)))
+      broken_repeats (outer c w e) (rules.not_yet t i n) q l m = absurd (c t (any_first i))
+      broken_repeats (headed p y w e) z q l m = absurd cc
       broken_repeats (ahead d t i n b) (rules.declared u k o z) q l m = absurd (n (any_named k))
       broken_repeats (ahead d t i n b) (rules.enumerated u k o a z) q l m = absurd (n (any_named k))
       broken_repeats (ahead d t i n b) (rules.not_yet {d = c} u k z) q l m = absurd (front_known c q)
@@ -235,7 +257,7 @@ module _ (g : Gathers) (j : Judges g) (exports : ℕ → Ident → Standing) (ou
 
     module _ (outers : Ident → Bool) (owns : KnowsOwn g j outers start) (front : List Declared) (Th : List ℕ → Type 0) (within : (n : List ℕ) → IsThere front n → AnyDeclares block n) (name : Ident) where
       abbrev Own : Bool → Type 0
-      Own b = IsOwn start.types exports outside taken nested block outers front name b
+      Own b = IsOwn start.types exports outside taken awaited nested block outers front name b
 
       mark_own : (d : Declaration) {m : Meaning} → looked (Some (mark_of d)) name ≡ Ok m → is_own_variable start m ≡ false
       mark_own (OfConstant c) e = absurd cc
@@ -250,10 +272,14 @@ module _ (g : Gathers) (j : Judges g) (exports : ℕ → Ident → Standing) (ou
       member_own x {m = m} q = let same : enumeration_constant x.0 (pos x.1) ≡ m = cc in subst (λ (m : Meaning). is_own_variable start m ≡ false) same refl
 
       own_known : {k : Option (Known g.Reported)} {b : Bool} {m : Meaning} → KnownAs front Th name.name k → Own b → looked k name ≡ Ok m → b ≡ is_own_variable start m
-      own_known {m = m} (outer c e) (rules.of_outside d) q = owns name m (looked_first name ∙ ap (λ (k : Option (Known g.Reported)). looked k name) (sym e) ∙ q)
-      own_known (outer c e) (rules.of_block t i o) q = absurd (c t (within name.name (any_named i)))
-      own_known (outer c e) (rules.of_enumeration t i o) q = absurd (c t (within name.name (any_named i)))
-      own_known (outer c e) (rules.of_none t a n) q = absurd (c t a)
+      own_known {m = m} (outer c w e) (rules.of_outside d) q = owns name m (looked_first name ∙ ap (λ (k : Option (Known g.Reported)). looked k name) (sym e) ∙ q)
+      own_known (outer c w e) (rules.of_block t i o) q = absurd (c t (within name.name (any_named i)))
+      own_known (outer c w e) (rules.of_enumeration t i o) q = absurd (c t (within name.name (any_named i)))
+      own_known (outer c w e) (rules.of_none t a n) q = absurd (c t a)
+      own_known {m = m} (headed p y w e) (rules.of_outside d) q = owns name m (looked_first name ∙ ap (λ (k : Option (Known g.Reported)). looked k name) (sym e) ∙ q)
+      own_known (headed p y w e) (rules.of_block t i o) q = absurd (clash y t)
+      own_known (headed p y w e) (rules.of_enumeration t i o) q = absurd (clash y t)
+      own_known (headed p y w e) (rules.of_none t a n) q = absurd (clash y t)
       own_known (ahead d t i n b) (rules.of_block u k o) q = absurd (n (any_named k))
       own_known (ahead d t i n b) (rules.of_enumeration u k o) q = absurd (n (any_named k))
       own_known (ahead d t i n b) (rules.of_none u a c) q = sym (mark_own d q)
@@ -269,7 +295,8 @@ module _ (g : Gathers) (j : Judges g) (exports : ℕ → Ident → Standing) (ou
       own_known (a_member t i o a e) (rules.of_outside c) q = absurd (c t (within name.name (any_named i)))
 
       own_there : {k : Option (Known g.Reported)} → KnownAs front Th name.name k → (b : Bool) × Own b
-      own_there (outer c e) = (outers name, rules.of_outside c)
+      own_there (outer c w e) = (outers name, rules.of_outside c)
+      own_there (headed p y w e) = (outers name, rules.of_outside (λ t a. clash y t))
       own_there (ahead d t i n b) = (false, rules.of_none t (any_first i) n)
       own_there (reading d t i n b e) = (false, rules.of_none t (any_first i) n)
       own_there (behind k t i o s) = (_, rules.of_block t i o)
@@ -286,10 +313,10 @@ module _ (g : Gathers) (j : Judges g) (exports : ℕ → Ident → Standing) (ou
       repeating all f (of_heading {name = name} e q m) = heading_repeats front Th b.within name (b.own name.name) (all name) e (sym (looked_same b.same name) ∙ q) m
       repeating all f (of_declaration {name = name} e q m) = broken_repeats front Th b.within name (b.own name.name) (all name) e (sym (looked_same b.same name) ∙ q) m
 
-      pub owning : (outers : Ident → Bool) → KnowsOwn g j outers start → (own : Ident → Bool) → ((name : Ident) → IsOwn start.types exports outside taken nested block outers front name (own name)) → KnowsOwn g j own s
+      pub owning : (outers : Ident → Bool) → KnowsOwn g j outers start → (own : Ident → Bool) → ((name : Ident) → IsOwn start.types exports outside taken awaited nested block outers front name (own name)) → KnowsOwn g j own s
       owning outers owns own all name m q = own_known outers owns front Th b.within name (b.own name.name) (all name) (sym (looked_same b.same name) ∙ q) ∙ sym (own_same s (ap (λ (t : Types). t.home) b.same.types ∙ home_same front) b.same.level m)
 
-      pub some_own : (outers : Ident → Bool) → KnowsOwn g j outers start → (own : Ident → Bool) × ((name : Ident) → IsOwn start.types exports outside taken nested block outers front name (own name))
+      pub some_own : (outers : Ident → Bool) → KnowsOwn g j outers start → (own : Ident → Bool) × ((name : Ident) → IsOwn start.types exports outside taken awaited nested block outers front name (own name))
       some_own outers owns = ((λ name. (own_there outers owns front Th b.within name (b.own name.name)).0), (λ name. (own_there outers owns front Th b.within name (b.own name.name)).1))
 
       abbrev pub standings : Ident → Standing

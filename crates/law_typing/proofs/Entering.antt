@@ -6,6 +6,7 @@ use Rattle.m2_tree.specs.Names.{same_name}
 use Rattle.m2_tree.specs.declared.name.Ident.{Ident}
 use Rattle.typed_tree.specs.Names.{find_name, enter_name}
 use Rattle.def_typing.specs.Parts.{Among, here, later, Named}
+use Rattle.law_typing.specs.Exact.{AreOnce, no_names, one_name}
 use Rattle.law_typing.proofs.Combining.{Decided, holds, fails_it, decided_as}
 use Rattle.law_typing.proofs.Meeting.{either_decided}
 
@@ -64,6 +65,16 @@ module _ {V : Type 0} where
       by : Compared n name → P n (find_name n (enter_name name v es))
       by (are_one e) = subst (λ (m : List ℕ). P m (find_name m (enter_name name v es))) (sym e) (subst (λ (o : Option V). P name o) (sym (found_self name v es)) h)
       by (are_two c t) = subst (λ (o : Option V). P n o) (sym (found_other name n v es t)) (k n (λ e. c (sym e)))
+
+-- ---- names that are there once
+
+  pub once_more : (name : List ℕ) (v : V) {es : List (List ℕ × V)} → AreOnce es → AreOnce (enter_name name v es)
+  once_more name v no_names = one_name refl no_names
+  once_more name v (one_name {e = e} {es = es} n o) = by (name_decided name e.0) (once_more name v o)
+    where
+      by : {b : Bool} → Decided (name ≡ e.0) b → AreOnce (enter_name name v es) → AreOnce (cond b ((e.0, v) ∷ es) (e ∷ enter_name name v es))
+      by (holds q) more = one_name n o
+      by (fails_it c) more = one_name (entered_all (λ m r. m ≡ e.0 → r ≡ None) name v es (λ q. absurd (c q)) (λ m w q. subst (λ (k : List ℕ). find_name k es ≡ None) (sym q) n) e.0 refl) more
 
 -- ---- names in lists
 

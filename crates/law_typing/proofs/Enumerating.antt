@@ -30,11 +30,11 @@ use Rattle.def_typing.specs.Parts.{here, later, Named}
 use Rattle.def_typing.specs.TypeExprs as rules
 use Rattle.def_typing.specs.TypeExprs.{Twice, with_types, next_type, Member, member_stands, members_from, Added, enumeration_added, Setting, member_or, behind, IsSimpleType, SimpleAdds, BrokenSimpleType}
 use Rattle.law_typing.specs.Judging.{Judges, Answers}
-use Rattle.law_typing.specs.Exact.{Sees, sees, Knows, Repeats, of_heading, of_declaration}
+use Rattle.law_typing.specs.Exact.{Sees, sees, Knows, Repeats, of_heading, of_declaration, AreOnce}
 use Rattle.law_typing.proofs.Combining.{Lawful, Decided, holds, fails_it, decided_as, Checks, passes, checks_as, more_checks, stopped, beside_checks, then_checked, exact, fine}
 use Rattle.law_typing.proofs.Deciding.{decided_itself}
 use Rattle.law_typing.proofs.Meeting.{either_decided}
-use Rattle.law_typing.proofs.Entering.{name_decided, named_left, named_right, named_split, entered_all}
+use Rattle.law_typing.proofs.Entering.{name_decided, named_left, named_right, named_split, entered_all, once_more}
 
 -- ---- what is known behind a type
 
@@ -56,8 +56,12 @@ abbrev pub entered : {T : Type 0} → Option Member → Option (Known T) → Opt
 entered None k = k
 entered (Some e) k = cond (is_free k) (Some (member_known e)) k
 
-abbrev pub Enters : {T : Type 0} → List (List ℕ × Member) → (before after : List (List ℕ × Known T)) → Type 0
-Enters bs before after = (n : List ℕ) → find_name n after ≡ entered (find_name n bs) (find_name n before)
+pub record Enters {T : Type 0} (bs : List (List ℕ × Member)) (before after : List (List ℕ × Known T)) : Type 0 where
+  pub found : (n : List ℕ) → find_name n after ≡ entered (find_name n bs) (find_name n before)
+  pub once : AreOnce before → AreOnce after
+
+pub enters_nothing : {T : Type 0} (names : List (List ℕ × Known T)) → Enters [] names names
+enters_nothing names = record { found = λ n. refl; once = λ o. o }
 
 -- the names that are there are those that are not free
 abbrev pub Frees : {T : Type 0} → Scope T → (List ℕ → Bool) → Type 0
@@ -99,8 +103,11 @@ module _ {T : Type 0} where
       by false q = sym (not_entered p k q)
 
   pub enters_both : (ks bs : List (List ℕ × Member)) (before between after : List (List ℕ × Known T)) → Enters ks before between → Enters bs between after → Enters (ks ++ bs) before after
-  enters_both ks bs before between after a b n = b n ∙ ap (λ (k : Option (Known T)). entered (find_name n bs) k) (a n) ∙ sym (entered_both (find_name n ks) (find_name n bs) (find_name n before))
-      ∙ ap (λ (o : Option Member). entered o (find_name n before)) (sym (found_both n ks bs))
+  enters_both ks bs before between after a b = record {
+    found = λ n. b.found n ∙ ap (λ (k : Option (Known T)). entered (find_name n bs) k) (a.found n) ∙ sym (entered_both (find_name n ks) (find_name n bs) (find_name n before))
+        ∙ ap (λ (o : Option Member). entered o (find_name n before)) (sym (found_both n ks bs));
+    once = λ o. b.once (a.once o);
+  }
 
   free_entered : (o : Option Member) (k : Option (Known T)) (t : Bool) → t ≡ not (is_free k) → (t || is_some o) ≡ not (is_free (entered o k))
   free_entered None k t e = or_none t ∙ e
@@ -156,7 +163,7 @@ module _ (g : Gathers) (j : Judges g) (exports : ℕ → Ident → Standing) (s 
   looked_before name = ap (λ (ws : List OpenedRecord). means_or (open_field s.types name.name ws) (looked (find_name name.name s.own) name)) no_withs
 
   looked_now : (name : Ident) → looked_up g now name ≡ looked (entered (find_name name.name a.brings) (find_name name.name s.own)) name
-  looked_now name = ap (λ (ws : List OpenedRecord). means_or (open_field now.types name.name ws) (looked (find_name name.name own) name)) no_withs ∙ ap (λ (k : Option (Known g.Reported)). looked k name) (enters name.name)
+  looked_now name = ap (λ (ws : List OpenedRecord). means_or (open_field now.types name.name ws) (looked (find_name name.name own) name)) no_withs ∙ ap (λ (k : Option (Known g.Reported)). looked k name) (enters.found name.name)
 
   seen_member : (name : Ident) (x : Member) (k : Option (Known g.Reported)) (st : Standing) (t b : Bool) → t ≡ not b → Sees g j name.pos st (looked k name) → Sees g j name.pos (member_or t (Some x) st) (looked (cond b (Some (member_known x)) k) name)
   seen_member name x k st true true e z = absurd cc
@@ -182,7 +189,7 @@ module _ (g : Gathers) (j : Judges g) (exports : ℕ → Ident → Standing) (s 
 
   module _ {there : List ℕ → Bool} (frees : Frees s there) where
     pub frees_more : Frees now (there_now there)
-    frees_more n = free_entered (find_name n a.brings) (find_name n s.own) (there n) (frees n) ∙ ap (λ (k : Option (Known g.Reported)). not (is_free k)) (sym (enters n))
+    frees_more n = free_entered (find_name n a.brings) (find_name n s.own) (there n) (frees n) ∙ ap (λ (k : Option (Known g.Reported)). not (is_free k)) (sym (enters.found n))
 
     pub knows_more : {names : Ident → Standing} → Knows g j names exports s → Knows g j (names_now names there) exports now
     knows_more {names = names} k = record {
@@ -268,16 +275,22 @@ module _ (g : Gathers) (j : Judges g) (lawful : Lawful g j) (O : Breach → Type
       entry_by true q = record {
         own = enter_name x.name new s.own;
         is = refl;
-        enters = entered_all (λ m o. o ≡ entered (find_name m ((x.name, (t, n)) ∷ [])) (find_name m s.own)) x.name new s.own
-            (single (λ o. Some new ≡ entered o (find_name x.name s.own)) (t, n) (name_decided x.name x.name) (λ e. sym (ap (λ (b : Bool). cond b (Some new) (find_name x.name s.own)) q)) (λ c. absurd (c refl)))
-            (λ m c. single (λ o. find_name m s.own ≡ entered o (find_name m s.own)) (t, n) (name_decided m x.name) (λ e. absurd (c (sym e))) (λ z. refl));
+        enters = record {
+          found = entered_all (λ m o. o ≡ entered (find_name m ((x.name, (t, n)) ∷ [])) (find_name m s.own)) x.name new s.own
+              (single (λ o. Some new ≡ entered o (find_name x.name s.own)) (t, n) (name_decided x.name x.name) (λ e. sym (ap (λ (b : Bool). cond b (Some new) (find_name x.name s.own)) q)) (λ c. absurd (c refl)))
+              (λ m c. single (λ o. find_name m s.own ≡ entered o (find_name m s.own)) (t, n) (name_decided m x.name) (λ e. absurd (c (sym e))) (λ z. refl));
+          once = λ o. once_more x.name new o;
+        };
         there = entered_all (λ m o. Decided ((x.name ≡ m) ⊎ There m) (not (is_free o))) x.name new s.own (holds (inl refl)) (λ m c. decided_as (λ h. inr h) (λ z. elim z [ inl e ↦ absurd (c e) | inr h ↦ h ]) (th m));
         told = passes tt (λ f z. not_there (th x.name) q z.0) (λ f z. not_there (th x.name) q z.0);
       }
       entry_by false q = let h = is_there (th x.name) q in record {
         own = s.own;
         is = refl;
-        enters = λ m. single (λ o. find_name m s.own ≡ entered o (find_name m s.own)) (t, n) (name_decided m x.name) (λ e. sym (not_entered (Some (t, n)) (find_name m s.own) (ap (λ (m : List ℕ). is_free (find_name m s.own)) e ∙ q))) (λ z. refl);
+        enters = record {
+          found = λ m. single (λ o. find_name m s.own ≡ entered o (find_name m s.own)) (t, n) (name_decided m x.name) (λ e. sym (not_entered (Some (t, n)) (find_name m s.own) (ap (λ (m : List ℕ). is_free (find_name m s.own)) e ∙ q))) (λ z. refl);
+          once = λ o. o;
+        };
         there = λ m. decided_as (λ z. inr z) (λ z. elim z [ inl e ↦ subst There e h | inr y ↦ y ]) (th m);
         told = checked_one x.pos rule.DeclaredTwice (h, refl) (λ f z. z.1);
       }
@@ -297,7 +310,7 @@ module _ (g : Gathers) (j : Judges g) (lawful : Lawful g j) (O : Breach → Type
     All l xs = fold (enumerate_name g t) l xs
 
     entries : (xs : List Ident) (n : ℕ) (There : List ℕ → Type 0) (B : Breach → Type 0) (s : Scope g.Reported) (r : Result (Unit {0}) g.Reported) → AreThere There s → Checked B r → Entered There xs n B s (All (s, n, r) xs)
-    entries [] n There B s r th c = record { own = s.own; is = refl; enters = λ m. refl; told = checked_as (λ f b. inl b) (λ f z. elim z [ inl b ↦ b | inr y ↦ absurd y ]) c }
+    entries [] n There B s r th c = record { own = s.own; is = refl; enters = enters_nothing s.own; told = checked_as (λ f b. inl b) (λ f z. elim z [ inl b ↦ b | inr y ↦ absurd y ]) c }
     entries (x ∷ xs) n There B s r th c = let d = declare_name g s x (Ok (enumeration_constant t (pos n))) in let o = entry There x n s th in
         let z = entries xs (n + 1) (λ m. (x.name ≡ m) ⊎ There m) (λ f. B f ⊎ (There x.name × (f ≡ x.pos ! rule.DeclaredTwice))) (with_own s o.own) (beside g r d.1) o.there (checked_beside c o.told) in
         subst (λ (u : Scope g.Reported). Entered There (x ∷ xs) n B s (All (u, n + 1, beside g r d.1) xs)) (sym o.is) (record {

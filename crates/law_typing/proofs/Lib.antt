@@ -35,6 +35,8 @@ pub mod Choosing
 pub mod Obeying
 pub mod TypeNaming
 pub mod Heading
+pub mod Agreeing
+pub mod Lacking
 pub mod Subranges
 pub mod Entering
 pub mod Enumerating

@@ -14,6 +14,7 @@ use Rattle.m2_tree.specs.declared.decl.TypeExpr.TheOpen as layer
 use Rattle.m2_tree.specs.declared.decl.Decl.{Decl, Decl-F, out-Decl}
 use Rattle.m2_tree.specs.declared.decl.Decl.TheOpen as decl
 use Rattle.m2_tree.specs.declared.decl.Block.{Block}
+use Rattle.typed_tree.specs.declared.types.TypeNo.{TypeNo}
 use Rattle.typed_tree.specs.Names.{find_name}
 use Rattle.check_scope.specs.declared.known.Known.{Known}
 use Rattle.check_scope.specs.declared.known.Known.TheVariants as known
@@ -28,13 +29,12 @@ use Rattle.def_typing.specs.Parts.{Among, here, later, Named}
 use Rattle.def_typing.specs.TypeExprs.{constants_listed, all_listed, constants_in, constants_in_field}
 use Rattle.def_typing.specs.Declarations.{Declaration, OfConstant, OfType, OfVariables, OfProcedure, names_of, constants_of, declared_by, declarations_of, Declares, AnyDeclares, IsFirst, at_first, later_on, There}
 use Rattle.law_typing.specs.Judging.{Judges}
-use Rattle.law_typing.specs.Exact.{TakenAs, is_taken, not_taken, IsPlainType, plain_simple, plain_array, plain_record, plain_procedure, ArePlainFields, no_plain_field, one_plain_field, IsPlainLayer, ArePlainDecls}
+use Rattle.law_typing.specs.Exact.{TakenAs, is_taken, awaits, not_taken, IsPlainType, plain_simple, plain_array, plain_record, plain_procedure, ArePlainFields, no_plain_field, one_plain_field, IsPlainLayer, ArePlainDecls, AreOnce}
 use Rattle.law_typing.proofs.Combining.{Decided, holds, fails_it}
-use Rattle.law_typing.proofs.Entering.{Compared, are_one, are_two, compared, among_decided, entered_all}
+use Rattle.law_typing.proofs.Entering.{Compared, are_one, are_two, compared, among_decided, entered_all, once_more}
 use Rattle.law_typing.proofs.TypeReading.{constants_at}
 use Rattle.law_typing.proofs.Recording.{field_constants}
-use Rattle.law_typing.proofs.Declaring.{any_first, mark_of, KnownAs, outer, ahead, Same, KnowsBlock}
-use Rattle.law_typing.proofs.Beginning.{clash}
+use Rattle.law_typing.proofs.Declaring.{any_first, clash, mark_of, KnownAs, outer, ahead, Same, KnowsBlock}
 
 -- ---- the first declaration of a name
 
@@ -115,13 +115,13 @@ module _ {T : Type 0} where
     fields_marked (f ∷ fs) (one_plain_field i k) s = ap (λ (t : Scope T). fold marking.then_marks t (map marked_field fs)) (ap (λ (m : Marks T). m s) (fields_marks f) ∙ type_marked (out-Field f).of i s ∙ ap (λ (xs : List Ident). marked s xs) (sym (field_constants f)))
         ∙ fields_marked fs k (marked s (constants_in_field f)) ∙ fold_both marked_later s (constants_in_field f) (all_listed (map constants_in_field fs))
 
-module _ (g : Gathers) (j : Judges g) (exports : ℕ → Ident → Standing) (outside : Ident → Standing) (start : Scope g.Reported) (taken : List ℕ → Bool) (nested : Bool) (block : List Declaration)
-    (takes : (n : List ℕ) → TakenAs g j (taken n) (find_name n start.own)) where
+module _ (g : Gathers) (j : Judges g) (exports : ℕ → Ident → Standing) (outside : Ident → Standing) (start : Scope g.Reported) (taken : List ℕ → Bool) (awaited : List ℕ → Option TypeNo) (nested : Bool) (block : List Declaration)
+    (takes : (n : List ℕ) → TakenAs g j (taken n) (awaited n) (find_name n start.own)) where
   abbrev K : Type 0
   K = Known g.Reported
 
   abbrev SameScope : Scope g.Reported → Type 0
-  SameScope = Same g j exports outside start taken nested block start.types
+  SameScope = Same g j exports outside start taken awaited nested block start.types
 
   -- which names are marked, and how
   abbrev MarkedNames : Type 1
@@ -138,6 +138,7 @@ module _ (g : Gathers) (j : Judges g) (exports : ℕ → Ident → Standing) (ou
   record Marking (M : MarkedNames) (s : Scope g.Reported) : Type 0 where
     same : SameScope s
     marks : (n : List ℕ) → MarkedAs M n (find_name n s.own)
+    once : AreOnce start.own → AreOnce s.own
 
   marked_one : {P Q : MarkedNames} {n : List ℕ} {k : Option K} → ((k : K) → P n k → Q n k) → ((k : K) → Q n k → P n k) → MarkedAs P n k → MarkedAs Q n k
   marked_one pq qp (at_start t e) = at_start t e
@@ -145,7 +146,7 @@ module _ (g : Gathers) (j : Judges g) (exports : ℕ → Ident → Standing) (ou
   marked_one pq qp (is_unmarked t n) = is_unmarked t (λ k q. n k (qp k q))
 
   marking_as : {P Q : MarkedNames} {s : Scope g.Reported} → ((n : List ℕ) (k : K) → P n k → Q n k) → ((n : List ℕ) (k : K) → Q n k → P n k) → Marking P s → Marking Q s
-  marking_as pq qp m = record { same = m.same; marks = λ n. marked_one (pq n) (qp n) (m.marks n) }
+  marking_as pq qp m = record { same = m.same; marks = λ n. marked_one (pq n) (qp n) (m.marks n); once = m.once }
 
   -- ---- one name
 
@@ -159,10 +160,11 @@ module _ (g : Gathers) (j : Judges g) (exports : ℕ → Ident → Standing) (ou
     mark_more h (is_unmarked t c) = is_unmarked t (λ k z. elim z [ inl p ↦ c k p | inr q ↦ h q.1 t c ])
 
     unchanged : {s : Scope g.Reported} → Marking M s → (taken x.name ≡ false → Unmarked M x.name → ⊥) → Marking Next s
-    unchanged m h = record { same = m.same; marks = λ n. mark_more (λ e. subst (λ (n : List ℕ). taken n ≡ false → Unmarked M n → ⊥) e h) (m.marks n) }
+    unchanged m h = record { same = m.same; marks = λ n. mark_more (λ e. subst (λ (n : List ℕ). taken n ≡ false → Unmarked M n → ⊥) e h) (m.marks n); once = m.once }
 
-    taken_marks : {s : Scope g.Reported} {k o : Option K} → Marking M s → (t : Bool) → taken x.name ≡ t → taken x.name ≡ true → TakenAs g j t o → k ≡ o → Marking Next (unless_marked x.name l s k)
+    taken_marks : {s : Scope g.Reported} {k o : Option K} {w : Option TypeNo} → Marking M s → (t : Bool) → taken x.name ≡ t → taken x.name ≡ true → TakenAs g j t w o → k ≡ o → Marking Next (unless_marked x.name l s k)
     taken_marks {s = s} m true q u (is_taken p) e = subst (λ (k : Option K). Marking Next (unless_marked x.name l s k)) (sym e) (unchanged m (λ w c. clash u w))
+    taken_marks {s = s} m true q u (awaits p) e = subst (λ (k : Option K). Marking Next (unless_marked x.name l s k)) (sym e) (unchanged m (λ w c. clash u w))
     taken_marks m false q u t e = absurd (clash u q)
 
     marks_by : {s : Scope g.Reported} {k : Option K} → Marking M s → MarkedAs M x.name k → Marking Next (unless_marked x.name l s k)
@@ -171,6 +173,7 @@ module _ (g : Gathers) (j : Judges g) (exports : ℕ → Ident → Standing) (ou
     marks_by {s = s} m (is_unmarked t c) = record {
       same = record { withs = m.same.withs; outer = m.same.outer; types = m.same.types; tables = m.same.tables; level = m.same.level };
       marks = entered_all (λ n o. MarkedAs Next n o) x.name l s.own (is_marked t (inr (c, refl, refl))) (λ n z. mark_more (λ e. absurd (z e)) (m.marks n));
+      once = λ o. once_more x.name l (m.once o);
     }
 
     mark_one : {s : Scope g.Reported} → Marking M s → Marking Next (mark_name x l s)
@@ -283,36 +286,36 @@ module _ (g : Gathers) (j : Judges g) (exports : ℕ → Ident → Standing) (ou
   abbrev Nothing : MarkedNames
   Nothing n k = ⊥
 
-  start_marks : (n : List ℕ) (t : Bool) → taken n ≡ t → (o : Option K) → o ≡ find_name n start.own → TakenAs g j t o → MarkedAs Nothing n o
+  start_marks : (n : List ℕ) (t : Bool) → taken n ≡ t → {w : Option TypeNo} (o : Option K) → o ≡ find_name n start.own → TakenAs g j t w o → MarkedAs Nothing n o
   start_marks n true q o e t = at_start q e
   start_marks n false q _ e not_taken = is_unmarked q (λ k z. z)
 
   begins : start.withs ≡ [] → Marking Nothing start
-  begins e = record { same = record { withs = e; outer = refl; types = refl; tables = refl; level = refl }; marks = λ n. start_marks n (taken n) refl (find_name n start.own) refl (takes n) }
+  begins e = record { same = record { withs = e; outer = refl; types = refl; tables = refl; level = refl }; marks = λ n. start_marks n (taken n) refl (find_name n start.own) refl (takes n); once = λ o. o }
 
   abbrev Th : List ℕ → Type 0
-  Th n = There start.types exports outside taken nested block [] n
+  Th n = There start.types exports outside taken awaited nested block [] n
 
   nothing_there : {n : List ℕ} → taken n ≡ false → Th n → ⊥
   nothing_there t (inl u) = clash u t
   nothing_there t (inr a) = elim a.1 [ ]
 
-  none_at_start : {n : List ℕ} (t : Bool) → taken n ≡ t → taken n ≡ false → {o : Option K} → TakenAs g j t o → None ≡ o
+  none_at_start : {n : List ℕ} (t : Bool) → taken n ≡ t → taken n ≡ false → {w : Option TypeNo} {o : Option K} → TakenAs g j t w o → None ≡ o
   none_at_start true q u t = absurd (clash q u)
   none_at_start false q u not_taken = refl
 
-  marked_ahead : (n : List ℕ) {k : K} → taken n ≡ false → Plus Nothing block n k → KnownAs g j exports outside start taken nested block [] Th n (Some k)
+  marked_ahead : (n : List ℕ) {k : K} → taken n ≡ false → Plus Nothing block n k → KnownAs g j exports outside start taken awaited nested block [] Th n (Some k)
   marked_ahead n t (inl z) = absurd z
-  marked_ahead n t (inr (c, (d, i, q))) = subst (λ (k : K). KnownAs g j exports outside start taken nested block [] Th n (Some k)) (sym q) (ahead d t i (λ a. elim a.1 [ ]) (nothing_there t))
+  marked_ahead n t (inr (c, (d, i, q))) = subst (λ (k : K). KnownAs g j exports outside start taken awaited nested block [] Th n (Some k)) (sym q) (ahead d t i (λ a. elim a.1 [ ]) (nothing_there t))
 
   unmarked_outer : (n : List ℕ) → Unmarked (Plus Nothing block) n → AnyDeclares block n → ⊥
   unmarked_outer n c a = elim (first_there block n) [ inl f ↦ c (mark_of f.0) (inr ((λ k z. z), (f.0, f.1, refl))) | inr w ↦ w a ]
 
-  known_marked : (n : List ℕ) {k : Option K} → MarkedAs (Plus Nothing block) n k → KnownAs g j exports outside start taken nested block [] Th n k
-  known_marked n (at_start t e) = outer (λ u a. clash t u) e
+  known_marked : (n : List ℕ) {k : Option K} → MarkedAs (Plus Nothing block) n k → KnownAs g j exports outside start taken awaited nested block [] Th n k
+  known_marked n (at_start t e) = outer (λ u a. clash t u) (λ t w h. elim h.1 [ ]) e
   known_marked n (is_marked t p) = marked_ahead n t p
-  known_marked n (is_unmarked t c) = outer (λ u a. unmarked_outer n c a) (none_at_start (taken n) refl t (takes n))
+  known_marked n (is_unmarked t c) = outer (λ u a. unmarked_outer n c a) (λ t w h. elim h.1 [ ]) (none_at_start (taken n) refl t (takes n))
 
-  pub block_begins : (ds : List Decl) → ArePlainDecls ds → start.withs ≡ [] → declarations_of ds ≡ block → KnowsBlock g j exports outside start taken nested block [] block Th (all_marked marked_decl start ds).0
+  pub block_begins : (ds : List Decl) → ArePlainDecls ds → start.withs ≡ [] → declarations_of ds ≡ block → KnowsBlock g j exports outside start taken awaited nested block [] block Th (all_marked marked_decl start ds).0
   block_begins ds i e q = let m = subst (λ (block : List Declaration). Marking (Plus Nothing block) (all_marked marked_decl start ds).0) q (all_marks ds i Nothing start [] (begins e)) in
-      record { same = m.same; within = λ n a. elim a.1 [ ]; in_block = λ n a. a; left = λ n d k c. k; includes = λ n t. t; own = λ n. known_marked n (m.marks n) }
+      record { same = m.same; within = λ n a. elim a.1 [ ]; in_block = λ n a. a; left = λ n d k c. k; includes = λ n t. t; own = λ n. known_marked n (m.marks n); once = m.once }

@@ -35,7 +35,7 @@ use Rattle.law_typing.proofs.Combining.{Lawful, Decided, holds, fails_it, decide
 use Rattle.law_typing.proofs.Entering.{entered_all}
 use Rattle.law_typing.proofs.Heading.{nil_right, append_assoc}
 use Rattle.law_typing.proofs.Beginning.{Adding}
-use Rattle.law_typing.proofs.Enumerating.{MadeType, scope_with, set_in, Enters, Frees, enters_both, both_decided, frees_more, knows_more, repeats_more}
+use Rattle.law_typing.proofs.Enumerating.{MadeType, scope_with, set_in, Enters, Frees, enters_nothing, enters_both, both_decided, frees_more, knows_more, repeats_more}
 use Rattle.law_typing.proofs.TypeReading.{no_types, Is, one_added, constants_at, constants_as, type_at, Read, SizeIs, size_same, size_large, more_repeated, simple_read, simple_type_read, array_read, procedure_read}
 
 -- ---- names of fields
@@ -206,8 +206,8 @@ module _ (g : Gathers) (j : Judges g) (lawful : Lawful g j) (exports : ℕ → I
       ∙ ap (λ (ms : List Made). let u : Scope g.Reported = record s { own = own_behind_fields rest; types = record s.types { own = ms } } in u) (append_assoc s.types.own read.adds.makes (fields_added rest).makes)
 
   pub fields_enter : {s : Scope g.Reported} {fields : List Field} (k : FieldsRead s fields) → Enters (fields_added k).brings s.own (own_behind_fields k)
-  fields_enter none_read n = refl
-  fields_enter {s = s} (one_read read rest) n = enters_both read.adds.brings (fields_added rest).brings s.own read.own (own_behind_fields rest) read.enters (fields_enter rest) n
+  fields_enter {s = s} none_read = enters_nothing s.own
+  fields_enter {s = s} (one_read read rest) = enters_both read.adds.brings (fields_added rest).brings s.own read.own (own_behind_fields rest) read.enters (fields_enter rest)
 
   abbrev pub constants_of_all : List Field → List Ident
   constants_of_all fields = all_listed (map constants_in_field fields)

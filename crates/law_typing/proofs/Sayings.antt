@@ -1,5 +1,5 @@
 -- Declarations say exactly what their parts give.
-use Rattle.std.proofs.Common.{◌≡◌, ℕ, Bool, List, ◌∷◌, Result, Ok, Err, inl, inr, refl, sym, ap, subst, ◌∙◌}
+use Rattle.std.proofs.Common.{◌≡◌, ℕ, Bool, List, ◌∷◌, Option, Result, Ok, Err, inl, inr, refl, sym, ap, subst, ◌∙◌}
 use Rattle.m2_rule.specs.declared.breach.Breach.{Breach}
 use Rattle.m2_tree.specs.declared.pos.Pos.{Pos}
 use Rattle.m2_tree.specs.declared.name.Ident.{Ident}
@@ -60,7 +60,7 @@ module _ (g : Gathers) (j : Judges g) (lawful : Lawful g j) (O : Breach → Type
   tells_all_by r i h _ (tells q a) e = tells q (record { only = λ f m. elim (a.only f m) [ inl b ↦ inl (i, b) | inr o ↦ inr o ]; each = λ f x. covered_of q (h x.0) e f x.1 })
 
   -- One result that tells of each way to read a part tells of all of them.
-  tells_all : {I : Type 0} {B : I → Breach → Type 0} (r : Result (Unit {0}) g.Reported) → I → ((i : I) → Tells g j lawful O (B i) r) → Tells g j lawful O (λ f. (i : I) × B i f) r
+  pub tells_all : {I : Type 0} {B : I → Breach → Type 0} (r : Result (Unit {0}) g.Reported) → I → ((i : I) → Tells g j lawful O (B i) r) → Tells g j lawful O (λ f. (i : I) × B i f) r
   tells_all r i h = tells_all_by r i h r (h i) refl
 
   tells_of : {A K : Type 0} {Is : A → K → Type 0} {M : K → Type 0} {B : Breach → Type 0} {r : Result A g.Reported} → Answers g j O Is M B r → Tells g j lawful O B (r ▷ λ a. Ok tt)
@@ -88,15 +88,15 @@ said_variables a t = (a, Known (AVariable t))
 abbrev pub said_procedure : Bool → Types → Made → Saids
 said_procedure nested types m = (type_added m, Known (procedure nested (next_type types)))
 
-module _ (g : Gathers) (j : Judges g) (lawful : Lawful g j) (exports : ℕ → Ident → Standing) (outside : Ident → Standing) (start : Scope g.Reported) (taken : List ℕ → Bool) (nested : Bool) (block : List Declaration) where
+module _ (g : Gathers) (j : Judges g) (lawful : Lawful g j) (exports : ℕ → Ident → Standing) (outside : Ident → Standing) (start : Scope g.Reported) (taken : List ℕ → Bool) (awaited : List ℕ → Option TypeNo) (nested : Bool) (block : List Declaration) where
   abbrev Stand : List Declared → (Ident → Standing) → Type 0
-  Stand = All g j exports outside start taken nested block
+  Stand = All g j exports outside start taken awaited nested block
 
   abbrev O : List Declared → Breach → Type 0
-  O = Elsewhere g j exports outside start taken nested block
+  O = Elsewhere g j exports outside start taken awaited nested block
 
   abbrev pub Set : List Declared → Declaration → (Ident → Standing) → Setting
-  Set = setting start.types exports outside taken nested block
+  Set = setting start.types exports outside taken awaited nested block
 
   abbrev SaysHere : List Declared → (Ident → Standing) → Declaration → Saids → Type 0
   SaysHere front names d k = Says exports (Set front d names) nested d k.0 k.1
@@ -110,7 +110,7 @@ module _ (g : Gathers) (j : Judges g) (lawful : Lawful g j) (exports : ℕ → I
 
   module _ {A : Type 0} (said : A → Saids) (front : List Declared) (d : Declared) where
     abbrev MeansHere : Standing → Type 0
-    MeansHere = Means start.types exports outside taken nested block front d
+    MeansHere = Means start.types exports outside taken awaited nested block front d
 
     stands_by : {names : Ident → Standing} {r : Result A g.Reported} → ((a : A) → r ≡ Ok a → d.adds ≡ (said a).0) → Stand front names → Answers g j (O front) (λ a k. k ≡ said a) (SaysHere front names d.what) (Mis front names d.what) r → (s : Standing) × MeansHere s
     stands_by {names = names} h all (means a k i m u n) = (k.1, rules.says all (subst (λ (b : Added). SaysHere front names d.what (b, k.1)) (ap (λ (x : Saids). x.0) i ∙ sym (h a refl)) m))
@@ -168,7 +168,7 @@ module _ (g : Gathers) (j : Judges g) (lawful : Lawful g j) (exports : ℕ → I
       settled_by h (Err e) = refl
 
       pub saying : {r : Result A g.Reported} → Exactly said front d.what r → ((a : A) → r ≡ Ok a → d.adds ≡ (said a).0) → without d.what ≡ Unknown → ((a : A) → standing_of (made a) ≡ place.Taken) → ((a : A) → is_own_variable start (made a) ≡ is_variables d.what) → {names : Ident → Standing} → Stand front names
-          → Saying g j exports outside start taken nested block front d (known.Declared Here (meant r))
+          → Saying g j exports outside start taken awaited nested block front d (known.Declared Here (meant r))
       saying {r = r} h e u t w {names = names} all = record {
         stands = stands_by e all (h names all);
         seen = λ s m at. seen_by (λ m. plain m) h at (λ m. refl) (λ q. subst (λ (s : Standing). Sees g j at s (Err (meaningless.Broken q))) (sym u) (sees_unknown q)) m;
@@ -181,7 +181,7 @@ module _ (g : Gathers) (j : Judges g) (lawful : Lawful g j) (exports : ℕ → I
       }
 
       pub saying_heading : {r : Result A g.Reported} → Exactly said front d.what r → ((a : A) → r ≡ Ok a → d.adds ≡ (said a).0) → without d.what ≡ Known Headless → ((a : A) → is_own_variable start (made a) ≡ is_variables d.what) → {names : Ident → Standing} → Stand front names
-          → Saying g j exports outside start taken nested block front d (known.Headed (meant r))
+          → Saying g j exports outside start taken awaited nested block front d (known.Headed (meant r))
       saying_heading {r = r} h e u w {names = names} all = record {
         stands = stands_by e all (h names all);
         seen = λ s m at. seen_by (λ m. heading_means m) h at (λ m. refl) (λ q. subst (λ (s : Standing). Sees g j at s (Err (meaningless.Headless q))) (sym u) (sees_headless q)) m;

@@ -181,7 +181,7 @@ result_decided (Some t) (Some u) = decided_as (λ e. ap Some e) (some_same t u) 
 signature_same : {fs hs : List Formal} {t u : Option TypeNo} → fs ≡ hs → t ≡ u → ◌≡◌ {A = Signature} (record { formals = fs; result = t }) (record { formals = hs; result = u })
 signature_same {fs = fs} {hs = hs} {t = t} {u = u} p q = ap (λ (x : List Formal). let s : Signature = record { formals = x; result = t } in s) p ∙ ap (λ (x : Option TypeNo). let s : Signature = record { formals = hs; result = x } in s) q
 
-signatures_decided : (s h : Signature) → Decided (s ≡ h) (formals_agree s.formals h.formals && result_agrees s.result h.result)
+pub signatures_decided : (s h : Signature) → Decided (s ≡ h) (formals_agree s.formals h.formals && result_agrees s.result h.result)
 signatures_decided s h = decided_as (λ p. signature_same p.0 p.1) (λ e. (ap (λ (s : Signature). s.formals) e, ap (λ (s : Signature). s.result) e)) (both_decided (formals_decided s.formals h.formals) (result_decided s.result h.result))
 
 abbrev signature_in_shape : Signature → Shape → Signature

@@ -51,7 +51,7 @@ use Rattle.law_typing.proofs.Shaping.{scalar_of, scalar_is}
 use Rattle.law_typing.proofs.Deciding.{whole_decided}
 use Rattle.law_typing.proofs.TypeNaming.{type_name_answers}
 use Rattle.law_typing.proofs.Subranges.{subrange_answers}
-use Rattle.law_typing.proofs.Enumerating.{MadeType, scope_with, set_in, Enters, Frees, enters_both, own_behind, scope_behind, enters_behind, members_decided, both_decided, enumeration_answers, frees_more, knows_more, repeats_more, adds as enumeration_adds}
+use Rattle.law_typing.proofs.Enumerating.{MadeType, scope_with, set_in, Enters, Frees, enters_nothing, enters_both, own_behind, scope_behind, enters_behind, members_decided, both_decided, enumeration_answers, frees_more, knows_more, repeats_more, adds as enumeration_adds}
 
 pub no_types : (types : Types) → with_types types [] ≡ types
 no_types types = ap (λ (own : List Made). let t : Types = record types { own = own } in t) (nil_right types.own)
@@ -164,7 +164,7 @@ module _ (g : Gathers) (j : Judges g) (lawful : Lawful g j) (exports : ℕ → I
       adds = type_added (range_made x);
       own = s.own;
       is = refl;
-      enters = λ n. refl;
+      enters = enters_nothing s.own;
       constants = λ n. fails_it (λ z. elim z.1 [ ]);
       exact = λ names there k f. range_there (set_in s names there) (h names there k);
       added = λ names there k f. there_added (set_in s names there) (h names there k);
@@ -174,7 +174,7 @@ module _ (g : Gathers) (j : Judges g) (lawful : Lawful g j) (exports : ℕ → I
       adds = nothing_added;
       own = s.own;
       is = no_made s;
-      enters = λ n. refl;
+      enters = enters_nothing s.own;
       constants = λ n. fails_it (λ z. elim z.1 [ ]);
       exact = λ names there k f. range_nowhere (set_in s names there) (h names there k);
       added = λ names there k f. nowhere_added (set_in s names there) (h names there k);
@@ -191,7 +191,7 @@ module _ (g : Gathers) (j : Judges g) (lawful : Lawful g j) (exports : ℕ → I
     adds = nothing_added;
     own = s.own;
     is = no_made s;
-    enters = λ n. refl;
+    enters = enters_nothing s.own;
     constants = λ n. fails_it (λ z. elim z.1 [ ]);
     exact = λ names there k f. name_by (set_in s names there) q (type_name_answers g j lawful names exports s k q);
     added = λ names there k f. rules.a_name;
@@ -700,7 +700,7 @@ module _ (g : Gathers) (j : Judges g) (lawful : Lawful g j) (exports : ℕ → I
     adds = type_added m;
     own = s.own;
     is = refl;
-    enters = λ n. refl;
+    enters = enters_nothing s.own;
     constants = constants_as [] (constants_at e (layer.Procedure at ps q) h) (λ n. fails_it (λ z. elim z.1 [ ]));
     exact = λ names there k f. signed_there (set_in s names there) m (v names there k);
     added = λ names there k f. typed_added (set_in s names there) (signed_there (set_in s names there) m (v names there k));
@@ -710,7 +710,7 @@ module _ (g : Gathers) (j : Judges g) (lawful : Lawful g j) (exports : ℕ → I
     adds = nothing_added;
     own = s.own;
     is = no_made s;
-    enters = λ n. refl;
+    enters = enters_nothing s.own;
     constants = constants_as [] (constants_at e (layer.Procedure at ps q) h) (λ n. fails_it (λ z. elim z.1 [ ]));
     exact = λ names there k f. signed_nowhere (set_in s names there) r (v names there k);
     added = λ names there k f. untyped_added (set_in s names there) (signed_nowhere (set_in s names there) r (v names there k));

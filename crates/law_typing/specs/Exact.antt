@@ -46,8 +46,9 @@ use Rattle.m2_rule.specs.declared.breach.Breach.{Breach}
 use Rattle.check_scope.specs.declared.meaningless.Meaningless.{Meaningless}
 use Rattle.check_scope.specs.declared.meaningless.Meaningless.TheVariants as meaningless
 use Rattle.check_scope.specs.declared.known.Known.{Known as KnownName}
-use Rattle.check_scope.specs.declared.known.Known.TheVariants.{Declared}
+use Rattle.check_scope.specs.declared.known.Known.TheVariants.{Declared, Headed}
 use Rattle.check_scope.specs.declared.known.Origin.{Origin}
+use Rattle.check_scope.specs.declared.known.Origin.TheVariants.{Here}
 use Rattle.check_scope.specs.declared.scope.Scope.{Scope}
 use Rattle.check_scope.specs.Elaborated.{Gathers, ◌▷◌}
 use Rattle.check_scope.specs.Scopes.{looked_up}
@@ -86,10 +87,10 @@ use Rattle.typed_tree.specs.declared.shape.Signature.{Signature}
 use Rattle.check_type_expr.specs.Headings.{heading_of}
 use Rattle.def_typing.specs.Headings.{procedure_made, IsHeading, BrokenHeading}
 use Rattle.typed_tree.specs.Names.{find_name}
-use Rattle.check_block.specs.Declarations.{declared_block}
+use Rattle.check_block.specs.Declarations.{declared_block, reported_of_lack}
 use Rattle.check_block.specs.Headings.{standing_from}
 use Rattle.check_block.specs.declared.heading.Standing.TheVariants as heading
-use Rattle.def_typing.specs.Declarations.{Declared as Resolved, declarations_of, in_order, types_behind, AllStand, IsOwn, AllAdded, BrokenIn}
+use Rattle.def_typing.specs.Declarations.{Declared as Resolved, declarations_of, in_order, IsHeaded, types_behind, AllStand, IsOwn, AllAdded, Lacks, BrokenIn}
 use Rattle.check_stmt.specs.Statements.{stmt}
 use Rattle.def_typing.specs.Statements.{arguments, labels_of, Spot, Obeys, Broken}
 use Rattle.check_expr.specs.Meanings.{meanings_of, head, part, value_of}
@@ -185,11 +186,14 @@ module _ (g : Gathers) (j : Judges g) where
     of_declaration : {name : Ident} {r : g.Reported} → names name ≡ Unknown
         → looked_up g s name ≡ Err (meaningless.Broken r) → j.Among r f → Repeats names s f
 
-  -- whether a name is taken before a block begins; no procedure of a definition is awaited
-  pub data TakenAs : Bool → Option (KnownName g.Reported) → Type 0 where
+  -- whether a name is taken before a block begins, and the type of the procedure of the definition
+  -- that awaits its heading
+  pub data TakenAs : Bool → Option TypeNo → Option (KnownName g.Reported) → Type 0 where
     is_taken : {o : Origin} {m : Result Meaning g.Reported} → standing_from o m ≡ heading.Taken
-        → TakenAs true (Some (Declared o m))
-    not_taken : TakenAs false None
+        → TakenAs true None (Some (Declared o m))
+    awaits : (p : ModuleProcedure)
+        → TakenAs true (Some p.heading) (Some (Declared Here (Ok (meaning.Procedure p))))
+    not_taken : TakenAs false None None
 
   -- what is known of the result of the body that a statement stands in
   pub data KnowsResult : Giving → Option (Result TypeNo g.Reported) → Type 0 where
@@ -398,43 +402,65 @@ pub record KnowsSpot (g : Gathers) (j : Judges g) (exports : ℕ → Ident → S
   pub of_loop : w.in_loop ≡ a.in_loop
 
 abbrev pub AllOwn : {T : Type 0} → (outer : Ident → Bool) → Scope T → (ℕ → Ident → Standing)
-    → (Ident → Standing) → (List ℕ → Bool) → List Decl → List Resolved → (Ident → Bool) → Type 0
-AllOwn outer s exports outside taken ds whole own =
+    → (Ident → Standing) → (List ℕ → Bool) → (List ℕ → Option TypeNo) → List Decl → List Resolved
+    → (Ident → Bool) → Type 0
+AllOwn outer s exports outside taken awaited ds whole own =
     (name : Ident)
-    → IsOwn s.types exports outside taken (is_nested s) (declarations_of ds) outer whole name
-    (own name)
+    → IsOwn s.types exports outside taken awaited (is_nested s) (declarations_of ds) outer whole
+    name (own name)
+
+-- Each name is there once.
+pub data AreOnce {V : Type 0} : List (List ℕ × V) → Type 0 where
+  no_names : AreOnce []
+  one_name : {e : List ℕ × V} {es : List (List ℕ × V)} → find_name e.0 es ≡ None → AreOnce es
+      → AreOnce (e ∷ es)
 
 -- what is known behind the declarations of a block
 pub record IsBlockExact (g : Gathers) (j : Judges g) (exports : ℕ → Ident → Standing)
-    (outside : Ident → Standing) (s : Scope g.Reported) (taken : List ℕ → Bool) (ends : List ℕ)
-    (first : ℕ) (ds : List Decl) : Type 0 where
+    (outside : Ident → Standing) (s : Scope g.Reported) (taken : List ℕ → Bool)
+    (awaited : List ℕ → Option TypeNo) (ends : List ℕ) (first : ℕ) (ds : List Decl) : Type 0 where
   -- the declarations, each with the types that it makes
   pub whole : List Resolved
   pub in_text : in_order whole ≡ declarations_of ds
   -- Exactly the broken rules are reported.
   pub reported : Reports g j (Repeats g j outside s)
-      (BrokenIn s.types exports outside taken (is_nested s) (declarations_of ds) whole)
+      (BrokenIn s.types exports outside taken awaited (is_nested s) (declarations_of ds) whole)
       (declared_block g ends (s, Ok tt) first ds).1
   pub types : (declared_block g ends (s, Ok tt) first ds).0.types ≡ types_behind s.types whole
   -- Each declaration adds the types and constants that the rules say.
-  pub added : AllAdded s.types exports outside taken (is_nested s) (declarations_of ds) whole
+  pub added : AllAdded s.types exports outside taken awaited (is_nested s) (declarations_of ds)
+      whole
+  -- The procedure of a heading that was awaited is the definition's, with its number.
+  pub numbers : (n : List ℕ) (p : ModuleProcedure)
+      → find_name n s.own ≡ Some (Declared Here (Ok (meaning.Procedure p))) → IsHeaded whole n
+      → find_name n (declared_block g ends (s, Ok tt) first ds).0.own
+      ≡ Some (Headed (Ok (meaning.Procedure p)))
+  -- It is reported exactly if a procedure of the definition lacks a heading.
+  pub lack : AreOnce s.own → (at : Pos)
+      → Reports g j (λ f. ⊥)
+      (Lacks s.types exports outside taken awaited (is_nested s) (declarations_of ds) at whole)
+      (reported_of_lack g at (declared_block g ends (s, Ok tt) first ds).0)
   -- Each name stands for something behind them.
   pub stand : (names : Ident → Standing)
-      × AllStand s.types exports outside taken (is_nested s) (declarations_of ds) whole names
+      × AllStand s.types exports outside taken awaited (is_nested s) (declarations_of ds) whole
+      names
   -- Whatever names stand for, the scope knows it.
   pub known : (names : Ident → Standing)
-      → AllStand s.types exports outside taken (is_nested s) (declarations_of ds) whole names
+      → AllStand s.types exports outside taken awaited (is_nested s) (declarations_of ds) whole
+      names
       → Knows g j names exports (declared_block g ends (s, Ok tt) first ds).0
   -- It is known which variables count as own ones.
   pub own : (outer : Ident → Bool) → KnowsOwn g j outer s
-      → (own : Ident → Bool) × AllOwn outer s exports outside taken ds whole own
+      → (own : Ident → Bool) × AllOwn outer s exports outside taken awaited ds whole own
   pub owned : (outer own : Ident → Bool) → KnowsOwn g j outer s
-      → AllOwn outer s exports outside taken ds whole own
+      → AllOwn outer s exports outside taken awaited ds whole own
       → KnowsOwn g j own (declared_block g ends (s, Ok tt) first ds).0
   -- So all is known of the spot at which a statement of the body stands.
   pub spot : (outer own : Ident → Bool) (names : Ident → Standing) → KnowsOwn g j outer s
-      → AllStand s.types exports outside taken (is_nested s) (declarations_of ds) whole names
-      → AllOwn outer s exports outside taken ds whole own → (gives : Giving) (a : Around g.Reported)
+      → AllStand s.types exports outside taken awaited (is_nested s) (declarations_of ds) whole
+      names
+      → AllOwn outer s exports outside taken awaited ds whole own → (gives : Giving)
+      (a : Around g.Reported)
       → KnowsResult g j gives a.gives
       → KnowsSpot g j exports
       (record { names = names; own = own; gives = gives; in_loop = a.in_loop })
@@ -580,10 +606,11 @@ StatementsAreExact g j =
 abbrev pub BlocksAreExact : (g : Gathers) → Judges g → Type 0
 BlocksAreExact g j =
     (exports : ℕ → Ident → Standing) (outside : Ident → Standing) (s : Scope g.Reported)
-    (taken : List ℕ → Bool)
+    (taken : List ℕ → Bool) (awaited : List ℕ → Option TypeNo)
     → Knows g j outside exports s → s.withs ≡ []
-    → ((n : List ℕ) → TakenAs g j (taken n) (find_name n s.own)) → (ends : List ℕ) (first : ℕ)
-    (ds : List Decl) → ArePlainDecls ds → IsBlockExact g j exports outside s taken ends first ds
+    → ((n : List ℕ) → TakenAs g j (taken n) (awaited n) (find_name n s.own))
+    → (ends : List ℕ) (first : ℕ) (ds : List Decl) → ArePlainDecls ds
+    → IsBlockExact g j exports outside s taken awaited ends first ds
 
 -- For each scope there are standings that it knows, and variables that are own ones.
 abbrev pub ScopesAreKnown : (g : Gathers) → Judges g → Type 0

@@ -19,11 +19,11 @@
 //!   the selector of a CASE, `proofs/Bounds` the bounds of its labels, `proofs/Labelling` each label, `proofs/Meeting` and
 //!   `proofs/Twice` labels that are there twice, `proofs/Choosing` all of a CASE, `proofs/Opening` what a WITH opens,
 //!   `proofs/Inside` what is known inside, and `proofs/Obeying` the induction over statements.
-//! - `proofs/TypeNaming` has names of types, `proofs/Heading` headings of procedures, `proofs/Subranges` subranges,
-//!   `proofs/Enumerating` enumerations, `proofs/TypeReading` other types as they are written but records, and
+//! - `proofs/TypeNaming` has names of types, `proofs/Heading` headings of procedures, `proofs/Agreeing` whether one agrees with
+//!   the heading of the definition, `proofs/Subranges` subranges, `proofs/Enumerating` enumerations, `proofs/TypeReading` other types as they are written but records, and
 //!   `proofs/Recording` records and all types. `proofs/Declaring` says what a scope knows of the names of a block, and
 //!   `proofs/Marking`, `proofs/Beginning` and `proofs/Sayings` that it does before the declarations, inside them and behind
-//!   each. `proofs/Blocks` goes from one to the next.
+//!   each. `proofs/Blocks` goes from one to the next, and `proofs/Lacking` finds procedures that lack a heading.
 #![tactic(auto)]
 
 ghost use Rattle.check_scope.specs.Elaborated.{every, least};
@@ -118,7 +118,8 @@ pub fn subrange_laws()
 
 /// What is reported of the declarations of a block are exactly the rules that are broken in them, and what is known of names
 /// behind them is what the rules say: constants that call nothing, types whose bounds call nothing, variables of these, and
-/// headings of procedures that no definition awaits.
+/// headings of procedures. If the module's own definition awaits a heading, it has to agree with the definition's, and the
+/// procedure is the definition's, with its number. It is reported exactly if a procedure of the definition lacks a heading.
 pub fn block_laws()
     ensures every_rule { BlocksAreExact every all_of_them }
     ensures least_rule { BlocksAreExact least the_least }
