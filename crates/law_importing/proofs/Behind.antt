@@ -1,5 +1,5 @@
 -- What a scope knows behind imports.
-use Rattle.std.proofs.Common.{◌≡◌, ℕ, Bool, true, false, List, [], ◌∷◌, ◌++◌, Option, Some, Result, Ok, ◌⊎◌, inl, inr, refl, sym, ap, subst, ◌∙◌}
+use Rattle.std.proofs.Common.{◌≡◌, ℕ, Bool, true, false, List, [], ◌∷◌, ◌++◌, Option, Some, None, Result, Ok, ◌⊎◌, inl, inr, refl, sym, ap, subst, ◌∙◌}
 use Rattle.std.specs.Prelude.{slice_get, take, drop}
 use Rattle.std.proofs.lemmas.List.{take-append-drop}
 use Rattle.m2_rule.specs.declared.breach.Breach.{Breach}
@@ -7,6 +7,7 @@ use Rattle.m2_tree.specs.declared.name.Ident.{Ident}
 use Rattle.m2_tree.specs.declared.decl.Import.{Import}
 use Rattle.typed_tree.specs.declared.meaning.Meaning.{Meaning}
 use Rattle.typed_tree.specs.declared.meaning.Meaning.TheVariants as meaning
+use Rattle.typed_tree.specs.declared.types.TypeNo.{TypeNo}
 use Rattle.typed_tree.specs.declared.table.Table.{Table}
 use Rattle.typed_tree.specs.Names.{find_name}
 use Rattle.check_scope.specs.declared.known.Known.{Known}
@@ -116,9 +117,9 @@ module _ (g : Gathers) (j : Judges g) (lawful : Lawful g j) (own : List ℕ → 
   stands_by outside name (brought_in {u = u} {m = m} o b only) = (standing m, exact.imported u m b)
   stands_by outside name (as_before c e) = (outside name, exact.from_outside c)
 
-  taken_by : (before : List ℕ → Bool) → ((n : List ℕ) → TakenAs g j (before n) (find_name n start.own)) → (n : List ℕ) {k : Option (Known g.Reported)} → KA n k → (b : Bool) × TakenAs g j b k
-  taken_by before t n (brought_in {u = u} {m = m} o b only) = (true, is_taken (origin_taken u (Ok m)))
-  taken_by before t n (as_before c e) = (before n, subst (λ (k : Option (Known g.Reported)). TakenAs g j (before n) k) (sym e) (t n))
+  taken_by : (before : List ℕ → Bool) (waits : List ℕ → Option TypeNo) → ((n : List ℕ) → TakenAs g j (before n) (waits n) (find_name n start.own)) → (n : List ℕ) {k : Option (Known g.Reported)} → KA n k → (b : Bool) × (t : Option TypeNo) × TakenAs g j b t k
+  taken_by before waits t n (brought_in {u = u} {m = m} o b only) = (true, None, is_taken (origin_taken u (Ok m)))
+  taken_by before waits t n (as_before c e) = (before n, waits n, subst (λ (k : Option (Known g.Reported)). TakenAs g j (before n) (waits n) k) (sym e) (t n))
 
   mine_by : (outer : Ident → Bool) (name : Ident) {k : Option (Known g.Reported)} → KA name.name k → (b : Bool) × exact.IsOwn start.tables own (all_imported imports) outer name b
   mine_by outer name (brought_in {u = u} {m = m} o b only) = (false, exact.is_imported u m b)
@@ -177,8 +178,8 @@ module _ (g : Gathers) (j : Judges g) (lawful : Lawful g j) (own : List ℕ → 
     known = λ exports outside names knows e h. knows_end exports outside knows e names h;
     counts = λ outer. ((λ name. (mine_by outer name (all.0.names name.name)).0), (λ name. (mine_by outer name (all.0.names name.name)).1));
     counted = λ foreign outer mine e owned h. owns_end e foreign outer owned mine h;
-    block = λ exports outside names knows e h taken t ends first ds plain. block_answers g j lawful exports names end.0 taken (knows_end exports outside knows e names h) (withs_end e) t ends first ds plain;
-    takes = λ before t. ((λ n. (taken_by before t n (all.0.names n)).0), (λ n. (taken_by before t n (all.0.names n)).1));
+    block = λ exports outside names knows e h taken awaited t ends first ds plain. block_answers g j lawful exports names end.0 taken awaited (knows_end exports outside knows e names h) (withs_end e) t ends first ds plain;
+    takes = λ before waits t. ((λ n. (taken_by before waits t n (all.0.names n)).0), (λ n. (taken_by before waits t n (all.0.names n)).1), (λ n. (taken_by before waits t n (all.0.names n)).2));
   }
 
 pub first_imports : (g : Gathers) (j : Judges g) → Lawful g j → (home : ℕ) (tables : List Table) (imports : List Import) → AreImportsExact g j (λ n. false) (first_scope home tables) imports

@@ -7,6 +7,7 @@ use Rattle.m2_tree.specs.declared.decl.Import.{Import}
 use Rattle.m2_tree.specs.declared.decl.Decl.{Decl}
 use Rattle.m2_tree.specs.declared.decl.Def.{Def}
 use Rattle.typed_tree.specs.declared.meaning.Meaning.{Meaning}
+use Rattle.typed_tree.specs.declared.types.TypeNo.{TypeNo}
 use Rattle.typed_tree.specs.declared.table.Table.{Table}
 use Rattle.typed_tree.specs.Names.{find_name, enter_name}
 use Rattle.check_scope.specs.declared.known.Origin.{Origin}
@@ -104,20 +105,23 @@ pub record AreImportsExact (g : Gathers) (j : Judges g) (own : List ℕ → Bool
       → ((name : Ident)
       → IsOwn s.tables own (all_imported imports) outer name (mine name))
       → KnowsOwn g j mine (imported_all g s imports).0
-  -- It is known which names are taken for the declarations that follow.
-  pub takes : (before : List ℕ → Bool)
-      → ((n : List ℕ) → TakenAs g j (before n) (find_name n s.own))
-      → (taken : List ℕ → Bool)
-      × ((n : List ℕ) → TakenAs g j (taken n) (find_name n (imported_all g s imports).0.own))
+  -- It is known which names are taken for the declarations that follow, and which procedures await
+  -- their headings.
+  pub takes : (before : List ℕ → Bool) (waits : List ℕ → Option TypeNo)
+      → ((n : List ℕ) → TakenAs g j (before n) (waits n) (find_name n s.own))
+      → (taken : List ℕ → Bool) × (awaited : List ℕ → Option TypeNo)
+      × ((n : List ℕ)
+      → TakenAs g j (taken n) (awaited n) (find_name n (imported_all g s imports).0.own))
   -- So the block behind imports is elaborated exactly.
   pub block : (exports : ℕ → Ident → Standing) (outside names : Ident → Standing)
       → Knows g j outside exports s → s.withs ≡ []
       → ((name : Ident)
       → StandsFor s.tables own (all_imported imports) outside name (names name))
-      → (taken : List ℕ → Bool)
-      → ((n : List ℕ) → TakenAs g j (taken n) (find_name n (imported_all g s imports).0.own))
+      → (taken : List ℕ → Bool) (awaited : List ℕ → Option TypeNo)
+      → ((n : List ℕ)
+      → TakenAs g j (taken n) (awaited n) (find_name n (imported_all g s imports).0.own))
       → (ends : List ℕ) (first : ℕ) (ds : List Decl) → ArePlainDecls ds
-      → IsBlockExact g j exports names (imported_all g s imports).0 taken ends first ds
+      → IsBlockExact g j exports names (imported_all g s imports).0 taken awaited ends first ds
 
 -- Imports are elaborated exactly, if the module's own definition alone has declared names before.
 abbrev pub ImportsAreExact : (g : Gathers) → Judges g → Type 0
@@ -162,13 +166,14 @@ FollowingBlocksAreExact g j =
     → (imports : List Import) (exports : ℕ → Ident → Standing) (outside names : Ident → Standing)
     → Knows g j outside exports s → s.withs ≡ []
     → ((name : Ident) → StandsFor s.tables own (all_imported imports) outside name (names name))
-    → (taken : List ℕ → Bool)
-    → ((n : List ℕ) → TakenAs g j (taken n) (find_name n (imported_all g s imports).0.own))
+    → (taken : List ℕ → Bool) (awaited : List ℕ → Option TypeNo)
+    → ((n : List ℕ)
+    → TakenAs g j (taken n) (awaited n) (find_name n (imported_all g s imports).0.own))
     → (ends : List ℕ) (first : ℕ) (ds : List Decl) → ArePlainDecls ds
     → (whole : List Resolved) × (in_order whole ≡ declarations_of ds)
     × Reports g j (Repeats g j names (imported_all g s imports).0)
     (λ f. BrokenIn s.tables own (all_imported imports) f
-    ⊎ blocks.BrokenIn (imported_all g s imports).0.types exports names taken
+    ⊎ blocks.BrokenIn (imported_all g s imports).0.types exports names taken awaited
     (is_nested (imported_all g s imports).0) (declarations_of ds) whole f)
     (declared_block g ends (imported_all g s imports) first ds).1
     × ((declared_block g ends (imported_all g s imports) first ds).0

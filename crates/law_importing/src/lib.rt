@@ -15,8 +15,8 @@ ghost use Rattle.law_typing.specs.Judging.{all_of_them, the_least};
 ghost use Rattle.law_importing.specs.Exact.{ImportsAreExact, FirstImportsAreExact, DefinitionImportsAreExact, ImplementationImportsAreExact, FollowingBlocksAreExact};
 
 /// What is reported of the imports of a module are exactly the rules that are broken in them, and behind them the scope knows
-/// exactly what they bring. The module's own definition alone may have declared names before. If it awaits no procedure, what
-/// `block_laws` asks for is known where the declarations of the module begin.
+/// exactly what they bring. The module's own definition alone may have declared names before, and its procedures may await
+/// their headings. What `block_laws` asks for is known where the declarations of the module begin.
 pub fn import_laws()
     ensures every_rule { ImportsAreExact every all_of_them }
     ensures least_rule { ImportsAreExact least the_least }

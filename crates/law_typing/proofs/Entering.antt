@@ -66,7 +66,7 @@ module _ {V : Type 0} where
       by (are_one e) = subst (λ (m : List ℕ). P m (find_name m (enter_name name v es))) (sym e) (subst (λ (o : Option V). P name o) (sym (found_self name v es)) h)
       by (are_two c t) = subst (λ (o : Option V). P n o) (sym (found_other name n v es t)) (k n (λ e. c (sym e)))
 
--- ---- names that are there once
+  -- ---- names that are there once
 
   pub once_more : (name : List ℕ) (v : V) {es : List (List ℕ × V)} → AreOnce es → AreOnce (enter_name name v es)
   once_more name v no_names = one_name refl no_names
