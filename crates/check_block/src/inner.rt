@@ -185,8 +185,9 @@ fn enter_in(
     Ok(result)
 }
 
-/// Enters a procedure of a block, of whose names so many stand before it. The types in the heading are looked up
-/// outside of it, and its formals are the first names in it. What is reported of the heading is reported where it is declared.
+/// Enters a procedure of a block. `seen` names of the block stand before it. The types in the heading are looked up
+/// outside of it, and its formals are the first names in it. What is reported of the heading is reported where it is
+/// declared.
 pub fn enter(
     alloc: Global,
     scope: &mut Scope<Breach>,

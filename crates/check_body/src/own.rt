@@ -247,8 +247,8 @@ fn with_own(alloc: Global, scope: &mut Scope<Breach>, own: &Table) -> Result<(),
     Ok(())
 }
 
-/// What is known where an implementation module begins, from the table of its definition and from those of its imports:
-/// all that the definition declares, and nothing that it imports. The only error is that memory ran out.
+/// What is known where an implementation module begins, from the table of its definition and from the tables of its
+/// imports: all that the definition declares, and nothing that it imports. The only error is that memory ran out.
 pub fn implementation_scope(
     alloc: Global,
     own: &Table,

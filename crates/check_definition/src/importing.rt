@@ -122,7 +122,7 @@ fn with_entry_if(
     }
 }
 
-/// Imports so many names of a table from a place on.
+/// Imports this many names of a table from a place on.
 fn bring_all(
     alloc: Global,
     scope: &mut Scope<Breach>,
@@ -143,7 +143,7 @@ fn bring_all(
     Ok(elaborated)
 }
 
-/// Imports so many names of a table from a place on, as far as there are names.
+/// Imports this many names of a table from a place on, as far as there are names.
 fn bring(
     alloc: Global,
     scope: &mut Scope<Breach>,

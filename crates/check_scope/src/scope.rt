@@ -77,7 +77,7 @@ impl<T: Drop> Drop for Scope<T> {
 }
 
 impl Scope<Breach> {
-    /// The types that are known, and those of the module's variables. What else is known is dropped.
+    /// The types that are known, and the types of the module's variables. What else is known is dropped.
     pub fn into_types(self, alloc: Global) -> (Types, Items<TypeNo>)
         ensures { result ≡ (self.types, self.variables) }
     {

@@ -69,7 +69,7 @@ fn framed_by<'a>(
     None
 }
 
-/// Where a part of a row begins, and 0 where there is no row.
+/// Where a part of a row begins, and 0 if there is no row.
 pub fn start_or(row: Option<&Row>, part: usize) -> u32
     ensures { result ≡ start_or (option_copied row.entry) part }
 {
@@ -162,7 +162,7 @@ impl<'a> Home<'a> {
         }
     }
 
-    /// The number of the type of functions with so many arguments, and with a result or without.
+    /// The number of the type of functions with this many arguments, and with a result or without.
     pub fn number(&self, arguments: usize, has_result: bool) -> u32
         ensures { result ≡ numbering_of self.now arguments has_result }
     {

@@ -116,7 +116,7 @@ pub fn module_call(
     other_call(setting, f, draft)
 }
 
-/// The link of a procedure that is declared in one so many procedures outwards.
+/// The link of a procedure that is declared in one this many procedures outwards.
 #[tactic(auto, using(emit_buffer::proofs::Emitted::put_append))]
 pub fn link_code(up: usize, draft: &mut Draft) -> Result<(), AllocError>
     ensures { OnOk result (draft.new ≡ put (link_passed up) draft.old) }

@@ -154,7 +154,8 @@ pub fn end_and(at: usize, draft: &mut Draft) -> Result<(), EncodeError>
     draft.close_if_else(at, middle, Some(ValueType::I64))
 }
 
-/// Begins an `if` whose second side is the second operand of OR, and answers its place and that of its second side.
+/// Begins an `if` whose second side is the second operand of OR, and answers its place and the place of its second
+/// side.
 pub fn begin_or(draft: &mut Draft) -> Result<(usize, usize), AllocError>
     ensures at { IfOk result (λ x. x.0 ≡ place_of draft.old) }
     ensures middle { IfOk result (λ x. x.1 ≡ place_of (begun_or draft.old)) }

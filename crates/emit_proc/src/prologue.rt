@@ -22,7 +22,7 @@ use std::alloc::AllocError;
 use typed_tree::{Formal, Made, Routine, Shape, Slot, TypeNo, made_of};
 use wasm_tree::{EncodeError, Numeric, Op, Operation, Relation, StoreWidth, plus};
 
-/// Ends the run where the stack's top is past the limit.
+/// Ends the run if the stack's top is past the limit.
 #[tactic(auto, using(crate::proofs::Entered::limit_fault))]
 fn limit_check(draft: &mut Draft) -> Result<(), EncodeError>
     ensures { OnOk result (draft.new ≡ put limit_check draft.old) }
@@ -34,7 +34,7 @@ fn limit_check(draft: &mut Draft) -> Result<(), EncodeError>
     draft.close_if(at, None)
 }
 
-/// Puts the stack's top behind a frame of so many bytes.
+/// Puts the stack's top behind a frame of this many bytes.
 fn top_raised(top: u32, bytes: u32, draft: &mut Draft) -> Result<(), EncodeError>
     ensures { let code = LocalGet 0 ∷ (raise_address bytes ++ (LocalTee top ∷ limit_check)) in
         OnOk result (draft.new ≡ put code draft.old) }
@@ -45,7 +45,7 @@ fn top_raised(top: u32, bytes: u32, draft: &mut Draft) -> Result<(), EncodeError
     limit_check(draft)
 }
 
-/// Puts the stack's top behind a frame of so many bytes, which are filled with zeros.
+/// Puts the stack's top behind a frame of this many bytes, which are filled with zeros.
 pub fn enter_code(top: u32, bytes: u32, draft: &mut Draft) -> Result<(), EncodeError>
     ensures { OnOk result (draft.new ≡ put (enter_code top bytes) draft.old) }
 {
@@ -340,7 +340,7 @@ fn first_argument(routine: &Routine) -> u32
     if routine.level <= 1 { 1 } else { 2 }
 }
 
-/// The prologue of a procedure with a frame of so many bytes.
+/// The prologue of a procedure with a frame of this many bytes.
 #[tactic(auto, using(emit_buffer::proofs::Emitted::put_append))]
 pub fn prologue(
     setting: &Setting<'_>,

@@ -60,8 +60,8 @@ fn module_draft(alloc: Global, home: &Home<'_>, texts: u32) -> Result<Draft, Enc
     Ok(draft)
 }
 
-/// The function of the module's body, where so many characters of texts stand before its own. The only error is that memory
-/// ran out, or that a number does not fit into 32 bits.
+/// The function of the module's body, if this many characters of texts stand before its own. The only error is that
+/// memory ran out, or that a number does not fit into 32 bits.
 #[tactic(auto, using(crate::proofs::Finished::module_is))]
 pub fn module_function(alloc: Global, home: &Home<'_>, texts: u32) -> Result<Function, EncodeError>
     requires { texts ≡ characters (routines_texts home.now) }
@@ -205,8 +205,8 @@ fn framed_function(
     finish_code(alloc, home.signatures().number(count, gives), draft)
 }
 
-/// The function of a procedure, where so many characters of texts stand before its own. The only error is that memory ran
-/// out, or that a number does not fit into 32 bits.
+/// The function of a procedure, if this many characters of texts stand before its own. The only error is that memory
+/// ran out, or that a number does not fit into 32 bits.
 #[tactic(auto, using(crate::proofs::Finished::routine_is))]
 pub fn routine_function(
     alloc: Global,

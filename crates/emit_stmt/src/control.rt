@@ -56,7 +56,7 @@ pub fn turn_again(turns: Turns, draft: &mut Draft) -> Result<(), EncodeError>
     close_turns(turns, draft)
 }
 
-/// The condition of a loop: where it does not hold, the block of this label is left.
+/// The condition of a loop: if it does not hold, the block of this label is left.
 pub fn unless(
     setting: &Setting<'_>,
     e: &TypedExpr,

@@ -75,7 +75,7 @@ fn sweep(
     Ok(())
 }
 
-/// Marks the nodes on cycles, where in this order a node is on a cycle if it, or one behind it, leads to it.
+/// Marks the nodes on cycles. In this order a node is on a cycle if it, or one behind it, leads to it.
 fn cyclic(
     alloc: Global,
     links: &[Items<usize>],

@@ -27,7 +27,7 @@ fn least_with(least: Option<Breach>, other: Breach) -> Option<Breach>
     }
 }
 
-/// The least, where this breach is added if `holds`.
+/// The least, if this breach is added if `holds`.
 fn with_breach(least: Option<Breach>, holds: bool, pos: Pos, broken: Rule) -> Option<Breach>
     ensures { result ≡ fold least_with least (breach_where holds pos broken) }
 {
@@ -52,7 +52,7 @@ fn is_bad_import(program: &Program<'_>, tree: &Module, name: &Name) -> bool
         || (!is_definition(tree) && *name == tree.name.name)
 }
 
-/// The least, where the breaches of these imports are added.
+/// The least, if the breaches of these imports are added.
 fn with_names(
     program: &Program<'_>,
     tree: &Module,
@@ -184,7 +184,7 @@ fn file_breach(program: &Program<'_>, number: usize, given: usize, tree: &Module
     with_breach(lonely, given == MAX_FILES, FIRST_PLACE, Rule::FileCount)
 }
 
-/// The least, where what is reported of cycles is added.
+/// The least, if what is reported of cycles is added.
 fn with_cycle(least: Option<Breach>, cycle: Option<(usize, Pos)>, number: usize) -> Option<Breach>
     ensures { result ≡ fold least_with least (cycle_breaches cycle number) }
 {

@@ -88,7 +88,7 @@ fn bodies_of(
     Ok(bodies)
 }
 
-/// The files of the bodies that start, in order, where this is the program module.
+/// The files of the bodies that start, in order, if this is the program module.
 pub fn starts_of(
     alloc: Global,
     program: &Program<'_>,

@@ -132,7 +132,7 @@ fn links_of(alloc: Global, program: &Program<'_>, tree: &Module) -> Result<Items
 }
 
 /// For each module the numbers of the definitions that it imports, in the order in which it imports them. A name
-/// without definition, as that of a built in module, gives none; where there are several definitions of a name, the
+/// without definition, as the name of a built in module, gives none; if there are several definitions of a name, the
 /// first stands for all.
 pub fn links(alloc: Global, program: &Program<'_>) -> Result<Vec<Items<usize>>, AllocError>
     requires { IsIndexed program.now }

@@ -254,7 +254,7 @@ fn body(cursor: &mut Cursor, room: usize) -> Result<Option<Items<Stmt>>, Stop>
     Ok(Some(found))
 }
 
-/// Declarations and a body up to the END, with so many levels of nesting left.
+/// Declarations and a body up to the END, with this many levels of nesting left.
 #[cycle(decl)]
 #[tactic(auto, using(def_grammar::proofs::Rules::block_is))]
 pub(crate) fn block(cursor: &mut Cursor, room: usize) -> Result<Block, Stop>

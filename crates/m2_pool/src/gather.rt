@@ -10,7 +10,7 @@ use once_cell::race::Note;
 use pool_board::{Gate, Pool, Ran, Work};
 use std::alloc::{AllocError, Global};
 
-/// For each job what a worker handed back of it, or nothing where no worker ran it.
+/// For each job what a worker handed back of it, or nothing if no worker ran it.
 pub fn place_results<W: Work, G: Gate>(
     alloc: Global,
     pool: &Pool<'_, W, G>,
@@ -193,7 +193,7 @@ fn agree<W: Work, G: Gate>(
     true
 }
 
-// Whether a job is settled. Where it is, what was used of it is what its note knows.
+// Whether a job is settled. If it is, what was used of it is what its note knows.
 fn agrees<T>(settled: &mut Vec<Option<Note<T>>>, job: usize, used: Note<T>) -> bool
     requires { IfSome (slice_index_or settled.old.items job None) (λ n. used.cell ≡ n.cell) }
     ensures same { settled.new.items ≡ settled.old.items }

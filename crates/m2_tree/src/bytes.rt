@@ -60,7 +60,7 @@ enum Place {
     Shared(Arc<Vec<u8>>),
 }
 
-/// A list of bytes that takes 16 bytes, and shares memory with its clones where it is longer than 14. Contracts see the
+/// A list of bytes that takes 16 bytes, and shares memory with its clones if it is longer than 14. Contracts see the
 /// list.
 pub(crate) struct Bytes {
     place: Place,

@@ -79,7 +79,7 @@ impl<'a> Cursor<'a> {
         }
     }
 
-    /// The kind of the next token, and the end where none is left.
+    /// The kind of the next token, and the end if none is left.
     pub fn peek(&self) -> Kind
         ensures { result ≡ kind_at self.now }
     {

@@ -90,7 +90,7 @@ fn push_indexes(
 }
 
 impl Cursor<'_> {
-    /// An expression, with so many levels of nesting left.
+    /// An expression, with this many levels of nesting left.
     #[cycle(expr)]
     #[tactic(auto, using(def_grammar::proofs::Rules::expr_is))]
     pub fn expr(&mut self, room: usize) -> Result<Expr, Stop>

@@ -267,7 +267,7 @@ impl Cursor<'_> {
         }
     }
 
-    /// A type, with so many levels of nesting left.
+    /// A type, with this many levels of nesting left.
     #[cycle(types)]
     #[tactic(auto, using(def_grammar::proofs::Rules::type_is))]
     pub fn type_expr(&mut self, room: usize) -> Result<TypeExpr, Stop>

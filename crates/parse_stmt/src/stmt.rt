@@ -131,7 +131,7 @@ fn for_of(
     Ok(Stmt::For(variable, start, limit, step, body))
 }
 
-/// Statements, with so many levels of nesting left. An empty one leaves no trace.
+/// Statements, with this many levels of nesting left. An empty one leaves no trace.
 #[cycle(stmt)]
 #[tactic(auto, using(def_grammar::proofs::Rules::stmts_is, def_grammar::proofs::Loops::lists))]
 pub fn stmts(cursor: &mut Cursor, room: usize) -> Result<Items<Stmt>, Stop>

@@ -241,8 +241,8 @@ fn open_for(
     ))
 }
 
-// The words of a board on which nothing was done: those of the claims, those of the waiting jobs, and one that is never
-// written, so that a board without jobs has a word too.
+// The words of a board on which nothing was done: the words of the claims, the words of the waiting jobs, and one that
+// is never written, so that a board without jobs has a word too.
 fn first_words(alloc: Global, graph: &JobGraph) -> Result<Vec<u64>, AllocError>
     ensures { IfOk result (λ v. IsFresh graph.now v.items) }
 {

@@ -15,7 +15,7 @@ use crossbeam_deque::{Steal, Stealer, Worker};
 use once_cell::race::{Note, OnceBox};
 use std::alloc::{AllocError, Global};
 
-// How often a worker whose own deque is empty goes round those of the others before it ends.
+// How often a worker whose own deque is empty goes round the deques of the others before it ends.
 const ROUNDS: usize = 1000;
 
 /// A worker: its place among the workers, its seat, its own deque, and what it ran, in the order of its seat's list.
@@ -87,7 +87,7 @@ fn next_job(own: &mut Worker<usize>, stealers: &[Stealer<usize>], number: usize)
     None
 }
 
-// A job from the deque of another worker than that of this number.
+// A job from the deque of another worker than the one of this number.
 fn stolen(stealers: &[Stealer<usize>], number: usize) -> Option<usize> {
     for (other, stealer) in stealers.iter().enumerate() {
         if other != number

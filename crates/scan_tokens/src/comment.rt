@@ -25,7 +25,7 @@ pub fn behind(pos: Pos, byte: u8) -> Pos
     }
 }
 
-/// The place so many bytes to the right.
+/// The place `count` bytes to the right.
 pub fn right(pos: Pos, count: usize) -> Pos
     requires { pos.col + count < 2 ^ 32 }
     ensures line { result.line ≡ pos.line }

@@ -52,7 +52,7 @@ fn a_graph_reports_its_jobs(rt: HostRuntime) {
     assert!(rt; graph.targets(2) == [3].as_slice());
 }
 
-/// The number of the refusal of these lists of prerequisites, or 0 where they are a graph's.
+/// The number of the refusal of these lists of prerequisites, or 0 if they are a graph's.
 fn number_of(alloc: Global, jobs: &[Vec<usize>]) -> u8 {
     match JobGraph::of(alloc, jobs) {
         Ok(_) => 0,

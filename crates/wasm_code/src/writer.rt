@@ -15,7 +15,7 @@ const LONGEST: u8 = 10;
 /// The most bytes of a part.
 const MAX_PART: usize = 4294967295;
 
-/// Bytes of the binary format, in the order in which they are written. Contracts see the list of them. Where memory is
+/// Bytes of the binary format, in the order in which they are written. Contracts see the list of them. If memory is
 /// refused, nothing is appended.
 #[derive(Drop)]
 pub struct Writer {
@@ -78,7 +78,7 @@ impl Writer {
         self.bytes.extend_from_slice(bytes)
     }
 
-    /// Makes room for so many bytes more, so that they ask for memory once.
+    /// Makes room for `count` bytes more, so that they ask for memory once.
     pub(crate) fn reserve(&mut self, count: usize) -> Result<(), AllocError>
         ensures { self.new ≡ self.old }
     {

@@ -27,7 +27,7 @@ use wasm_valid::ValidModule;
 /// Where a run is.
 #[derive(Clone, Copy, Debug, PartialEq, Eq)]
 pub enum End {
-    /// The run is over: 0 where it came to its end, else the number that stopped it.
+    /// The run is over: 0 if it came to its end, else the number that stopped it.
     Done(u8),
     /// The run trapped.
     Trap,
@@ -166,11 +166,11 @@ fn start<'a>(
 impl<'a> Instances<'a> {
     ghost use Rattle.wasm_engine.specs.Instances.{config_of, modules_of, has_failed, end_of, IsIdle, Made, Settles, Stops, Breaks, Runs, RunsPart};
 
-    /// Links the modules, the first of which is `link`: it answers the others' imports from `link`, and the host answers
-    /// `put` and `stop` from `host`. Its `run` is then about to be executed. `Unlinked` (83) where there is no module, no
-    /// function without parameters and results exported as `run` by the first, or an import that is missing or of another
-    /// type; `SegmentOutside` (84) where a segment reaches outside its table or memory. `run` is looked for first; then
-    /// the first module at fault in order decides, its imports before its segments.
+    /// Links the modules, the first of which is `link`: it answers the others' imports from `link`, and the host
+    /// answers `put` and `stop` from `host`. Its `run` is then about to be executed. `Unlinked` (83) if there is no
+    /// module, no function without parameters and results exported as `run` by the first, or an import that is missing
+    /// or of another type; `SegmentOutside` (84) if a segment reaches outside its table or memory. `run` is looked for
+    /// first; then the first module at fault in order decides, its imports before its segments.
     pub fn link(alloc: Global, modules: &'a [ValidModule]) -> Result<Instances<'a>, WFault>
         ensures gives { Gives (λ i. config_of i) result (link modules.now) }
         ensures fresh { IfOk result (λ i. (modules_of i ≡ modules.now) × (has_failed i ≡ false)) }
@@ -187,9 +187,10 @@ impl<'a> Instances<'a> {
         })
     }
 
-    /// Executes link's `run` for so many further reductions, or up to its end if that comes first, and hands each printed
-    /// byte to `out`. After an end each later call answers the same, and asks for no memory. `Write` (91) exactly where `out`
-    /// failed, `NoMemory` (90) where memory was refused; each later call then answers `Ended` (92) and does nothing.
+    /// Executes link's `run` for `steps` further reductions, or up to its end if that comes first, and hands each
+    /// printed byte to `out`. After an end each later call answers the same, and asks for no memory. `Write` (91)
+    /// exactly if `out` failed, `NoMemory` (90) if memory was refused; each later call then answers `Ended` (92) and
+    /// does nothing.
     pub fn run<S: Sink>(&mut self, steps: u64, out: &mut S) -> Result<End, RunFault>
         requires { S.failed out.old + 1 < 2 ^ 64 }
         // Without a fault: exactly these reductions, the bytes that they print, and where the run is then.

@@ -238,7 +238,7 @@ fn reductions_of(function: KnownFunction) -> u64
 }
 
 /// Pushes three constants and executes the call of check behind them, if the number on top is between its bounds. It
-/// makes so many reductions, or none.
+/// makes this many reductions, or none.
 fn bounds_at_once<'a>(
     modules: &'a [ValidModule],
     table: &[Items<KnownFunction>],
@@ -431,7 +431,7 @@ fn constant_at_once<'a>(
     }
 }
 
-/// Makes several reductions at once, if what is next is known: so many, or none.
+/// Makes several reductions at once, if what is next is known: this many, or none.
 #[inline(always)]
 fn at_once<'a>(
     modules: &'a [ValidModule],

@@ -8,10 +8,10 @@ pub trait Sink {
     /// How often it failed.
     ghost failed: { Self → ℕ };
 
-    /// The bytes that it took, where it reports them.
+    /// The bytes that it took, if it reports them.
     ghost reported: { Self → Option (List ℕ) };
 
-    /// Takes one byte. False where that failed: then the byte is not taken, and there is one failure more.
+    /// Takes one byte. False if that failed: then the byte is not taken, and there is one failure more.
     fn take(&mut self, byte: u8) -> bool
         requires { failed self.old + 1 < 2 ^ 64 }
         ensures failures { failed self.new ≡ (if result then failed self.old else failed self.old + 1) }

@@ -43,7 +43,7 @@ fn no_frame<'a>(alloc: Global) -> Frame<'a> {
     }
 }
 
-/// Makes a frame, whatever it was, that of a function that begins with the topmost operands, so many.
+/// Makes a frame, whatever it was, the frame of a function that begins with the topmost operands, this many.
 #[inline(always)]
 fn enter<'a>(
     frame: &mut Frame<'a>,

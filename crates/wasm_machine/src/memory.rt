@@ -15,7 +15,7 @@ use crate::places::memory_of;
 use wasm_operands::{load_number, load_size};
 use wasm_tree::{Load, StoreWidth};
 
-/// So many bytes from a place on, where they are there.
+/// `size` bytes from a place on, if they are there.
 fn bytes_at(bytes: &[u8], place: usize, size: usize) -> Option<&[u8]>
     requires { place + size < 2 ^ 64 }
     ensures { bytes_seen result ≡ bytes_at size place bytes.now }

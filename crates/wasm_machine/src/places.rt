@@ -22,7 +22,7 @@ pub fn the<T>(items: &[T], index: usize) -> &T
     &items[index]
 }
 
-/// Where the value of a global stands among those of all.
+/// Where the value of a global stands among the values of all.
 #[inline(always)]
 pub fn place_of_global(store: &Store, globals: &Operands, instance: usize, index: u32) -> usize
     requires { IsThere (global_at (record store.now { globals = globals.now.known.values }) instance index) }

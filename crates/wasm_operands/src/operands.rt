@@ -34,7 +34,7 @@ fn zero_of(value_type: ValueType) -> Value
     }
 }
 
-/// Keeps the topmost cells, so many, and the lowest ones up to a height.
+/// Keeps the topmost cells, this many, and the lowest ones up to a height.
 #[inline(always)]
 fn keep(cells: &mut Vec<u64>, height: usize, count: usize)
     requires { height + count ≤ length cells.old.items }
@@ -148,7 +148,7 @@ impl Operands {
         Ok(())
     }
 
-    /// Puts the topmost ones of others on top, so many.
+    /// Puts the topmost ones of others on top, this many.
     #[inline(always)]
     pub fn push_end(&mut self, from: &Operands, count: usize) -> Result<(), AllocError>
         requires { count ≤ length from.now.known.values }
@@ -276,7 +276,7 @@ impl Operands {
         self.known = known_as(&self.known, &self.known, &NONE, &height, &0);
     }
 
-    /// Keeps the topmost ones, so many, and the lowest ones up to a height.
+    /// Keeps the topmost ones, this many, and the lowest ones up to a height.
     #[inline(always)]
     pub fn keep(&mut self, height: usize, count: usize)
         requires { height + count ≤ length self.old.known.values }

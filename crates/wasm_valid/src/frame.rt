@@ -211,7 +211,7 @@ fn keeps(value_type: Option<ValueType>) -> Option<Effect<'static>>
     }
 }
 
-/// The effect, where there is a memory.
+/// The effect, if there is a memory.
 fn with_memory<'a>(scope: &Scope<'_>, effect: Effect<'a>) -> Option<Effect<'a>>
     ensures { option_map change_of result
         ≡ option_map (λ _. change_of effect.entry) (slice_get (scope_of scope.now).memories 0) }
@@ -222,7 +222,7 @@ fn with_memory<'a>(scope: &Scope<'_>, effect: Effect<'a>) -> Option<Effect<'a>>
     }
 }
 
-/// What the instruction does to the operands, whatever code stands inside it. Nothing where it names what is not there.
+/// What the instruction does to the operands, whatever code stands inside it. Nothing if it names what is not there.
 #[inline(always)]
 pub fn effect_of<'a>(
     frame: &Frame<'a>,

@@ -187,7 +187,7 @@ fn check_block(
     Ok(())
 }
 
-/// Whether the code goes from no operands to what it is to give. `Invalid` where it does not.
+/// Whether the code goes from no operands to what it is to give. `Invalid` if it does not.
 #[cycle(code)]
 pub fn check_code(
     spares: &mut Spares,
@@ -250,8 +250,8 @@ fn are_constant(code: &[Op]) -> bool
     are_constant_ops(code)
 }
 
-/// Whether the code is a constant expression of this type (Core 1.0, section 3.3.7). `Invalid` where it is not, `NoMemory`
-/// where memory is refused.
+/// Whether the code is a constant expression of this type (Core 1.0, section 3.3.7). `Invalid` if it is not, `NoMemory`
+/// if memory is refused.
 pub fn check_constant(
     alloc: Global,
     scope: Scope<'_>,
