@@ -57,8 +57,8 @@ pub fn which_of(procedure: Option<Numbered>) -> Option<Which>
     }
 }
 
-/// Begins the body of a procedure of a block. This many names of the block stand before it. The only error is that
-/// memory ran out.
+/// Begins the body of a procedure of a block. `seen` names of the block stand before it. The only error is that memory
+/// ran out.
 pub fn begin_procedure(
     alloc: Global,
     walk: &mut Walk<Breach>,

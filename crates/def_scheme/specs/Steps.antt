@@ -123,7 +123,7 @@ is_dense arms labels =
 abbrev pub has_label : ℤ → Arm → Bool
 has_label v x = list_any (λ y. int_le y.low v && int_le v y.high) x.labels
 
--- the number of the arm for a value, or the number of the arms
+-- the number of the arm for a value, or how many arms there are
 abbrev pub target : List Arm → ℤ → ℕ
 target [] v = 0
 target (x ∷ xs) v = if has_label v x then 0 else suc (target xs v)

@@ -107,7 +107,7 @@ labels_in xs = flat_map (λ x. x.labels) xs
 unfoldable pub has_value : ℤ → TypedArm → Bool
 has_value v x = list_any (λ y. int_le y.low v && int_le v y.high) x.labels
 
--- the number of the arm for a value, or the number of the arms
+-- the number of the arm for a value, or how many arms there are
 abbrev pub target_in : List TypedArm → ℤ → ℕ
 target_in [] v = 0
 target_in (x ∷ xs) v = if has_value v x then 0 else suc (target_in xs v)

@@ -100,7 +100,7 @@ pub fn jump_begun(place: usize, left: usize, draft: &mut Draft) -> Result<(), En
     }
 }
 
-/// `left` and these, in 32 bits.
+/// The sum of both, in 32 bits.
 pub fn more(left: usize, labels: u32) -> Result<u32, EncodeError>
     ensures { IfOk result (λ n. n ≡ left + labels) }
 {
@@ -145,7 +145,7 @@ fn table_code(targets: &[u32], last: u32, draft: &mut Draft) -> Result<(), Encod
     Ok(())
 }
 
-/// Branches to what is done else if the selector is beyond the greatest value.
+/// Branches to what is done else, if the selector is beyond the greatest value.
 fn beyond(t: u32, plan: Plan, last: u32, draft: &mut Draft) -> Result<(), AllocError>
     ensures { OnOk result (draft.new ≡ put (beyond t plan.least plan.span last) draft.old) }
 {

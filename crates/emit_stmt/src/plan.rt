@@ -154,7 +154,7 @@ fn has_value(arm: &TypedArm, value: i64) -> bool
     have_value(arm.labels.as_slice(), value)
 }
 
-/// The number of the arm for a value, or the number of the arms.
+/// The number of the arm for a value, or how many arms there are.
 fn target_of(arms: &[TypedArm], value: i64) -> usize
     ensures { result ≡ target_in arms.now value }
 {

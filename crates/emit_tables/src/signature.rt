@@ -1,4 +1,4 @@
-//! A type of functions, and the numbers of these types.
+//! A type of functions, and the numbers of types of this kind.
 
 /// How many arguments of 64 bits stand behind the first, and whether there is a result.
 #[derive(Clone, Copy, PartialEq, Eq)]

@@ -101,8 +101,8 @@ module _ (types : Types) where
 
 -- ---- scopes
 
--- The types that a scope knows are the base types, and further types of the module. They stand in
--- order. Its names mean types that it knows, and so do the types of its variables.
+-- The types that a scope knows are the types of `base`, and further types of the module. They stand
+-- in order. Its names mean types that it knows, and it knows the types of its variables.
 pub record ScopeOrdered {T : Type 0} (base : Types) (s : Scope T) : Type 0 where
   pub started : StartedFrom base s.types
   pub types : AreOrdered s.types

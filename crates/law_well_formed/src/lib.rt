@@ -169,7 +169,7 @@ pub fn formed_scope_laws()
     ensures every { DeclarationsLead every }
 {}
 
-/// Names are numbered, if the least broken rule is kept and if all of them are.
+/// Names are numbered, if the least broken rule is kept, and if all of them are.
 pub fn formed_number_laws()
     // Declarations lead from numbered names to numbered names.
     ensures least { DeclarationsNumber least }

@@ -104,7 +104,7 @@ impl From<EncodeError> for BuildFault {
 ///   variables and strings, or a frame, are too large, but nothing for a module that needs another of which something is
 ///   reported;
 /// - if there is none of these either, 61 at the begin of the program module's file if the variables and strings of
-///   all modules that are reached, and 4096 bytes, need more pages than these.
+///   all modules that are reached, and 4096 bytes, need more pages than the options allow.
 ///
 /// A program of which nothing is reported is compiled to the module link and, in start order, the modules that are reached
 /// from the program module. They are valid, they link, and they do what the program does: they print the same bytes and
