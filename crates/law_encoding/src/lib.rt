@@ -5,7 +5,8 @@
 //! - `proofs/Variants` has the sizes of trees by their variants, and `proofs/Weights` the induction over the grammar: a tree is
 //!   no larger than its tokens. `proofs/Texts` counts the tokens of a text.
 //! - `proofs/Typed` has the sizes of typed trees by their variants. `proofs/Operators` and `proofs/Calls` have a lemma for each
-//!   definition of `check_operator` and `check_call`, and `proofs/Meanings` those of `check_expr`, with the induction over expressions.
+//!   definition of `check_operator` and `check_call`, and `proofs/Meanings` the lemmas of `check_expr`, with the
+//!   induction over expressions.
 //! - `proofs/Effects` and `proofs/Steps` have a lemma for each definition of assignments, calls and `check_stmt_parts`, and
 //!   `proofs/Statements` the induction over statements.
 //! - `proofs/Counts` and `proofs/StepCounts` count the locals that the code of expressions and statements takes,

@@ -15,7 +15,7 @@
 //!   `proofs/Carrying` and `proofs/Declaring` declarations, `proofs/Bounding` and `proofs/Reaching` procedures and tables,
 //!   `proofs/Exporting` what modules export, and `proofs/Walking` whole bodies.
 //! - `proofs/Operators` and `proofs/Calls` have a lemma for each definition of `check_operator` and `check_call`, and
-//!   `proofs/Meanings` those of `check_expr`, with the induction.
+//!   `proofs/Meanings` the lemmas of `check_expr`, with the induction.
 //!
 //! Why what the checker makes of statements is typed.
 //!

@@ -5,7 +5,7 @@
 //!
 //! - `specs/Formed` says when what the checker makes of a part is well formed, and what a scope is to know for that.
 //! - `proofs/Basics` has results that are as a fact says, `proofs/Operators` and `proofs/Calls` a lemma for each definition of
-//!   `check_operator` and `check_call`, and `proofs/Meanings` those of `check_expr`, with the induction.
+//!   `check_operator` and `check_call`, and `proofs/Meanings` the lemmas of `check_expr`, with the induction.
 //!
 //! Why a module stands on the modules that it imports, and on no others.
 //!
@@ -53,8 +53,8 @@
 //! - `specs/FormedRanges` says when a value is a number of its type, and a scope knows types with ranges of the language.
 //! - `proofs/RangesTypes` has what one type more does, `proofs/Subranges` subranges, `proofs/RangesMade` type expressions, and
 //!   `proofs/RangesDeclarations` the declarations of definitions and of blocks.
-//! - `proofs/Values` has a lemma for each operator and standard function on constants, and `proofs/Constants` those of
-//!   constant expressions, with the induction.
+//! - `proofs/Values` has a lemma for each operator and standard function on constants, and `proofs/Constants` the
+//!   lemmas of constant expressions, with the induction.
 //! - `proofs/RangesBlocks` has imports, whole blocks, and the way into procedures and back, and `proofs/RangesTables` where a module
 //!   begins, and what it exports.
 //!
@@ -103,8 +103,8 @@
 //!
 //! - `specs/FormedFrames` says where procedures stand, when frames have room, and what the characters of texts are.
 //! - `proofs/Rooms` has the frames, `proofs/Nested` one procedure in a procedure, `proofs/FramesBlocks`
-//!   the procedures of a block and blocks in blocks, `proofs/FramesProcedures` those of a module, and `proofs/FramesModules` whole
-//!   modules.
+//!   the procedures of a block and blocks in blocks, `proofs/FramesProcedures` the procedures of a module, and
+//!   `proofs/FramesModules` whole modules.
 #![tactic(auto)]
 
 ghost use Rattle.check_body.specs.Checks.{elaborate_body};
