@@ -1,2 +1,4 @@
 pub mod Sections
+pub mod Finding
 pub mod Starting
+pub mod Outside

@@ -1,5 +1,5 @@
 -- Where the declarations of a definition begin, its imports are known, and its own names are marked.
-use Rattle.std.proofs.Common.{◌≡◌, ℕ, Bool, true, false, List, [], ◌∷◌, ◌++◌, Option, Result, Ok, ◌⊎◌, inl, inr, refl, sym, ap, subst, ◌∙◌}
+use Rattle.std.proofs.Common.{◌≡◌, ℕ, Bool, true, false, List, [], ◌∷◌, ◌++◌, Option, Result, Ok, Err, ◌⊎◌, inl, inr, refl, sym, ap, subst, ◌∙◌}
 use Rattle.std.specs.Prelude.{map}
 use Rattle.std.specs.List.{fold}
 use Rattle.m2_rule.specs.declared.breach.Breach.{Breach}
@@ -38,7 +38,7 @@ use Rattle.def_typing.specs.Declarations as rules
 use Rattle.def_typing.specs.Declarations.{Declaration, declared_by, declarations_of, IsThere, types_behind}
 use Rattle.def_typing.specs.Imports as imports
 use Rattle.def_typing.specs.Imports.{all_imported, Origin, Itself, Exported, Brings}
-use Rattle.law_typing.specs.Judging.{Judges, Reports, reports_nothing, reports_broken}
+use Rattle.law_typing.specs.Judging.{Judges, Accounts, Reports, reports_nothing, reports_broken}
 use Rattle.law_typing.specs.Exact.{standing, of_local, Knows, Repeats, of_heading, of_declaration, TakenAs, is_taken, not_taken, IsPlainLayer, ArePlainDecls}
 use Rattle.law_typing.proofs.Combining.{Lawful, Tells, silent, tells}
 use Rattle.law_typing.proofs.Declaring.{KnownAs, outer, ahead, reading, behind, a_member, KnowsBlock, standings, all_stand}
@@ -49,6 +49,7 @@ use Rattle.law_importing.proofs.Behind.{first_imports}
 use Rattle.law_importing.proofs.Defining.{definition_imports}
 use Rattle.law_defining.specs.Exact.{declared_in, all_declared, IsPlainDef, ArePlainDefs, none, IsTaken, by_import, by_none, AreSound, IsAnswered, is_table, is_refused, IsDefinitionExact, DefinitionsAreExact}
 use Rattle.law_defining.proofs.Sections.{Ran, defs_ran}
+use Rattle.law_defining.proofs.Finding.{Finds}
 
 -- ---- a definition marks its names as a block does
 
@@ -110,7 +111,7 @@ local_headed t kind.Value e = absurd cc
 local_headed t kind.Alias e = absurd cc
 local_headed t kind.Open e = absurd cc
 
-meaning_known : (m : Meaning) → standing m ≡ Unknown → ⊥
+pub meaning_known : (m : Meaning) → standing m ≡ Unknown → ⊥
 meaning_known (meaning.Constant v) e = absurd cc
 meaning_known (meaning.Type t n) e = absurd cc
 meaning_known (meaning.Variable v) e = absurd cc
@@ -122,7 +123,7 @@ meaning_known meaning.Ahead e = absurd cc
 meaning_known (meaning.Standard f) e = absurd cc
 meaning_known (meaning.Module k) e = absurd cc
 
-meaning_headed : (m : Meaning) → standing m ≡ things.Known Headless → ⊥
+pub meaning_headed : (m : Meaning) → standing m ≡ things.Known Headless → ⊥
 meaning_headed (meaning.Constant v) e = absurd cc
 meaning_headed (meaning.Type t n) e = absurd cc
 meaning_headed (meaning.Variable v) e = absurd cc
@@ -140,7 +141,7 @@ origin_taken (Exported k) r = refl
 
 -- ---- one definition
 
-module _ (g : Gathers) (j : Judges g) (lawful : Lawful g j) (home : ℕ) (m : Module) (tables : List Table) (exports : ℕ → Ident → Standing) (outside names : Ident → Standing) (knows : Knows g j outside exports (first_scope home tables)) (sound : AreSound outside)
+module _ (g : Gathers) (j : Judges g) (lawful : Lawful g j) (found : Finds g j) (home : ℕ) (m : Module) (tables : List Table) (exports : ℕ → Ident → Standing) (outside names : Ident → Standing) (knows : Knows g j outside exports (first_scope home tables)) (sound : AreSound outside)
     (stands : (name : Ident) → StandsFor tables none (all_imported m.imports) outside name (names name)) (taken : List ℕ → Bool) (takes : (n : List ℕ) → IsTaken tables (all_imported m.imports) n (taken n)) (defs : List Def) (plain : ArePlainDefs defs) where
   abbrev S : Type 0
   S = Scope g.Reported
@@ -269,9 +270,18 @@ module _ (g : Gathers) (j : Judges g) (lawful : Lawful g j) (home : ℕ) (m : Mo
   no_repeats f (of_heading {name = name} e q a) = (names_sound name (stands name)).1 e
   no_repeats f (of_declaration {name = name} e q a) = (names_sound name (stands name)).0 e
 
-  table_by : {B : Breach → Type 0} (modules : List (List ℕ × ℕ)) (s : S) {r : Result (Unit {0}) g.Reported} → Tells g j lawful Rep B r → IsAnswered g j B (table_or m modules s r)
-  table_by modules s (silent n) = is_table (table_of m modules s) n
-  table_by modules s (tells r a) = is_refused r (record { only = λ f q. elim (a.only f q) [ inl b ↦ inl b | inr z ↦ absurd (no_repeats f z) ]; each = a.each })
+  -- a table, or what is reported
+  data Tabled (B : Breach → Type 0) : Result Table g.Reported → Type 0 where
+    a_table : (t : Table) → ((f : Breach) → B f → ⊥) → Tabled B (Ok t)
+    a_refusal : (r : g.Reported) → Accounts g j (λ f. ⊥) B r → Tabled B (Err r)
+
+  table_by : {B : Breach → Type 0} (modules : List (List ℕ × ℕ)) (s : S) {r : Result (Unit {0}) g.Reported} → Tells g j lawful Rep B r → Tabled B (table_or m modules s r)
+  table_by modules s (silent n) = a_table (table_of m modules s) n
+  table_by modules s (tells r a) = a_refusal r (record { only = λ f q. elim (a.only f q) [ inl b ↦ inl b | inr z ↦ absurd (no_repeats f z) ]; each = a.each })
+
+  answered_by : {B : Breach → Type 0} {r : Result Table g.Reported} → ((e : g.Reported) → r ≡ Err e → (f : Breach) × j.Among e f) → Tabled B r → IsAnswered g j B r
+  answered_by h (a_table t n) = is_table t n
+  answered_by h (a_refusal e a) = let x = h e refl in is_refused e a x.0 (elim (a.only x.0 x.1) [ inl b ↦ b | inr z ↦ absurd z ])
 
   abbrev Broken : Breach → Type 0
   Broken f = Before f ⊎ Within all_of_it.0 f
@@ -282,18 +292,18 @@ module _ (g : Gathers) (j : Judges g) (lawful : Lawful g j) (home : ℕ) (m : Mo
   abbrev from_scope : S → State (Unit {0}) g.Reported
   from_scope s = fold (with_def g) (fold (with_import g modules) (s, Ok tt) m.imports) defs
 
-  tabled : IsAnswered g j Broken (of_contents g home m tables (contents.Definition defs))
-  tabled = subst (λ (s : S). IsAnswered g j Broken (table_or m modules (from_scope s).0 (from_scope s).1)) (sym marks_rest) (table_by modules (from_scope (with_own marked.own)).0 all_of_it.2.1)
+  tabled : Tabled Broken (of_contents g home m tables (contents.Definition defs))
+  tabled = subst (λ (s : S). Tabled Broken (table_or m modules (from_scope s).0 (from_scope s).1)) (sym marks_rest) (table_by modules (from_scope (with_own marked.own)).0 all_of_it.2.1)
 
   pub definition_answers : (given : List Table) → tables ≡ given ++ console ∷ [] → m.contents ≡ contents.Definition defs → IsDefinitionExact g j home m given tables exports names taken defs
   definition_answers given e q = record {
     whole = all_of_it.0;
     in_text = all_of_it.1;
     added = all_of_it.2.2 rules.nothing_declared;
-    answered = subst (λ (ts : List Table). IsAnswered g j Broken (of_contents g home m ts m.contents)) e (subst (λ (c : Contents). IsAnswered g j Broken (of_contents g home m tables c)) (sym q) tabled);
+    answered = answered_by (λ r z. found home m given r z) (subst (λ (ts : List Table). Tabled Broken (of_contents g home m ts m.contents)) e (subst (λ (c : Contents). Tabled Broken (of_contents g home m tables c)) (sym q) tabled));
     stand = (standings g j exports names start taken false block knows_start refl all_of_it.2.0, all_stand g j exports names start taken false block knows_start refl all_of_it.2.0);
   }
 
-pub definitions_answer : (g : Gathers) (j : Judges g) → Lawful g j → DefinitionsAreExact g j
-definitions_answer g j lawful home m given tables e exports outside names knows sound stands taken takes defs q plain =
-    definition_answers g j lawful home m tables exports outside names knows sound stands taken takes defs plain given e q
+pub definitions_answer : (g : Gathers) (j : Judges g) → Lawful g j → Finds g j → DefinitionsAreExact g j
+definitions_answer g j lawful found home m given tables e exports outside names knows sound stands taken takes defs q plain =
+    definition_answers g j lawful found home m tables exports outside names knows sound stands taken takes defs plain given e q

@@ -71,11 +71,12 @@ met_types home tables = record { home = home; own = []; others = others_of table
 
 -- ---- what is answered
 
--- A table is answered if no rule is broken, and else broken rules are reported.
+-- A table is answered exactly if no rule is broken, and else broken rules are reported.
 pub data IsAnswered (g : Gathers) (j : Judges g) (Breaks : Breach → Type 0)
     : Result Table g.Reported → Type 0 where
   is_table : (t : Table) → ((f : Breach) → Breaks f → ⊥) → IsAnswered g j Breaks (Ok t)
-  is_refused : (r : g.Reported) → Accounts g j (λ f. ⊥) Breaks r → IsAnswered g j Breaks (Err r)
+  is_refused : (r : g.Reported) → Accounts g j (λ f. ⊥) Breaks r → (f : Breach) → Breaks f
+      → IsAnswered g j Breaks (Err r)
 
 -- what is known of a definition that imports from these tables
 pub record IsDefinitionExact (g : Gathers) (j : Judges g) (home : ℕ) (m : Module)
@@ -88,8 +89,8 @@ pub record IsDefinitionExact (g : Gathers) (j : Judges g) (home : ℕ) (m : Modu
   pub added : AllAdded (met_types home tables) exports names taken false (all_declared defs) whole
   -- Exactly the rules that are broken in imports and in declarations are reported.
   pub answered : IsAnswered g j (λ f. imports.BrokenIn tables none (all_imported m.imports) f
-      ⊎ blocks.BrokenIn (met_types home tables) exports names taken false (all_declared defs) whole f)
-      (definition_table g home m imported)
+      ⊎ blocks.BrokenIn (met_types home tables) exports names taken false (all_declared defs) whole
+      f) (definition_table g home m imported)
   -- Each name stands for something behind them.
   pub stand : (last : Ident → Standing)
       × AllStand (met_types home tables) exports names taken false (all_declared defs) whole last
@@ -105,3 +106,14 @@ DefinitionsAreExact g j =
     → ((n : List ℕ) → IsTaken tables (all_imported m.imports) n (taken n))
     → (defs : List Def) → m.contents ≡ contents.Definition defs → ArePlainDefs defs
     → IsDefinitionExact g j home m imported tables exports names taken defs
+
+-- For each definition there is what names stand for before its declarations, and no rule is broken
+-- where the names outside are declared. So the law above speaks of each.
+abbrev pub DefinitionsAreKnown : (g : Gathers) → Judges g → Type 0
+DefinitionsAreKnown g j =
+    (home : ℕ) (m : Module) (tables : List Table)
+    → (exports : ℕ → Ident → Standing) × (outside : Ident → Standing)
+    × (names : Ident → Standing) × (taken : List ℕ → Bool)
+    × Knows g j outside exports (first_scope home tables) × AreSound outside
+    × ((name : Ident) → StandsFor tables none (all_imported m.imports) outside name (names name))
+    × ((n : List ℕ) → IsTaken tables (all_imported m.imports) n (taken n))

@@ -6,17 +6,24 @@
 //! and bounds call nothing (`ArePlainDefs`).
 //!
 //! - `specs/Exact` says what is answered of a definition.
-//! - `proofs/Sections` goes from one declaration to the next, and `proofs/Starting` says what is known before the first one.
+//! - `proofs/Sections` goes from one declaration to the next, `proofs/Starting` says what is known before the first one,
+//!   `proofs/Finding` that a refusal has a rule, and `proofs/Outside` what names stand for outside.
 #![tactic(auto)]
 
 ghost use Rattle.check_scope.specs.Elaborated.{every, least};
 ghost use Rattle.law_typing.specs.Judging.{all_of_them, the_least};
-ghost use Rattle.law_defining.specs.Exact.{DefinitionsAreExact};
+ghost use Rattle.law_defining.specs.Exact.{DefinitionsAreExact, DefinitionsAreKnown};
 
-/// A definition has a table only if no rule is broken in its imports and in its declarations. Else what is reported are
+/// A definition has a table exactly if no rule is broken in its imports and in its declarations. Else what is reported are
 /// exactly the rules that are broken there; and the least refusal is a broken rule, and no broken rule is less, by place and
 /// then by number.
 pub fn definition_laws()
     ensures every_rule { DefinitionsAreExact every all_of_them }
     ensures least_rule { DefinitionsAreExact least the_least }
+{}
+
+/// No definition lacks what names stand for before its declarations, so the law above speaks of each.
+pub fn definition_scope_laws()
+    ensures every_rule { DefinitionsAreKnown every all_of_them }
+    ensures least_rule { DefinitionsAreKnown least the_least }
 {}
