@@ -17,6 +17,7 @@ use Rattle.typed_tree.specs.declared.meaning.LocalKind.{LocalKind}
 use Rattle.typed_tree.specs.declared.meaning.LocalKind.TheVariants as kind
 use Rattle.typed_tree.specs.declared.meaning.Meaning.{Meaning}
 use Rattle.typed_tree.specs.declared.meaning.Meaning.TheVariants as meaning
+use Rattle.typed_tree.specs.declared.known_types.Types.{Types}
 use Rattle.typed_tree.specs.declared.table.Table.{Table}
 use Rattle.typed_tree.specs.Names.{find_name}
 use Rattle.check_scope.specs.declared.known.Known.{Known}
@@ -27,6 +28,7 @@ use Rattle.check_definition.specs.Marking.{marked_def}
 use Rattle.check_definition.specs.Predeclared.{console, first_scope}
 use Rattle.check_definition.specs.Importing.{numbered_modules, with_import}
 use Rattle.check_definition.specs.Declare.{with_def}
+use Rattle.check_definition.specs.Export.{reached_of, imported_modules}
 use Rattle.check_definition.specs.Compiled.{table_of, table_or, of_contents}
 use Rattle.check_block.specs.Naming.{marked_layer, marked_decl, with_marks}
 use Rattle.check_block.specs.Headings.{standing_from}
@@ -41,13 +43,13 @@ use Rattle.def_typing.specs.Imports.{all_imported, Origin, Itself, Exported, Bri
 use Rattle.law_typing.specs.Judging.{Judges, Accounts, Reports, reports_nothing, reports_broken}
 use Rattle.law_typing.specs.Exact.{standing, of_local, Knows, Repeats, of_heading, of_declaration, TakenAs, is_taken, not_taken, IsPlainLayer, ArePlainDecls}
 use Rattle.law_typing.proofs.Combining.{Lawful, Tells, silent, tells}
-use Rattle.law_typing.proofs.Declaring.{KnownAs, outer, ahead, reading, behind, a_member, KnowsBlock, standings, all_stand}
+use Rattle.law_typing.proofs.Declaring.{KnownAs, outer, ahead, reading, behind, a_member, KnowsBlock, home_same, standings, all_stand}
 use Rattle.law_typing.proofs.Beginning.{clash}
 use Rattle.law_typing.proofs.Marking.{block_begins}
 use Rattle.law_importing.specs.Exact.{origin, StandsFor, imported, from_outside, imported_all, AreImportsExact}
 use Rattle.law_importing.proofs.Behind.{first_imports}
 use Rattle.law_importing.proofs.Defining.{definition_imports}
-use Rattle.law_defining.specs.Exact.{declared_in, all_declared, IsPlainDef, ArePlainDefs, none, IsTaken, by_import, by_none, AreSound, IsAnswered, is_table, is_refused, IsDefinitionExact, DefinitionsAreExact}
+use Rattle.law_defining.specs.Exact.{declared_in, all_declared, IsPlainDef, ArePlainDefs, none, IsTaken, by_import, by_none, AreSound, IsTable, IsAnswered, is_table, is_refused, IsDefinitionExact, DefinitionsAreExact}
 use Rattle.law_defining.proofs.Sections.{Ran, defs_ran}
 use Rattle.law_defining.proofs.Finding.{Finds}
 
@@ -271,16 +273,16 @@ module _ (g : Gathers) (j : Judges g) (lawful : Lawful g j) (found : Finds g j) 
   no_repeats f (of_declaration {name = name} e q a) = (names_sound name (stands name)).0 e
 
   -- a table, or what is reported
-  data Tabled (B : Breach → Type 0) : Result Table g.Reported → Type 0 where
-    a_table : (t : Table) → ((f : Breach) → B f → ⊥) → Tabled B (Ok t)
-    a_refusal : (r : g.Reported) → Accounts g j (λ f. ⊥) B r → Tabled B (Err r)
+  data Tabled (Is : Table → Type 0) (B : Breach → Type 0) : Result Table g.Reported → Type 0 where
+    a_table : (t : Table) → Is t → ((f : Breach) → B f → ⊥) → Tabled Is B (Ok t)
+    a_refusal : (r : g.Reported) → Accounts g j (λ f. ⊥) B r → Tabled Is B (Err r)
 
-  table_by : {B : Breach → Type 0} (modules : List (List ℕ × ℕ)) (s : S) {r : Result (Unit {0}) g.Reported} → Tells g j lawful Rep B r → Tabled B (table_or m modules s r)
-  table_by modules s (silent n) = a_table (table_of m modules s) n
-  table_by modules s (tells r a) = a_refusal r (record { only = λ f q. elim (a.only f q) [ inl b ↦ inl b | inr z ↦ absurd (no_repeats f z) ]; each = a.each })
+  table_by : {Is : Table → Type 0} {B : Breach → Type 0} (modules : List (List ℕ × ℕ)) (s : S) → Is (table_of m modules s) → {r : Result (Unit {0}) g.Reported} → Tells g j lawful Rep B r → Tabled Is B (table_or m modules s r)
+  table_by modules s i (silent n) = a_table (table_of m modules s) i n
+  table_by modules s i (tells r a) = a_refusal r (record { only = λ f q. elim (a.only f q) [ inl b ↦ inl b | inr z ↦ absurd (no_repeats f z) ]; each = a.each })
 
-  answered_by : {B : Breach → Type 0} {r : Result Table g.Reported} → ((e : g.Reported) → r ≡ Err e → (f : Breach) × j.Among e f) → Tabled B r → IsAnswered g j B r
-  answered_by h (a_table t n) = is_table t n
+  answered_by : {Is : Table → Type 0} {B : Breach → Type 0} {r : Result Table g.Reported} → ((e : g.Reported) → r ≡ Err e → (f : Breach) × j.Among e f) → Tabled Is B r → IsAnswered g j Is B r
+  answered_by h (a_table t i n) = is_table t i n
   answered_by h (a_refusal e a) = let x = h e refl in is_refused e a x.0 (elim (a.only x.0 x.1) [ inl b ↦ b | inr z ↦ absurd z ])
 
   abbrev Broken : Breach → Type 0
@@ -292,15 +294,26 @@ module _ (g : Gathers) (j : Judges g) (lawful : Lawful g j) (found : Finds g j) 
   abbrev from_scope : S → State (Unit {0}) g.Reported
   from_scope s = fold (with_def g) (fold (with_import g modules) (s, Ok tt) m.imports) defs
 
-  tabled : Tabled Broken (of_contents g home m tables (contents.Definition defs))
-  tabled = subst (λ (s : S). Tabled Broken (table_or m modules (from_scope s).0 (from_scope s).1)) (sym marks_rest) (table_by modules (from_scope (with_own marked.own)).0 all_of_it.2.1)
+  abbrev Is : Table → Type 0
+  Is = IsTable home m tables all_of_it.0
+
+  its_table : Is (table_of m modules (fold (with_def g) entered defs).0)
+  its_table = let k = all_of_it.2.0.same in record {
+    of_number = ap (λ (t : Types). t.home) k.types ∙ home_same g j exports names start taken false block knows_start refl all_of_it.0;
+    of_name = refl;
+    of_imports = ap (λ (ts : List Table). imported_modules modules ts m.imports) k.tables;
+    of_types = ap (λ (t : Types). reached_of t) k.types;
+  }
+
+  tabled : Tabled Is Broken (of_contents g home m tables (contents.Definition defs))
+  tabled = subst (λ (s : S). Tabled Is Broken (table_or m modules (from_scope s).0 (from_scope s).1)) (sym marks_rest) (table_by modules (from_scope (with_own marked.own)).0 its_table all_of_it.2.1)
 
   pub definition_answers : (given : List Table) → tables ≡ given ++ console ∷ [] → m.contents ≡ contents.Definition defs → IsDefinitionExact g j home m given tables exports names taken defs
   definition_answers given e q = record {
     whole = all_of_it.0;
     in_text = all_of_it.1;
     added = all_of_it.2.2 rules.nothing_declared;
-    answered = answered_by (λ r z. found home m given r z) (subst (λ (ts : List Table). Tabled Broken (of_contents g home m ts m.contents)) e (subst (λ (c : Contents). Tabled Broken (of_contents g home m tables c)) (sym q) tabled));
+    answered = answered_by (λ r z. found home m given r z) (subst (λ (ts : List Table). Tabled Is Broken (of_contents g home m ts m.contents)) e (subst (λ (c : Contents). Tabled Is Broken (of_contents g home m tables c)) (sym q) tabled));
     stand = (standings g j exports names start taken false block knows_start refl all_of_it.2.0, all_stand g j exports names start taken false block knows_start refl all_of_it.2.0);
   }
 

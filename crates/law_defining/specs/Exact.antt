@@ -14,11 +14,13 @@ use Rattle.typed_tree.specs.declared.known_types.Types.{Types}
 use Rattle.typed_tree.specs.declared.table.Table.{Table}
 use Rattle.check_scope.specs.Elaborated.{Gathers}
 use Rattle.check_definition.specs.Predeclared.{console, others_of, first_scope}
+use Rattle.check_definition.specs.Importing.{numbered_modules}
+use Rattle.check_definition.specs.Export.{reached_of, imported_modules}
 use Rattle.check_definition.specs.Compiled.{definition_table}
 use Rattle.def_typing.specs.Things.{Headless, Standing, Known, Unknown}
 use Rattle.def_typing.specs.Parts.{Among}
 use Rattle.def_typing.specs.Declarations as blocks
-use Rattle.def_typing.specs.Declarations.{Declaration, OfConstant, OfType, OfVariables, OfProcedure, Declared as Resolved, in_order, AllAdded, AllStand}
+use Rattle.def_typing.specs.Declarations.{Declaration, OfConstant, OfType, OfVariables, OfProcedure, Declared as Resolved, in_order, types_behind, AllAdded, AllStand}
 use Rattle.def_typing.specs.Imports as imports
 use Rattle.def_typing.specs.Imports.{Imported, all_imported, Origin, Brings}
 use Rattle.law_typing.specs.Judging.{Judges, Accounts}
@@ -71,12 +73,21 @@ met_types home tables = record { home = home; own = []; others = others_of table
 
 -- ---- what is answered
 
+-- what its table has beside the names that it exports
+pub record IsTable (home : ℕ) (m : Module) (tables : List Table) (whole : List Resolved)
+    (t : Table) : Type 0 where
+  pub of_number : t.number ≡ home
+  pub of_name : t.name ≡ m.name.name
+  pub of_imports : t.imports ≡ imported_modules (numbered_modules tables).0 tables m.imports
+  -- the types that are met through it: those of the tables, and those that its declarations make
+  pub of_types : t.reached ≡ reached_of (types_behind (met_types home tables) whole)
+
 -- A table is answered exactly if no rule is broken, and else broken rules are reported.
-pub data IsAnswered (g : Gathers) (j : Judges g) (Breaks : Breach → Type 0)
+pub data IsAnswered (g : Gathers) (j : Judges g) (Is : Table → Type 0) (Breaks : Breach → Type 0)
     : Result Table g.Reported → Type 0 where
-  is_table : (t : Table) → ((f : Breach) → Breaks f → ⊥) → IsAnswered g j Breaks (Ok t)
+  is_table : (t : Table) → Is t → ((f : Breach) → Breaks f → ⊥) → IsAnswered g j Is Breaks (Ok t)
   is_refused : (r : g.Reported) → Accounts g j (λ f. ⊥) Breaks r → (f : Breach) → Breaks f
-      → IsAnswered g j Breaks (Err r)
+      → IsAnswered g j Is Breaks (Err r)
 
 -- what is known of a definition that imports from these tables
 pub record IsDefinitionExact (g : Gathers) (j : Judges g) (home : ℕ) (m : Module)
@@ -88,7 +99,8 @@ pub record IsDefinitionExact (g : Gathers) (j : Judges g) (home : ℕ) (m : Modu
   -- Each declaration adds the types and constants that the rules say.
   pub added : AllAdded (met_types home tables) exports names taken false (all_declared defs) whole
   -- Exactly the rules that are broken in imports and in declarations are reported.
-  pub answered : IsAnswered g j (λ f. imports.BrokenIn tables none (all_imported m.imports) f
+  pub answered : IsAnswered g j (IsTable home m tables whole)
+      (λ f. imports.BrokenIn tables none (all_imported m.imports) f
       ⊎ blocks.BrokenIn (met_types home tables) exports names taken false (all_declared defs) whole
       f) (definition_table g home m imported)
   -- Each name stands for something behind them.

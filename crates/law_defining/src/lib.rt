@@ -16,7 +16,7 @@ ghost use Rattle.law_defining.specs.Exact.{DefinitionsAreExact, DefinitionsAreKn
 
 /// A definition has a table exactly if no rule is broken in its imports and in its declarations. Else what is reported are
 /// exactly the rules that are broken there; and the least refusal is a broken rule, and no broken rule is less, by place and
-/// then by number.
+/// then by number. Its table has the types that the rules say. Of the names that it exports nothing is said here.
 pub fn definition_laws()
     ensures every_rule { DefinitionsAreExact every all_of_them }
     ensures least_rule { DefinitionsAreExact least the_least }
