@@ -1,0 +1,5 @@
+pub mod Sections
+pub mod Finding
+pub mod Once
+pub mod Starting
+pub mod Outside

@@ -1,0 +1,328 @@
+-- Where the declarations of a definition begin, its imports are known, and its own names are marked.
+use Rattle.std.proofs.Common.{◌≡◌, ℕ, Bool, true, false, List, [], ◌∷◌, ◌++◌, Option, Result, Ok, Err, ◌⊎◌, inl, inr, refl, sym, ap, subst, ◌∙◌, None, Some}
+use Rattle.std.specs.Prelude.{map}
+use Rattle.std.specs.List.{fold}
+use Rattle.m2_rule.specs.declared.breach.Breach.{Breach}
+use Rattle.m2_tree.specs.declared.name.Ident.{Ident}
+use Rattle.m2_tree.specs.declared.decl.Def.{Def}
+use Rattle.m2_tree.specs.declared.decl.Def.TheVariants as def
+use Rattle.m2_tree.specs.declared.decl.Decl.{Decl, Decl-F, out-Decl, roll-Decl, out-roll-Decl}
+use Rattle.m2_tree.specs.declared.decl.Decl.TheOpen as decl
+use Rattle.m2_tree.specs.declared.decl.Block.{Block}
+use Rattle.m2_tree.specs.declared.decl.Contents.{Contents}
+use Rattle.m2_tree.specs.declared.decl.Contents.TheVariants as contents
+use Rattle.m2_tree.specs.declared.decl.Module.{Module}
+use Rattle.typed_tree.specs.declared.types.TypeNo.{TypeNo}
+use Rattle.typed_tree.specs.declared.meaning.LocalKind.{LocalKind}
+use Rattle.typed_tree.specs.declared.meaning.LocalKind.TheVariants as kind
+use Rattle.typed_tree.specs.declared.meaning.Meaning.{Meaning}
+use Rattle.typed_tree.specs.declared.meaning.Meaning.TheVariants as meaning
+use Rattle.typed_tree.specs.declared.known_types.Types.{Types}
+use Rattle.typed_tree.specs.declared.table.Table.{Table}
+use Rattle.typed_tree.specs.Names.{find_name}
+use Rattle.check_scope.specs.declared.known.Known.{Known}
+use Rattle.check_scope.specs.declared.scope.Scope.{Scope}
+use Rattle.check_scope.specs.Elaborated.{Gathers}
+use Rattle.check_scope.specs.Scopes.{State}
+use Rattle.check_definition.specs.Marking.{marked_def}
+use Rattle.check_definition.specs.Predeclared.{console, first_scope}
+use Rattle.check_definition.specs.Importing.{numbered_modules, with_import}
+use Rattle.check_definition.specs.Declare.{with_def}
+use Rattle.check_definition.specs.Export.{reached_of, imported_modules}
+use Rattle.check_definition.specs.Compiled.{table_of, table_or, of_contents}
+use Rattle.check_block.specs.Naming.{marked_layer, marked_decl, with_marks}
+use Rattle.check_block.specs.Headings.{standing_from}
+use Rattle.check_block.specs.declared.heading.Standing.TheVariants as place
+use Rattle.def_typing.specs.Things as things
+use Rattle.def_typing.specs.Things.{Headless, Standing, Unknown}
+use Rattle.def_typing.specs.Parts.{here, later}
+use Rattle.def_typing.specs.Declarations as rules
+use Rattle.def_typing.specs.Declarations.{Declaration, declared_by, declarations_of, IsThere, types_behind}
+use Rattle.def_typing.specs.Imports as imports
+use Rattle.def_typing.specs.Imports.{all_imported, Origin, Itself, Exported, Brings}
+use Rattle.law_typing.specs.Judging.{Judges, Accounts, Reports, reports_nothing, reports_broken}
+use Rattle.law_typing.specs.Exact.{no_names, standing, of_local, Knows, Repeats, of_heading, of_declaration, TakenAs, is_taken, not_taken, IsPlainLayer, ArePlainDecls}
+use Rattle.law_typing.proofs.Combining.{Lawful, Tells, silent, tells}
+use Rattle.law_typing.proofs.Declaring.{headed, KnownAs, outer, ahead, reading, behind, a_member, KnowsBlock, home_same, standings, all_stand}
+use Rattle.law_typing.proofs.Beginning.{clash}
+use Rattle.law_typing.proofs.Marking.{block_begins}
+use Rattle.law_importing.specs.Exact.{origin, StandsFor, imported, from_outside, imported_all, AreImportsExact}
+use Rattle.law_importing.proofs.Behind.{first_imports}
+use Rattle.law_importing.proofs.Defining.{definition_imports}
+use Rattle.law_defining.proofs.Once.{imports_once}
+use Rattle.law_defining.specs.Exact.{none_awaited, declared_in, all_declared, IsPlainDef, ArePlainDefs, none, IsTaken, by_import, by_none, AreSound, IsTable, IsAnswered, is_table, is_refused, IsDefinitionExact, DefinitionsAreExact}
+use Rattle.law_defining.proofs.Sections.{Ran, defs_ran}
+use Rattle.law_defining.proofs.Finding.{Finds}
+
+-- ---- a definition marks its names as a block does
+
+abbrev layer_of : Def → Decl-F Decl Block
+layer_of (def.Constants cs) = decl.Constants cs
+layer_of (def.Types ts) = decl.Types ts
+layer_of (def.Variables vs) = decl.Variables vs
+layer_of (def.Procedure h) = decl.Constants []
+
+abbrev decl_of : Def → Decl
+decl_of d = roll-Decl (layer_of d)
+
+decl_is : (d : Def) → out-Decl (decl_of d) ≡ layer_of d
+decl_is d = out-roll-Decl (layer_of d)
+
+layer_plain : (d : Def) → IsPlainDef d → IsPlainLayer (layer_of d)
+layer_plain (def.Constants cs) i = i
+layer_plain (def.Types ts) i = i
+layer_plain (def.Variables vs) i = i
+layer_plain (def.Procedure h) i = absurd i
+
+layer_declares : (d : Def) → IsPlainDef d → declared_by (layer_of d) ≡ declared_in d
+layer_declares (def.Constants cs) i = refl
+layer_declares (def.Types ts) i = refl
+layer_declares (def.Variables vs) i = refl
+layer_declares (def.Procedure h) i = absurd i
+
+layer_marks : {T : Type 0} (s : Scope T) (d : Def) → IsPlainDef d → marked_layer s (layer_of d) ≡ marked_def s d
+layer_marks s (def.Constants cs) i = refl
+layer_marks s (def.Types ts) i = refl
+layer_marks s (def.Variables vs) i = refl
+layer_marks s (def.Procedure h) i = absurd i
+
+decls_plain : (ds : List Def) → ArePlainDefs ds → ArePlainDecls (map decl_of ds)
+decls_plain [] i d m = elim m [ ]
+decls_plain (x ∷ xs) i _ here = subst (λ (y : Decl-F Decl Block). IsPlainLayer y) (sym (decl_is x)) (layer_plain x (i x here))
+decls_plain (x ∷ xs) i d (later m) = decls_plain xs (λ y n. i y (later n)) d m
+
+decls_declare : (ds : List Def) → ArePlainDefs ds → declarations_of (map decl_of ds) ≡ all_declared ds
+decls_declare [] i = refl
+decls_declare (x ∷ xs) i = ap (λ (y : Decl-F Decl Block). declared_by y ++ declarations_of (map decl_of xs)) (decl_is x) ∙ ap (λ (ys : List Declaration). ys ++ declarations_of (map decl_of xs)) (layer_declares x (i x here))
+    ∙ ap (λ (ys : List Declaration). declared_in x ++ ys) (decls_declare xs (λ y n. i y (later n)))
+
+decls_mark : {T : Type 0} (ds : List Def) → ArePlainDefs ds → (s : Scope T) (ns : List ℕ) → (fold (with_marks marked_decl) (s, ns) (map decl_of ds)).0 ≡ fold marked_def s ds
+decls_mark [] i s ns = refl
+decls_mark {T = T} (x ∷ xs) i s ns = decls_mark xs (λ y n. i y (later n)) (marked_decl s (decl_of x)) _ ∙ ap (λ (t : Scope T). fold marked_def t xs) (ap (λ (y : Decl-F Decl Block). marked_layer s y) (decl_is x) ∙ layer_marks s x (i x here))
+
+-- ---- no rule is broken where an imported name is declared
+
+local_known : (t : TypeNo) (k : LocalKind) → of_local t k ≡ Unknown → ⊥
+local_known t kind.Variable e = absurd cc
+local_known t kind.Value e = absurd cc
+local_known t kind.Alias e = absurd cc
+local_known t kind.Open e = absurd cc
+
+local_headed : (t : TypeNo) (k : LocalKind) → of_local t k ≡ things.Known Headless → ⊥
+local_headed t kind.Variable e = absurd cc
+local_headed t kind.Value e = absurd cc
+local_headed t kind.Alias e = absurd cc
+local_headed t kind.Open e = absurd cc
+
+pub meaning_known : (m : Meaning) → standing m ≡ Unknown → ⊥
+meaning_known (meaning.Constant v) e = absurd cc
+meaning_known (meaning.Type t n) e = absurd cc
+meaning_known (meaning.Variable v) e = absurd cc
+meaning_known (meaning.Local v) e = local_known v.of v.kind e
+meaning_known (meaning.Field f) e = absurd cc
+meaning_known (meaning.Procedure p) e = absurd cc
+meaning_known (meaning.LocalProcedure p) e = absurd cc
+meaning_known meaning.Ahead e = absurd cc
+meaning_known (meaning.Standard f) e = absurd cc
+meaning_known (meaning.Module k) e = absurd cc
+
+pub meaning_headed : (m : Meaning) → standing m ≡ things.Known Headless → ⊥
+meaning_headed (meaning.Constant v) e = absurd cc
+meaning_headed (meaning.Type t n) e = absurd cc
+meaning_headed (meaning.Variable v) e = absurd cc
+meaning_headed (meaning.Local v) e = local_headed v.of v.kind e
+meaning_headed (meaning.Field f) e = absurd cc
+meaning_headed (meaning.Procedure p) e = absurd cc
+meaning_headed (meaning.LocalProcedure p) e = absurd cc
+meaning_headed meaning.Ahead e = absurd cc
+meaning_headed (meaning.Standard f) e = absurd cc
+meaning_headed (meaning.Module k) e = absurd cc
+
+origin_taken : {T : Type 0} (u : Origin) (r : Result Meaning T) → standing_from (origin u) r ≡ place.Taken
+origin_taken (Itself k) r = refl
+origin_taken (Exported k) r = refl
+
+-- ---- one definition
+
+module _ (g : Gathers) (j : Judges g) (lawful : Lawful g j) (found : Finds g j) (home : ℕ) (m : Module) (tables : List Table) (exports : ℕ → Ident → Standing) (outside names : Ident → Standing) (knows : Knows g j outside exports (first_scope home tables)) (sound : AreSound outside)
+    (stands : (name : Ident) → StandsFor tables none (all_imported m.imports) outside name (names name)) (taken : List ℕ → Bool) (takes : (n : List ℕ) → IsTaken tables (all_imported m.imports) n (taken n)) (defs : List Def) (plain : ArePlainDefs defs) where
+  abbrev S : Type 0
+  S = Scope g.Reported
+
+  abbrev first : S
+  first = first_scope home tables
+
+  abbrev with_own : List (List ℕ × Known g.Reported) → S
+  with_own own = record first { own = own }
+
+  abbrev There : List ℕ → Origin → Meaning → Type 0
+  There = Brings tables none (all_imported m.imports)
+
+  abbrev block : List Declaration
+  block = all_declared defs
+
+  -- behind the imports, if nothing is marked
+  bare : AreImportsExact g j none first m.imports
+  bare = first_imports g j lawful home tables m.imports
+
+  abbrev start : S
+  start = with_own (imported_all g first m.imports).0.own
+
+  knows_start : Knows g j names exports start
+  knows_start = subst (λ (s : S). Knows g j names exports s) bare.rest (bare.known exports outside names knows refl stands)
+
+  takes_by : (n : List ℕ) (b : Bool) → IsTaken tables (all_imported m.imports) n b → TakenAs g j b None (find_name n start.own)
+  takes_by n _ (by_import o w i) = subst (λ (k : Option (Known g.Reported)). TakenAs g j true None k) (sym (bare.brought n o w i)) (is_taken (origin_taken o (Ok w)))
+  takes_by n _ (by_none c) = subst (λ (k : Option (Known g.Reported)). TakenAs g j false None k) (sym (bare.other n c)) not_taken
+
+  takes_start : (n : List ℕ) → TakenAs g j (taken n) None (find_name n start.own)
+  takes_start n = takes_by n (taken n) (takes n)
+
+  -- with what is marked before
+  abbrev marked : S
+  marked = fold marked_def first defs
+
+  marks_rest : marked ≡ with_own marked.own
+  marks_rest = (definition_imports g j lawful home tables defs m.imports).0
+
+  kept : AreImportsExact g j none (with_own marked.own) m.imports
+  kept = subst (λ (s : S). AreImportsExact g j none s m.imports) marks_rest (definition_imports g j lawful home tables defs m.imports).1
+
+  abbrev entered : State (Unit {0}) g.Reported
+  entered = imported_all g (with_own marked.own) m.imports
+
+  -- ---- what is known of names
+
+  abbrev Th : List ℕ → Type 0
+  Th = rules.There start.types exports names taken none_awaited false block []
+
+  abbrev ThBare : List ℕ → Type 0
+  ThBare = rules.There first.types exports outside none none_awaited false block []
+
+  marks_begin : KnowsBlock g j exports outside first none none_awaited false block [] block ThBare marked
+  marks_begin = subst (λ (s : S). KnowsBlock g j exports outside first none none_awaited false block [] block ThBare s) (decls_mark defs plain first []) (block_begins g j exports outside first none none_awaited false block (λ n. not_taken) (map decl_of defs) (decls_plain defs plain) refl (decls_declare defs plain))
+
+  taken_is : {n : List ℕ} {b : Bool} → IsTaken tables (all_imported m.imports) n b → (o : Origin) (w : Meaning) → There n o w → b ≡ true
+  taken_is (by_import u x i) o w h = refl
+  taken_is (by_none c) o w h = absurd (c o w h)
+
+  free_is : {n : List ℕ} {b : Bool} → IsTaken tables (all_imported m.imports) n b → ((o : Origin) (w : Meaning) → There n o w → ⊥) → b ≡ false
+  free_is (by_import u x i) c = absurd (c u x i)
+  free_is (by_none d) c = refl
+
+  nothing_there : {n : List ℕ} → taken n ≡ false → Th n → ⊥
+  nothing_there t (inl u) = clash u t
+  nothing_there t (inr a) = elim a.1 [ ]
+
+  nothing_bare : {n : List ℕ} → ThBare n → ⊥
+  nothing_bare (inl u) = clash u refl
+  nothing_bare (inr a) = elim a.1 [ ]
+
+  none_waits : (n : List ℕ) (t : TypeNo) → none_awaited n ≡ Some t → ⊥
+  none_waits n t v = cc
+
+  not_imported : (n : List ℕ) → ((o : Origin) (w : Meaning) → There n o w → ⊥) → taken n ≡ false → {k : Option (Known g.Reported)} → KnownAs g j exports outside first none none_awaited false block [] ThBare n k → KnownAs g j exports names start taken none_awaited false block [] Th n k
+  not_imported n c t (outer h w e) = outer (λ u a. h refl a) (λ u v z. absurd (none_waits n u v)) (e ∙ sym (bare.other n c))
+  not_imported n c t (headed p a b w) = elim b.1 [ ]
+  not_imported n c t (ahead d u i h w) = ahead d t i h (λ th. nothing_there t th)
+  not_imported n c t (reading d u i h w q) = absurd (nothing_bare w)
+  not_imported n c t (behind k u i o s) = elim i [ ]
+  not_imported n c t (a_member u i o a e) = elim i [ ]
+
+  name_known : (n : List ℕ) → KnownAs g j exports names start taken none_awaited false block [] Th n (find_name n entered.0.own)
+  name_known n = elim (kept.decided n) [
+    | inl q ↦ outer (λ t a. clash (taken_is (takes n) q.0 q.1 q.2) t) (λ u v z. absurd (none_waits n u v)) (kept.brought n q.0 q.1 q.2 ∙ sym (bare.brought n q.0 q.1 q.2))
+    | inr c ↦ subst (λ (k : Option (Known g.Reported)). KnownAs g j exports names start taken none_awaited false block [] Th n k) (sym (kept.other n c)) (not_imported n c (free_is (takes n) c) (marks_begin.own n))
+  ]
+
+  begins : KnowsBlock g j exports names start taken none_awaited false block [] block Th entered.0
+  begins = record {
+    same = record {
+      withs = ap (λ (s : S). s.withs) kept.rest;
+      outer = ap (λ (s : S). s.outer) kept.rest;
+      types = ap (λ (s : S). s.types) kept.rest;
+      tables = ap (λ (s : S). s.tables) kept.rest;
+      level = ap (λ (s : S). s.level) kept.rest;
+    };
+    within = λ n a. elim a.1 [ ];
+    in_block = λ n a. a;
+    left = λ n d k c. k;
+    includes = λ n t. t;
+    own = λ n. name_known n;
+    once = λ o. imports_once g (with_own marked.own) m.imports (marks_begin.once no_names);
+  }
+
+  -- ---- what is reported
+
+  abbrev Before : Breach → Type 0
+  Before = imports.BrokenIn tables none (all_imported m.imports)
+
+  abbrev Within : List rules.Declared → Breach → Type 0
+  Within = rules.BrokenIn start.types exports names taken none_awaited false block
+
+  abbrev Rep : Breach → Type 0
+  Rep = Repeats g j names start
+
+  told_by : {r : Result (Unit {0}) g.Reported} → Reports g j (λ f. ⊥) Before r → Tells g j lawful Rep (λ f. Before f ⊎ Within [] f) r
+  told_by (reports_nothing n) = silent (λ f z. elim z [ inl b ↦ n f b | inr b ↦ elim b [ ] ])
+  told_by (reports_broken r a) = tells r (record { only = λ f q. elim (a.only f q) [ inl b ↦ inl (inl b) | inr z ↦ absurd z ]; each = λ f z. elim z [ inl b ↦ a.each f b | inr b ↦ elim b [ ] ] })
+
+  all_of_it : Ran g j lawful exports names start taken false block takes_start knows_start refl Before [] block [] (fold (with_def g) entered defs)
+  all_of_it = defs_ran g j lawful exports names start taken false block takes_start knows_start refl Before defs plain [] begins (told_by kept.reported)
+
+  names_sound : (name : Ident) {s : Standing} → StandsFor tables none (all_imported m.imports) outside name s → (s ≡ Unknown → ⊥) × (s ≡ things.Known Headless → ⊥)
+  names_sound name (imported o w b) = ((λ e. meaning_known w e), (λ e. meaning_headed w e))
+  names_sound name (from_outside c) = sound name
+
+  no_repeats : (f : Breach) → Rep f → ⊥
+  no_repeats f (of_heading {name = name} e q a) = (names_sound name (stands name)).1 e
+  no_repeats f (of_declaration {name = name} e q a) = (names_sound name (stands name)).0 e
+
+  -- a table, or what is reported
+  data Tabled (Is : Table → Type 0) (B : Breach → Type 0) : Result Table g.Reported → Type 0 where
+    a_table : (t : Table) → Is t → ((f : Breach) → B f → ⊥) → Tabled Is B (Ok t)
+    a_refusal : (r : g.Reported) → Accounts g j (λ f. ⊥) B r → Tabled Is B (Err r)
+
+  table_by : {Is : Table → Type 0} {B : Breach → Type 0} (modules : List (List ℕ × ℕ)) (s : S) → Is (table_of m modules s) → {r : Result (Unit {0}) g.Reported} → Tells g j lawful Rep B r → Tabled Is B (table_or m modules s r)
+  table_by modules s i (silent n) = a_table (table_of m modules s) i n
+  table_by modules s i (tells r a) = a_refusal r (record { only = λ f q. elim (a.only f q) [ inl b ↦ inl b | inr z ↦ absurd (no_repeats f z) ]; each = a.each })
+
+  answered_by : {Is : Table → Type 0} {B : Breach → Type 0} {r : Result Table g.Reported} → ((e : g.Reported) → r ≡ Err e → (f : Breach) × j.Among e f) → Tabled Is B r → IsAnswered g j Is B r
+  answered_by h (a_table t i n) = is_table t i n
+  answered_by h (a_refusal e a) = let x = h e refl in is_refused e a x.0 (elim (a.only x.0 x.1) [ inl b ↦ b | inr z ↦ absurd z ])
+
+  abbrev Broken : Breach → Type 0
+  Broken f = Before f ⊎ Within all_of_it.0 f
+
+  abbrev modules : List (List ℕ × ℕ)
+  modules = (numbered_modules tables).0
+
+  abbrev from_scope : S → State (Unit {0}) g.Reported
+  from_scope s = fold (with_def g) (fold (with_import g modules) (s, Ok tt) m.imports) defs
+
+  abbrev Is : Table → Type 0
+  Is = IsTable home m tables all_of_it.0
+
+  its_table : Is (table_of m modules (fold (with_def g) entered defs).0)
+  its_table = let k = all_of_it.2.0.same in record {
+    of_number = ap (λ (t : Types). t.home) k.types ∙ home_same g j exports names start taken none_awaited false block knows_start refl all_of_it.0;
+    of_name = refl;
+    of_imports = ap (λ (ts : List Table). imported_modules modules ts m.imports) k.tables;
+    of_types = ap (λ (t : Types). reached_of t) k.types;
+  }
+
+  tabled : Tabled Is Broken (of_contents g home m tables (contents.Definition defs))
+  tabled = subst (λ (s : S). Tabled Is Broken (table_or m modules (from_scope s).0 (from_scope s).1)) (sym marks_rest) (table_by modules (from_scope (with_own marked.own)).0 its_table all_of_it.2.1)
+
+  pub definition_answers : (given : List Table) → tables ≡ given ++ console ∷ [] → m.contents ≡ contents.Definition defs → IsDefinitionExact g j home m given tables exports names taken defs
+  definition_answers given e q = record {
+    whole = all_of_it.0;
+    in_text = all_of_it.1;
+    added = all_of_it.2.2 rules.nothing_declared;
+    answered = answered_by (λ r z. found home m given r z) (subst (λ (ts : List Table). Tabled Is Broken (of_contents g home m ts m.contents)) e (subst (λ (c : Contents). Tabled Is Broken (of_contents g home m tables c)) (sym q) tabled));
+    stand = (standings g j exports names start taken none_awaited false block knows_start refl all_of_it.2.0, all_stand g j exports names start taken none_awaited false block knows_start refl all_of_it.2.0);
+  }
+
+pub definitions_answer : (g : Gathers) (j : Judges g) → Lawful g j → Finds g j → DefinitionsAreExact g j
+definitions_answer g j lawful found home m given tables e exports outside names knows sound stands taken takes defs q plain =
+    definition_answers g j lawful found home m tables exports outside names knows sound stands taken takes defs plain given e q
