@@ -7,7 +7,8 @@
 //!
 //! - `specs/Exact` says what is answered of a definition.
 //! - `proofs/Sections` goes from one declaration to the next, `proofs/Starting` says what is known before the first one,
-//!   `proofs/Finding` that a refusal has a rule, and `proofs/Outside` what names stand for outside.
+//!   `proofs/Once` that imports leave each name once, `proofs/Finding` that a refusal has a rule, and `proofs/Outside` what
+//!   names stand for outside.
 #![tactic(auto)]
 
 ghost use Rattle.check_scope.specs.Elaborated.{every, least};
