@@ -7,7 +7,7 @@ from . import clauses, files
 from .lines import WIDTH
 
 ROOT = os.path.dirname(os.path.dirname(os.path.dirname(os.path.abspath(__file__))))
-PATTERN = "crates/*/specs/**/*.antt"
+PATTERNS = ("crates/*/specs/**/*.antt", "crates/*/src/**/*.rt")
 LAYOUTS = {".antt": files.laid_out, ".rt": clauses.laid_out}
 CHECK = "--check"
 
@@ -31,7 +31,7 @@ def files_of(words):
     """The files that are named, or all; None for a word that is no file."""
     named = [it for it in words if it != CHECK]
     if not named:
-        return sorted(glob.glob(f"{ROOT}/{PATTERN}", recursive=True))
+        return sorted(it for pattern in PATTERNS for it in glob.glob(f"{ROOT}/{pattern}", recursive=True))
     return named if all(os.path.splitext(it)[1] in LAYOUTS and os.path.isfile(it) for it in named) else None
 
 

@@ -65,7 +65,7 @@ of_contents m number tables (contents.Definition defs) =
 of_contents m number tables (contents.Implementation b) = of_checked (typed_body m number tables)
 of_contents m number tables (contents.Program b) = of_checked (typed_body m number tables)
 
--- A module is blocked where one that it needs is refused or blocked.
+-- A module is blocked if one that it needs is refused or blocked.
 unfoldable pub compilation_of : Module → (number : ℕ) → List Compiled → Compiled
 compilation_of m number needed =
     cond (list_all is_sound needed) (of_contents m number (tables_of needed) m.contents) Blocked

@@ -11,7 +11,7 @@ abbrev pub encoded_in : Option Module → (job : ℕ) → List Compiled → Type
 encoded_in None job needed = Unit {0}
 encoded_in (Some m) job needed = IsEncoded m job needed
 
--- that of a job, from what its prerequisites came to
+-- the module of a job has an encoding, from what its prerequisites came to
 abbrev pub encoded_at : List Module → (files : List ℕ) → (job : ℕ) → List Compiled → Type 0
 encoded_at trees files job needed =
     encoded_in (slice_get trees (slice_index_or files job 0)) job needed

@@ -11,7 +11,7 @@ abbrev pub compile_in_place : Option Module → (job : ℕ) → List Compiled �
 compile_in_place None job needed = Blocked
 compile_in_place (Some m) job needed = compilation_of m job needed
 
--- what becomes of a job, where the file of each job is given by its place
+-- what becomes of a job, if the file of each job is given by its place
 abbrev pub compile_at : List Module → (files : List ℕ) → (job : ℕ) → List Compiled → Compiled
 compile_at trees files job needed =
     compile_in_place (slice_get trees (slice_index_or files job 0)) job needed

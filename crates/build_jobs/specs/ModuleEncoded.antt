@@ -14,7 +14,7 @@ use Rattle.def_scheme.specs.Modules.{typed_module}
 use Rattle.build_jobs.specs.declared.outcome.Compiled.{Compiled}
 use Rattle.build_jobs.specs.Compiling.{is_sound, tables_of, typed_body}
 
--- where nothing of it is too large
+-- if nothing of it is too large
 abbrev pub fit_encoded : TypedModule → Option Pos → Type 0
 fit_encoded t None = module_fits (typed_module t) ≡ true
 fit_encoded t (Some at) = Unit {0}

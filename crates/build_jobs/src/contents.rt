@@ -28,7 +28,8 @@ fn definition(
     number: u32,
     tables: Items<Shared<Table>>,
 ) -> Result<Compiled, AllocError>
-    ensures { IfOk result (λ c. c ≡ of_definition (types.definition_table least number tree.now tables)) }
+    ensures { IfOk result (λ c.
+        c ≡ of_definition (types.definition_table least number tree.now tables)) }
 {
     match compile_definition(alloc, number, tree, tables)? {
         Ok(table) => Ok(Compiled::Defined(Shared::new(alloc, table)?)),
@@ -50,7 +51,7 @@ fn typed_body(
     check(alloc, number, tree, own, imports)
 }
 
-/// The module of a body that breaks no rule, or 60 where its storage is too large.
+/// The module of a body that breaks no rule, or 60 if its storage is too large.
 fn fit_storage(alloc: Global, typed: &TypedModule) -> Result<Compiled, EncodeError>
     ensures becomes { IfOk result (λ c. c ≡ of_fit typed.now (too_large typed.now)) }
     ensures encoded { OnOk result (fit_encoded typed.now (too_large typed.now)) }
@@ -82,10 +83,10 @@ fn body(
 }
 
 /// What becomes of the module of a job, from what became of the modules that it needs: of its own definition if it is a
-/// body, and of the definitions that it imports, in this order. It is blocked where one of these is refused or blocked.
-/// Else each is checked, with its types known by the job's number, and reported where it breaks a rule. A definition gives its
-/// table. A body gives its module, which has an encoding, or 60 where its variables and texts, or a frame, are too large. The
-/// only error is that memory ran out, or that the module has no encoding.
+/// body, and of the definitions that it imports, in this order. It is blocked if one of these is refused or blocked.
+/// Else each is checked, with its types known by the job's number, and reported where it breaks a rule. A definition
+/// gives its table. A body gives its module, which has an encoding, or 60 if its variables and texts, or a frame, are
+/// too large. The only error is that memory ran out, or that the module has no encoding.
 #[tactic(auto, unfolding(crate::specs::Compiling::compilation_of))]
 pub fn compile(
     alloc: Global,

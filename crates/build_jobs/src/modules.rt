@@ -27,8 +27,8 @@ fn compile_in_place(
     ensures becomes { IfOk result (λ c.
         c ≡ compile_in_place (slice_get (modules_borrowed trees.now) file) job
         (map (λ n. n.now) needed.now)) }
-    ensures encoded { OnOk result
-        (encoded_in (slice_get (modules_borrowed trees.now) file) job (map (λ n. n.now) needed.now)) }
+    ensures encoded { OnOk result (encoded_in (slice_get (modules_borrowed trees.now) file) job
+        (map (λ n. n.now) needed.now)) }
 {
     match at(trees, file) {
         None => Ok(Compiled::Blocked),

@@ -17,7 +17,7 @@ pub enum Compiled {
     Defined(Shared<Table>),
     /// The module of a body.
     Built(Shared<ModuleBytes>),
-    /// The least rule that it breaks, or 60 where its storage is too large.
+    /// The least rule that it breaks, or 60 if its storage is too large.
     Refused(Breach),
     /// One that it needs is refused or blocked.
     Blocked,

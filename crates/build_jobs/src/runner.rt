@@ -105,7 +105,8 @@ impl<R: Threads + Sync, G: Gate> Runner<'_, R, G> {
     /// The results of the jobs of a graph.
     fn run<W: Work>(&self, graph: &JobGraph, work: &W) -> Result<Vec<W::Out>, AllocError>
         requires { graph.now ≡ W.graph work.now }
-        ensures { IfOk result (λ outs. AreResults (W.graph work.now) (W.defines work.now) outs.items) }
+        ensures { IfOk result (λ outs.
+            AreResults (W.graph work.now) (W.defines work.now) outs.items) }
     {
         results_of(run_jobs(self.rt, self.alloc, graph, self.workers, self.gate, work))
     }
@@ -125,7 +126,8 @@ impl<R: Threads + Sync, G: Gate> Runner<'_, R, G> {
     fn all_made(&self, trees: &[(&str, &Module)], graph: &Graph) -> Result<Vec<Made>, AllocError>
         requires graph { IsGraph (number_files 0 (borrow_trees trees.now)) graph.now.files.items
             (map (λ j. j.items) graph.now.jobs.items) graph.now.starts.items }
-        requires each { CompileEach (number_files 0 (borrow_trees trees.now)) graph.now.files.items }
+        requires each { CompileEach (number_files 0 (borrow_trees trees.now))
+            graph.now.files.items }
         ensures made { let jobs = map (λ job. job.items) graph.now.jobs.items in
             let defines = Defines (modules_borrowed trees.now) graph.now.files.items in
             IfOk result (λ made. AreResults jobs (MayMake defines) made.items) }
@@ -144,7 +146,8 @@ impl<R: Threads + Sync, G: Gate> Runner<'_, R, G> {
     ) -> Result<Vec<Compiled>, EncodeError>
         requires graph { IsGraph (number_files 0 (borrow_trees trees.now)) graph.now.files.items
             (map (λ j. j.items) graph.now.jobs.items) graph.now.starts.items }
-        requires each { CompileEach (number_files 0 (borrow_trees trees.now)) graph.now.files.items }
+        requires each { CompileEach (number_files 0 (borrow_trees trees.now))
+            graph.now.files.items }
         ensures becomes { IfOk result (λ all.
             all.items ≡ all_compiled (modules_borrowed trees.now) graph.now.files.items
             (map (λ job. job.items) graph.now.jobs.items)) }

@@ -36,7 +36,7 @@ fn share_tables(alloc: Global, tables: &[Shared<Table>]) -> Result<Items<Shared<
     Ok(all)
 }
 
-/// The tables of a body's imports, which stand behind that of its own definition.
+/// The tables of a body's imports, which stand behind the table of its own definition.
 pub fn tables_behind(
     alloc: Global,
     own: Option<&Table>,

@@ -24,8 +24,8 @@ use Rattle.check_block.specs.declared.inner.Outside.{Outside}
 
 -- ---- inwards
 
--- in a procedure, before its formals are known: its block's names are around it, of which so many
--- stand before it
+-- in a procedure, before its formals are known: its block's names are around it, and this many of
+-- them stand before it
 abbrev pub inwards : {T : Type 0} → Scope T → (seen : ℕ) → Scope T
 inwards s seen = record s {
   level = length s.outer;

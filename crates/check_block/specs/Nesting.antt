@@ -28,7 +28,7 @@ within = fold-Block (List ℕ) (List ℕ) decl_layer block_layer
 
 -- ---- numbers
 
--- the number that comes behind a procedure and those within it, where they are numbered from n on
+-- the number that comes behind a procedure and those within it, if they are numbered from n on
 abbrev pub ends_from : (n : ℕ) → List ℕ → List ℕ
 ends_from n [] = []
 ends_from n (k ∷ ks) = (n + 1 + k) ∷ ends_from (n + 1) ks

@@ -58,7 +58,7 @@ fn signature_in(shape: &Shape) -> Option<&Signature>
     }
 }
 
-/// What is asked of a procedure and what it gives, if the type is that of a procedure.
+/// What is asked of a procedure and what it gives, if the type is a procedure's.
 pub fn signature_of(made: Option<&Made>) -> Option<&Signature>
     ensures { option_copied result ≡ signature_of (option_copied made.entry) }
 {

@@ -71,7 +71,8 @@ fn with_locals(
     before: Elaborated<()>,
     variables: &Variables,
 ) -> Result<Elaborated<()>, AllocError>
-    ensures { IfOk result (λ j. (scope.new, j) ≡ with_locals least (scope.old, before) variables.now) }
+    ensures { IfOk result (λ j.
+        (scope.new, j) ≡ with_locals least (scope.old, before) variables.now) }
 {
     let elaborated = begin_all(alloc, scope, before, variables.names.as_slice())?;
     let t = type_of(alloc, scope, &variables.of)?;
@@ -85,7 +86,8 @@ fn declare_locals(
     before: Elaborated<()>,
     list: &[Variables],
 ) -> Result<Elaborated<()>, AllocError>
-    ensures { IfOk result (λ j. (scope.new, j) ≡ fold (with_locals least) (scope.old, before) list.now) }
+    ensures { IfOk result (λ j.
+        (scope.new, j) ≡ fold (with_locals least) (scope.old, before) list.now) }
 {
     let mut elaborated = before;
     for variables in list {
@@ -100,7 +102,8 @@ fn with_variables_of(
     before: Elaborated<()>,
     list: &[Variables],
 ) -> Result<Elaborated<()>, AllocError>
-    ensures { IfOk result (λ j. (scope.new, j) ≡ with_variables_of least (scope.old, before) list.now) }
+    ensures { IfOk result (λ j.
+        (scope.new, j) ≡ with_variables_of least (scope.old, before) list.now) }
 {
     if scope.level == 0 {
         return declare_variables(alloc, scope, before, list);
@@ -127,7 +130,9 @@ fn with_procedure(
     before: Elaborated<()>,
     heading: &Heading,
 ) -> Result<Elaborated<()>, AllocError>
-    ensures { IfOk result (λ j. (scope.new, j, next.new) ≡ with_procedure least ends.now (scope.old, before, next.old) heading.now) }
+    ensures { IfOk result (λ j.
+        (scope.new, j, next.new)
+        ≡ with_procedure least ends.now (scope.old, before, next.old) heading.now) }
 {
     let one = with_heading(alloc, scope, *next, heading)?;
     *next = number_behind(ends, *next);
@@ -142,7 +147,9 @@ fn with_decl(
     before: Elaborated<()>,
     decl: &Decl,
 ) -> Result<Elaborated<()>, AllocError>
-    ensures { IfOk result (λ j. (scope.new, j, next.new) ≡ with_decl least ends.now (scope.old, before, next.old) decl.now) }
+    ensures { IfOk result (λ j.
+        (scope.new, j, next.new)
+        ≡ with_decl least ends.now (scope.old, before, next.old) decl.now) }
 {
     match decl {
         Decl::Constants(list) => declare_constants(alloc, scope, before, list.as_slice()),
@@ -160,7 +167,9 @@ fn with_decls(
     before: Elaborated<()>,
     decls: &[Decl],
 ) -> Result<Elaborated<()>, AllocError>
-    ensures { IfOk result (λ j. (scope.new, j, next.new) ≡ fold (with_decl least ends.now) (scope.old, before, next.old) decls.now) }
+    ensures { IfOk result (λ j.
+        (scope.new, j, next.new)
+        ≡ fold (with_decl least ends.now) (scope.old, before, next.old) decls.now) }
 {
     let mut elaborated = before;
     for decl in decls {
@@ -180,7 +189,8 @@ pub fn declare_block(
     first: usize,
     decls: &[Decl],
 ) -> Result<(Elaborated<()>, Items<usize>), AllocError>
-    ensures { IfOk result (λ r. (scope.new, r.0, r.1) ≡ declared_block least ends.now (scope.old, before) first decls.now) }
+    ensures { IfOk result (λ r.
+        (scope.new, r.0, r.1) ≡ declared_block least ends.now (scope.old, before) first decls.now) }
 {
     let seen = mark_decls(alloc, scope, decls)?;
     let mut next = first;
@@ -201,7 +211,8 @@ fn is_awaited(standing: Standing) -> bool
 }
 
 fn or_awaited_if(so_far: bool, entry: Option<(&[u8], &Known<Breach>)>) -> bool
-    ensures { result ≡ if_some or_awaited so_far (option_map (λ e. (e.0.now, e.1.now)) entry.entry) }
+    ensures { result
+        ≡ if_some or_awaited so_far (option_map (λ e. (e.0.now, e.1.now)) entry.entry) }
 {
     match entry {
         None => so_far,
@@ -239,7 +250,9 @@ pub fn declare_module(
     tree: &Module,
     decls: &[Decl],
 ) -> Result<(Elaborated<()>, Items<usize>), AllocError>
-    ensures { IfOk result (λ r. (scope.new, r.0, r.1) ≡ declared_module least modules.now ends.now scope.old tree.now decls.now) }
+    ensures { IfOk result (λ r.
+        (scope.new, r.0, r.1)
+        ≡ declared_module least modules.now ends.now scope.old tree.now decls.now) }
 {
     let imported = import_all(alloc, scope, modules, tree.imports.as_slice())?;
     let (elaborated, seen) = declare_block(alloc, scope, ends, imported, 0, decls)?;

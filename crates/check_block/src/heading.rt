@@ -185,7 +185,8 @@ fn with_awaited(
     procedure: Procedure,
     made: &Elaborated<Made>,
 ) -> Result<Elaborated<()>, AllocError>
-    ensures { IfOk result (λ j. (scope.new, j) ≡ with_awaited least scope.old heading.now procedure made.now) }
+    ensures { IfOk result (λ j.
+        (scope.new, j) ≡ with_awaited least scope.old heading.now procedure made.now) }
 {
     let elaborated = reported_of_heading(&scope.types, heading.name.pos, procedure, made);
     let means = Ok(Meaning::Procedure(procedure));
@@ -212,7 +213,8 @@ fn headed_as(
     made: Elaborated<Made>,
     standing: Standing,
 ) -> Result<Elaborated<()>, AllocError>
-    ensures { IfOk result (λ j. (scope.new, j) ≡ headed_as least scope.old heading.now number made standing) }
+    ensures { IfOk result (λ j.
+        (scope.new, j) ≡ headed_as least scope.old heading.now number made standing) }
 {
     match standing {
         Standing::Free => with_new(alloc, scope, heading.name.name.as_bytes(), number, made),
@@ -224,7 +226,8 @@ fn headed_as(
     }
 }
 
-/// Declares the procedure of a heading. The number is that of a procedure in a procedure. A name that is declared is
+/// Declares the procedure of a heading. The number is the number of a procedure in a procedure. A name that is declared
+/// is
 /// 31. A procedure of the module's definition has its heading there; one that differs is 50.
 pub fn with_heading(
     alloc: Global,

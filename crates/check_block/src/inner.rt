@@ -100,7 +100,8 @@ fn with_formal(
     formal: Elaborated<Formal>,
     name: &Ident,
 ) -> Result<(), AllocError>
-    ensures { OnOk result ((names.new, types.new) ≡ with_formal level formal (names.old, types.old) name.now) }
+    ensures { OnOk result
+        ((names.new, types.new) ≡ with_formal level formal (names.old, types.old) name.now) }
 {
     let means = formal_meaning(level, types.len(), formal);
     unless_found(
@@ -120,7 +121,8 @@ fn with_names(
     formal: Elaborated<Formal>,
     list: &[Ident],
 ) -> Result<(), AllocError>
-    ensures { OnOk result ((names.new, types.new) ≡ fold (with_formal level formal) (names.old, types.old) list.now) }
+    ensures { OnOk result
+        ((names.new, types.new) ≡ fold (with_formal level formal) (names.old, types.old) list.now) }
 {
     for name in list {
         with_formal(alloc, names, types, level, formal, name)?;
@@ -135,7 +137,8 @@ fn with_section(
     types: &mut Items<TypeNo>,
     section: &Section,
 ) -> Result<(), AllocError>
-    ensures { OnOk result ((names.new, types.new) ≡ with_section least scope.now (names.old, types.old) section.now) }
+    ensures { OnOk result
+        ((names.new, types.new) ≡ with_section least scope.now (names.old, types.old) section.now) }
 {
     let formal = formal_of(scope, section.is_var, &section.of)?;
     with_names(
@@ -155,7 +158,8 @@ fn with_sections(
     types: &mut Items<TypeNo>,
     list: &[Section],
 ) -> Result<(), AllocError>
-    ensures { OnOk result ((names.new, types.new) ≡ fold (with_section least scope.now) (names.old, types.old) list.now) }
+    ensures { OnOk result ((names.new, types.new)
+        ≡ fold (with_section least scope.now) (names.old, types.old) list.now) }
 {
     for section in list {
         with_section(alloc, scope, names, types, section)?;
@@ -185,15 +189,17 @@ fn enter_in(
     Ok(result)
 }
 
-/// Enters a procedure of a block, of whose names so many stand before it. The types in the heading are looked up
-/// outside of it, and its formals are the first names in it. What is reported of the heading is reported where it is declared.
+/// Enters a procedure of a block. `seen` names of the block stand before it. The types in the heading are looked up
+/// outside of it, and its formals are the first names in it. What is reported of the heading is reported where it is
+/// declared.
 pub fn enter(
     alloc: Global,
     scope: &mut Scope<Breach>,
     seen: usize,
     heading: &Heading,
 ) -> Result<Entered, AllocError>
-    ensures within { IfOk result (λ e. (scope.new, e.result) ≡ entered_procedure least scope.old seen heading.now) }
+    ensures within { IfOk result (λ e.
+        (scope.new, e.result) ≡ entered_procedure least scope.old seen heading.now) }
     ensures around { IfOk result (λ e. e.outside ≡ outside scope.old) }
 {
     let outside = inwards(alloc, scope, seen)?;

@@ -20,7 +20,7 @@ use Rattle.check_body.specs.declared.procedure.Walk.{Walk}
 use Rattle.check_body.specs.Elaborating.{Elaborates}
 use Rattle.check_body.specs.Bodies.{Checked, begun_from, with_statements, bodies_checked}
 
--- the module where no rule is broken, in its declarations, in its procedures or in its statements
+-- the module if no rule is broken, in its declarations, in its procedures or in its statements
 abbrev pub module_or : (g : Gathers) → (modules : List (List ℕ × ℕ)) → Option Table → Module
     → Checked g.Reported → Result TypedModule g.Reported
 module_or g modules own m c =

@@ -17,7 +17,7 @@ use Rattle.check_body.specs.declared.procedure.Begun.{Begun}
 
 -- ---- inwards
 
--- what a RETURN in the body gives. Where the heading breaks a rule, so does what looks at it.
+-- what a RETURN in the body gives. If the heading breaks a rule, so does what looks at it.
 abbrev pub returns_of : {T : Type 0} → Result (Option TypeNo) T → Option (Result TypeNo T)
 returns_of (Ok None) = None
 returns_of (Ok (Some t)) = Some (Ok t)
@@ -50,7 +50,7 @@ begun_procedure g w seen h =
 abbrev pub reported_in : {T : Type 0} → Result (List TypedStmt) T → Result (Unit {0}) T
 reported_in body = body ▷ λ xs. Ok tt
 
--- a procedure has its body where it has a number, and no rule is broken in its statements
+-- a procedure has its body if it has a number, and no rule is broken in its statements
 abbrev pub with_routine : {T : Type 0} → Scope T → Ident → (around : Option Which) → (formals : ℕ)
     → Option Numbered → Result (List TypedStmt) T → Bodies → Bodies
 with_routine s name around n None body rs = rs

@@ -75,8 +75,10 @@ fn walk_through<S: Statements>(
     tree: &Module,
     block: &Block,
 ) -> Result<(Walk<Breach>, Elaborated<Items<TypedStmt>>), AllocError>
-    ensures { IfOk result (λ r. r ≡
-        walk_body least (S.elaborated statements.now) modules.now ends.now scope tree.now block.now) }
+    ensures { IfOk result (λ r.
+        r
+        ≡ walk_body least (S.elaborated statements.now) modules.now ends.now scope tree.now
+        block.now) }
 {
     let decls = block.decls.as_slice();
     let (mut walk, seen) = begin_module(alloc, modules, ends, scope, tree, decls)?;
@@ -167,10 +169,10 @@ fn check_implementation<S: Statements>(
 }
 
 /// Checks a program module or an implementation module, from the tables of the definitions that it imports and, for an
-/// implementation, from the table of its own definition. It answers the module where no rule is broken, and else the
-/// least rule that is, by place and then by number: of its imports, of its declarations, of the statements of its
-/// procedures and of its own. What is no such module, and an implementation without the table, is 24 at its name. The
-/// only error is that memory ran out.
+/// implementation, from the table of its own definition. It answers the module if no rule is broken, and else the least
+/// rule that is, by place and then by number: of its imports, of its declarations, of the statements of its procedures
+/// and of its own. A module of another kind, and an implementation without the table, is 24 at its name. The only error
+/// is that memory ran out.
 pub fn check_with<S: Statements>(
     alloc: Global,
     statements: &S,
@@ -179,8 +181,10 @@ pub fn check_with<S: Statements>(
     own: Option<&Table>,
     imports: Items<Shared<Table>>,
 ) -> Result<Elaborated<TypedModule>, AllocError>
-    ensures { IfOk result (λ j. j ≡
-        body_module least (S.elaborated statements.now) number tree.now (option_copied own.entry) imports) }
+    ensures { IfOk result (λ j.
+        j
+        ≡ body_module least (S.elaborated statements.now) number tree.now (option_copied own.entry)
+        imports) }
 {
     let tables = with_console(alloc, imports)?;
     match &tree.contents {

@@ -21,7 +21,8 @@ fn with_import_copy_if(
     imports: &mut Dictionary<u32>,
     entry: Option<(&[u8], &u32)>,
 ) -> Result<(), AllocError>
-    ensures { OnOk result (imports.new ≡ if_some with_import_copy imports.old (option_map (λ e. (e.0.now, e.1.now)) entry.entry)) }
+    ensures { OnOk result (imports.new
+        ≡ if_some with_import_copy imports.old (option_map (λ e. (e.0.now, e.1.now)) entry.entry)) }
 {
     match entry {
         None => Ok(()),
@@ -57,7 +58,8 @@ pub fn all_imports(
     own: Option<&Table>,
     list: &[Import],
 ) -> Result<Dictionary<u32>, AllocError>
-    ensures { IfOk result (λ imports. imports ≡ all_imports modules.now tables.now (option_copied own.entry) list.now) }
+    ensures { IfOk result (λ imports.
+        imports ≡ all_imports modules.now tables.now (option_copied own.entry) list.now) }
 {
     let mut imports = definition_imports(alloc, own)?;
     for one in list {
@@ -122,7 +124,8 @@ fn with_module_of(
     name: &[u8],
     number: u32,
 ) -> Result<(), AllocError>
-    ensures { OnOk result (imports.new ≡ with_module_of modules.now tables.now imports.old (name.now, number)) }
+    ensures { OnOk result
+        (imports.new ≡ with_module_of modules.now tables.now imports.old (name.now, number)) }
 {
     match modules.find(name) {
         None => with_name_of(alloc, imports, name, number),
@@ -137,7 +140,9 @@ fn with_module_if(
     tables: &Items<Shared<Table>>,
     entry: Option<(&[u8], &u32)>,
 ) -> Result<(), AllocError>
-    ensures { OnOk result (imports.new ≡ if_some (with_module_of modules.now tables.now) imports.old (option_map (λ e. (e.0.now, e.1.now)) entry.entry)) }
+    ensures { OnOk result (imports.new
+        ≡ if_some (with_module_of modules.now tables.now) imports.old
+        (option_map (λ e. (e.0.now, e.1.now)) entry.entry)) }
 {
     match entry {
         None => Ok(()),

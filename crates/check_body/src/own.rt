@@ -34,7 +34,8 @@ fn with_own_name_if(
     names: &mut Dictionary<Known<Breach>>,
     entry: Option<(&[u8], &Meaning)>,
 ) -> Result<(), AllocError>
-    ensures { OnOk result (names.new ≡ if_some with_own_name names.old (option_map (λ e. (e.0.now, e.1.now)) entry.entry)) }
+    ensures { OnOk result (names.new
+        ≡ if_some with_own_name names.old (option_map (λ e. (e.0.now, e.1.now)) entry.entry)) }
 {
     match entry {
         None => Ok(()),
@@ -78,7 +79,9 @@ fn with_variable_if(
     types: &mut Items<TypeNo>,
     entry: Option<(&[u8], &Meaning)>,
 ) -> Result<(), AllocError>
-    ensures { OnOk result (types.new ≡ if_some with_exported_variable types.old (option_map (λ e. (e.0.now, e.1.now)) entry.entry)) }
+    ensures { OnOk result (types.new
+        ≡ if_some with_exported_variable types.old
+        (option_map (λ e. (e.0.now, e.1.now)) entry.entry)) }
 {
     match entry {
         None => Ok(()),
@@ -121,7 +124,9 @@ fn with_heading_if(
     types: &mut Items<TypeNo>,
     entry: Option<(&[u8], &Meaning)>,
 ) -> Result<(), AllocError>
-    ensures { OnOk result (types.new ≡ if_some with_exported_heading types.old (option_map (λ e. (e.0.now, e.1.now)) entry.entry)) }
+    ensures { OnOk result (types.new
+        ≡ if_some with_exported_heading types.old
+        (option_map (λ e. (e.0.now, e.1.now)) entry.entry)) }
 {
     match entry {
         None => Ok(()),
@@ -149,7 +154,8 @@ fn with_field_if(
     fields: &mut Dictionary<TypeNo>,
     entry: Option<(&[u8], &TypeNo)>,
 ) -> Result<(), AllocError>
-    ensures { OnOk result (fields.new ≡ if_some with_field_copy fields.old (option_map (λ e. (e.0.now, e.1.now)) entry.entry)) }
+    ensures { OnOk result (fields.new
+        ≡ if_some with_field_copy fields.old (option_map (λ e. (e.0.now, e.1.now)) entry.entry)) }
 {
     match entry {
         None => Ok(()),
@@ -247,8 +253,8 @@ fn with_own(alloc: Global, scope: &mut Scope<Breach>, own: &Table) -> Result<(),
     Ok(())
 }
 
-/// What is known where an implementation module begins, from the table of its definition and from those of its imports:
-/// all that the definition declares, and nothing that it imports. The only error is that memory ran out.
+/// What is known where an implementation module begins, from the table of its definition and from the tables of its
+/// imports: all that the definition declares, and nothing that it imports. The only error is that memory ran out.
 pub fn implementation_scope(
     alloc: Global,
     own: &Table,

@@ -29,7 +29,7 @@ pub struct Begun<T> {
     pub outside: Outside,
     /// Which procedure it is, if its heading means something.
     pub procedure: Option<Numbered>,
-    /// How many of the types of its variables are those of its formals.
+    /// How many of the types of its variables are types of its formals.
     pub formals: usize,
     /// The type of what it returns, if it returns something.
     pub returns: Option<Result<TypeNo, T>>,
@@ -57,8 +57,8 @@ pub fn which_of(procedure: Option<Numbered>) -> Option<Which>
     }
 }
 
-/// Begins the body of a procedure of a block, of whose names so many stand before it. The only error is that memory ran
-/// out.
+/// Begins the body of a procedure of a block. `seen` names of the block stand before it. The only error is that memory
+/// ran out.
 pub fn begin_procedure(
     alloc: Global,
     walk: &mut Walk<Breach>,

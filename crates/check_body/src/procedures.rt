@@ -106,9 +106,10 @@ fn check_procedure<S: Statements>(
     heading: &Heading,
     block: &Block,
 ) -> Result<(), AllocError>
-    ensures { OnOk result (walk.new ≡
-        procedure_checked least (S.elaborated statements.now) ends.now heading.now
-        (checks_block least (S.elaborated statements.now) ends.now block.now) around seen walk.old) }
+    ensures { OnOk result (walk.new
+        ≡ procedure_checked least (S.elaborated statements.now) ends.now heading.now
+        (checks_block least (S.elaborated statements.now) ends.now block.now) around seen
+        walk.old) }
 {
     let begun = begin_procedure(alloc, walk, seen, heading)?;
     let which = which_of(begun.procedure);

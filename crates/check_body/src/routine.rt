@@ -113,8 +113,8 @@ fn all_unfilled(alloc: Global, headings: &[TypeNo]) -> Result<Items<Routine>, Al
     Ok(routines)
 }
 
-/// No bodies, where a module's block is declared. The headings are those of the module's procedures. The only error is
-/// that memory ran out.
+/// No bodies, where a module's block is declared. The headings are the headings of the module's procedures. The only
+/// error is that memory ran out.
 pub fn no_bodies(alloc: Global, headings: &[TypeNo]) -> Result<Bodies, AllocError>
     ensures { IfOk result (λ bodies. bodies ≡ no_bodies headings.now) }
 {
@@ -165,7 +165,7 @@ fn behind(alloc: Global, list: &[TypeNo], count: usize) -> Result<Items<TypeNo>,
     Items::from_slice(alloc, rest)
 }
 
-/// A procedure with its body, from the scope where its body ends. So many of the types of its variables are those of
+/// A procedure with its body, from the scope where its body ends. This many of the types of its variables are types of
 /// its formals. The only error is that memory ran out.
 pub fn routine_of(
     alloc: Global,
@@ -246,7 +246,8 @@ pub fn typed_module(
     bodies: Bodies,
     body: Items<TypedStmt>,
 ) -> Result<TypedModule, AllocError>
-    ensures { IfOk result (λ m. m ≡ typed_module scope modules.now (option_copied own.entry) tree.now bodies body) }
+    ensures { IfOk result (λ m.
+        m ≡ typed_module scope modules.now (option_copied own.entry) tree.now bodies body) }
 {
     let imports = imports_of(alloc, &scope, modules, own, tree)?;
     let name = tree.name.name.clone()?;

@@ -81,7 +81,7 @@ text_passed g t at (value.Procedure p) = report g at rule.WrongArgument
 text_passed g t at (value.Whole u d) = report g at rule.WrongArgument
 text_passed g t at value.Untaken = report g at rule.WrongArgument
 
--- an open array, an array, or a string where the elements are CHAR
+-- an open array, an array, or a string if the elements are CHAR
 abbrev pub open_value : (g : Gathers) → Types → TypeNo → Pos → Designated
     → Result Argument g.Reported
 open_value g types t at (designated.Variable u d) =

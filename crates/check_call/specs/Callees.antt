@@ -46,7 +46,7 @@ abbrev pub function_with : (g : Gathers) → Pos → (asked there : ℕ) → Opt
 function_with g at asked there None = report g at rule.WrongType
 function_with g at asked there (Some t) = count_check g at asked there ▷ λ fine. Ok t
 
--- the type that a function gives, which is called with so many arguments
+-- the type that a function gives, if it is called with this many arguments
 abbrev pub function_of : (g : Gathers) → Pos → Option Signature → (arguments : ℕ)
     → Result TypeNo g.Reported
 function_of g at None n = report g at rule.WrongType
@@ -57,7 +57,7 @@ abbrev pub proper_with : (g : Gathers) → Pos → (asked there : ℕ) → Optio
 proper_with g at asked there None = count_check g at asked there
 proper_with g at asked there (Some t) = report g at rule.WrongType
 
--- a procedure that is called as a statement with so many arguments
+-- a procedure that is called as a statement with this many arguments
 abbrev pub proper_of : (g : Gathers) → Pos → Option Signature → (arguments : ℕ)
     → Result (Unit {0}) g.Reported
 proper_of g at None n = report g at rule.WrongType

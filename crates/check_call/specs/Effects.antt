@@ -83,7 +83,7 @@ change_target g types at (designated.Nested p) = report g at rule.NoVariable
 change_target g types at (designated.Standard f) = report g at rule.NoVariable
 change_target g types at (designated.Module k) = report g at rule.NoVariable
 
--- a number for which nothing is asked is an INTEGER where it is negative
+-- a number for which nothing is asked is an INTEGER if it is negative
 abbrev pub type_of_number : ℤ → Option TypeNo → TypeNo
 type_of_number n None = cond (int_lt n (pos 0)) integer cardinal
 type_of_number n (Some t) = t

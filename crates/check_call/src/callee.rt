@@ -43,7 +43,7 @@ fn callee_in_variable(types: &Types, at: Pos, t: TypeNo, place: Place) -> Elabor
     }
 }
 
-/// What is called by a designator at a place: 40 where that is no procedure.
+/// What is called by a designator at a place: 40 if that is no procedure.
 pub fn callee_of(types: &Types, at: Pos, designated: Designated) -> Elaborated<Called>
     ensures { result ≡ callee_of least types.now at designated }
 {
@@ -71,8 +71,8 @@ fn count_check(at: Pos, asked: usize, there: usize) -> Elaborated<()>
     Ok(())
 }
 
-/// The type that a function gives, which is called at a place with so many arguments: 40 where it is no function, and 42
-/// where it asks for another number of arguments.
+/// The type that a function gives, if it is called at a place with this many arguments: 40 if it is no function, and 42
+/// if it asks for another number of arguments.
 pub fn function_of(at: Pos, signature: Option<&Signature>, arguments: usize) -> Elaborated<TypeNo>
     ensures { result ≡ function_of least at (option_copied signature.entry) arguments }
 {
@@ -88,8 +88,8 @@ pub fn function_of(at: Pos, signature: Option<&Signature>, arguments: usize) -> 
     }
 }
 
-/// A procedure that is called as a statement, at a place with so many arguments: 40 where it is a function, and 42 where
-/// it asks for another number of arguments.
+/// A procedure that is called as a statement, at a place with this many arguments: 40 if it is a function, and 42 if it
+/// asks for another number of arguments.
 pub fn proper_of(at: Pos, signature: Option<&Signature>, arguments: usize) -> Elaborated<()>
     ensures { result ≡ proper_of least at (option_copied signature.entry) arguments }
 {

@@ -42,7 +42,7 @@ fn target_of(at: Pos, designated: Designated) -> Elaborated<Target>
     }
 }
 
-/// The left side of an assignment at a place: 40 where it is no variable.
+/// The left side of an assignment at a place: 40 if it is no variable.
 pub fn target_at(at: Pos, designated: Sought<Designated>) -> Elaborated<Target>
     ensures { result ≡ target_at least at designated }
 {
@@ -80,7 +80,7 @@ fn assignment_to(types: &Types, target: Target, at: Pos, value: Computed) -> Ela
     }
 }
 
-/// An assignment of a value at a place: 41 where it is not assignment compatible, and 52 where a constant is out of range.
+/// An assignment of a value at a place: 41 if it is not assignment compatible, and 52 if a constant is out of range.
 pub fn assignment_of(
     types: &Types,
     target: Elaborated<Target>,
@@ -106,7 +106,7 @@ fn change_target_as(at: Pos, t: TypeNo, place: Place, class: Class) -> Elaborate
     }
 }
 
-/// The variable of INC or DEC: 44 where it is no scalar variable.
+/// The variable of INC or DEC: 44 if it is no scalar variable.
 pub fn change_target(types: &Types, at: Pos, designated: Designated) -> Elaborated<(TypeNo, Place)>
     ensures { result ≡ change_target least types.now at designated }
 {
@@ -136,7 +136,7 @@ fn set_as(at: Pos, place: Place, class: Class) -> Elaborated<Place>
     }
 }
 
-/// The variable of INCL or EXCL: 44 where it is no BITSET variable.
+/// The variable of INCL or EXCL: 44 if it is no BITSET variable.
 pub fn set_variable(types: &Types, at: Pos, designated: Designated) -> Elaborated<Place>
     ensures { result ≡ set_variable least types.now at designated }
 {
@@ -208,7 +208,7 @@ fn element_known(at: Pos, a: Option<Ordinal>) -> Elaborated<TypedExpr>
     }
 }
 
-/// The element of INCL or EXCL at a place: 43 where it is no number, and 52 where a constant is not from 0 to 31.
+/// The element of INCL or EXCL at a place: 43 if it is no number, and 52 if a constant is not from 0 to 31.
 pub fn element(at: Pos, value: Computed) -> Elaborated<TypedExpr>
     ensures { result ≡ element least at value }
 {
@@ -256,7 +256,7 @@ pub fn membership_of(
     }
 }
 
-/// Put of a value at a place: 43 where it is no CHAR.
+/// Put of a value at a place: 43 if it is no CHAR.
 pub fn put(types: &Types, at: Pos, value: Computed) -> Elaborated<TypedStmt>
     ensures { result ≡ put least types.now at value }
 {

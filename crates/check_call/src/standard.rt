@@ -101,8 +101,7 @@ fn unary_scalar(
     Ok(Ok(unary_built(function, base, Boxed::new(alloc, e)?)))
 }
 
-/// A standard function of one value at a place: 43 where it does not take the value, and 52 where a constant is out of
-/// range.
+/// A standard function of one value at a place: 43 if it does not take the value, and 52 if a constant is out of range.
 pub fn unary_at(
     alloc: Global,
     standard: Standard,
@@ -123,7 +122,7 @@ pub fn unary_at(
     }
 }
 
-/// An argument that names a scalar type: 33 where it does not.
+/// An argument that names a scalar type: 33 if it does not.
 pub fn type_named(types: &Types, at: Pos, designated: Designated) -> Elaborated<(TypeNo, Scalar)>
     ensures { result ≡ type_named least types.now at designated }
 {
@@ -189,8 +188,7 @@ fn converted_value(
     }
 }
 
-/// VAL of a type and of a value at a place: 43 where the value is no number, and 52 where the type does not have a
-/// constant.
+/// VAL of a type and of a value at a place: 43 if the value is no number, and 52 if the type does not have a constant.
 pub fn conversion_at(
     alloc: Global,
     to: Elaborated<(TypeNo, Scalar)>,
@@ -205,7 +203,7 @@ pub fn conversion_at(
     }
 }
 
-/// HIGH of what stands at a place: 43 where that is no open array, or 40 or 53 if it is no value.
+/// HIGH of what stands at a place: 43 if that is no open array, or 40 or 53 if it is no value.
 pub fn high_of(at: Pos, designated: Designated) -> Elaborated<Computed>
     ensures { result ≡ high_of least at designated }
 {

@@ -45,7 +45,7 @@ pub record Part (T : Type 0) : Type 0 where
 abbrev pub named_type : {T : Type 0} → Result Denoted T → Result (Option TypeNo) T
 named_type d = d ▷ λ x. Ok (type_in x)
 
--- what names a type where it stands for one
+-- what names a type if it stands for one
 abbrev pub standing : {T : Type 0} → Pos → (Scope T → Result Denoted T) → Part T
 standing at means = record { at = at; denotes = means; names = λ s. named_type (means s) }
 

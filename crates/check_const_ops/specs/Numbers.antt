@@ -40,7 +40,7 @@ abbrev pub evaluated_at : (g : Gathers) → Pos → Option TypeNo → BinaryOp �
     → Result Value g.Reported
 evaluated_at g at sort op x y = number_at g at sort (whole_arithmetic op x y)
 
--- x = q * y + r with 0 <= r < y, where y is positive
+-- x = q * y + r with 0 <= r < y, if y is positive
 abbrev pub quotient : ℤ → ℤ → ℤ
 quotient x y = cond (int_lt y (pos 1)) (pos 0) (int_div_euclid x y)
 

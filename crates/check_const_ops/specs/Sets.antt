@@ -1,4 +1,4 @@
--- Sets: element k is there where bit k is 1.
+-- Sets: element k is there if bit k is 1.
 use Rattle.std.specs.Prelude.{ℕ, ◌-◌, ◌/◌, ◌%◌, ◌^◌, ◌==◌, ℤ, pos, negsuc, Bool, true, false, not, cond, nat_lt, int_lt, bit_and, bit_or, bit_xor, Option, Some, None, Result, Ok}
 use Rattle.m2_rule.specs.declared.rule.Rule.TheVariants as rule
 use Rattle.m2_tree.specs.declared.pos.Pos.{Pos}
@@ -44,7 +44,7 @@ on_sets g (Relation r) spot a b = set_related g spot r a b
 
 -- ---- membership
 
--- the element of this number, 0 where there is none
+-- the element of this number, 0 if there is none
 abbrev pub place : ℤ → ℕ
 place (pos n) = cond (nat_lt n 32) n 0
 place (negsuc n) = 0

@@ -47,7 +47,7 @@ pub fn on_sets(op: BinaryOp, spot: Pos, a: u32, b: u32) -> Elaborated<Value>
     }
 }
 
-/// The element of this number, 0 where there is none.
+/// The element of this number, 0 if there is none.
 fn place(n: i64) -> u32
     ensures value { result ≡ place n }
     ensures bound { result < 32 }

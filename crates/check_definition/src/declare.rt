@@ -39,7 +39,8 @@ fn with_constant(
     before: Elaborated<()>,
     constant: &Constant,
 ) -> Result<Elaborated<()>, AllocError>
-    ensures { IfOk result (λ j. (scope.new, j) ≡ with_constant least (scope.old, before) constant.now) }
+    ensures { IfOk result (λ j.
+        (scope.new, j) ≡ with_constant least (scope.old, before) constant.now) }
 {
     let first = begin(alloc, scope, &constant.name)?;
     let value = constant_of(alloc, scope, &constant.value)?;
@@ -55,7 +56,8 @@ pub fn declare_constants(
     before: Elaborated<()>,
     list: &[Constant],
 ) -> Result<Elaborated<()>, AllocError>
-    ensures { IfOk result (λ j. (scope.new, j) ≡ fold (with_constant least) (scope.old, before) list.now) }
+    ensures { IfOk result (λ j.
+        (scope.new, j) ≡ fold (with_constant least) (scope.old, before) list.now) }
 {
     let mut elaborated = before;
     for constant in list {
@@ -123,7 +125,8 @@ pub fn declare_types(
     before: Elaborated<()>,
     list: &[TypeDecl],
 ) -> Result<Elaborated<()>, AllocError>
-    ensures { IfOk result (λ j. (scope.new, j) ≡ fold (with_type least) (scope.old, before) list.now) }
+    ensures { IfOk result (λ j.
+        (scope.new, j) ≡ fold (with_type least) (scope.old, before) list.now) }
 {
     let mut elaborated = before;
     for decl in list {
@@ -141,7 +144,8 @@ pub fn begin_all(
     before: Elaborated<()>,
     names: &[Ident],
 ) -> Result<Elaborated<()>, AllocError>
-    ensures { IfOk result (λ j. (scope.new, j) ≡ fold (begun_name least) (scope.old, before) names.now) }
+    ensures { IfOk result (λ j.
+        (scope.new, j) ≡ fold (begun_name least) (scope.old, before) names.now) }
 {
     let mut elaborated = before;
     for name in names {
@@ -209,7 +213,8 @@ fn with_variables(
     before: Elaborated<()>,
     variables: &Variables,
 ) -> Result<Elaborated<()>, AllocError>
-    ensures { IfOk result (λ j. (scope.new, j) ≡ with_variables least (scope.old, before) variables.now) }
+    ensures { IfOk result (λ j.
+        (scope.new, j) ≡ with_variables least (scope.old, before) variables.now) }
 {
     let elaborated = begin_all(alloc, scope, before, variables.names.as_slice())?;
     let t = type_of(alloc, scope, &variables.of)?;
@@ -224,7 +229,8 @@ pub fn declare_variables(
     before: Elaborated<()>,
     list: &[Variables],
 ) -> Result<Elaborated<()>, AllocError>
-    ensures { IfOk result (λ j. (scope.new, j) ≡ fold (with_variables least) (scope.old, before) list.now) }
+    ensures { IfOk result (λ j.
+        (scope.new, j) ≡ fold (with_variables least) (scope.old, before) list.now) }
 {
     let mut elaborated = before;
     for variables in list {
@@ -284,7 +290,8 @@ fn with_procedure(
     before: Elaborated<()>,
     heading: &Heading,
 ) -> Result<Elaborated<()>, AllocError>
-    ensures { IfOk result (λ j. (scope.new, j) ≡ with_procedure least (scope.old, before) heading.now) }
+    ensures { IfOk result (λ j.
+        (scope.new, j) ≡ with_procedure least (scope.old, before) heading.now) }
 {
     let names = names_of(alloc, heading)?;
     let made = heading_of(alloc, scope, heading)?;
@@ -318,7 +325,8 @@ pub fn declare_all(
     before: Elaborated<()>,
     defs: &[Def],
 ) -> Result<Elaborated<()>, AllocError>
-    ensures { IfOk result (λ j. (scope.new, j) ≡ fold (with_def least) (scope.old, before) defs.now) }
+    ensures { IfOk result (λ j.
+        (scope.new, j) ≡ fold (with_def least) (scope.old, before) defs.now) }
 {
     let mut elaborated = before;
     for def in defs {

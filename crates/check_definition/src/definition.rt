@@ -17,7 +17,7 @@ use std::alloc::{AllocError, Global};
 use tree_parts::{Items, Shared};
 use typed_tree::{Dictionary, Table};
 
-/// The tables of a module's imports, and that of Console.
+/// The tables of a module's imports, and the table of Console.
 pub fn with_console(
     alloc: Global,
     tables: Items<Shared<Table>>,
@@ -76,7 +76,8 @@ fn declared_in(
     modules: &Dictionary<usize>,
     defs: &[Def],
 ) -> Result<Elaborated<()>, AllocError>
-    ensures { IfOk result (λ j. (scope.new, j) ≡ declared_in least tree.now modules.now scope.old defs.now) }
+    ensures { IfOk result (λ j.
+        (scope.new, j) ≡ declared_in least tree.now modules.now scope.old defs.now) }
 {
     mark_defs(alloc, scope, defs)?;
     let elaborated = import_all(alloc, scope, modules, tree.imports.as_slice())?;
@@ -99,7 +100,7 @@ fn of_definition(
 }
 
 /// The table of a definition, whose module has this number, from the tables of the definitions that it imports. It
-/// answers the table where no rule is broken, and else the least rule that is, by place and then by number:
+/// answers the table if no rule is broken, and else the least rule that is, by place and then by number:
 ///
 /// 30 a name that is not declared, 31 declared twice, 32 not exported, 33 a name of no type that may stand there, 34 no
 /// constant, 35 an empty range, 36 an index type, 37 an enumeration of more than 256 constants, 38 a type of more than

@@ -67,7 +67,8 @@ fn with_export_if(
     exported: &mut Dictionary<Meaning>,
     entry: Option<(&[u8], &Known<Breach>)>,
 ) -> Result<(), AllocError>
-    ensures { OnOk result (exported.new ≡ if_some with_export exported.old (option_map (λ e. (e.0.now, e.1.now)) entry.entry)) }
+    ensures { OnOk result (exported.new
+        ≡ if_some with_export exported.old (option_map (λ e. (e.0.now, e.1.now)) entry.entry)) }
 {
     match entry {
         None => Ok(()),
@@ -95,7 +96,8 @@ fn with_types_if(
     reached: &mut Items<ModuleTypes>,
     entry: Option<(&u32, &Shared<Items<Made>>)>,
 ) -> Result<(), AllocError>
-    ensures { OnOk result (reached.new ≡ if_some with_types reached.old (option_map (λ e. (e.0.now, e.1.now)) entry.entry)) }
+    ensures { OnOk result (reached.new
+        ≡ if_some with_types reached.old (option_map (λ e. (e.0.now, e.1.now)) entry.entry)) }
 {
     match entry {
         None => Ok(()),
@@ -151,7 +153,8 @@ fn with_table_if(
     name: &[u8],
     table: Option<&Shared<Table>>,
 ) -> Result<(), AllocError>
-    ensures { OnOk result (imported.new ≡ with_table_if imported.old name.now (option_copied table.entry)) }
+    ensures { OnOk result
+        (imported.new ≡ with_table_if imported.old name.now (option_copied table.entry)) }
 {
     match table {
         None => Ok(()),
@@ -166,7 +169,8 @@ fn with_imported(
     tables: &Items<Shared<Table>>,
     name: &Ident,
 ) -> Result<(), AllocError>
-    ensures { OnOk result (imported.new ≡ with_imported modules.now tables.now imported.old name.now) }
+    ensures { OnOk result
+        (imported.new ≡ with_imported modules.now tables.now imported.old name.now) }
 {
     match modules.find(name.name.as_bytes()) {
         None => Ok(()),
@@ -181,7 +185,8 @@ fn with_imported_names(
     tables: &Items<Shared<Table>>,
     names: &[Ident],
 ) -> Result<(), AllocError>
-    ensures { OnOk result (imported.new ≡ fold (with_imported modules.now tables.now) imported.old names.now) }
+    ensures { OnOk result
+        (imported.new ≡ fold (with_imported modules.now tables.now) imported.old names.now) }
 {
     for name in names {
         with_imported(alloc, imported, modules, tables, name)?;
@@ -197,7 +202,8 @@ pub fn with_import_of(
     tables: &Items<Shared<Table>>,
     one: &Import,
 ) -> Result<(), AllocError>
-    ensures { OnOk result (imported.new ≡ with_import_of modules.now tables.now imported.old one.now) }
+    ensures { OnOk result
+        (imported.new ≡ with_import_of modules.now tables.now imported.old one.now) }
 {
     match &one.from {
         None => with_imported_names(alloc, imported, modules, tables, one.names.as_slice()),
@@ -212,7 +218,8 @@ pub fn imported_modules(
     tables: &Items<Shared<Table>>,
     imports: &[Import],
 ) -> Result<Dictionary<u32>, AllocError>
-    ensures { IfOk result (λ imported. imported ≡ imported_modules modules.now tables.now imports.now) }
+    ensures { IfOk result (λ imported.
+        imported ≡ imported_modules modules.now tables.now imports.now) }
 {
     let mut imported = Dictionary::new(alloc);
     for one in imports {

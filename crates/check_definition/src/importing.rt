@@ -80,7 +80,8 @@ fn import_modules(
     before: Elaborated<()>,
     names: &[Ident],
 ) -> Result<Elaborated<()>, AllocError>
-    ensures { IfOk result (λ j. (scope.new, j) ≡ fold (with_module_name least modules.now) (scope.old, before) names.now) }
+    ensures { IfOk result (λ j.
+        (scope.new, j) ≡ fold (with_module_name least modules.now) (scope.old, before) names.now) }
 {
     let mut elaborated = before;
     for name in names {
@@ -99,7 +100,8 @@ fn with_entry(
     name: &[u8],
     meaning: &Meaning,
 ) -> Result<Elaborated<()>, AllocError>
-    ensures { IfOk result (λ j. (scope.new, j) ≡ with_entry least at place (scope.old, before) (name.now, meaning.now)) }
+    ensures { IfOk result (λ j.
+        (scope.new, j) ≡ with_entry least at place (scope.old, before) (name.now, meaning.now)) }
 {
     let copy = meaning.copy()?;
     let one = import(alloc, scope, at, name, Origin::Export(place), Ok(copy))?;
@@ -114,7 +116,10 @@ fn with_entry_if(
     before: Elaborated<()>,
     entry: Option<(&[u8], &Meaning)>,
 ) -> Result<Elaborated<()>, AllocError>
-    ensures { IfOk result (λ j. (scope.new, j) ≡ if_some (with_entry least at place) (scope.old, before) (option_map (λ e. (e.0.now, e.1.now)) entry.entry)) }
+    ensures { IfOk result (λ j.
+        (scope.new, j)
+        ≡ if_some (with_entry least at place) (scope.old, before)
+        (option_map (λ e. (e.0.now, e.1.now)) entry.entry)) }
 {
     match entry {
         None => Ok(before),
@@ -122,7 +127,7 @@ fn with_entry_if(
     }
 }
 
-/// Imports so many names of a table from a place on.
+/// Imports this many names of a table from a place on.
 fn bring_all(
     alloc: Global,
     scope: &mut Scope<Breach>,
@@ -133,7 +138,10 @@ fn bring_all(
     count: usize,
 ) -> Result<Elaborated<()>, AllocError>
     requires { first + count < 2 ^ 64 }
-    ensures { IfOk result (λ j. (scope.new, j) ≡ fold (with_entry least at place) (scope.old, Ok tt) (take count (drop first exported.now))) }
+    ensures { IfOk result (λ j.
+        (scope.new, j)
+        ≡ fold (with_entry least at place) (scope.old, Ok tt)
+        (take count (drop first exported.now))) }
 {
     let mut elaborated = Ok(());
     for k in 0..count {
@@ -143,7 +151,7 @@ fn bring_all(
     Ok(elaborated)
 }
 
-/// Imports so many names of a table from a place on, as far as there are names.
+/// Imports this many names of a table from a place on, as far as there are names.
 fn bring(
     alloc: Global,
     scope: &mut Scope<Breach>,
@@ -153,7 +161,10 @@ fn bring(
     first: usize,
     count: usize,
 ) -> Result<Elaborated<()>, AllocError>
-    ensures { IfOk result (λ j. (scope.new, j) ≡ fold (with_entry least at place) (scope.old, Ok tt) (take count (drop first exported.now))) }
+    ensures { IfOk result (λ j.
+        (scope.new, j)
+        ≡ fold (with_entry least at place) (scope.old, Ok tt)
+        (take count (drop first exported.now))) }
 {
     let left = exported.len().saturating_sub(first);
     if left < count {
@@ -205,7 +216,9 @@ fn reported_of_taken(known: Option<&Known<Breach>>, at: Pos, place: usize) -> Op
 }
 
 fn reported_unless_from(origin: Origin, at: Pos, place: usize) -> Elaborated<()>
-    ensures { result ≡ reported_where least (not (is_one_origin origin (Export place))) at rule.DeclaredTwice (Ok tt) }
+    ensures { result
+        ≡ reported_where least (not (is_one_origin origin (Export place))) at rule.DeclaredTwice
+        (Ok tt) }
 {
     match origin {
         Origin::Here | Origin::Module(_) => report(at, Rule::DeclaredTwice),
@@ -227,7 +240,8 @@ fn from_place(
     exported: &Dictionary<Meaning>,
     found: Option<usize>,
 ) -> Result<Elaborated<()>, AllocError>
-    ensures { IfOk result (λ j. (scope.new, j) ≡ from_place least scope.old name.now place exported.now found) }
+    ensures { IfOk result (λ j.
+        (scope.new, j) ≡ from_place least scope.old name.now place exported.now found) }
 {
     let Some(first) = found else {
         return Ok(report(name.pos, Rule::NotExported));
@@ -250,7 +264,8 @@ fn import_names(
     before: Elaborated<()>,
     names: &[Ident],
 ) -> Result<Elaborated<()>, AllocError>
-    ensures { IfOk result (λ j. (scope.new, j) ≡ fold (with_from least place exported.now) (scope.old, before) names.now) }
+    ensures { IfOk result (λ j.
+        (scope.new, j) ≡ fold (with_from least place exported.now) (scope.old, before) names.now) }
 {
     let mut elaborated = before;
     for name in names {
@@ -268,7 +283,10 @@ fn import_from(
     before: Elaborated<()>,
     names: &[Ident],
 ) -> Result<Elaborated<()>, AllocError>
-    ensures { IfOk result (λ j. (scope.new, j) ≡ fold (with_from least place (exports_of (slice_get scope.old.tables place))) (scope.old, before) names.now) }
+    ensures { IfOk result (λ j.
+        (scope.new, j)
+        ≡ fold (with_from least place (exports_of (slice_get scope.old.tables place)))
+        (scope.old, before) names.now) }
 {
     match scope.tables.get(place) {
         None => {
@@ -289,7 +307,8 @@ fn import_from_module(
     before: Elaborated<()>,
     names: &[Ident],
 ) -> Result<Elaborated<()>, AllocError>
-    ensures { IfOk result (λ j. (scope.new, j) ≡ from_module least place (scope.old, before) names.now) }
+    ensures { IfOk result (λ j.
+        (scope.new, j) ≡ from_module least place (scope.old, before) names.now) }
 {
     match place {
         Err(breach) => Ok(beside(before, Err(breach))),
@@ -304,7 +323,8 @@ fn with_import(
     before: Elaborated<()>,
     one: &Import,
 ) -> Result<Elaborated<()>, AllocError>
-    ensures { IfOk result (λ j. (scope.new, j) ≡ with_import least modules.now (scope.old, before) one.now) }
+    ensures { IfOk result (λ j.
+        (scope.new, j) ≡ with_import least modules.now (scope.old, before) one.now) }
 {
     let names = one.names.as_slice();
     match &one.from {
@@ -322,7 +342,8 @@ pub fn import_all(
     modules: &Dictionary<usize>,
     imports: &[Import],
 ) -> Result<Elaborated<()>, AllocError>
-    ensures { IfOk result (λ j. (scope.new, j) ≡ fold (with_import least modules.now) (scope.old, Ok tt) imports.now) }
+    ensures { IfOk result (λ j.
+        (scope.new, j) ≡ fold (with_import least modules.now) (scope.old, Ok tt) imports.now) }
 {
     let mut elaborated = Ok(());
     for one in imports {

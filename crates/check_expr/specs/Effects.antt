@@ -42,7 +42,7 @@ module _ (g : Gathers) where
   change_target_in s v =
       of_sort g v.fixed.at rule.NoVariable (v.means s) ▷ change_target g s.types v.fixed.at
 
-  -- by 1, where nothing is written
+  -- by 1, if nothing is written
   abbrev pub change_statement : Scope g.Reported → Pos → Change → List (Meant g.Reported)
       → Result TypedStmt g.Reported
   change_statement s at o [] = wrong_count g s at []

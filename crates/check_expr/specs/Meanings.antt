@@ -328,7 +328,7 @@ module _ (g : Gathers) where
       → Result Denoted g.Reported
   denotation s name selectors = constants.selection g s name (map (λ p. p.fixed) selectors)
 
-  -- the type that it names is that of a body, if it has selectors
+  -- if it has selectors, the type that it names is found as in a body
   abbrev pub designator_fixed :
       Designator-F (Meant g.Reported) (Picks g.Reported) (Meant g.Reported) (Adds g.Reported)
       → Part g.Reported

@@ -328,7 +328,8 @@ fn call_in_expression(
     callee: Sought<Designated>,
     args: &[Expr],
 ) -> Result<Elaborated<Computed>, AllocError>
-    ensures { IfOk result (λ v. v ≡ call_in_expression least scope.now at callee (map (meanings_of least) args.now)) }
+    ensures { IfOk result (λ v.
+        v ≡ call_in_expression least scope.now at callee (map (meanings_of least) args.now)) }
 {
     let called = match of_heading(callee) {
         Err(breach) => Err(breach),
@@ -351,7 +352,8 @@ fn callee_value(
     args: &[Expr],
     called: Called,
 ) -> Result<Elaborated<Computed>, AllocError>
-    ensures { IfOk result (λ v. v ≡ callee_value least scope.now at (map (meanings_of least) args.now) called) }
+    ensures { IfOk result (λ v.
+        v ≡ callee_value least scope.now at (map (meanings_of least) args.now) called) }
 {
     match called {
         Called::Routine(heading, callee) => {
@@ -372,8 +374,8 @@ fn routine_called(
     callee: Callee,
     args: &[Expr],
 ) -> Result<Elaborated<Computed>, AllocError>
-    ensures { IfOk result
-        (λ v. v ≡ routine_called least scope.now at heading callee (map (meanings_of least) args.now)) }
+    ensures { IfOk result (λ v.
+        v ≡ routine_called least scope.now at heading callee (map (meanings_of least) args.now)) }
 {
     let signature = signature_of(&scope.types, heading);
     match function_of(at, signature, args.len()) {
@@ -419,7 +421,8 @@ pub fn breaches_in_all(
     scope: &Scope<Breach>,
     args: &[Expr],
 ) -> Result<Elaborated<()>, AllocError>
-    ensures { IfOk result (λ j. j ≡ breaches_in_all least scope.now (map (meanings_of least) args.now)) }
+    ensures { IfOk result (λ j.
+        j ≡ breaches_in_all least scope.now (map (meanings_of least) args.now)) }
 {
     let mut done = Ok(());
     for arg in args {
@@ -437,7 +440,8 @@ fn wrong_count(
     at: Pos,
     args: &[Expr],
 ) -> Result<Elaborated<Computed>, AllocError>
-    ensures { IfOk result (λ v. v ≡ wrong_count least scope.now at (map (meanings_of least) args.now)) }
+    ensures { IfOk result (λ v.
+        v ≡ wrong_count least scope.now at (map (meanings_of least) args.now)) }
 {
     let rest = breaches_in_all(alloc, scope, args)?;
     Ok(reported_beside(at, Rule::ArgumentCount, rest))
@@ -452,8 +456,10 @@ fn by_form(
     standard: Standard,
     args: &[Expr],
 ) -> Result<Elaborated<Computed>, AllocError>
-    ensures { IfOk result
-        (λ v. v ≡ by_form least scope.now at standard (map (meanings_of least) args.now) (form_of standard)) }
+    ensures { IfOk result (λ v.
+        v
+        ≡ by_form least scope.now at standard (map (meanings_of least) args.now)
+        (form_of standard)) }
 {
     match form_of(standard) {
         Form::Unary(function) => unary(alloc, scope, at, standard, function, args),
@@ -499,7 +505,8 @@ fn bound(
     standard: Standard,
     args: &[Expr],
 ) -> Result<Elaborated<Computed>, AllocError>
-    ensures { IfOk result (λ v. v ≡ bound least scope.now at standard (map (meanings_of least) args.now)) }
+    ensures { IfOk result (λ v.
+        v ≡ bound least scope.now at standard (map (meanings_of least) args.now)) }
 {
     match args {
         [] => wrong_count(alloc, scope, at, args),
@@ -519,7 +526,8 @@ fn conversion(
     at: Pos,
     args: &[Expr],
 ) -> Result<Elaborated<Computed>, AllocError>
-    ensures { IfOk result (λ v. v ≡ conversion least scope.now at (map (meanings_of least) args.now)) }
+    ensures { IfOk result (λ v.
+        v ≡ conversion least scope.now at (map (meanings_of least) args.now)) }
 {
     match args {
         [] => wrong_count(alloc, scope, at, args),
@@ -703,8 +711,8 @@ fn constant_call_of(
     callee: Denoted,
     args: &[Expr],
 ) -> Result<Elaborated<Value>, AllocError>
-    ensures { IfOk result
-        (λ v. v ≡ constants.standard_call_value least scope.now at callee (map (part least) args.now)) }
+    ensures { IfOk result (λ v.
+        v ≡ constants.standard_call_value least scope.now at callee (map (part least) args.now)) }
 {
     match callee {
         Denoted::Standard(standard) => by_sort(alloc, scope, at, standard, args),

@@ -41,8 +41,8 @@ fn routine_done(
     callee: Callee,
     args: &[Expr],
 ) -> Result<Elaborated<TypedStmt>, AllocError>
-    ensures { IfOk result
-        (λ j. j ≡ routine_done least scope.now at heading callee (map (meanings_of least) args.now)) }
+    ensures { IfOk result (λ j.
+        j ≡ routine_done least scope.now at heading callee (map (meanings_of least) args.now)) }
 {
     let signature = signature_of(&scope.types, heading);
     match proper_of(at, signature, args.len()) {
@@ -64,7 +64,8 @@ fn wrong_count(
     at: Pos,
     args: &[Expr],
 ) -> Result<Elaborated<TypedStmt>, AllocError>
-    ensures { IfOk result (λ j. j ≡ wrong_count least scope.now at (map (meanings_of least) args.now)) }
+    ensures { IfOk result (λ j.
+        j ≡ wrong_count least scope.now at (map (meanings_of least) args.now)) }
 {
     let rest = breaches_in_all(alloc, scope, args)?;
     Ok(reported_beside(at, Rule::ArgumentCount, rest))
@@ -110,9 +111,11 @@ fn changed_by_amount(
     variable: &Expr,
     by: &Expr,
 ) -> Result<Elaborated<TypedStmt>, AllocError>
-    ensures { IfOk result
-        (λ j. j ≡ change_by least change (change_target_in least scope.now (meanings_of least variable.now))
-        (value_of least scope.now (meanings_of least by.now) ▷ amount least (meanings_of least by.now).fixed.at)) }
+    ensures { IfOk result (λ j.
+        j
+        ≡ change_by least change (change_target_in least scope.now (meanings_of least variable.now))
+        (value_of least scope.now (meanings_of least by.now)
+        ▷ amount least (meanings_of least by.now).fixed.at)) }
 {
     let place = change_target_at(alloc, scope, variable)?;
     let amount = amount_at(alloc, scope, by)?;
@@ -177,8 +180,9 @@ fn member_of(
     set: &Expr,
     arg: &Expr,
 ) -> Result<Elaborated<TypedStmt>, AllocError>
-    ensures { IfOk result
-        (λ j. j ≡ membership_of least membership (set_in least scope.now (meanings_of least set.now))
+    ensures { IfOk result (λ j.
+        j
+        ≡ membership_of least membership (set_in least scope.now (meanings_of least set.now))
         (value_of least scope.now (meanings_of least arg.now)
         ▷ element least (meanings_of least arg.now).fixed.at)) }
 {
@@ -212,7 +216,8 @@ fn halt_statement(
     at: Pos,
     args: &[Expr],
 ) -> Result<Elaborated<TypedStmt>, AllocError>
-    ensures { IfOk result (λ j. j ≡ halt_statement least scope.now at (map (meanings_of least) args.now)) }
+    ensures { IfOk result (λ j.
+        j ≡ halt_statement least scope.now at (map (meanings_of least) args.now)) }
 {
     match args {
         [] => Ok(Ok(TypedStmt::Halt)),
@@ -227,7 +232,8 @@ fn function_done(
     at: Pos,
     args: &[Expr],
 ) -> Result<Elaborated<TypedStmt>, AllocError>
-    ensures { IfOk result (λ j. j ≡ function_done least scope.now at (map (meanings_of least) args.now)) }
+    ensures { IfOk result (λ j.
+        j ≡ function_done least scope.now at (map (meanings_of least) args.now)) }
 {
     let rest = breaches_in_all(alloc, scope, args)?;
     Ok(reported_beside(at, Rule::WrongType, rest))
@@ -289,7 +295,8 @@ fn callee_statement(
     args: &[Expr],
     called: Called,
 ) -> Result<Elaborated<TypedStmt>, AllocError>
-    ensures { IfOk result (λ j. j ≡ callee_statement least scope.now at (map (meanings_of least) args.now) called) }
+    ensures { IfOk result (λ j.
+        j ≡ callee_statement least scope.now at (map (meanings_of least) args.now) called) }
 {
     match called {
         Called::Routine(heading, callee) => {
@@ -307,8 +314,10 @@ pub fn call_statement(
     designator: &Designator,
     args: &[Expr],
 ) -> Result<Elaborated<TypedStmt>, AllocError>
-    ensures { IfOk result
-        (λ j. j ≡ call_statement least scope.now (head least designator.now) (map (meanings_of least) args.now)) }
+    ensures { IfOk result (λ j.
+        j
+        ≡ call_statement least scope.now (head least designator.now)
+        (map (meanings_of least) args.now)) }
 {
     let at = first_of(designator);
     let called = match of_heading(designation(alloc, scope, designator)?) {

@@ -190,7 +190,7 @@ on_procedures g spot fit x y None = report g spot rule.WrongType
 on_procedures g spot fit x y (Some c) =
     reported_where g (not fit) spot rule.WrongType (Ok (truth_of (expr.Compare c x y)))
 
--- ---- all of them, where one side is no constant
+-- ---- all of them, if one side is no constant
 
 abbrev pub with_scalar : (g : Gathers) → BinaryOp → Pos → Pos → Amount → Pos → Option Side
     → Result Computed g.Reported

@@ -103,7 +103,7 @@ abbrev pub text_fits_in : Types → (length : ℕ) → Option (TypeNo × TypeNo)
 text_fits_in types n None = false
 text_fits_in types n (Some a) = are_same a.1 char && text_within n (scalar_at types a.0)
 
--- an array of CHAR with at least so many elements
+-- an array of CHAR with at least this many elements
 abbrev pub text_fits : Types → TypeNo → (length : ℕ) → Bool
 text_fits types t n = text_fits_in types n (array_at types t)
 

@@ -28,7 +28,7 @@ use Rattle.check_operator.specs.declared.computed.Designated.{Designated}
 use Rattle.check_operator.specs.declared.computed.Designated.TheVariants as designated
 use Rattle.check_operator.specs.Classes.{class_at}
 
--- ---- names, so many procedures deep
+-- ---- names, this many procedures deep
 
 abbrev pub slot_of : (level : ℕ) → LocalVariable → Slot
 slot_of level v = record { up = level - v.level; number = v.number }

@@ -48,7 +48,7 @@ pub enum Designated {
     Module(usize),
 }
 
-/// A local variable, seen from so many procedures deep.
+/// A local variable, seen from `level` procedures deep.
 pub fn slot_of(level: usize, variable: LocalVariable) -> Slot
     ensures { result ≡ slot_of level variable }
 {
@@ -91,7 +91,8 @@ fn nested_by(level: usize, procedure: NestedProcedure) -> LocalProcedure
     }
 }
 
-/// What a name stands for, so many procedures deep. A procedure whose heading was not met yet is not declared yet: 30.
+/// What a name stands for, this many procedures deep. A procedure whose heading was not met yet is not declared yet:
+/// 30.
 pub fn designated_by(
     alloc: Global,
     level: usize,

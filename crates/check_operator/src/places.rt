@@ -179,7 +179,7 @@ fn text_fits_in(types: &Types, length: usize, array: Option<(TypeNo, TypeNo)>) -
     }
 }
 
-/// Whether a type is an array of CHAR with at least so many elements.
+/// Whether a type is an array of CHAR with at least `length` elements.
 pub fn text_fits(types: &Types, t: TypeNo, length: usize) -> bool
     ensures { result ≡ text_fits types.now t length }
 {

@@ -66,7 +66,7 @@ fn component(
     }
 }
 
-/// A field of what stands before a point: 40 at the point where that is no record, and 30 at a name that it lacks.
+/// A field of what stands before a point: 40 at the point if that is no record, and 30 at a name that it lacks.
 pub fn field(
     types: &Types,
     at: Pos,
@@ -113,7 +113,7 @@ fn array_indexed(
     }
 }
 
-/// What stands before a bracket: 40 at the bracket where that is no array.
+/// What stands before a bracket: 40 at the bracket if that is no array.
 pub fn indices(types: &Types, at: Pos, from: Designated) -> Elaborated<Subscripted>
     ensures { result ≡ indices least types.now at from }
 {

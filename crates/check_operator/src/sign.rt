@@ -63,7 +63,7 @@ fn signed_value(
     }
 }
 
-/// A sign at a place, before a term: 40 where it does not take the term.
+/// A sign at a place, before a term: 40 if it does not take the term.
 pub fn with_sign(
     alloc: Global,
     sign: Sign,
@@ -111,7 +111,7 @@ fn negated_value(
     }
 }
 
-/// NOT at a place: 40 where its operand is no BOOLEAN.
+/// NOT at a place: 40 if its operand is no BOOLEAN.
 pub fn negation(
     alloc: Global,
     spot: Pos,

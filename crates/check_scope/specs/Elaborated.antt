@@ -30,7 +30,7 @@ abbrev pub reported_where : (g : Gathers) {A : Type 0} → Bool → Pos → Rule
     → Result A g.Reported
 reported_where g holds pos broken otherwise = cond holds (report g pos broken) otherwise
 
--- what looks at a meaning is silent where there is none
+-- what looks at a meaning is silent if there is none
 infixl 10 ◌▷◌
 abbrev pub ◌▷◌ : {A B T : Type 0} → Result A T → (A → Result B T) → Result B T
 (Ok x) ▷ f = f x
@@ -44,7 +44,7 @@ both g (Ok a) (Err e) = Err e
 both g (Err e) (Ok b) = Err e
 both g (Err e) (Err f) = Err (g.join e f)
 
--- the same, where only what is reported counts
+-- the same, if only what is reported counts
 abbrev pub beside : (g : Gathers) → Result (Unit {0}) g.Reported → Result (Unit {0}) g.Reported
     → Result (Unit {0}) g.Reported
 beside g a b = both g a b ▷ λ p. Ok tt
@@ -68,7 +68,7 @@ ahead g (Err e) rest f = refusal_beside g e rest
 
 -- ---- names of procedures in whose headings rules are broken
 
--- a rule that looks at what sort of thing a name is speaks of such a procedure too
+-- a rule that looks at what sort of thing a name is speaks of these procedures too
 abbrev pub of_sort : (g : Gathers) {A : Type 0} → Pos → Rule → Result A (Meaningless g.Reported)
     → Result A g.Reported
 of_sort g pos broken (Ok x) = Ok x
@@ -81,7 +81,7 @@ of_heading (Ok x) = Ok x
 of_heading (Err (Broken e)) = Err e
 of_heading (Err (Headless e)) = Err e
 
--- what is no such procedure
+-- what is none of these procedures
 abbrev pub plain : {A T : Type 0} → Result A T → Result A (Meaningless T)
 plain (Ok x) = Ok x
 plain (Err e) = Err (Broken e)

@@ -17,7 +17,7 @@ pub fn report<T>(pos: Pos, broken: Rule) -> Elaborated<T>
     Err(Breach::at(pos, broken))
 }
 
-/// Two parts that stand beside one another. Where both have broken rules, the least is reported.
+/// Two parts that stand beside one another. If both have broken rules, the least is reported.
 pub fn both<A: Drop, B: Drop>(first: Elaborated<A>, second: Elaborated<B>) -> Elaborated<(A, B)>
     ensures { result ≡ both least first second }
 {

@@ -77,7 +77,7 @@ impl<T: Drop> Drop for Scope<T> {
 }
 
 impl Scope<Breach> {
-    /// The types that are known, and those of the module's variables. What else is known is dropped.
+    /// The types that are known, and the types of the module's variables. What else is known is dropped.
     pub fn into_types(self, alloc: Global) -> (Types, Items<TypeNo>)
         ensures { result ≡ (self.types, self.variables) }
     {
@@ -105,7 +105,8 @@ fn in_block<'a>(block: &'a Block<Breach>, name: &[u8]) -> Sight<'a>
 }
 
 fn or_outside<'a>(near: Sight<'a>, far: Sight<'a>) -> Sight<'a>
-    ensures { sight_of_entry result ≡ or_outside (sight_of_entry near.entry) (sight_of_entry far.entry) }
+    ensures { sight_of_entry result
+        ≡ or_outside (sight_of_entry near.entry) (sight_of_entry far.entry) }
 {
     match near {
         Some(known) => Some(known),
@@ -376,7 +377,8 @@ pub fn import(
     origin: Origin,
     means: Elaborated<Meaning>,
 ) -> Result<Elaborated<()>, AllocError>
-    ensures { IfOk result (λ j. (scope.new, j) ≡ import_name least scope.old at name.now origin means) }
+    ensures { IfOk result (λ j.
+        (scope.new, j) ≡ import_name least scope.old at name.now origin means) }
 {
     let known = scope.own.find(name);
     if is_again(known, origin) {

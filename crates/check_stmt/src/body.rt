@@ -118,8 +118,8 @@ fn if_rest(
     first: (Elaborated<TypedExpr>, Elaborated<Items<TypedStmt>>),
 ) -> Result<Elaborated<TypedStmt>, AllocError>
     ensures stays { OnOk result (scope.new ≡ scope.old) }
-    ensures means { IfOk result
-        (λ j. j ≡ if_statement least first.0 first.1 (rest least written.now scope.old around.now)) }
+    ensures means { IfOk result (λ j.
+        j ≡ if_statement least first.0 first.1 (rest least written.now scope.old around.now)) }
 {
     let further = rest(alloc, scope, around, written)?;
     let (condition, body) = first;
@@ -155,8 +155,9 @@ fn case_alone(
 ) -> Result<Elaborated<TypedStmt>, AllocError>
     ensures stays { OnOk result (scope.new ≡ scope.old) }
     ensures means { let s = case_selector least scope.old (meanings_of least selector.now) in
-        IfOk result (λ j. j ≡ case_statement least s (arms least scope.old around.now (base_in s) all.now)
-        (Ok None)) }
+        IfOk result (λ j.
+        j
+        ≡ case_statement least s (arms least scope.old around.now (base_in s) all.now) (Ok None)) }
 {
     let (selector, done) = case_arms(alloc, scope, around, all, selector)?;
     Ok(case_statement(selector, done, Ok(None)))
@@ -246,9 +247,12 @@ fn for_of(
     by: &Option<Boxed<Expr>>,
 ) -> Result<Elaborated<TypedStmt>, AllocError>
     ensures stays { OnOk result (scope.new ≡ scope.old) }
-    ensures means { IfOk result (λ j. j ≡ repeated_for least
-        (course_of least scope.old name.now (meanings_of least start.now) (meanings_of least limit.now)
-        (meant_if least by.now)) (statements least scope.old around.now body.now)) }
+    ensures means { IfOk result (λ j.
+        j
+        ≡ repeated_for least
+        (course_of least scope.old name.now (meanings_of least start.now)
+        (meanings_of least limit.now) (meant_if least by.now))
+        (statements least scope.old around.now body.now)) }
 {
     let course = course_of(alloc, scope, name, start, limit, by)?;
     let body = statements(alloc, scope, around, body)?;
@@ -265,7 +269,8 @@ fn with_of(
     whole: &Designator,
 ) -> Result<Elaborated<TypedStmt>, AllocError>
     ensures stays { OnOk result (scope.new ≡ scope.old) }
-    ensures means { IfOk result (λ j. j ≡ ahead least (record_of least scope.old (head least whole.now))
+    ensures means { IfOk result (λ j.
+        j ≡ ahead least (record_of least scope.old (head least whole.now))
         (reported_in (statements least (opened_if scope.old (opened_type least scope.old whole.now))
         around.now body.now))
         (λ r. within r.1 (statements least (into_record scope.old r.0) around.now body.now))) }

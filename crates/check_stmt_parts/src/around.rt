@@ -12,7 +12,7 @@ use typed_tree::{TypeNo, TypedStmt};
 /// What stands around a statement.
 #[derive(Clone, Copy)]
 pub struct Around<T> {
-    /// The type of the result, where the body is one of a function.
+    /// The type of the result, if the body is one of a function.
     pub gives: Option<Result<TypeNo, T>>,
     /// Whether a LOOP of the body stands around it.
     pub in_loop: bool,
@@ -28,7 +28,7 @@ pub fn in_loop(around: &Around<Breach>) -> Around<Breach>
     }
 }
 
-/// EXIT: 45 where no LOOP stands around it.
+/// EXIT: 45 if no LOOP stands around it.
 pub fn exit_statement(at: Pos, around: &Around<Breach>) -> Elaborated<TypedStmt>
     ensures { result ≡ exit_statement least at around.now }
 {

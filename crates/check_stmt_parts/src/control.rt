@@ -270,8 +270,10 @@ fn start_of(
     control: &Elaborated<Control>,
     e: &Expr,
 ) -> Result<Elaborated<TypedExpr>, AllocError>
-    ensures { IfOk result (λ j. j ≡ start_at least scope.now.types (meanings_of least e.now).fixed.at
-        (type_of control.now) (value_of least scope.now (meanings_of least e.now))) }
+    ensures { IfOk result (λ j.
+        j
+        ≡ start_at least scope.now.types (meanings_of least e.now).fixed.at (type_of control.now)
+        (value_of least scope.now (meanings_of least e.now))) }
 {
     let value = value_of(alloc, scope, e)?;
     Ok(start_at(&scope.types, place_of(e), type_of(control), value))

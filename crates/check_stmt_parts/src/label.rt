@@ -28,7 +28,7 @@ fn of_type(alike: bool, at: Pos) -> Elaborated<()>
     Ok(())
 }
 
-/// A bound that is no constant: 49 at the label, and 40 at the bound where it has another base type than the selector.
+/// A bound that is no constant: 49 at the label, and 40 at the bound if it has another base type than the selector.
 fn no_constant(alike: bool, label: Pos, at: Pos) -> Elaborated<Ordinal>
     ensures { result ≡ no_constant least alike label at }
 {
@@ -221,7 +221,7 @@ fn label_of(
     }
 }
 
-/// Takes a label in: 49 where another has a value of it.
+/// Takes a label in: 49 if another has a value of it.
 fn with_new(
     at: Pos,
     ranges: &mut Ranges,

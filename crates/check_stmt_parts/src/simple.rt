@@ -70,7 +70,7 @@ pub fn return_statement(
     }
 }
 
-/// A condition: 40 where it is no BOOLEAN.
+/// A condition: 40 if it is no BOOLEAN.
 pub fn condition(
     alloc: Global,
     scope: &Scope<Breach>,
@@ -91,15 +91,15 @@ pub fn assignment(
     designator: &Designator,
     e: &Expr,
 ) -> Result<Elaborated<TypedStmt>, AllocError>
-    ensures { IfOk result
-        (λ j. j ≡ assignment least scope.now (head least designator.now) (meanings_of least e.now)) }
+    ensures { IfOk result (λ j.
+        j ≡ assignment least scope.now (head least designator.now) (meanings_of least e.now)) }
 {
     let target = target_at(first_of(designator), designation(alloc, scope, designator)?);
     let value = value_of(alloc, scope, e)?;
     Ok(assignment_of(&scope.types, target, place_of(e), value))
 }
 
-/// A call as a statement. Where there are no brackets there are no arguments.
+/// A call as a statement. If there are no brackets there are no arguments.
 pub fn procedure_call(
     alloc: Global,
     scope: &Scope<Breach>,
@@ -139,7 +139,7 @@ fn selector_of(at: Pos, side: Option<Side>) -> Elaborated<(TypeNo, TypedExpr)>
     }
 }
 
-/// The selector of a CASE with its base type: 40 where it is no scalar.
+/// The selector of a CASE with its base type: 40 if it is no scalar.
 pub fn case_selector(
     alloc: Global,
     scope: &Scope<Breach>,
@@ -186,7 +186,7 @@ fn record_by(types: &Types, at: Pos, designated: Designated) -> Elaborated<(Type
     }
 }
 
-/// The record of a WITH with its type: 40 where it is no variable of a record type.
+/// The record of a WITH with its type: 40 if it is no variable of a record type.
 pub fn record_of(
     alloc: Global,
     scope: &Scope<Breach>,

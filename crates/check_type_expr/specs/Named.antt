@@ -32,7 +32,7 @@ type_meant g at meaning.Ahead = report g at rule.NoType
 type_meant g at (meaning.Standard f) = report g at rule.NoType
 type_meant g at (meaning.Module k) = report g at rule.NoType
 
--- M.x, where M means a module
+-- M.x, if M means a module
 abbrev pub in_module : (g : Gathers) → Scope g.Reported → Pos → Ident → Meaning
     → Result TypeNo g.Reported
 in_module g s at name (meaning.Module k) = member g s.tables k name ▷ type_meant g at

@@ -47,7 +47,7 @@ pub fn plus(a: u32, b: u32) -> u32
     if sum > 131_072 { 131_073 } else { sum as u32 }
 }
 
-/// The cells of an array of so many elements.
+/// The cells of an array of `count` elements.
 pub fn array_cells(at: Pos, count: u32, cells: u32) -> Elaborated<u32>
     ensures { result ≡ array_cells least at count cells }
 {

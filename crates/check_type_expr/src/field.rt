@@ -56,7 +56,8 @@ pub fn with_names(
     t: TypeNo,
     cells: u32,
 ) -> Result<Elaborated<()>, AllocError>
-    ensures { IfOk result (λ j. (fields.new, j) ≡ fold (with_name least t cells) (fields.old, before) names.now) }
+    ensures { IfOk result (λ j.
+        (fields.new, j) ≡ fold (with_name least t cells) (fields.old, before) names.now) }
 {
     let mut elaborated = before;
     for name in names {

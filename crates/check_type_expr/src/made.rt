@@ -83,7 +83,8 @@ fn enumeration_of(
     before: Elaborated<()>,
     names: &[Ident],
 ) -> Result<Elaborated<()>, AllocError>
-    ensures { IfOk result (λ j. (scope.new, length names.now, j) ≡ enumeration_of least t scope.old before names.now) }
+    ensures { IfOk result (λ j.
+        (scope.new, length names.now, j) ≡ enumeration_of least t scope.old before names.now) }
 {
     let mut elaborated = before;
     for (number, name) in names.iter().enumerate() {
@@ -172,7 +173,8 @@ fn subrange(
     low: &Expr,
     high: &Expr,
 ) -> Result<Elaborated<Scalar>, AllocError>
-    ensures { IfOk result (λ s. s ≡ subrange least scope.now of.now (part least low.now) (part least high.now)) }
+    ensures { IfOk result (λ s.
+        s ≡ subrange least scope.now of.now (part least low.now) (part least high.now)) }
 {
     let first = bound_at(alloc, scope, low)?;
     let last = bound_at(alloc, scope, high)?;
@@ -370,7 +372,8 @@ fn fields_of(
     fields: &mut Fields,
     list: &[Field],
 ) -> Result<Elaborated<()>, AllocError>
-    ensures { IfOk result (λ j. (scope.new, fields.new, j) ≡ fold with_field_list (scope.old, fields.old, Ok tt) list.now) }
+    ensures { IfOk result (λ j.
+        (scope.new, fields.new, j) ≡ fold with_field_list (scope.old, fields.old, Ok tt) list.now) }
 {
     let mut elaborated = Ok(());
     for field in list {
@@ -388,7 +391,8 @@ fn field_list(
     before: Elaborated<()>,
     field: &Field,
 ) -> Result<Elaborated<()>, AllocError>
-    ensures { IfOk result (λ j. (scope.new, fields.new, j) ≡ field_list least field.now (scope.old, fields.old, before)) }
+    ensures { IfOk result (λ j.
+        (scope.new, fields.new, j) ≡ field_list least field.now (scope.old, fields.old, before)) }
 {
     let t = type_of(alloc, scope, &field.of)?;
     let of = field_type(t);

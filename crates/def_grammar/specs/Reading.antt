@@ -32,7 +32,7 @@ nullable (many g) = true
 nullable (nest g) = nullable g
 nullable (named g) = false
 
--- the tokens that a part begins with, where the productions begin with those
+-- the tokens that a part begins with, if the productions begin with those
 abbrev pub first_by : (Rule → List Kind) → {a : Ty} → Gr a → List Kind
 first_by ρ (tok k ks) = k ∷ ks
 first_by ρ (rule r) = ρ r
@@ -166,13 +166,13 @@ Reads outcome (Ok a) new = outcome ≡ Ok (a, new)
 Reads outcome (Err NoMemory) new = Unit {0}
 Reads outcome (Err (Refused f)) new = outcome ≡ Err (new, f)
 
--- the same, where the function answers what it makes of the value
+-- the same, if the function answers what it makes of the value
 abbrev pub ReadsAs : {A B : Type 0} → (A → B) → Outcome A → Result B Stop → List Token → Type 0
 ReadsAs {A} view outcome (Ok b) new = (x : A) × (outcome ≡ Ok (x, new)) × (b ≡ view x)
 ReadsAs view outcome (Err NoMemory) new = Unit {0}
 ReadsAs view outcome (Err (Refused f)) new = outcome ≡ Err (new, f)
 
--- the same, where the function adds what it makes to a list
+-- the same, if the function adds what it makes to a list
 abbrev pub ReadsOnto : {A B : Type 0} → (A → List B) → Outcome A → List B → Result (Unit {0}) Stop
     → List B → List Token → Type 0
 ReadsOnto {A} view outcome old (Ok b) found new =

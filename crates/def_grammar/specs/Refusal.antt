@@ -35,7 +35,7 @@ IsTree ts m = IsModule ts m × ((at : List Token) (f : GrammarRule) → BreaksRu
 abbrev pub IsOpen : List Token → Type 0
 IsOpen front = (more : List Token) × (m : Module) × IsModule (front ++ more) m
 
--- no module goes on with the next token, or ends where there is none
+-- no module goes on with the next token, or ends if there is none
 abbrev pub IsUnfit : List Token → List Token → Type 0
 IsUnfit front [] = (m : Module) → IsModule front m → ⊥
 IsUnfit front (t ∷ ts) = IsOpen (front ++ t ∷ []) → ⊥

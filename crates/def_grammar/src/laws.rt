@@ -15,7 +15,8 @@ pub fn one_tree()
 
 /// A list that is refused has no tree.
 pub fn tree_or_refusal()
-    ensures { (ts : List Token) (m : Module) (r : ParseRefusal) → IsTree ts m → IsReported ts r → ⊥ }
+    ensures { (ts : List Token) (m : Module) (r : ParseRefusal) → IsTree ts m → IsReported ts r
+        → ⊥ }
 {}
 
 /// A list has at most one refusal: one place is the least, and one number is reported of it.

@@ -45,7 +45,7 @@ impl<T: Drop> From<AllocFailed<T>> for Stop {
 /// What is refused in a list of tokens, and where.
 #[derive(Clone, Copy, Debug, PartialEq, Eq)]
 pub struct ParseRefusal {
-    /// The place of the token that is refused, and 1:1 where the list ends too early with no token of its end.
+    /// The place of the token that is refused, and 1:1 if the list ends too early with no token of its end.
     pub pos: Pos,
     /// 11 for a closing name that is not the opening one, 12 for the 201st level of nesting, 13 for one of the words
     /// POINTER, QUALIFIED, EXPORT, SET and MODULE where it may not stand, and 10 for any other token.

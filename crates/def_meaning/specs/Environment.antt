@@ -59,7 +59,7 @@ pub data Named : Type 0 where
   At : (l : Location) → Named
   Elements : (l : Location) (high : ℕ) → Named
 
--- the names of an activation, and those of the activations around it
+-- the names of an activation, and of the activations around it
 abbrev pub Frames : Type 0
 Frames = List (List Named)
 

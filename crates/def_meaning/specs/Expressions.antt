@@ -28,7 +28,7 @@ use Rattle.def_meaning.specs.Environment.{Modules, Environment, Callee, Passed, 
 
 -- ---- checks
 
--- the value, where it is within these bounds, else this fault
+-- the value, if it is within these bounds, else this fault
 abbrev pub within : (low high : ℤ) → (fault : ℕ) → ℤ → State → Answer ℤ
 within low high fault v st = if is_between low v high then Value v st else Ended fault st.out
 
@@ -65,7 +65,7 @@ index_range types t = index_made types (made_at types t)
 abbrev pub high_index : Types → TypeNo → ℕ
 high_index types t = elements_of (index_range types t) - 1
 
--- the element with this index, where the least index is low
+-- the element with this index, if the least index is low
 abbrev pub element : Location → (low high index : ℤ) → State → Answer Location
 element l low high i st =
     if is_between low i high
@@ -174,7 +174,7 @@ module _ (p : Modules) (ask : Asks) where
   abbrev pub binary : Gives ℤ → Gives ℤ → (ℤ → ℤ → State → Answer ℤ) → Gives ℤ
   binary e e' f a st = e a st ▷ λ x st. e' a st ▷ λ y st. f x y st
 
-  -- AND and OR evaluate their second operand only where the first does not decide
+  -- AND and OR evaluate their second operand only if the first does not decide
   abbrev pub link_layer :
       Link-F (Gives Passed) (Gives ℤ) Reaches Continues (Gives ℤ) (Gives Location) → Continues
   link_layer (layer.Arithmetic o t e) x a st =

@@ -1,5 +1,5 @@
 -- What operators and standard functions make of numbers. TRUE is 1 and FALSE 0; in a set, element k
--- is there where bit k is 1.
+-- is there if bit k is 1.
 use Rattle.std.specs.Prelude.{ℕ, ◌/◌, ◌%◌, ◌^◌, ◌==◌, ℤ, pos, ◌-ℤ◌, Bool, true, false, not, ◌&&◌, int_le, int_lt, bit_and, bit_or, bit_xor, unsigned_abs, if◌then◌else◌}
 use Rattle.std.specs.Int.{int_div_euclid, int_rem_euclid}
 use Rattle.typed_tree.specs.declared.computed.Comparison.{Comparison}
@@ -65,7 +65,7 @@ capital v = if is_between (pos 97) v (pos 122) then v -ℤ pos 32 else v
 abbrev pub odd : ℤ → Bool
 odd v = unsigned_abs v % 2 == 1
 
--- x = q * y + r with 0 <= r < y, where y is positive
+-- x = q * y + r with 0 <= r < y, if y is positive
 abbrev pub quotient : ℤ → ℤ → ℤ
 quotient x y = int_div_euclid x y
 

@@ -30,8 +30,8 @@ body_frame = size (frame_of [])
 abbrev pub first_state : Modules → State
 first_state p = record { store = fresh (row (map module_row p)); out = [] }
 
--- what stands around the body of a module. The instance behind those of the modules is the body's
--- frame.
+-- what stands around the body of a module. The instance behind the instances of the modules is the
+-- body's frame.
 abbrev pub body_environment : Modules → (place : ℕ) → TypedModule → (free : ℕ) → Environment
 body_environment p place m free = record {
   place = place;

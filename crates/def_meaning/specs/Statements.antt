@@ -1,4 +1,4 @@
--- What statements do, where each loop makes at most n turns.
+-- What statements do, if each loop makes at most n turns.
 -- A fold over a tree has one clause for each construct, in which the parts already stand for what
 -- they do, and a function on a list has one for the empty list and one for its first and the rest.
 use Rattle.std.specs.Prelude.{ℕ, zero, suc, ℤ, pos, ◌+ℤ◌, ◌-ℤ◌, Bool, int_lt, bit_or, unsigned_abs, List, [], ◌∷◌, ◌++◌, Option, Some, None, slice_get, if◌then◌else◌}
@@ -82,7 +82,7 @@ until_true (suc n) body test st =
 abbrev pub has_passed : (by limit v : ℤ) → Bool
 has_passed by limit v = if int_lt by (pos 0) then int_lt v limit else int_lt limit v
 
--- after a turn the variable steps on, where that does not pass the limit
+-- after a turn the variable steps on, if that does not pass the limit
 abbrev pub for_turns : ℕ → (check : ℤ → State → Answer ℤ) → Location → (by limit : ℤ)
     → (State → Outcome) → State → Outcome
 for_turns zero check l by limit body st = StillRunning st.out

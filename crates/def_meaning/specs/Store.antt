@@ -10,13 +10,13 @@ Location = List ℕ
 abbrev pub Store : Type 0
 Store = Location → ℤ
 
--- what of a location lies behind another one, where it is that one or a component of it
+-- what of a location lies behind another one, if it is that one or a component of it
 unfoldable pub behind : Location → Location → Option Location
 behind [] l = Some l
 behind (i ∷ p) [] = None
 behind (i ∷ p) (j ∷ l) = if nat_eq i j then behind p l else None
 
--- the first where there is something behind, else the second
+-- the first if there is something behind, else the second
 abbrev pub choose_arm : {A : Type 0} → Option Location → (Location → A) → A → A
 choose_arm (Some r) f a = f r
 choose_arm None f a = a

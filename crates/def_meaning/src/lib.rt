@@ -23,6 +23,6 @@ pub fn bound_laws()
 pub fn calm_laws()
     // They change nothing and print nothing:
     ensures changes_nothing { ChangesNothing }
-    // neither where a value is asked for, nor where a variable is.
+    // neither if a value is asked for, nor if a variable is.
     ensures finds_alone { FindsAlone }
 {}

@@ -102,8 +102,8 @@ base_of types t = base_in t (scalar_at types t)
 abbrev pub is_subrange : Types → TypeNo → Bool
 is_subrange types t = not (are_same (base_of types t) t)
 
--- a value of a type that is taken as one of another needs no check where the types agree, or where
--- the other is the first one's base
+-- a value of a type that is taken as one of another needs no check if the types agree, or if the
+-- other is the first one's base
 abbrev pub is_free : Types → TypeNo → (constant : Bool) → (of : TypeNo) → Bool
 is_free types t constant of =
     constant || (are_same t of || (not (is_subrange types t) && are_same t (base_of types of)))

@@ -20,7 +20,7 @@ pub record Counts : Type 0 where
 -- where code stands
 pub record Setting : Type 0 where
   pub home : TypedModule
-  pub frames : List Ty  -- the procedure's own frame, then those of the procedures around it
+  pub frames : List Ty  -- the procedure's own frame, then the frames of the procedures around it
   pub arguments : ℕ  -- how many arguments the function has
   pub addresses : ℕ  -- how many locals for addresses it has in all
   pub exit : ℕ  -- the label of the block that EXIT leaves
@@ -44,7 +44,7 @@ abbrev pub all_coded : List Coded → Coded
 all_coded [] = nothing
 all_coded (x ∷ xs) = x ⨾ all_coded xs
 
--- code inside so many more blocks
+-- code inside this many more blocks
 abbrev pub within : (labels : ℕ) → (List Instr → List Instr) → Coded → Coded
 within labels wrap x s c =
     let inner = x (record s { exit = s.exit + labels }) c in (wrap inner.0, inner.1)
@@ -71,7 +71,7 @@ with_address f s c = f (address_local s c.addresses) s (record c { addresses = s
 abbrev pub with_number : (ℕ → Coded) → Coded
 with_number f s c = f (number_local s c.numbers) s (record c { numbers = suc c.numbers })
 
--- code that needs a text of so many bytes, given by its offset
+-- code that needs a text of this many bytes, given by its offset
 abbrev pub with_text : (bytes : ℕ) → (ℕ → Coded) → Coded
 with_text bytes f s c = f c.texts s (record c { texts = c.texts + bytes })
 

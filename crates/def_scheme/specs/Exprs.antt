@@ -1,5 +1,5 @@
 -- The code of expressions, designators, calls and arguments. The code of a designator leaves an
--- address of 32 bits, that of an expression a number of 64 bits.
+-- address of 32 bits. The code of an expression leaves a number of 64 bits.
 use Rattle.std.specs.Prelude.{ℕ, zero, suc, ◌+◌, ◌-◌, ◌*◌, ◌==◌, nat_lt, ℤ, pos, Bool, true, false, not, ◌&&◌, ◌||◌, List, [], ◌∷◌, ◌++◌, map, length, Option, Some, None, slice_get, if◌then◌else◌}
 use Rattle.std.specs.List.{fold, position, list_any, sum}
 use Rattle.std.specs.Option.{unwrap_or}
@@ -81,7 +81,7 @@ variables_row m home =
     then module_row m
     else imported_row m.types (slice_get m.imports (import_place m home))
 
--- ---- types of functions: so many numbers, and whether there is a result
+-- ---- types of functions: how many numbers, and whether there is a result
 
 abbrev pub arguments_of : Formal → ℕ
 arguments_of f = if f.is_open then 2 else 1
@@ -237,7 +237,7 @@ ord_check types t =
     then check_code (pos 0) (pos 2147483647) range_fault
     else []
 
--- the base type of a result is checked with that of its operands
+-- the base type of a result is checked with the base type of its operands
 abbrev pub behind : Coded → (Types → List Instr) → Coded
 behind x code = x ⨾ with_setting (λ s. plain (code s.home.types))
 
@@ -255,7 +255,8 @@ procedure_code m f =
 abbrev pub loaded_from : Coded → TypeNo → Coded
 loaded_from d t = behind d (λ types. load_code types t)
 
--- an operator of a chain: the type of its result, and its code behind that of what stands before
+-- an operator of a chain: the type of its result, and its code behind the code of what stands
+-- before
 pub record Linked : Type 0 where
   pub of : TypeNo
   pub code : Coded
@@ -320,7 +321,7 @@ root_layer (root.Alias slot) = with_setting (λ s. plain (kept_address s slot []
 root_layer (root.Open slot) = with_setting (λ s. plain (open_address s slot))
 root_layer (root.With k) = with_setting (λ s. plain (with_code (slice_get s.withs k)))
 
--- the code of a component stands behind that of what it is a component of
+-- the code of a component stands behind the code of what it is a component of
 abbrev pub component_layer : Component-F Coded Coded Coded Linked Part Coded → Coded
 component_layer (layer.Field t k) =
     with_setting (λ s. plain (raise_address (offset (tree s.home.types t) (k ∷ []))))

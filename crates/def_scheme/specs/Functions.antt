@@ -57,13 +57,13 @@ frames_around m (suc k) w =
 abbrev pub link_arguments : Routine → ℕ
 link_arguments r = if nat_lt 1 r.level then 1 else 0
 
--- so many numbers of 64 bits
+-- how many numbers of 64 bits the arguments are
 abbrev pub numbers_of : Types → Routine → ℕ
 numbers_of types r = link_arguments r + all_arguments (formals_of types r.heading)
 
 -- ---- the prologue
 
--- the run ends with 8 where the stack's top is past the limit
+-- the run ends with 8 if the stack's top is past the limit
 abbrev pub limit_check : List Instr
 limit_check =
     GlobalGet 0 ∷ Numeric (numeric.I32Relation GtU) ∷ If None (fault storage_fault) None ∷ []

@@ -25,7 +25,7 @@ use Rattle.def_scheme.specs.Exprs.{Numbered}
 use Rattle.def_scheme.specs.Functions.{functions_from, module_function}
 use Rattle.def_scheme.specs.Signatures.{Signatures, signatures_needed, in_order, number_of, type_of}
 
--- a program's memory has at most so many pages, of 65536 bytes
+-- a program's memory has at most this many pages, of 65536 bytes
 abbrev pub max_pages : ℕ
 max_pages = 1024
 
@@ -109,7 +109,7 @@ part_of m = record {
   slots = slots m;
 }
 
--- the place of its variables, that of its texts, and its first slot
+-- the place of its variables, the place of its texts, and its first slot
 abbrev pub globals_from : (place slot : ℕ) → List Part → List Global
 globals_from place slot [] = []
 globals_from place slot (m ∷ ms) =

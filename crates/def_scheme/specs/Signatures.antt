@@ -1,5 +1,5 @@
--- The types of functions that a module needs: those of its procedures, and of its calls through the
--- table.
+-- The types of functions that a module needs: the types of its procedures, and of its calls through
+-- the table.
 use Rattle.std.specs.Prelude.{ℕ, zero, suc, ◌+◌, ◌==◌, ◌&&◌, ◌||◌, nat_le, Bool, true, false, not, List, [], ◌∷◌, ◌++◌, map, length, Option, Some, None, if◌then◌else◌}
 use Rattle.std.specs.List.{fold, flat_map, list_any, position, range_with_len}
 use Rattle.std.specs.Option.{unwrap_or}
@@ -24,7 +24,7 @@ use Rattle.layout_storage.specs.Frames.{formals_of}
 use Rattle.def_scheme.specs.Exprs.{is_own, all_arguments, has_result}
 use Rattle.def_scheme.specs.Functions.{numbers_of}
 
--- so many arguments of 64 bits, and whether there is a result
+-- how many arguments of 64 bits, and whether there is a result
 pub record Signature : Type 0 where
   pub arguments : ℕ
   pub result : Bool

@@ -87,7 +87,7 @@ arm_code t x =
 abbrev pub chain_code : (t : ℕ) → List Arm → Coded → Coded
 chain_code t arms otherwise = within 1 block (all_coded (map (arm_code t) arms) ⨾ otherwise)
 
--- a table of labels: where the arms are few, and the values dense
+-- a table of labels, if the arms are few and the values dense
 abbrev pub lesser : ℤ → ℤ → ℤ
 lesser x y = if int_le x y then x else y
 
@@ -123,7 +123,7 @@ is_dense arms labels =
 abbrev pub has_label : ℤ → Arm → Bool
 has_label v x = list_any (λ y. int_le y.low v && int_le v y.high) x.labels
 
--- the number of the arm for a value, or so many as there are
+-- the number of the arm for a value, or how many arms there are
 abbrev pub target : List Arm → ℤ → ℕ
 target [] v = 0
 target (x ∷ xs) v = if has_label v x then 0 else suc (target xs v)

@@ -154,7 +154,7 @@ module _ (types : Types) (names : Ident → Standing) (exports : ℕ → Ident �
           → Makes types x.op (operand a) (operand b) c → FixedChain c xs k
           → FixedChain a (x ∷ xs) k
 
-    -- from these bits, by elements in braces, to those of the set
+    -- from these bits, by elements in braces, to the bits of the set
     pub data AddUp : ℕ → List Item → ℕ → Type 0 where
       no_item : {a : ℕ} → AddUp a [] a
       one_item : {a b c : ℕ} {i : Item} {is : List Item} → Adds (out-Item i) b

@@ -44,7 +44,7 @@ pub data IsWholeConstant : Kind → ℤ → Type 0 where
   whole_constant : {sort : Option TypeNo} {n : ℤ} → IsNumber sort
       → IsWholeConstant (Scalar (Constant sort n)) n
 
--- The step is such a constant other than 0.
+-- The step is one of these constants, and not 0.
 pub data IsStep (k : Kind) : Type 0 where
   is_step : {n : ℤ} → IsWholeConstant k n → (n ≡ pos 0 → ⊥) → IsStep k
 
@@ -54,8 +54,8 @@ pub data Missteps (at : Pos) (k : Kind) : Breach → Type 0 where
 
 -- ---- all of it
 
--- The types that are known, what names stand for, what modules export, and which names are those
--- of variables that the module declares, or the procedure itself.
+-- The types that are known, what names stand for, what modules export, and which names are names of
+-- variables that the module declares, or the procedure itself.
 module _ (types : Types) (names : Ident → Standing) (exports : ℕ → Ident → Standing)
     (own : Ident → Bool) where
   -- The control variable is a scalar variable of the module or the procedure: not imported, no

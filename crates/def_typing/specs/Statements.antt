@@ -41,7 +41,7 @@ labels_of (a ∷ arms) = (out-Arm a).labels ++ labels_of arms
 pub record Spot : Type 0 where
   -- what names stand for
   pub names : Ident → Standing
-  -- which of them are those of variables that the module declares, or the procedure itself
+  -- which of them are names of variables that the module declares, or the procedure itself
   pub own : Ident → Bool
   -- what the body gives back
   pub gives : Giving

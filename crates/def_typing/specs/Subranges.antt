@@ -48,7 +48,7 @@ module _ (types : Types) (names : Ident → Standing) (exports : ℕ → Ident �
         → NamesRange q r
 
   module _ (low high : Expr) where
-    -- Without a name the base is that of the bounds, and of numbers INTEGER if the first is
+    -- Without a name the base is the type of the bounds. Of numbers it is INTEGER if the first is
     -- negative, and else CARDINAL.
     pub data IsSubrange : Option Qualified → Range → Type 0 where
       of_bounds : {s t u : Option TypeNo} {n m : ℤ} {base : TypeNo} → IsTypeBound low s n

@@ -100,6 +100,6 @@ is_plain (op.IfElse t n m) = false
 is_plain (op.BrTable n l) = false
 is_plain _ = true
 
--- the instruction that such an operation is
+-- the instruction that an operation of this kind is
 abbrev pub instr_of : Op → Instr
 instr_of o = head tree o []

@@ -37,7 +37,7 @@ setting_of s = record {
 abbrev pub routines_in : List Framed → List Routine
 routines_in fs = map (λ f. f.routine.now) fs
 
--- what is kept of a frame is that of the procedure
+-- what is kept of a frame is the frame of the procedure
 pub record IsFramed (types : Types) (f : Framed) : Type 0 where
   pub row : f.row.now ≡ frame_row types f.routine.now
 

@@ -30,7 +30,7 @@ root_code s (root.Alias slot) = kept_address s slot []
 root_code s (root.Open slot) = open_address s slot
 root_code s (root.With k) = with_code (slice_get s.withs k)
 
--- the offset of a cell of a slot in the frame so many procedures outwards
+-- the offset of a cell of a slot in the frame `up` procedures outwards
 abbrev pub slot_at : Types → List Routine → (up number : ℕ) → List ℕ → ℕ
 slot_at types rs up n path = offset (frame_at (slice_get (frames_of types rs) up)) (suc n ∷ path)
 

@@ -5,7 +5,7 @@ ghost use Rattle.layout_storage.specs.Capped.{cap_size};
 
 use wasm_tree::EncodeError;
 
-/// The size or offset that is kept cut to 32 bits. `NoEncoding` where it may be cut.
+/// The size or offset that is kept cut to 32 bits. `NoEncoding` if it may be cut.
 pub fn exact(n: u32) -> Result<u32, EncodeError>
     ensures { IfOk result (λ k. (m : ℕ) → n ≡ cap_size m → k ≡ m) }
 {

@@ -134,7 +134,7 @@ pub fn store(setting: &Setting<'_>, t: TypeNo, draft: &mut Draft) -> Result<(), 
     store_kind(setting.home().kind(t), draft)
 }
 
-/// Ends the run with this fault where the value is outside of a range.
+/// Ends the run with this fault if the value is outside of a range.
 pub fn in_range(range: Option<Scalar>, fault: Fault, draft: &mut Draft) -> Result<(), AllocError>
     ensures { OnOk result (draft.new ≡ put (in_range range (fault_number fault)) draft.old) }
 {
@@ -144,14 +144,15 @@ pub fn in_range(range: Option<Scalar>, fault: Fault, draft: &mut Draft) -> Resul
     }
 }
 
-/// Ends the run with this fault where the value is outside of the bounds of a type.
+/// Ends the run with this fault if the value is outside of the bounds of a type.
 pub fn in_type(
     setting: &Setting<'_>,
     t: TypeNo,
     fault: Fault,
     draft: &mut Draft,
 ) -> Result<(), AllocError>
-    ensures { OnOk result (draft.new ≡ put (in_type setting.now.home.types t (fault_number fault)) draft.old) }
+    ensures { OnOk result
+        (draft.new ≡ put (in_type setting.now.home.types t (fault_number fault)) draft.old) }
 {
     in_range(
         scalar_of(&setting.home().module_body().types, t),

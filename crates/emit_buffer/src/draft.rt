@@ -45,7 +45,7 @@ fn make_room(ops: &mut Vec<Op>) -> Result<(), AllocError>
 }
 
 impl Draft {
-    /// No operations. So many bytes of texts stand before.
+    /// No operations. `texts` bytes of texts stand before.
     pub fn new(alloc: Global, texts: u32) -> Draft
         ensures { result ≡ record { ops = []; counts = from_text texts } }
     {
@@ -211,7 +211,7 @@ impl Draft {
         Ok(())
     }
 
-    /// Takes so many bytes of texts, and answers the offset of the first.
+    /// Takes this many bytes of texts, and answers the offset of the first.
     pub fn next_text(&mut self, bytes: usize) -> Result<u32, EncodeError>
         ensures offset { IfOk result (λ at. at ≡ self.old.counts.texts) }
         ensures taken { OnOk result (self.new ≡ next_text bytes self.old) }

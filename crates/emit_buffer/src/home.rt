@@ -46,7 +46,8 @@ impl<'a> Model for Home<'a> {
 
     ghost view = { λ h. h.module_body.now };
 
-    ghost invariant = { λ h. IsHome h.module_body.now h.layout.now h.signatures.now h.places.entries };
+    ghost invariant = { λ h.
+        IsHome h.module_body.now h.layout.now h.signatures.now h.places.entries };
 }
 
 /// The procedure of this number, with its frame.
@@ -69,7 +70,7 @@ fn framed_by<'a>(
     None
 }
 
-/// Where a part of a row begins, and 0 where there is no row.
+/// Where a part of a row begins, and 0 if there is no row.
 pub fn start_or(row: Option<&Row>, part: usize) -> u32
     ensures { result ≡ start_or (option_copied row.entry) part }
 {
@@ -162,7 +163,7 @@ impl<'a> Home<'a> {
         }
     }
 
-    /// The number of the type of functions with so many arguments, and with a result or without.
+    /// The number of the type of functions with this many arguments, and with a result or without.
     pub fn number(&self, arguments: usize, has_result: bool) -> u32
         ensures { result ≡ numbering_of self.now arguments has_result }
     {

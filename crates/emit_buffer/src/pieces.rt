@@ -19,7 +19,7 @@ pub fn number(n: i64, draft: &mut Draft) -> Result<(), AllocError>
     draft.push(Op::I64Const(n.cast_unsigned()))
 }
 
-/// The address so many bytes further.
+/// The address this many bytes further.
 pub fn raise_address(bytes: u32, draft: &mut Draft) -> Result<(), AllocError>
     ensures { OnOk result (draft.new ≡ put (raise_address bytes) draft.old) }
 {
@@ -62,7 +62,7 @@ pub fn is_zero(draft: &mut Draft) -> Result<(), AllocError>
     draft.push(Op::Numeric(Numeric::I64Eqz))
 }
 
-/// Ends the run with a fault where the value is outside of these bounds.
+/// Ends the run with a fault if the value is outside of these bounds.
 pub fn check_code(low: i64, high: i64, fault: Fault, draft: &mut Draft) -> Result<(), AllocError>
     ensures { OnOk result (draft.new ≡ put (check_code low high (fault_number fault)) draft.old) }
 {

@@ -51,7 +51,7 @@ impl<'a> Model for Setting<'a> {
     ghost invariant = { λ s. AreFramed s.home.now.types s.frames.now };
 }
 
-/// What is kept of the frame so many procedures outwards.
+/// What is kept of the frame `up` procedures outwards.
 fn row_at<'a>(frames: &'a [Framed<'_>], up: usize) -> Option<&'a Row>
     ensures { option_copied result ≡ slice_get (map (λ f. f.row.now) frames.now) up }
 {
@@ -130,7 +130,7 @@ impl<'a> Setting<'a> {
         }
     }
 
-    /// The setting inside so many more blocks.
+    /// The setting inside `labels` more blocks.
     pub fn within(&self, labels: u32) -> Result<Setting<'a>, EncodeError>
         ensures { IfOk result (λ s. s ≡ record self.now { exit = self.now.exit + labels }) }
     {
@@ -159,7 +159,7 @@ impl<'a> Setting<'a> {
         self.arguments
     }
 
-    /// The setting where EXIT leaves the block of this label. The only error is that memory ran out.
+    /// The setting in which EXIT leaves the block of this label. The only error is that memory ran out.
     pub fn leaving(&self, exit: u32) -> Result<Setting<'a>, AllocError>
         ensures { IfOk result (λ s. s ≡ record self.now { exit = exit }) }
     {
@@ -219,7 +219,7 @@ impl<'a> Setting<'a> {
         exact(slot_from(self.frames, slot))
     }
 
-    /// The offset of the greatest index of a formal ARRAY OF. An error also where the slot is none.
+    /// The offset of the greatest index of a formal ARRAY OF. An error also if the slot is none.
     #[tactic(auto, using(crate::proofs::Slots::high_is))]
     pub fn high_offset(&self, slot: Slot) -> Result<u32, EncodeError>
         ensures { IfOk result (λ n. n ≡ slot_path (setting_of self.now) slot (1 ∷ [])) }

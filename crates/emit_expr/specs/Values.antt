@@ -1,4 +1,4 @@
--- Code in the making with that of expressions and designators.
+-- Code in the making with the code of expressions and designators.
 use Rattle.std.specs.Prelude.{◌+◌, Bool}
 use Rattle.typed_tree.specs.declared.computed.Argument.{Argument, fold-Argument}
 use Rattle.typed_tree.specs.declared.computed.Call.{Call}

@@ -63,7 +63,8 @@ pub fn procedure_code(
 
 /// The top of the stack, where the frame of the procedure that is called begins.
 pub fn top_code(setting: &Setting<'_>, draft: &mut Draft) -> Result<(), AllocError>
-    ensures { OnOk result (draft.new ≡ one (get_local (top_local (setting_of setting.now))) draft.old) }
+    ensures { OnOk result
+        (draft.new ≡ one (get_local (top_local (setting_of setting.now))) draft.old) }
 {
     draft.push(Op::LocalGet(setting.arguments()))
 }
@@ -116,7 +117,7 @@ pub fn module_call(
     other_call(setting, f, draft)
 }
 
-/// The link of a procedure that is declared in one so many procedures outwards.
+/// The link of a procedure that is declared in one this many procedures outwards.
 #[tactic(auto, using(emit_buffer::proofs::Emitted::put_append))]
 pub fn link_code(up: usize, draft: &mut Draft) -> Result<(), AllocError>
     ensures { OnOk result (draft.new ≡ put (link_passed up) draft.old) }
@@ -140,7 +141,8 @@ pub fn nested_call(
 
 /// Keeps the procedure that a variable holds.
 pub fn keep_procedure(setting: &Setting<'_>, draft: &mut Draft) -> Result<u32, EncodeError>
-    ensures local { let k = (put (check_code (pos 1) (pos 4294967295) empty_procedure) draft.old).counts.numbers in
+    ensures local { let k =
+        (put (check_code (pos 1) (pos 4294967295) empty_procedure) draft.old).counts.numbers in
         IfOk result (λ t. t ≡ number_local (setting_of setting.now) k) }
     ensures kept { OnOk result (draft.new ≡ kept_procedure (setting_of setting.now) draft.old) }
 {

@@ -292,7 +292,8 @@ fn component_code(
     component: &Component,
     draft: &mut Draft,
 ) -> Result<(), EncodeError>
-    ensures { OnOk result (draft.new ≡ with_component (setting_of setting.now) draft.old component.now) }
+    ensures { OnOk result
+        (draft.new ≡ with_component (setting_of setting.now) draft.old component.now) }
 {
     match component {
         Component::Field(t, k) => field_code(setting, *t, *k, draft),
@@ -361,7 +362,8 @@ fn argument_code(
     argument: &Argument,
     draft: &mut Draft,
 ) -> Result<(), EncodeError>
-    ensures { OnOk result (draft.new ≡ with_argument (setting_of setting.now) draft.old argument.now) }
+    ensures { OnOk result
+        (draft.new ≡ with_argument (setting_of setting.now) draft.old argument.now) }
 {
     match argument {
         Argument::Value(t, e) => {

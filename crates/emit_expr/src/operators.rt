@@ -154,7 +154,8 @@ pub fn end_and(at: usize, draft: &mut Draft) -> Result<(), EncodeError>
     draft.close_if_else(at, middle, Some(ValueType::I64))
 }
 
-/// Begins an `if` whose second side is the second operand of OR, and answers its place and that of its second side.
+/// Begins an `if` whose second side is the second operand of OR, and answers its place and the place of its second
+/// side.
 pub fn begin_or(draft: &mut Draft) -> Result<(usize, usize), AllocError>
     ensures at { IfOk result (λ x. x.0 ≡ place_of draft.old) }
     ensures middle { IfOk result (λ x. x.1 ≡ place_of (begun_or draft.old)) }
@@ -168,7 +169,8 @@ pub fn begin_or(draft: &mut Draft) -> Result<(usize, usize), AllocError>
 
 /// Keeps an element that is in a BITSET.
 pub fn keep_element(setting: &Setting<'_>, draft: &mut Draft) -> Result<u32, EncodeError>
-    ensures local { let k = (put (check_code (pos 0) (pos 31) range_fault) draft.old).counts.numbers in
+    ensures local { let k =
+        (put (check_code (pos 0) (pos 31) range_fault) draft.old).counts.numbers in
         IfOk result (λ t. t ≡ number_local (setting_of setting.now) k) }
     ensures kept { OnOk result (draft.new ≡ kept_element (setting_of setting.now) draft.old) }
 {

@@ -29,7 +29,7 @@ fn base_global(home: &Home<'_>, number: u32) -> Result<u32, EncodeError>
     twice(4, home.place(number))
 }
 
-/// The number behind so many pairs.
+/// The number behind this many pairs.
 pub fn twice(first: u32, pairs: usize) -> Result<u32, EncodeError>
     ensures { IfOk result (λ n. n ≡ first + 2 * pairs) }
 {
@@ -49,7 +49,7 @@ pub fn global_code(setting: &Setting<'_>, v: Variable, draft: &mut Draft) -> Res
     Ok(())
 }
 
-/// So many frames outwards.
+/// This many frames outwards.
 #[tactic(auto, using(crate::proofs::Outwards::outwards_more))]
 fn outwards(up: usize, draft: &mut Draft) -> Result<(), AllocError>
     ensures { OnOk result (draft.new ≡ put (outwards up) draft.old) }
@@ -61,7 +61,7 @@ fn outwards(up: usize, draft: &mut Draft) -> Result<(), AllocError>
     Ok(())
 }
 
-/// The frame so many procedures outwards.
+/// The frame `up` procedures outwards.
 pub fn frame_code(up: usize, draft: &mut Draft) -> Result<(), AllocError>
     ensures { OnOk result (draft.new ≡ put (frame_code up) draft.old) }
 {
@@ -89,7 +89,8 @@ fn word(draft: &mut Draft) -> Result<(), AllocError>
 /// What a VAR formal stands for.
 #[tactic(auto, using(emit_buffer::proofs::Emitted::put_append))]
 pub fn alias_code(setting: &Setting<'_>, slot: Slot, draft: &mut Draft) -> Result<(), EncodeError>
-    ensures { OnOk result (draft.new ≡ put (kept_address (setting_of setting.now) slot []) draft.old) }
+    ensures { OnOk result
+        (draft.new ≡ put (kept_address (setting_of setting.now) slot []) draft.old) }
 {
     slot_code(setting, slot, draft)?;
     word(draft)?;
@@ -150,7 +151,7 @@ pub fn index_of(types: &Types, t: TypeNo) -> Option<Scalar>
     index_made(types, made_of(types, t))
 }
 
-/// An element of so many bytes, behind the address of the array and the index from 0.
+/// An element of this many bytes, behind the address of the array and the index from 0.
 fn scale_index(bytes: u32, draft: &mut Draft) -> Result<(), AllocError>
     ensures { OnOk result (draft.new ≡ put (scale_index bytes) draft.old) }
 {
@@ -199,7 +200,8 @@ pub fn open_element_code(
     t: TypeNo,
     draft: &mut Draft,
 ) -> Result<(), EncodeError>
-    ensures { OnOk result (draft.new ≡ put (open_element_code (setting_of setting.now) slot t) draft.old) }
+    ensures { OnOk result
+        (draft.new ≡ put (open_element_code (setting_of setting.now) slot t) draft.old) }
 {
     let bytes = setting.home().size(t)?;
     draft.push(Op::I64Const(0))?;

@@ -20,7 +20,7 @@ abbrev pub routines_around : TypedModule → (level : ℕ) → Option Which → 
 routines_around m zero w = []
 routines_around m (suc k) w = around_from (routines_around m k) (routine_at m w)
 
--- no code, with so many characters of texts before it
+-- no code, with this many characters of texts before it
 abbrev pub begin_code : ℕ → Drafted
 begin_code at = record { ops = []; counts = from_text at }
 

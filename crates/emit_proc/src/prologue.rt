@@ -22,7 +22,7 @@ use std::alloc::AllocError;
 use typed_tree::{Formal, Made, Routine, Shape, Slot, TypeNo, made_of};
 use wasm_tree::{EncodeError, Numeric, Op, Operation, Relation, StoreWidth, plus};
 
-/// Ends the run where the stack's top is past the limit.
+/// Ends the run if the stack's top is past the limit.
 #[tactic(auto, using(crate::proofs::Entered::limit_fault))]
 fn limit_check(draft: &mut Draft) -> Result<(), EncodeError>
     ensures { OnOk result (draft.new ≡ put limit_check draft.old) }
@@ -34,7 +34,7 @@ fn limit_check(draft: &mut Draft) -> Result<(), EncodeError>
     draft.close_if(at, None)
 }
 
-/// Puts the stack's top behind a frame of so many bytes.
+/// Puts the stack's top behind a frame of this many bytes.
 fn top_raised(top: u32, bytes: u32, draft: &mut Draft) -> Result<(), EncodeError>
     ensures { let code = LocalGet 0 ∷ (raise_address bytes ++ (LocalTee top ∷ limit_check)) in
         OnOk result (draft.new ≡ put code draft.old) }
@@ -45,7 +45,7 @@ fn top_raised(top: u32, bytes: u32, draft: &mut Draft) -> Result<(), EncodeError
     limit_check(draft)
 }
 
-/// Puts the stack's top behind a frame of so many bytes, which are filled with zeros.
+/// Puts the stack's top behind a frame of this many bytes, which are filled with zeros.
 pub fn enter_code(top: u32, bytes: u32, draft: &mut Draft) -> Result<(), EncodeError>
     ensures { OnOk result (draft.new ≡ put (enter_code top bytes) draft.old) }
 {
@@ -108,7 +108,8 @@ fn high_of(setting: &Setting<'_>, v: usize) -> Result<u32, EncodeError>
 fn open_kept(setting: &Setting<'_>, v: usize, x: u32, draft: &mut Draft) -> Result<(), EncodeError>
     ensures { let f = own (setting_of setting.now) in
         let first = word_kept f v (0 ∷ []) (LocalGet x ∷ []) in
-        OnOk result (draft.new ≡ put (first ++ word_kept f v (1 ∷ []) (LocalGet (suc x) ∷ [])) draft.old) }
+        OnOk result
+        (draft.new ≡ put (first ++ word_kept f v (1 ∷ []) (LocalGet (suc x) ∷ [])) draft.old) }
 {
     word_at(offset_of(setting, v)?, x, draft)?;
     word_at(high_of(setting, v)?, plus(1, x)?, draft)?;
@@ -220,7 +221,8 @@ fn copy_kept(
 ) -> Result<(), EncodeError>
     ensures { let f = own (setting_of setting.now) in
         let first = word_kept f v (0 ∷ []) (LocalGet p ∷ extend_word ∷ []) in
-        OnOk result (draft.new ≡ put (first ++ word_kept f v (1 ∷ []) (LocalGet (suc x) ∷ [])) draft.old) }
+        OnOk result
+        (draft.new ≡ put (first ++ word_kept f v (1 ∷ []) (LocalGet (suc x) ∷ [])) draft.old) }
 {
     address_at(offset_of(setting, v)?, p, draft)?;
     word_at(high_of(setting, v)?, plus(1, x)?, draft)?;
@@ -293,7 +295,8 @@ fn formals_kept(
     draft: &mut Draft,
 ) -> Result<(), EncodeError>
     ensures { let f = own (setting_of setting.now) in
-        let code = formals_kept setting.now.home.types locals.top locals.copy f 0 first formals.now in
+        let code =
+        formals_kept setting.now.home.types locals.top locals.copy f 0 first formals.now in
         OnOk result (draft.new ≡ put code draft.old) }
 {
     let mut v = 0;
@@ -340,7 +343,7 @@ fn first_argument(routine: &Routine) -> u32
     if routine.level <= 1 { 1 } else { 2 }
 }
 
-/// The prologue of a procedure with a frame of so many bytes.
+/// The prologue of a procedure with a frame of this many bytes.
 #[tactic(auto, using(emit_buffer::proofs::Emitted::put_append))]
 pub fn prologue(
     setting: &Setting<'_>,

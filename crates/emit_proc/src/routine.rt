@@ -50,7 +50,8 @@ fn finish_code(alloc: Global, type_index: u32, draft: Draft) -> Result<Function,
 /// What stands before the statements of the module's body, and these.
 fn module_draft(alloc: Global, home: &Home<'_>, texts: u32) -> Result<Draft, EncodeError>
     ensures { let s = setting home.now (frame_of [] ∷ []) 1 (addresses_in home.now.body) in
-        IfOk result (λ d. d ≡ with_steps s (put (enter_code 1 16) (begin_code texts)) home.now.body) }
+        IfOk result (λ d.
+        d ≡ with_steps s (put (enter_code 1 16) (begin_code texts)) home.now.body) }
 {
     let body = home.module_body().body.as_slice();
     let setting = Setting::new(alloc, home, &[], 1, addresses_in(body)?);
@@ -60,8 +61,8 @@ fn module_draft(alloc: Global, home: &Home<'_>, texts: u32) -> Result<Draft, Enc
     Ok(draft)
 }
 
-/// The function of the module's body, where so many characters of texts stand before its own. The only error is that memory
-/// ran out, or that a number does not fit into 32 bits.
+/// The function of the module's body, if this many characters of texts stand before its own. The only error is that
+/// memory ran out, or that a number does not fit into 32 bits.
 #[tactic(auto, using(crate::proofs::Finished::module_is))]
 pub fn module_function(alloc: Global, home: &Home<'_>, texts: u32) -> Result<Function, EncodeError>
     requires { texts ≡ characters (routines_texts home.now) }
@@ -184,7 +185,10 @@ fn framed_function(
         let s = routine_setting home.now r in
         let gives = has_result home.now.types r.heading in
         let t = numbering_of home.now (numbers_of home.now.types r) gives in
-        IfOk result (λ f. f ≡ finish_code t (put (end_code gives) (with_steps s (put before (begin_code texts)) r.body))) }
+        IfOk result (λ f.
+        f
+        ≡ finish_code t
+        (put (end_code gives) (with_steps s (put before (begin_code texts)) r.body))) }
 {
     let routine = framed.routine;
     let types = &home.module_body().types;
@@ -205,8 +209,8 @@ fn framed_function(
     finish_code(alloc, home.signatures().number(count, gives), draft)
 }
 
-/// The function of a procedure, where so many characters of texts stand before its own. The only error is that memory ran
-/// out, or that a number does not fit into 32 bits.
+/// The function of a procedure, if this many characters of texts stand before its own. The only error is that memory
+/// ran out, or that a number does not fit into 32 bits.
 #[tactic(auto, using(crate::proofs::Finished::routine_is))]
 pub fn routine_function(
     alloc: Global,

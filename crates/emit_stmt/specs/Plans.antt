@@ -5,7 +5,7 @@ use Rattle.def_scheme.specs.Steps.{lesser, greater, values_of}
 use Rattle.emit_stmt.specs.declared.plan.Bounds.{Bounds}
 use Rattle.emit_stmt.specs.declared.plan.Plan.{Plan}
 
--- so many of something, or 4096
+-- this many of something, or 4096 if they are more
 abbrev pub few : ℕ → ℕ
 few n = min n 4096
 

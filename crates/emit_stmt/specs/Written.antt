@@ -1,4 +1,4 @@
--- Code in the making with that of statements.
+-- Code in the making with the code of statements.
 use Rattle.std.specs.Prelude.{ℕ, zero, suc, Bool, ◌+◌, ◌-◌, ℤ, pos, ◌+ℤ◌, ◌&&◌, int_le, if◌then◌else◌, map, List, [], ◌∷◌, ◌++◌, Option, Some, None, length}
 use Rattle.std.specs.List.{fold, flat_map, list_any, range_with_len}
 use Rattle.wasm_tree.specs.declared.instr.Instr.TheVariants.{Br, BrIf, BrTable, LocalGet, LocalSet, I64Const}
@@ -26,7 +26,7 @@ with_step s d x = emitted (step_code (numbering_of s.home) x) s d
 abbrev pub with_steps : Setting → Drafted → List TypedStmt → Drafted
 with_steps s d xs = fold (with_step s) d xs
 
--- inside so many more blocks
+-- inside this many more blocks
 abbrev pub deeper : ℕ → Setting → Setting
 deeper n s = record s { exit = s.exit + n }
 
@@ -107,7 +107,7 @@ labels_in xs = flat_map (λ x. x.labels) xs
 unfoldable pub has_value : ℤ → TypedArm → Bool
 has_value v x = list_any (λ y. int_le y.low v && int_le v y.high) x.labels
 
--- the number of the arm for a value, or so many as there are
+-- the number of the arm for a value, or how many arms there are
 abbrev pub target_in : List TypedArm → ℤ → ℕ
 target_in [] v = 0
 target_in (x ∷ xs) v = if has_value v x then 0 else suc (target_in xs v)
@@ -125,7 +125,7 @@ dispatch_to t low span targets last =
 abbrev pub dispatch_in : (t : ℕ) → List TypedArm → (least : ℤ) → (span : ℕ) → List Instr
 dispatch_in t xs low span = dispatch_to t low span (targets_in xs low span) (length xs)
 
--- what is done where no label has the value
+-- what is done if no label has the value
 abbrev pub with_others : Setting → Drafted → Option (List TypedStmt) → Drafted
 with_others s d None = put (fault case_fault) d
 with_others s d (Some xs) = with_steps s d xs

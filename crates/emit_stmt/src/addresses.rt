@@ -79,7 +79,7 @@ fn arms_addresses(arms: &[TypedArm]) -> Result<u32, EncodeError>
     Ok(all)
 }
 
-/// How many addresses the code of a body keeps in locals. An error says that so many do not fit into 32 bits.
+/// How many addresses the code of a body keeps in locals. An error says that the number does not fit into 32 bits.
 pub fn addresses_in(body: &[TypedStmt]) -> Result<u32, EncodeError>
     ensures { IfOk result (λ n. n ≡ addresses_in body.now) }
 {

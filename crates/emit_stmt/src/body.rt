@@ -161,7 +161,7 @@ fn arms_code(
     Ok(())
 }
 
-/// The code of an arm of a CASE by a table, with so many behind it.
+/// The code of an arm of a CASE by a table, with this many arms behind it.
 #[cycle(body)]
 #[tactic(auto, unfolding(crate::specs::Written::with_jump))]
 fn jump_code(

@@ -33,7 +33,7 @@ pub fn keep_selector(
     keep_number(setting, draft)
 }
 
-/// Leaves a block where the selector is one of the values of a label.
+/// Leaves a block if the selector is one of the values of a label.
 fn label_code(t: u32, label: Label, draft: &mut Draft) -> Result<(), EncodeError>
     ensures { OnOk result (draft.new ≡ put (label_code t label) draft.old) }
 {
@@ -49,7 +49,7 @@ fn label_code(t: u32, label: Label, draft: &mut Draft) -> Result<(), EncodeError
     Ok(())
 }
 
-/// Leaves a block where the selector is a value of the labels of an arm.
+/// Leaves a block if the selector is a value of the labels of an arm.
 #[tactic(auto, using(emit_buffer::proofs::Emitted::put_append))]
 fn labels_code(t: u32, labels: &[Label], draft: &mut Draft) -> Result<(), EncodeError>
     ensures { OnOk result (draft.new ≡ put (flat_map (label_code t) labels.now) draft.old) }
@@ -60,7 +60,7 @@ fn labels_code(t: u32, labels: &[Label], draft: &mut Draft) -> Result<(), Encode
     Ok(())
 }
 
-/// Leaves a block where the selector is a value of the labels of an arm, and else goes to the next arm.
+/// Leaves a block if the selector is a value of the labels of an arm, and else goes to the next arm.
 #[tactic(auto, using(emit_buffer::proofs::Emitted::put_append))]
 fn tests_code(t: u32, labels: &[Label], draft: &mut Draft) -> Result<(), EncodeError>
     ensures { OnOk result (draft.new ≡ put (tests_code t labels.now) draft.old) }
@@ -90,7 +90,7 @@ pub fn arm_ended(place: usize, draft: &mut Draft) -> Result<(), EncodeError>
     draft.close_block(place, None)
 }
 
-/// Ends the block behind which an arm stands, with so many arms behind it.
+/// Ends the block behind which an arm stands, with `left` arms behind it.
 pub fn jump_begun(place: usize, left: usize, draft: &mut Draft) -> Result<(), EncodeError>
     ensures { OnOk result (draft.new ≡ closed_block (place + left) None draft.old) }
 {
@@ -100,14 +100,14 @@ pub fn jump_begun(place: usize, left: usize, draft: &mut Draft) -> Result<(), En
     }
 }
 
-/// So many and these, in 32 bits.
+/// The sum of both, in 32 bits.
 pub fn more(left: usize, labels: u32) -> Result<u32, EncodeError>
     ensures { IfOk result (λ n. n ≡ left + labels) }
 {
     plus(small(left)?, labels)
 }
 
-/// Begins so many blocks.
+/// Begins `count` blocks.
 fn open_times(count: usize, draft: &mut Draft) -> Result<(), AllocError>
     ensures { OnOk result (draft.new ≡ opened_times count draft.old) }
 {
@@ -145,7 +145,7 @@ fn table_code(targets: &[u32], last: u32, draft: &mut Draft) -> Result<(), Encod
     Ok(())
 }
 
-/// Branches to what is done else where the selector is beyond the greatest value.
+/// Branches to what is done else, if the selector is beyond the greatest value.
 fn beyond(t: u32, plan: Plan, last: u32, draft: &mut Draft) -> Result<(), AllocError>
     ensures { OnOk result (draft.new ≡ put (beyond t plan.least plan.span last) draft.old) }
 {
@@ -184,7 +184,8 @@ pub struct Begun {
 fn blocks_begun(count: usize, draft: &mut Draft) -> Result<Begun, AllocError>
     ensures rest { IfOk result (λ x. x.rest ≡ place_of (open_draft draft.old)) }
     ensures first { IfOk result (λ x. x.first ≡ place_of (open_draft (open_draft draft.old))) }
-    ensures begun { OnOk result (draft.new ≡ opened_times count (open_draft (open_draft draft.old))) }
+    ensures begun { OnOk result
+        (draft.new ≡ opened_times count (open_draft (open_draft draft.old))) }
 {
     let rest = open_turns(draft)?.turn;
     let first = draft.place();

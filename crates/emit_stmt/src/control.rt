@@ -56,7 +56,7 @@ pub fn turn_again(turns: Turns, draft: &mut Draft) -> Result<(), EncodeError>
     close_turns(turns, draft)
 }
 
-/// The condition of a loop: where it does not hold, the block of this label is left.
+/// The condition of a loop: if it does not hold, the block of this label is left.
 pub fn unless(
     setting: &Setting<'_>,
     e: &TypedExpr,
@@ -232,7 +232,8 @@ pub fn for_opened(
         let tested = for_tested s place.now t by n (open_draft draft.old) in
         IfOk result (λ x. x.turn ≡ place_of tested) }
     ensures begun { let s = setting_of setting.now in
-        OnOk result (draft.new ≡ open_draft (for_tested s place.now t by n (open_draft draft.old))) }
+        OnOk result
+        (draft.new ≡ open_draft (for_tested s place.now t by n (open_draft draft.old))) }
 {
     let block = draft.open()?;
     for_tested(setting, place, t, by, n, draft)?;

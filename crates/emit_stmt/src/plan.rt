@@ -25,7 +25,7 @@ pub struct Plan {
     pub span: usize,
 }
 
-/// So many of something, or 4096.
+/// This many of something, or 4096 if they are more.
 fn few(n: u64) -> u32
     ensures { result ≡ few n }
 {
@@ -98,7 +98,7 @@ fn dense(count: usize, gap: u64, values: u32) -> bool
     count <= 16 && values >= 4 && gap < 1024 && gap < 4 * u64::from(values)
 }
 
-/// The plan for so many arms with these bounds.
+/// The plan for `count` arms with these bounds.
 fn plan_by(count: usize, bounds: Option<Bounds>) -> Option<Plan>
     ensures { result ≡ plan_by count bounds }
 {
@@ -121,8 +121,9 @@ fn plan_by(count: usize, bounds: Option<Bounds>) -> Option<Plan>
 #[tactic(auto, using(crate::proofs::Planned::plan_is))]
 pub fn plan_of(arms: &[TypedArm]) -> Option<Plan>
     ensures { let labels = labels_in arms.now in
-        MatchOption result (is_dense (length arms.now) labels ≡ false)
-        (λ p. (is_dense (length arms.now) labels ≡ true) × (p.least ≡ least_of labels) × (p.span ≡ span_of labels)) }
+        MatchOption result (is_dense (length arms.now) labels ≡ false) (λ p.
+        (is_dense (length arms.now) labels ≡ true) × (p.least ≡ least_of labels)
+        × (p.span ≡ span_of labels)) }
 {
     plan_by(arms.len(), bounds_of(arms))
 }
@@ -154,7 +155,7 @@ fn has_value(arm: &TypedArm, value: i64) -> bool
     have_value(arm.labels.as_slice(), value)
 }
 
-/// The number of the arm for a value, or so many as there are.
+/// The number of the arm for a value, or how many arms there are.
 fn target_of(arms: &[TypedArm], value: i64) -> usize
     ensures { result ≡ target_in arms.now value }
 {

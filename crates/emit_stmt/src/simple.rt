@@ -58,7 +58,8 @@ pub fn copy(
 /// The call of a procedure.
 #[tactic(auto, using(crate::proofs::Stepped::step_Call))]
 pub fn call(setting: &Setting<'_>, call: &Call, draft: &mut Draft) -> Result<(), EncodeError>
-    ensures { OnOk result (draft.new ≡ with_step (setting_of setting.now) draft.old (stmt.Call call.now)) }
+    ensures { OnOk result
+        (draft.new ≡ with_step (setting_of setting.now) draft.old (stmt.Call call.now)) }
 {
     call_code(setting, call, draft)
 }
@@ -66,7 +67,8 @@ pub fn call(setting: &Setting<'_>, call: &Call, draft: &mut Draft) -> Result<(),
 /// The output of a character.
 #[tactic(auto, using(crate::proofs::Stepped::step_Put))]
 pub fn print(setting: &Setting<'_>, e: &TypedExpr, draft: &mut Draft) -> Result<(), EncodeError>
-    ensures { OnOk result (draft.new ≡ with_step (setting_of setting.now) draft.old (stmt.Put e.now)) }
+    ensures { OnOk result
+        (draft.new ≡ with_step (setting_of setting.now) draft.old (stmt.Put e.now)) }
 {
     taken_code(setting, CHAR, e, draft)?;
     draft.push(Op::Call(Helper::Put.index()))?;
@@ -102,7 +104,8 @@ pub fn give(
     e: &TypedExpr,
     draft: &mut Draft,
 ) -> Result<(), EncodeError>
-    ensures { OnOk result (draft.new ≡ with_step (setting_of setting.now) draft.old (stmt.Give t e.now)) }
+    ensures { OnOk result
+        (draft.new ≡ with_step (setting_of setting.now) draft.old (stmt.Give t e.now)) }
 {
     taken_code(setting, t, e, draft)?;
     draft.push(Op::Return)?;
@@ -180,8 +183,8 @@ pub fn change(
     e: &TypedExpr,
     draft: &mut Draft,
 ) -> Result<(), EncodeError>
-    ensures { OnOk result
-        (draft.new ≡ with_step (setting_of setting.now) draft.old (stmt.Change change place.now t e.now)) }
+    ensures { OnOk result (draft.new
+        ≡ with_step (setting_of setting.now) draft.old (stmt.Change change place.now t e.now)) }
 {
     place_code(setting, place, draft)?;
     let w = keep_address(setting, draft)?;
@@ -232,8 +235,9 @@ pub fn membership(
     e: &TypedExpr,
     draft: &mut Draft,
 ) -> Result<(), EncodeError>
-    ensures { OnOk result
-        (draft.new ≡ with_step (setting_of setting.now) draft.old (stmt.Membership membership place.now e.now)) }
+    ensures { OnOk result (draft.new
+        ≡ with_step (setting_of setting.now) draft.old
+        (stmt.Membership membership place.now e.now)) }
 {
     place_code(setting, place, draft)?;
     let w = keep_address(setting, draft)?;

@@ -15,7 +15,7 @@ abbrev pub number_behind : Bool → List Signature → ℕ
 number_behind true list = 6 + length list
 number_behind false list = 6
 
--- the type without arguments and result is that of bodies
+-- the type without arguments and result is the type of bodies
 abbrev pub is_wanted : ℕ → Mark → Bool
 is_wanted n x = x.without && not (n == 0)
 

@@ -21,7 +21,7 @@ impl Model for Characters {
 }
 
 impl Characters {
-    /// No characters, and room for so many. The only error is that memory ran out.
+    /// No characters, and room for this many. The only error is that memory ran out.
     pub fn with_capacity(alloc: Global, capacity: usize) -> Result<Characters, AllocError>
         ensures { IfOk result (λ c. c ≡ []) }
     {

@@ -7,7 +7,7 @@ ghost use Rattle.def_scheme.specs.Functions.{numbers_of};
 
 use typed_tree::{Formal, Routine, Shape, TypeNo, TypedModule, Types, made_of};
 
-/// Whether a module number is that of the module itself.
+/// Whether a module number is the number of the module itself.
 pub fn is_own(module_body: &TypedModule, home: u32) -> bool
     ensures { result ≡ is_own module_body.now home }
 {

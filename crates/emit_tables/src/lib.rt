@@ -1,6 +1,6 @@
 //! What a module lists beside its code: the types of its functions, and the characters of its strings.
 //!
-//! The types are those of its procedures, and of its calls through the table. One pass over the typed tree marks them by
+//! They are the types of its procedures, and of its calls through the table. One pass over the typed tree marks them by
 //! the number of their arguments, and one pass over the marks lists and numbers them.
 //!
 //! - `specs/Seen` says what a `Signature` stands for in the definitions of `def_scheme`.

@@ -55,7 +55,7 @@ fn set(marks: &mut Vec<Mark>, arguments: usize, has_result: bool)
     marks[arguments] = mark_kind(marks[arguments], has_result);
 }
 
-/// Marks the type with so many arguments, and with a result or without.
+/// Marks the type with this many arguments, and with a result or without.
 #[tactic(auto, unfolding(crate::specs::Marked::with_one))]
 pub fn mark_signature(
     marks: &mut Vec<Mark>,

@@ -33,7 +33,7 @@ fn entry(table: &Items<Option<u32>>, number: usize) -> Option<Option<u32>>
     table.get(number).copied()
 }
 
-/// Notes where the texts of a procedure begin, where it is not known yet.
+/// Notes where the texts of a procedure begin, if it is not known yet.
 fn note(table: &mut Items<Option<u32>>, number: usize, at: u32)
     ensures { table.new ≡ note_place table.old number at }
 {
@@ -69,7 +69,7 @@ impl Offsets {
         })
     }
 
-    /// Notes where the texts of a procedure begin, where it is not known yet.
+    /// Notes where the texts of a procedure begin, if it is not known yet.
     pub fn note(&mut self, which: Which, at: u32)
         ensures { self.new ≡ noted_which self.old which at }
     {
@@ -79,7 +79,7 @@ impl Offsets {
         }
     }
 
-    /// Where the texts of a procedure begin, and where it is not known, this number.
+    /// Where the texts of a procedure begin, and if it is not known, this number.
     pub fn noted_or(&self, which: Which, at: u32) -> u32
         ensures { result ≡ noted_or self.now which at }
     {

@@ -66,7 +66,7 @@ impl Signatures {
         self.list.as_slice()
     }
 
-    /// The number of the type of functions with so many arguments, and with a result or without.
+    /// The number of the type of functions with this many arguments, and with a result or without.
     pub fn number(&self, arguments: usize, has_result: bool) -> u32
         ensures { result ≡ number_of self.now arguments has_result }
     {

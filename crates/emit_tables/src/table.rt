@@ -24,7 +24,8 @@ fn enter_signature(
     has_result: bool,
 ) -> Result<u32, EncodeError>
     ensures number { IfOk result (λ n. n ≡ number_behind wanted list.old) }
-    ensures list { OnOk result (list.new ≡ list.old ++ enter_signature wanted arguments has_result) }
+    ensures list { OnOk result
+        (list.new ≡ list.old ++ enter_signature wanted arguments has_result) }
 {
     if !wanted {
         return Ok(6);

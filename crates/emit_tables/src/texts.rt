@@ -1,4 +1,4 @@
-//! The characters of the strings that a module keeps, and where those of each procedure begin.
+//! The characters of the strings that a module keeps, and where the characters of each procedure begin.
 
 ghost use Rattle.std.specs.Prelude.{◌≡◌, IfOk, OnOk};
 ghost use Rattle.emit_tables.specs.Offsets.{nothing_yet, with_which, gather_texts, offset_in, AreTexts};
@@ -10,7 +10,7 @@ use std::alloc::Global;
 use typed_tree::{TypedModule, Which};
 use wasm_tree::{EncodeError, small};
 
-/// The characters of the texts of some procedures, and where those of each begin.
+/// The characters of the texts of some procedures, and where the characters of each procedure begin.
 #[derive(Drop)]
 pub struct Gathering {
     pub characters: Characters,
@@ -68,7 +68,7 @@ fn gather_texts(
     Ok(gathering)
 }
 
-/// The texts of a module. There is room for so many characters from the start. The only error is that memory ran out,
+/// The texts of a module. There is room for this many characters from the start. The only error is that memory ran out,
 /// or that a number of the module has no encoding.
 pub fn module_texts(
     alloc: Global,

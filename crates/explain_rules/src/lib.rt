@@ -1,7 +1,7 @@
 //! What the numbers mean that the programs print: a page for each topic, a sentence for each rule, and what to write in
 //! place of words that this profile of Modula-2 leaves out.
 //!
-//! The texts are those of docs/refusals, docs/faults and docs/statuses.md.
+//! They are the texts of docs/refusals, docs/faults and docs/statuses.md.
 #![tactic(auto)]
 
 mod left_out;

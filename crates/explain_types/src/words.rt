@@ -20,7 +20,7 @@ const MOST_BYTES: usize = 262144;
 /// How many bytes the trials of one place compile at most, all together.
 const MOST_COMPILED: usize = 4194304;
 
-/// How many trials a side needs beside those of the types that the program declares.
+/// How many trials a side needs beside the trials of the types that the program declares.
 const OTHER_TRIALS: usize = 8;
 
 /// The most types of a program that are tried.
@@ -35,7 +35,7 @@ fn bytes_of(files: &[SourceFile]) -> usize {
     sum
 }
 
-/// How many types of a program with so many bytes are tried, if two sides are.
+/// How many types of a program with this many bytes are tried, if two sides are.
 fn types_tried(bytes: usize) -> usize {
     let trials = MOST_COMPILED / bytes.max(1);
     (trials / 2).saturating_sub(OTHER_TRIALS).min(MOST_TYPES)
@@ -381,9 +381,9 @@ fn words_in<R: AllocGlobal + Threads + Sync>(
     }
 }
 
-/// Which types meet at a refused operator or assignment, what a refused argument is to be and what it is, or how many arguments
-/// a call is to have. Nothing if it is no such place, if what stands there is not known, or if the program has more than 262144
-/// bytes. An error if memory ran out.
+/// Which types meet at a refused operator or assignment, what a refused argument is to be and what it is, or how many
+/// arguments a call is to have. Nothing if the place is none of these, if what stands there is not known, or if the
+/// program has more than 262144 bytes. An error if memory ran out.
 pub fn type_words<R: AllocGlobal + Threads + Sync>(
     rt: &R,
     files: &[SourceFile],

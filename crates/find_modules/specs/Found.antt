@@ -23,7 +23,7 @@ bytes_of (Some text) = Some text.items
 abbrev pub LackIt : Folders → (below : ℕ) → (name : List ℕ) → Type 0
 LackIt gives below name = (k : ℕ) → k < below → gives k name Definition None
 
--- the first of so many folders that has the definition, and the definition
+-- the first of this many folders that has the definition, and the definition
 abbrev pub IsAt : Folders → (count : ℕ) → (name : List ℕ) → Option (ℕ × Vec ℕ) → Type 0
 IsAt gives count name None = LackIt gives count name
 IsAt gives count name (Some at) =
@@ -61,7 +61,7 @@ first_of e = e.0
 abbrev pub Knows : List (List ℕ × ℕ) → List FoundModule → Type 0
 Knows known modules = map first_of known ≡ map name_of modules
 
--- a name behind others, unless it is that of the built in module, or is among them
+-- a name behind others, unless it is the name of the built in module, or is among them
 abbrev pub with_name : List (List ℕ) → List ℕ → List (List ℕ)
 with_name names name = if is_console name || is_among name names then names else names ++ name ∷ []
 
@@ -74,7 +74,7 @@ abbrev pub BodyImports : Option (Vec ℕ) → List (List ℕ) → Type 0
 BodyImports None names = names ≡ []
 BodyImports (Some text) names = Imports text.items names
 
--- the modules that the definition imports, and then those of the implementation
+-- the modules that the definition imports, and then the modules that the implementation imports
 pub record TextsImport (s : Sources) (names : List (List ℕ)) : Type 0 where
   pub defined : List (List ℕ)
   pub implemented : List (List ℕ)

@@ -21,7 +21,7 @@ named_by i = named_in i.from i.names
 abbrev pub names_of_imports : Module → List (List ℕ)
 names_of_imports tree = flat_map named_by tree.imports
 
--- the modules that tokens import: those of their tree, or none if they have no tree
+-- the modules that tokens import: the imports of their tree, or none if they have no tree
 abbrev pub TokensImport : List Token → List (List ℕ) → Type 0
 TokensImport tokens names =
     ((tree : Module) × IsTree tokens tree × (names ≡ names_of_imports tree))
@@ -32,7 +32,7 @@ pub record AreTokens (text : List ℕ) (tokens : List Token) : Type 0 where
   pub short : length text ≤ max_text
   pub divides : HasTokens text tokens
 
--- the modules that a text imports: those of its tokens, or none if it has no tokens
+-- the modules that a text imports: the imports of its tokens, or none if it has no tokens
 abbrev pub Imports : (text : List ℕ) → (names : List (List ℕ)) → Type 0
 Imports text names =
     ((tokens : List Token) × AreTokens text tokens × TokensImport tokens names)

@@ -82,8 +82,8 @@ fn add_module<F: ModuleFolders>(
     known: &mut Dictionary<usize>,
 ) -> Result<(), FindFault>
     requires { Knows known.old modules.old.items }
-    ensures added { OnOk result (AreAdded (F.gives folders.now) (F.count folders.now) (name.now ∷ [])
-        modules.old.items modules.new.items) }
+    ensures added { OnOk result (AreAdded (F.gives folders.now) (F.count folders.now)
+        (name.now ∷ []) modules.old.items modules.new.items) }
     ensures known { OnOk result (Knows known.new modules.new.items) }
 {
     if is_console(name.as_bytes()) || is_known(name, known) {
@@ -145,9 +145,9 @@ fn imports_of_module(alloc: Global, module: &FoundModule) -> Result<Vec<Name>, F
     }
 }
 
-/// Finds the modules that a program imports, and those that they import, and so on, in the order in which the texts name
-/// them: those of the program's text first, then those of each module's definition and implementation, module by module.
-/// Each is looked for once. `Console` is built in and is left out.
+/// Finds the modules that a program imports, and the modules that they import, and so on, in the order in which the
+/// texts name them: first the modules that the program's text names, then those of each module's definition and
+/// implementation, module by module. Each is looked for once. `Console` is built in and is left out.
 ///
 /// The definition of a module comes from the first folder that has one, and the implementation from the same folder. What
 /// is not there is left to the compiler, which refuses it. If there are more than 1024 modules, the search ends.
@@ -158,7 +158,7 @@ pub fn find<F: ModuleFolders>(
     folders: &F,
     program: &[u8],
 ) -> Result<Vec<FoundModule>, FindFault>
-    // More modules are those of no program that the compiler accepts.
+    // No program that the compiler accepts has more modules.
     ensures { IfOk result (λ modules. length modules.items ≤ max_modules
         → AreOf (F.gives folders.now) (F.count folders.now) program.now modules.items) }
 {

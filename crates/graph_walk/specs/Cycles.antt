@@ -14,7 +14,7 @@ pub record IsCycleOrder (links : List (List ℕ)) (order : List ℕ) : Type 0 wh
   pub cycles : (before after : List ℕ) (node from : ℕ) → order ≡ before ++ node ∷ after
       → has (node ∷ after) from ≡ true → Leads links from node → Leads links node node
 
--- there is such an order
+-- there is an order of this kind
 abbrev pub HasCycleOrder : List (List ℕ) → Type 0
 HasCycleOrder links = (order : List ℕ) × IsCycleOrder links order
 

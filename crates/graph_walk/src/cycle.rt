@@ -44,7 +44,8 @@ fn lead_on(
 pub fn led_to(alloc: Global, links: &[Items<usize>], from: usize) -> Result<Vec<bool>, AllocError>
     requires nodes { AreNodes links.now }
     requires within { from < length links.now }
-    ensures { IfOk result (λ flags. (k : ℕ) → IsTrue (flag flags.items k) ↔ Leads links.now from k) }
+    ensures { IfOk result (λ flags.
+        (k : ℕ) → IsTrue (flag flags.items k) ↔ Leads links.now from k) }
 {
     let mut flags = no_marks(alloc, links.len())?;
     lead_on(alloc, links, from, &mut flags)?;
@@ -75,7 +76,7 @@ fn sweep(
     Ok(())
 }
 
-/// Marks the nodes on cycles, where in this order a node is on a cycle if it, or one behind it, leads to it.
+/// Marks the nodes on cycles. In this order a node is on a cycle if it, or one behind it, leads to it.
 fn cyclic(
     alloc: Global,
     links: &[Items<usize>],

@@ -31,9 +31,9 @@ impl Least {
 
     /// Adds a number.
     pub fn push(&mut self, number: usize) -> Result<(), AllocError>
-        ensures { OnOk result
-            ((k : ℕ)
-            → times (numbers_in self.new) k ≡ times (numbers_in self.old) k + cond (number == k) 1 0) }
+        ensures { OnOk result ((k : ℕ)
+            → times (numbers_in self.new) k
+            ≡ times (numbers_in self.old) k + cond (number == k) 1 0) }
     {
         self.heap.push(Reverse(number))?;
         Ok(())
@@ -43,8 +43,10 @@ impl Least {
     pub fn pop(&mut self) -> Option<usize>
         ensures taken { MatchOption result (numbers_in self.old ≡ []) (λ number.
             (k : ℕ)
-            → times (numbers_in self.old) k ≡ times (numbers_in self.new) k + cond (number == k) 1 0) }
-        ensures least { IfSome result (λ number. (k : ℕ) → has (numbers_in self.old) k ≡ true → number ≤ k) }
+            → times (numbers_in self.old) k
+            ≡ times (numbers_in self.new) k + cond (number == k) 1 0) }
+        ensures least { IfSome result (λ number.
+            (k : ℕ) → has (numbers_in self.old) k ≡ true → number ≤ k) }
     {
         let Reverse(number) = self.heap.pop()?;
         Some(number)

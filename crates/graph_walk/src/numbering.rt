@@ -11,9 +11,9 @@ use crate::least::Least;
 use std::alloc::{AllocError, Global};
 use tree_parts::Items;
 
-/// The definitions in the order in which they get numbers: each time the first whose imports all have numbers. Those
-/// that are on cycles, or import such definitions, get none. `links` has for each node those that it imports, `back` the
-/// same the other way round, and `definitions` says which nodes are definitions.
+/// The definitions in the order in which they get numbers: each time the first whose imports all have numbers.
+/// Definitions that are on cycles, or import one that gets none, get none. `links` has for each node those that it
+/// imports, `back` the same the other way round, and `definitions` says which nodes are definitions.
 pub fn definition_order(
     alloc: Global,
     links: &[Items<usize>],

@@ -33,7 +33,7 @@ fn enter(node: usize, entered: &mut [bool], todo: &mut Items<Frame>) -> Result<(
     Ok(())
 }
 
-/// Walks the next import of a node, or starts the node where all were walked.
+/// Walks the next import of a node, or starts the node if all were walked.
 fn advance(
     imports: &[Items<usize>],
     frame: Frame,

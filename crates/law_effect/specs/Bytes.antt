@@ -6,13 +6,13 @@ use Rattle.wasm_tree.specs.Machine.{paste_items}
 abbrev pub byte : ℕ → List ℕ → ℕ
 byte a bytes = slice_index_or bytes a 0
 
--- the memory after so many bytes are copied one by one
+-- the memory after this many bytes are copied one by one
 unfoldable pub copied_bytes : (k to from : ℕ) → List ℕ → List ℕ
 copied_bytes zero to from m = m
 copied_bytes (suc k) to from m =
     copied_bytes k (to + 1) (from + 1) (paste_items m to (byte from m ∷ []))
 
--- the memory after so many bytes are set to 0
+-- the memory after this many bytes are set to 0
 unfoldable pub cleared_bytes : (k to : ℕ) → List ℕ → List ℕ
 cleared_bytes zero to m = m
 cleared_bytes (suc k) to m = cleared_bytes k (to + 1) (paste_items m to (0 ∷ []))

@@ -37,7 +37,7 @@ store_of fx bytes = record {
   instances = fx.instances;
 }
 
--- what code does: it falls through, branches to a label that is so many outside of the code,
+-- what code does: it falls through, branches to the label of this number outside of the code,
 -- returns, ends the run, traps, or still runs. The operands come with it, the last one on top; a
 -- label or the end of a function keeps what it asks for
 pub data Effect : Type 0 where
@@ -72,12 +72,12 @@ abbrev pub exec : List Does → Does
 exec [] st stack = FellThrough st stack
 exec (d ∷ ds) st stack = then_run (d st stack) (exec ds)
 
--- a branch to a label: so many operands are kept above those that stood below the block
+-- a branch to a label: this many operands are kept above those that stood below the block
 abbrev pub to_label : (arity height : ℕ) → State → List Value → Does → Effect
 to_label arity height st stack go =
     or_traps st.out (split_end arity stack) (λ p. go st (keep_operands height p))
 
--- out of a block that began above so many operands
+-- out of a block that began above this many operands
 abbrev pub out_of : (arity height : ℕ) → Effect → Effect
 out_of arity height (FellThrough st stack) = FellThrough st stack
 out_of arity height (Branched zero st stack) = to_label arity height st stack FellThrough
@@ -97,12 +97,12 @@ turn height (Ended k out) next = Ended k out
 turn height (Traps out) next = Traps out
 turn height (StillRunning out) next = StillRunning out
 
--- at most so many turns
+-- at most this many turns
 abbrev pub turns : ℕ → (body : Does) → Does
 turns zero body st stack = StillRunning st.out
 turns (suc k) body st stack = turn (length stack) (body st stack) (turns k body)
 
--- back in the caller, whose locals and operands were these, with so many results
+-- back in the caller, whose locals and operands were these, with this many results
 abbrev pub back_with : (arity : ℕ) (locals below : List Value) → State → List Value → Effect
 back_with arity locals below st stack =
     or_traps st.out (split_end arity stack) (λ p.
@@ -196,8 +196,8 @@ module _ (modules : List WModule) (fx : Fixed) where
       effect (n + extra k f) (calling extra n d) k t.function.body.code
       (record { locals = (enter_function k t args).locals; bytes = bytes; out = out }) []
 
-  -- Calls that nest at most d deep, where functions that serve the others do not count. These call
-  -- as deep as they need to.
+  -- Calls that nest at most d deep. Functions that serve the others do not count: they call as deep
+  -- as they need to.
   unfoldable pub nest_calls : (serves : (k f : ℕ) → Bool) (extra : (k f : ℕ) → ℕ) (n d : ℕ)
       → Calling
   nest_calls serves extra n zero k f t args bytes out =

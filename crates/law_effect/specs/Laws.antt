@@ -38,7 +38,7 @@ pub record Reaches (modules : List WModule) (c : Config) (first : List ℕ) (d :
   pub count : ℕ
   pub path : after first (run modules count c) ≡ (d, last)
 
--- after so many reductions or more it still runs, and has printed this
+-- after this many reductions or more it still runs, and has printed this
 pub record GoesOn (modules : List WModule) (least : ℕ) (c : Config) (first last : List ℕ)
     : Type 0 where
   pub count : ℕ
@@ -71,7 +71,7 @@ Follows =
     → Leads modules fx n m a rest (at fx m a (code ++ rest) st stack) st.out
     (effect modules fx n (calling modules fx extra n n) m code st stack)
 
--- where a run leads whose first function is to give so many results
+-- where a run leads whose first function is to give this many results
 abbrev pub RunLeads : List WModule → (least arity : ℕ) → Config → Effect → Type 0
 RunLeads modules least arity c (FellThrough st stack) =
     Reaches modules c [] (if nat_le arity (length stack) then Over 0 else Trapped) st.out
@@ -93,7 +93,7 @@ Runs =
     (Going (store_of fx bytes) (enter_function m t []) [])
     (calling modules fx extra n (suc n) m f t [] bytes [])
 
--- what the effect of such a run's function says that the run comes to, unless it still runs
+-- what the effect of this run's function says that the run comes to, unless it still runs
 abbrev pub comes : (arity : ℕ) → Effect → Option Progress
 comes arity (FellThrough st stack) =
     Some (if nat_le arity (length stack) then Over 0 else Trapped, st.out)
@@ -138,7 +138,7 @@ Prints =
     × (output_shown (calling modules fx extra j (suc j) m f t [] bytes [])
     ≡ (run modules j (Going (store_of fx bytes) (enter_function m t []) [])).1 ++ rest)
 
--- ---- where some functions serve the others
+-- ---- if some functions serve the others
 
 abbrev pub NestedFollows : Type 0
 NestedFollows =

@@ -1,8 +1,8 @@
 //! What nested code does, as a function of its state, and that the machine does it. There is no code here but what names
 //! the laws.
 //!
-//! - `specs/Effect` has the function: code falls through, branches, returns, ends the run, traps, or still runs, where
-//!   each loop is begun at most so many times and calls nest at most so deep.
+//! - `specs/Effect` has the function: code falls through, branches, returns, ends the run, traps, or still runs, if
+//!   each loop is begun at most this many times and calls nest at most this deep.
 //! - `specs/Laws` says how the machine's run follows it; `proofs/Steps` has one equation for each instruction.
 #![tactic(auto)]
 
@@ -18,7 +18,7 @@ pub fn effect_laws()
     ensures only { Only }
     // What a run has printed is a beginning of what the effect prints.
     ensures prints { Prints }
-    // The same where the calls of some functions, which serve the others, do not count.
+    // The same if the calls of some functions, which serve the others, do not count.
     ensures nested_follows { NestedFollows }
     ensures nested_runs { NestedRuns }
     ensures nested_only { NestedOnly }

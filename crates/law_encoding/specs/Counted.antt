@@ -6,7 +6,7 @@ use Rattle.check_operator.specs.declared.computed.Designated.{Designated}
 use Rattle.check_operator.specs.declared.computed.Designated.TheVariants as designated
 use Rattle.law_encoding.specs.TypedSizes.{size_typed, size_place}
 
--- if there is one, it counts at most so many
+-- if there is one, it counts at most this many
 pub data AtMost {A T : Type 0} (size : A → ℕ) (most : ℕ) : Result A T → Type 0 where
   fine : (x : A) → size x ≤ most → AtMost size most (Ok x)
   broken : (e : T) → AtMost size most (Err e)

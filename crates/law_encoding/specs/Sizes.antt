@@ -112,7 +112,8 @@ size_arguments (Some es) = 1 + sum_of size_argument es
 
 -- ---- statements
 
--- the code of a CASE may have a table, and that of a FOR has the place of its variable five times
+-- the code of a CASE may have a table, and the code of a FOR has the place of its variable five
+-- times
 abbrev pub stmt_layer : Stmt-F ℕ ℕ ℕ → ℕ
 stmt_layer (rlayer.Assign d e) = 1 + size_designator d + size_expr e
 stmt_layer (rlayer.Call d args) = 2 + size_designator d + size_arguments args

@@ -33,7 +33,7 @@ abbrev pub TextsAreSmall : Type 0
 TextsAreSmall = (text : List ℕ) (ts : List Token) (m : Module) → HasTokens text ts → IsModule ts m
     → size_module m ≤ 4 * (1 + length text)
 
--- What an expression or a designator means counts no more than it does, where broken rules are
+-- What an expression or a designator means counts no more than it does, if broken rules are
 -- gathered so.
 abbrev pub ExpressionsAreSmall : Gathers → Type 0
 ExpressionsAreSmall g = (s : Scope g.Reported) (e : Expr)
@@ -53,7 +53,7 @@ abbrev pub ModulesAreSmall : Gathers → Type 0
 ModulesAreSmall g = (number : ℕ) (m : Module) (own : Option Table) (tables : List Table)
     → AtMost size_bodies (size_module m) (body_module g number m own tables)
 
--- A text that is not too long has bodies of at most so many.
+-- In a text that is not too long, bodies count at most this many.
 abbrev pub most : ℕ
 most = 4 * (1 + max_text)
 

@@ -94,8 +94,8 @@ size_passed =
     fold-Argument ℕ ℕ ℕ ℕ ℕ ℕ argument_layer call_layer component_layer link_layer
     expr_layer place_layer
 
--- ---- statements: a change takes two locals, the code of a CASE may have a table, and that of a
--- FOR has the place of its variable five times
+-- ---- statements: a change takes two locals, the code of a CASE may have a table, and the code
+-- of a FOR has the place of its variable five times
 
 abbrev pub step_layer : TypedStmt-F ℕ ℕ → ℕ
 step_layer (step.Assign d t e) = 1 + size_place d + size_typed e
@@ -135,6 +135,6 @@ size_body xs = sum_of size_step xs
 abbrev pub size_routine : Routine → ℕ
 size_routine r = size_body r.body
 
--- the bodies of all procedures, and that of the module
+-- the bodies of all procedures, and the body of the module
 abbrev pub size_bodies : TypedModule → ℕ
 size_bodies m = sum_of size_routine m.procedures + sum_of size_routine m.locals + size_body m.body

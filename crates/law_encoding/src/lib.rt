@@ -5,7 +5,8 @@
 //! - `proofs/Variants` has the sizes of trees by their variants, and `proofs/Weights` the induction over the grammar: a tree is
 //!   no larger than its tokens. `proofs/Texts` counts the tokens of a text.
 //! - `proofs/Typed` has the sizes of typed trees by their variants. `proofs/Operators` and `proofs/Calls` have a lemma for each
-//!   definition of `check_operator` and `check_call`, and `proofs/Meanings` those of `check_expr`, with the induction over expressions.
+//!   definition of `check_operator` and `check_call`, and `proofs/Meanings` the lemmas of `check_expr`, with the
+//!   induction over expressions.
 //! - `proofs/Effects` and `proofs/Steps` have a lemma for each definition of assignments, calls and `check_stmt_parts`, and
 //!   `proofs/Statements` the induction over statements.
 //! - `proofs/Counts` and `proofs/StepCounts` count the locals that the code of expressions and statements takes,
@@ -66,17 +67,19 @@ pub fn size_laws()
 
 /// What the checker makes of expressions and statements is no larger than these.
 pub fn typed_size_laws()
-    // That is so where the least broken rule is kept,
-    ensures least { ExpressionsAreSmall least × DesignatorsAreSmall least × StatementsAreSmall least }
-    // and where all of them are.
-    ensures every { ExpressionsAreSmall every × DesignatorsAreSmall every × StatementsAreSmall every }
+    // That is so if the least broken rule is kept,
+    ensures least { ExpressionsAreSmall least × DesignatorsAreSmall least
+        × StatementsAreSmall least }
+    // and if all of them are.
+    ensures every { ExpressionsAreSmall every × DesignatorsAreSmall every
+        × StatementsAreSmall every }
 {}
 
 /// The bodies of a module that the checker accepts are no larger than its tree.
 pub fn module_size_laws()
-    // That is so where the least broken rule is kept,
+    // That is so if the least broken rule is kept,
     ensures least { ModulesAreSmall least }
-    // and where all of them are.
+    // and if all of them are.
     ensures every { ModulesAreSmall every }
     // Each text that is not too long has bodies of a bounded size.
     ensures least_texts { BodiesAreSmall least }
@@ -185,7 +188,7 @@ pub fn code_number_laws()
     ensures indexes { IndexesFit }
     // The constants of typed statements fit, if types, frames and texts are small.
     ensures constants { ConstantsFit }
-    // So do those of the functions of a typed module.
+    // So do the constants in the functions of a typed module.
     ensures modules { ModuleConstantsFit }
 {}
 

@@ -1,5 +1,5 @@
 -- The places in which the bytes of an encoding stand: an opcode, a section number, a value type, or
--- another byte. The definitions follow the format: the bytes are those of the encoding.
+-- another byte. The definitions follow the format: the bytes are the bytes of the encoding.
 use Rattle.std.specs.Prelude.{ℕ, List, [], ◌∷◌, ◌++◌, length, map, Option, Some, None}
 use Rattle.std.specs.List.{flat_map}
 use Rattle.wasm_tree.specs.declared.fault.WFault.{WFault}

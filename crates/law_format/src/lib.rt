@@ -18,8 +18,8 @@ pub fn fault_laws()
     ensures { FirstFaultDecides }
 {}
 
-/// No bytes have two such faults, and bytes that encode a module have none: the reader answers a fault exactly if the
-/// bytes have it.
+/// No bytes have two faults of this kind, and bytes that encode a module have none: the reader answers a fault exactly
+/// if the bytes have it.
 pub fn one_fault_laws()
     ensures one { OneFault }
     ensures none { ModulesHaveNone }

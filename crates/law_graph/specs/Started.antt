@@ -1,4 +1,4 @@
--- The modules that start, as a compiler needs them. Places are those of the files as they were
+-- The modules that start, as a compiler needs them. Places are places of the files as they were
 -- given.
 use Rattle.std.specs.Prelude.{◌≡◌, ◌≢◌, ◌<◌, ◌≤◌, ℕ, Bool, true, false, List, [], ◌∷◌, ◌++◌, Option, Some, None, length, map, slice_get, ◌⊎◌}
 use Rattle.std.specs.List.{All, filter_map, list_any}
@@ -39,7 +39,7 @@ definition_imported trees (Some place) = imported_by (slice_get trees place)
 abbrev pub all_imported : List Module → Module → List Ident
 all_imported trees m = definition_imported trees (definition_of trees m.name.name) ++ imports_of m
 
--- These places are those of bodies with names of their own, and what one of them or its definition
+-- These places are places of bodies with names of their own, and what one of them or its definition
 -- imports is built in or is among them.
 pub record AreStarted (trees : List Module) (starts : List ℕ) : Type 0 where
   pub within : All (λ s. s < length trees) starts

@@ -9,7 +9,7 @@
 //!   (`proofs/Numbering`). `proofs/Turned` finds the order in which each job is seen to compile a file of its own.
 //! - `proofs/Once` proves that files have at most one graph, at most one list of refusals, and never both.
 //! - `specs/Defined` says that what a definition imports is what the definition of its name imports; `proofs/Defined`
-//!   proves this of each such graph.
+//!   proves this of each of these graphs.
 //! - `proofs/Sorting` proves for any order that a list which is in order, and in which those that tie stand as they
 //!   were given, is the only one.
 #![tactic(auto)]

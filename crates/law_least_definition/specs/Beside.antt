@@ -1,4 +1,4 @@
--- What is known where the least broken rule is reported, beside what is known where all are.
+-- What is known if the least broken rule is reported, beside what is known if all are.
 use Rattle.std.specs.Prelude.{ℕ, Bool, List, [], ◌∷◌, Option, Some, None, Result, Ok, Err}
 use Rattle.typed_tree.specs.declared.types.TypeNo.{TypeNo}
 use Rattle.typed_tree.specs.declared.meaning.Meaning.{Meaning}

@@ -13,8 +13,8 @@ pub record IsLeast (f : Breach) (fs : List Breach) : Type 0 where
   pub among : Contains fs f
   pub none_less : All (λ g. is_less g f ≡ false) fs
 
--- what is reported, beside what all broken rules are: the same meaning where there are none, and
--- else the least of them
+-- what is reported, beside what all broken rules are: the same meaning if there are none, and else
+-- the least of them
 pub data Reports {A : Type 0} : Result A Breach → Result A (List Breach) → Type 0 where
   fine : (a : A) → Reports (Ok a) (Ok a)
   is_refused : (f : Breach) (fs : List Breach) → IsLeast f fs → Reports (Err f) (Err fs)

@@ -128,7 +128,7 @@ CheckCalled =
     else (if is_less w64 hi v then stopped_by k st.out
     else effect modules fx loops (calling modules fx extra n (suc d)) m rest st (s ++ I64 v ∷ [])))
 
--- a call of div or mod, where check is the function 4 of its module
+-- a call of div or mod, if check is the function 4 of its module
 abbrev pub DivCalled : Type 0
 DivCalled =
     (modules : List WModule) (fx : Fixed) (extra : (k f : ℕ) → ℕ)
@@ -164,7 +164,7 @@ ModCalled =
     else effect modules fx loops (calling modules fx extra n (suc (suc d))) m rest st
     (s ++ I64 (modulo x y) ∷ [])))
 
--- a function with one i32 that stands in the table is called, also that of another module: what
+-- a function with one i32 that stands in the table is called, also if another module has it: what
 -- link's code does for each
 abbrev pub TableCalled : Type 0
 TableCalled =

@@ -22,7 +22,7 @@ Reads =
     → component (row world) l ≡ Some (Cell c)
     → fetch_cell c (offset (row world) l) m ≡ Some (word (s l))
 
--- where it is of a procedure type, it holds no procedure, or one with the heading of the type
+-- if it is of a procedure type, it holds no procedure, or one with the heading of the type
 abbrev pub ReadsProcedure : Type 0
 ReadsProcedure =
     (p : Modules) (world : List Ty) (x : Location → ℕ → ℕ) (s : Store) (m : List ℕ)
@@ -43,7 +43,7 @@ Assigns =
     → component (row world) l ≡ Some (Cell c)
     → Holds p world x (assign_number l v s) (put c (offset (row world) l) (word v) m)
 
--- the bytes of a whole array or record are copied, also where it is assigned to itself
+-- the bytes of a whole array or record are copied, also if it is assigned to itself
 abbrev pub Copies : Type 0
 Copies =
     (p : Modules) (world : List Ty) (x : Location → ℕ → ℕ) (s : Store) (m : List ℕ)
@@ -100,7 +100,7 @@ WritesHidden =
     → Holds p world (overlay to (λ r k. get_or ys k 0) x) s
     (paste_items m (offset (row world) to) ys)
 
--- an address or a HIGH in such room is read as it was written
+-- an address or a HIGH in this room is read as it was written
 abbrev pub ReadsAddress : Type 0
 ReadsAddress =
     (p : Modules) (world : List Ty) (x : Location → ℕ → ℕ) (s : Store) (m : List ℕ)

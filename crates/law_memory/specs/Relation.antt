@@ -38,7 +38,7 @@ heading_at types t = heading_made types (made_at types t)
 abbrev pub value_number : Modules → (place number : ℕ) → ℕ
 value_number p place number = suc (suc (entries_before place p + number))
 
--- the number is that of a procedure with this heading
+-- a procedure with this heading has this number
 pub record NamesProcedure (p : Modules) (h : Heading) (n : ℕ) : Type 0 where
   pub place : ℕ
   pub home : TypedModule
@@ -89,7 +89,7 @@ Hides t a x mem =
     (r : Location) (n k : ℕ) → component t r ≡ Some (Hidden n) → k < n
     → byte (a + offset t r + k) mem ≡ x r k
 
--- the memory holds the store of a program, where instances of these types live
+-- the memory holds the store of a program in which instances of these types live
 pub record Holds (p : Modules) (world : List Ty) (x : Location → ℕ → ℕ) (s : Store) (mem : List ℕ)
     : Type 0 where
   pub bytes : (a : ℕ) → byte a mem < 256

@@ -17,7 +17,7 @@ pub fn cell_laws()
     ensures reads { Reads }
     // A procedure variable holds no procedure, or one with its heading.
     ensures reads_procedure { ReadsProcedure }
-    // A variable is written to its cell, where all others stay as they were.
+    // A variable is written to its cell, and all others stay as they were.
     ensures assigns { Assigns }
     // A whole array or record is copied byte by byte, also onto itself.
     ensures copies { Copies }

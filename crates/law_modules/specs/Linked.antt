@@ -28,7 +28,7 @@ names p = map (λ m. m.name) p
 abbrev pub imported_names : TypedModule → List (List ℕ)
 imported_names m = map (λ i. i.name) m.imports
 
--- the module link, and those of the bodies
+-- the module link, and the modules of the bodies
 abbrev pub all : Program → (pages : ℕ) → List WModule
 all p pages = typed_link p pages ∷ map typed_module p
 
@@ -46,7 +46,7 @@ count m = length (functions m)
 -- ---- what stands in the store for modules, of which the first has this number, place, slot or
 -- address
 
--- the place of its variables, that of its texts, and its first slot
+-- the place of its variables, the place of its texts, and its first slot
 abbrev pub values : (place slot : ℕ) → Program → List Value
 values place slot [] = []
 values place slot (m ∷ ms) =

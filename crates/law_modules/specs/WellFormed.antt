@@ -56,7 +56,7 @@ pub record IsProcedure (m : TypedModule) (f : Procedure) : Type 0 where
   pub known : IsKnown m f.home
   pub own : is_own m f.home ≡ true → IsRoutine m.procedures f.number f.heading
 
--- ---- expressions, designators, calls and arguments, in a module, within so many records of WITH
+-- ---- expressions, designators, calls and arguments, in a module, within this many records of WITH
 
 -- a WITH around it, and a variable of a module that is known
 abbrev pub IsRoot : TypedModule → (withs : ℕ) → Root → Type 0
@@ -153,7 +153,7 @@ mutual
     Open : (slot : Slot) → IsArgument m withs (argument.Open slot) true
     Text : (text : List ℕ) → IsArgument m withs (argument.Text text) true
 
--- ---- statements: of a function or not, within so many records of WITH, and within a LOOP or not
+-- ---- statements: of a function or not, within this many records of WITH, and within a LOOP or not
 
 mutual
   pub data IsStmt (m : TypedModule) (gives : Bool) : (withs : ℕ) → (looped : Bool) → TypedStmt

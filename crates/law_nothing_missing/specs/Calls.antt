@@ -1,4 +1,4 @@
--- What calls do, where nothing that they ask for may be missing: the arguments are those that the
+-- What calls do, if nothing that they ask for may be missing: the arguments are those that the
 -- formals ask for, a new instance gets a number that no other has, and the types of its variables
 -- are there.
 use Rattle.std.specs.Prelude.{ℕ, zero, suc, ◌-◌, ◌==◌, ℤ, Bool, true, false, not, ◌&&◌, nat_lt, List, [], ◌∷◌, ◌++◌, map, length, Some, None, if◌then◌else◌}

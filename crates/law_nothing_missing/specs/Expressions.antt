@@ -1,4 +1,4 @@
--- What expressions, designators, calls and arguments give, where nothing that they ask for may be
+-- What expressions, designators, calls and arguments give, if nothing that they ask for may be
 -- missing: the definition of def_meaning once more, with an end of its own in place of each
 -- default.
 use Rattle.std.specs.Prelude.{ℕ, zero, suc, ◌==◌, ◌-◌, ℤ, pos, negsuc, Bool, true, false, not, ◌&&◌, ◌||◌, nat_lt, List, [], ◌∷◌, ◌++◌, drop, length, Option, Some, None, slice_get, if◌then◌else◌}
@@ -62,7 +62,7 @@ is_procedure_type types t = is_procedure_made (made_at types t)
 abbrev pub is_number_type : Types → TypeNo → Bool
 is_number_type types t = is_cell (Some (tree types t))
 
--- what a name stands for, where it is a variable, and where it is an open array
+-- what a name stands for, if it is a variable, and if it is an open array
 abbrev pub variable_of : Option Named → Option Location
 variable_of None = None
 variable_of (Some (At l)) = Some l
@@ -98,7 +98,7 @@ module _ (lacking : ℕ) where
     abbrev pub at_cell : Location → State → Answer Location
     at_cell l st = if_provided (is_cell (type_at world l)) (Value l) st
 
-    -- what is called has a heading, and where a value is wanted, it is a function
+    -- what is called has a heading, and if a value is wanted, it is a function
     abbrev pub suits_call : (wanted : Bool) → Callee → Bool
     suits_call wanted c =
         is_procedure_type c.types c.routine.heading
@@ -110,7 +110,7 @@ module _ (lacking : ℕ) where
     call_with wanted (Some c) args a st =
         if_provided (suits_call wanted c) (meaning.call_with p ask (Some c) args a) st
 
-    -- 0 is the empty procedure, and any other value is that of a procedure
+    -- 0 is the empty procedure, and any other value is the value of a procedure
     abbrev pub asked_value : (wanted : Bool) → ℤ → List (Gives Passed) → Environment → State
         → Answer ℤ
     asked_value wanted (pos zero) args a st = Ended empty_procedure st.out

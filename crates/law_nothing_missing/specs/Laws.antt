@@ -27,15 +27,15 @@ StrictRuns =
     (p : Program) (pages : ℕ) → AreModules p → AreTypedModules p pages → (lacking n : ℕ)
     → strict_run lacking p pages n ≡ run p pages n
 
--- and where it is no number of the language, which are 0, the faults and HALT, no run ends with it:
--- so nothing is lacking
+-- and if it is no number of the language, which are 0, the faults and HALT, no run ends with it: so
+-- nothing is lacking
 abbrev pub NothingLacks : Type 0
 NothingLacks =
     (p : Program) (pages : ℕ) → AreModules p → AreTypedModules p pages → (lacking n : ℕ)
     → halt_status < lacking → (out : List ℕ) → strict_run lacking p pages n ≡ Ended lacking out → ⊥
 
--- That number does come where something is lacking: a program that prints a variable of a module
--- that is not there,
+-- That number does come if something is lacking: a program that prints a variable of a module that
+-- is not there,
 abbrev pub MissingLacks : Type 0
 MissingLacks =
     (m : TypedModule) (d : Place) (v : Variable)
@@ -61,7 +61,7 @@ NamedLacks =
     → (lacking pages n : ℕ)
     → strict_run lacking (m ∷ []) pages n ≡ Ended lacking []
 
--- and a call of a procedure that has such a variable.
+-- and a call of a procedure that has a variable of this kind.
 abbrev pub LocalLacks : Type 0
 LocalLacks =
     (p : Program) (c : Callee) (i : ℕ) (t : TypeNo) → slice_get c.routine.variables i ≡ Some t

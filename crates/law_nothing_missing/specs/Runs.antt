@@ -1,4 +1,4 @@
--- The run of a program, where nothing that it asks for may be missing.
+-- The run of a program, if nothing that it asks for may be missing.
 use Rattle.std.specs.Prelude.{ℕ, suc, ◌-◌, Bool, true, false, ◌&&◌, [], ◌∷◌, ◌++◌, map}
 use Rattle.typed_tree.specs.declared.typed_module.TypedModule.{TypedModule}
 use Rattle.layout_storage.specs.Types.{frame_of}
@@ -39,8 +39,8 @@ module _ (lacking : ℕ) where
       (body_environment p place m left) st)
       (bodies p n left (suc place) ms)
 
-  -- the run of a program with the bound n, which ends with the number `lacking` where it lacks
-  -- something: at its beginning, where a type is not there
+  -- the run of a program with the bound n, which ends with the number `lacking` if it lacks
+  -- something: at its beginning, if a type is not there
   unfoldable pub strict_run : Modules → (pages n : ℕ) → Outcome
   strict_run p pages n =
       if_provided lacking (all_have_types p) (bodies p n (storage p pages - body_frame) 0 p)

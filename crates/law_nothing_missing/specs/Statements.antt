@@ -1,4 +1,4 @@
--- What statements do, where nothing that they ask for may be missing.
+-- What statements do, if nothing that they ask for may be missing.
 use Rattle.std.specs.Prelude.{ℕ, pos, Bool, false, ◌&&◌, unsigned_abs, [], ◌∷◌, ◌++◌, length, Option, Some, None, if◌then◌else◌}
 use Rattle.typed_tree.specs.declared.computed.Place.{Place}
 use Rattle.typed_tree.specs.declared.statement.TypedStmt.{TypedStmt, TypedStmt-F, fold-TypedStmt}
@@ -34,7 +34,7 @@ module _ (lacking : ℕ) (p : Modules) (ask : Asks) (world : World) (n : ℕ) (f
   copied_from None l st = lacks lacking st
   copied_from (Some t) l st = if_provided lacking (is_like (type_at world l) t) (Value l) st
 
-  -- so many characters have room
+  -- this many characters have room
   abbrev pub at_room : ℕ → Location → State → Answer Location
   at_room k l st = if_provided lacking (has_room (type_at world l) k) (Value l) st
 

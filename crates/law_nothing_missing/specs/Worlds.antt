@@ -24,7 +24,7 @@ is_cell (Some (Array n t)) = false
 is_cell (Some Nothing) = false
 is_cell (Some (Field t others)) = false
 
--- an array of so many scalars, or of more
+-- an array of this many scalars, or of more
 abbrev pub has_room : Option Ty → ℕ → Bool
 has_room (Some (Array n (Cell c))) k = not (nat_lt n k)
 has_room o k = false

@@ -11,7 +11,7 @@ use Rattle.law_simulation.specs.Behaves.{Behaves}
 use Rattle.law_orders.specs.Order.{IsOrder}
 use Rattle.law_orders.specs.Renumbered.{AreAlike, SameConfig}
 
--- the module link, and those of the bodies in this order
+-- the module link, and the modules of the bodies in this order
 abbrev pub all_in : (p : Program) → (pages : ℕ) → (q : Program) → List WModule
 all_in p pages q = typed_link p pages ∷ map typed_module q
 

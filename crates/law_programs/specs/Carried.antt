@@ -167,7 +167,7 @@ pub record ScopeWords {T : Type 0} (s : Scope T) : Type 0 where
   pub outer : BlocksWords s.outer
   pub tables : TablesWords s.tables
 
--- a constant expression means such a constant
+-- a set that a constant expression means has 32 bits
 abbrev pub ConstantsAreWords : Gathers → Type 0
 ConstantsAreWords g =
     (s : Scope g.Reported) → ScopeWords s → (e : Expr) → Holds IsWord (constant g s (part g e))
@@ -216,7 +216,7 @@ NamesSlots slots level (e ∷ es) = KnownSlot slots level e.1 × NamesSlots slot
 abbrev pub ScopeSlots : {T : Type 0} → Option (List Formal) → Scope T → Type 0
 ScopeSlots o s = NamesSlots (slots_in o s.variables) s.level s.own
 
--- Where the formals of a procedure break no rule in its scope, they are its first variables.
+-- If the formals of a procedure break no rule in its scope, they are its first variables.
 abbrev pub FormalsAreSlots : Gathers → Type 0
 FormalsAreSlots g =
     (s : Scope g.Reported) (seen : ℕ) (h : Heading) (fs : List Formal)
@@ -236,7 +236,7 @@ FormalsStay g =
 -- ---- what is carried from one scope to another
 
 -- Types and variables stay, arrays keep indices of scalar types, variables stand where their names
--- say, those of procedures in their slots, and constants are such constants.
+-- say, variables of procedures stand in their slots, and sets that are constants have 32 bits.
 pub record Carries {T : Type 0} (s s' : Scope T) : Type 0 where
   pub home : s'.types.home ≡ s.types.home
   pub tables : s'.tables ≡ s.tables
@@ -273,13 +273,13 @@ BlocksCarry g =
     (ends : List ℕ) (st : State (Unit {0}) g.Reported) (first : ℕ) (ds : List Decl)
     → Carries st.0 (declared_block g ends st first ds).0
 
--- those of a definition, behind its imports,
+-- the declarations of a definition, behind its imports,
 abbrev pub DefinitionsCarry : Gathers → Type 0
 DefinitionsCarry g =
     (m : Module) (modules : List (List ℕ × ℕ)) (s : Scope g.Reported) (ds : List Def)
     → TablesElsewhere s.types.home s.tables → Carries s (declared_in g m modules s ds).0
 
--- and those of a module
+-- and the declarations of a module
 abbrev pub ModulesCarry : Gathers → Type 0
 ModulesCarry g =
     (modules : List (List ℕ × ℕ)) (ends : List ℕ) (s : Scope g.Reported) (m : Module)
@@ -287,7 +287,7 @@ ModulesCarry g =
     → TablesElsewhere s.types.home s.tables
     → Carries s (declared_module g modules ends s m ds).0
 
--- into a procedure and back the types stay, and constants are such constants
+-- into a procedure and back the types stay, and sets that are constants have 32 bits
 abbrev pub ProceduresStay : Gathers → Type 0
 ProceduresStay g =
     (s : Scope g.Reported)
@@ -307,8 +307,8 @@ abbrev pub TablesIndexed : Types → List Table → Type 0
 TablesIndexed types [] = Unit {0}
 TablesIndexed types (t ∷ ts) = ReachedIndexed types t.reached × TablesIndexed types ts
 
--- A module begins with such types, if its tables reach such types. Its own table reaches such
--- types,
+-- The types that a module begins with have indices of scalar types, if the types that its tables
+-- reach have. So have the types that its own table reaches,
 abbrev pub TablesCarry : Type 0
 TablesCarry =
     ((home : ℕ) (tables : List Table) → TablesIndexed (first_types home tables) tables
@@ -321,7 +321,8 @@ ReachedStay =
     (a b : Types) → ((t : TypeNo) (m : Made) → made_at a t ≡ Some m → made_at b t ≡ Some m)
     → (ms : List ModuleTypes) → ReachedIndexed a ms → ReachedIndexed b ms
 
--- a module begins with such constants, if its tables have such, and exports such
+-- the sets that are constants where a module begins have 32 bits, if those in its tables have; so
+-- have those that it exports
 abbrev pub WordsCarry : Gathers → Type 0
 WordsCarry g =
     ((home : ℕ) (tables : List Table) → TablesWords tables
@@ -333,7 +334,7 @@ abbrev pub ExportsFree : List (List ℕ × Meaning) → Type 0
 ExportsFree [] = Unit {0}
 ExportsFree (e ∷ es) = MeaningSlot [] 0 e.1 × ExportsFree es
 
--- A module exports no such variable, and begins without one.
+-- A module exports no variable of a procedure, and begins without one.
 abbrev pub ModulesHaveNoSlots : Gathers → Type 0
 ModulesHaveNoSlots g =
     ((s : Scope g.Reported) → s.level ≡ 0 → ScopeSlots None s → ExportsFree (exports s.own))
@@ -342,8 +343,8 @@ ModulesHaveNoSlots g =
     × ((own : Table) (tables : List Table) → ExportsFree own.exported
     → ScopeSlots None (implementation_scope {T = g.Reported} own tables))
 
--- An implementation begins with such constants, if its definition exports such, and so do the other
--- tables.
+-- Where an implementation begins, sets that are constants have 32 bits, if those that its
+-- definition and the other tables export have.
 abbrev pub ImplementationsAreWords : Gathers → Type 0
 ImplementationsAreWords g =
     (own : Table) (tables : List Table) → ExportsWords own.exported → TablesWords tables
@@ -355,7 +356,7 @@ ImplementationsAreWords g =
 abbrev pub implementation_types : (own : Table) → List Table → Types
 implementation_types own tables = (implementation_scope {T = Unit {0}} own tables).types
 
--- a body begins with such types
+-- a body begins with types that have indices of scalar types
 abbrev pub BodyBegins : (number : ℕ) → Option Table → List Table → Contents → Type 0
 BodyBegins number own tables (contents.Definition ds) = Unit {0}
 BodyBegins number None tables (contents.Implementation b) = Unit {0}
@@ -364,7 +365,7 @@ BodyBegins number (Some own) tables (contents.Implementation b) =
 BodyBegins number own tables (contents.Program b) =
     TypesIndexed (first_types number tables) × TablesElsewhere number tables
 
--- then its module knows such types
+-- then its module knows types of this kind
 abbrev pub BodiesCarry : Gathers → Type 0
 BodiesCarry g =
     (elaborates : Elaborates g.Reported) (number : ℕ) (m : Module) (own : Option Table)
@@ -372,8 +373,8 @@ BodiesCarry g =
     → BodyBegins number own (tables ++ console ∷ []) m.contents
     → Holds (λ t. TypesIndexed t.types) (body_module g elaborates number m own tables)
 
--- An implementation begins with such types, if those that its definition and the other tables reach
--- are such types.
+-- The types that an implementation begins with have indices of scalar types, if the types that its
+-- definition and the other tables reach have.
 abbrev pub ImplementationsCarry : Type 0
 ImplementationsCarry =
     (own : Table) (tables : List Table)

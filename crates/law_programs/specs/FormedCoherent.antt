@@ -84,7 +84,7 @@ ProgramsAreCoherent =
     → slice_get p place ≡ Some m
     → IsCoherent p place m
 
--- The bodies that start by a graph are such a program.
+-- The bodies that start by a graph are a program of this kind.
 abbrev pub GraphsAreWhole : Type 0
 GraphsAreWhole =
     (fs : List (List ℕ × Module)) (files : List ℕ) (jobs : List (List ℕ)) (starts : List ℕ)

@@ -30,7 +30,7 @@ ProgramsAreFormed = JobsMake IsWellFormed
 abbrev pub ProgramsAreValid : Type 0
 ProgramsAreValid = JobsMake (λ t. IsValid (typed_module t))
 
--- and so is link, where it has an encoding and no two modules of the program have one name
+-- and so is link, if it has an encoding and no two modules of the program have one name
 abbrev pub LinksAreValid : Type 0
 LinksAreValid = (ms : List TypedModule) (pages : ℕ) → pages ≤ 65536
     → module_fits (typed_link ms pages) ≡ true → AreDistinct (map (λ m. m.name) ms)

@@ -1,5 +1,5 @@
 -- The tables that the jobs of a build make reach the same types of each module, and the modules of
--- bodies know such types.
+-- bodies know these types.
 use Rattle.std.specs.Prelude.{◌≡◌, ℕ, suc, true, List, []}
 use Rattle.std.specs.List.{list_all}
 use Rattle.m2_tree.specs.declared.decl.Module.{Module}

@@ -26,7 +26,7 @@ use Rattle.law_programs.specs.Carried.{NamesPlaced, NamesWords, NamesSlots}
 -- ---- variables of modules
 
 -- A module that is known has variables of these types, for the module that names them and in its
--- instance, where they are the first.
+-- instance, if they are the first.
 pub record HasVariables (x : Context) (home : ℕ) (ts : List TypeNo) : Type 0 where
   pub known : IsKnown x.home home
   pub typed : variables_row x.home home ≡ row (map (tree x.home.types) ts)
@@ -69,8 +69,8 @@ module _ (x : Context) (opens : ℕ → Bool) where
   NamesElse level kss [] = Unit {0}
   NamesElse level kss (e ∷ es) = KnownElse level kss e.1 × NamesElse level kss es
 
-  -- a block whose names stand where they say, where these types and variables are known and these
-  -- are the slots
+  -- a block whose names stand where they say, if these types and variables are known and these are
+  -- the slots
   pub record BlockFound {T : Type 0} (types : Types) (vs : List TypeNo)
       (slots : List (LocalKind × TypeNo)) (level : ℕ) (kss : List Kinds)
       (es : List (List ℕ × Known T)) : Type 0 where
@@ -88,13 +88,13 @@ module _ (x : Context) (opens : ℕ → Bool) where
 
 -- ---- the laws
 
--- a variable of such a module is there
+-- a variable of a module that has these variables is there
 abbrev pub VariablesAreThere : Type 0
 VariablesAreThere =
     (x : Context) (v : Variable) (ts : List TypeNo) → HasVariables x v.home ts
     → slice_get ts v.number ≡ Some v.of → IsVariable x v (tree x.home.types v.of)
 
--- the names of such a block are typed
+-- the names of a block of this kind are typed
 abbrev pub NamesAreTyped : Gathers → Type 0
 NamesAreTyped g =
     (x : Context) (opens : ℕ → Bool) (types : Types) (vs : List TypeNo)

@@ -30,7 +30,7 @@ use Rattle.check_block.specs.Inner.{formal_kind}
 use Rattle.law_well_formed.specs.Formed.{Holds}
 use Rattle.law_programs.specs.Typing.{IsConstant, FormalsKnown, kind_of, TypesTyped, MeaningTyped, IsTyped}
 
--- ---- what a name of a block means, so many procedures deep, where these are the frames from its
+-- ---- what a name of a block means, this many procedures deep, if these are the frames from its
 -- procedure outwards
 
 -- a procedure that is declared in the procedure with the first of these frames
@@ -71,13 +71,13 @@ module _ (x : Context) (opens : ℕ → Bool) where
   NamesIn level kss [] = Unit {0}
   NamesIn level kss (e ∷ es) = KnownIn level kss e.1 × NamesIn level kss es
 
-  -- the blocks around: the predeclared names and those of the module stand in no procedure
+  -- the blocks around: the predeclared names and the names of the module stand in no procedure
   abbrev pub BlocksIn : {T : Type 0} → (level i : ℕ) → List (Block T) → Type 0
   BlocksIn level i [] = Unit {0}
   BlocksIn level i (b ∷ bs) =
       NamesIn (i - 1) (drop (level - (i - 1)) x.kinds) b.names × BlocksIn level (suc i) bs
 
-  -- the scope of a body, where no WITH is open
+  -- the scope of a body, if no WITH is open
   pub record ScopeTyped (g : Gathers) (s : Scope g.Reported) : Type 0 where
     pub all : TypesTyped x.home.types
     pub room : length x.characters ≤ 2 ^ 32
@@ -95,7 +95,7 @@ module _ (x : Context) (opens : ℕ → Bool) where
 
 -- ---- the laws
 
--- in such a scope names mean what is there
+-- in a scope of this kind names mean what is there
 abbrev pub ScopesAreTyped : Gathers → Type 0
 ScopesAreTyped g =
     (x : Context) (opens : ℕ → Bool) (s : Scope g.Reported) → ScopeTyped x opens g s

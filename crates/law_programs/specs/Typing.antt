@@ -1,4 +1,4 @@
--- What the checker makes of expressions is typed, where names mean what is there.
+-- What the checker makes of expressions is typed, if names mean what is there.
 use Rattle.std.specs.Prelude.{◌≡◌, ℕ, ◌+◌, ◌≤◌, ◌<◌, ◌^◌, Bool, true, false, List, [], ◌∷◌, length, Some, None, slice_get}
 use Rattle.std.specs.List.{list_all}
 use Rattle.std.specs.Option.{is_some}
@@ -184,7 +184,7 @@ module _ (x : Context) (ws : List Ty) where
   ValueTyped (value.Whole t d) = PlaceTyped d (tree x.home.types t)
   ValueTyped value.Untaken = Unit {0}
 
-  -- where names may stand for the modules that are open
+  -- names may stand for the modules that are open
   module _ (opens : ℕ → Bool) where
     abbrev pub DesignatedTyped : Designated → Type 0
     DesignatedTyped (designated.Value v) = ValueTyped v
@@ -197,7 +197,7 @@ module _ (x : Context) (ws : List Ty) where
     DesignatedTyped (designated.Standard f) = Unit {0}
     DesignatedTyped (designated.Module k) = opens k ≡ true
 
-    -- what a name means is there, so many procedures deep
+    -- what a name means is there, this many procedures deep
     abbrev pub MeaningTyped : (level : ℕ) → Meaning → Type 0
     MeaningTyped level (meaning.Constant v) = IsConstant x.home.types v
     MeaningTyped level (meaning.Type t n) = Unit {0}
@@ -223,8 +223,8 @@ pub record TypesTyped (types : Types) : Type 0 where
       → tree types t ≡ shape_tree types (known_trees types) t m.shape
   pub indexed : (t i e : TypeNo) → array_at types t ≡ Some (i, e) → IsIndexed types i
 
--- The types that are known in a scope are those of the module, and formals are of such types. Its
--- names mean what is there, and so do those that open modules export.
+-- The types that are known in a scope are the types of the module, and formals are of these types.
+-- Its names mean what is there, and so do those that open modules export.
 pub record IsTyped (g : Gathers) (x : Context) (ws : List Ty) (opens : ℕ → Bool)
     (s : Scope g.Reported) : Type 0 where
   pub all : TypesTyped x.home.types
@@ -236,7 +236,7 @@ pub record IsTyped (g : Gathers) (x : Context) (ws : List Ty) (opens : ℕ → B
   pub members : (k : ℕ) (name : Ident) → opens k ≡ true
       → Holds (MeaningTyped x ws opens s.level) (member g s.tables k name)
 
--- ---- the laws, where broken rules are gathered so
+-- ---- the laws, if broken rules are gathered so
 
 -- what the checker makes of an expression
 abbrev pub ExpressionsAreTyped : Gathers → Type 0

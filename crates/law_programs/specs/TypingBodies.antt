@@ -1,4 +1,4 @@
--- What the checker makes of the bodies of procedures is typed, where the module that it makes has
+-- What the checker makes of the bodies of procedures is typed, if the module that it makes has
 -- them.
 use Rattle.std.specs.Prelude.{◌≡◌, ℕ, suc, ◌+◌, ◌≤◌, ◌<◌, ◌^◌, ◌==◌, Bool, true, false, ◌&&◌, List, [], ◌∷◌, ◌++◌, map, drop, length, Option, Some, None, Result, Ok, slice_get}
 use Rattle.std.specs.List.{fold, list_all}
@@ -100,11 +100,11 @@ pub record Stage : Type 0 where
   pub home : TypedModule
   pub opens : ℕ → Bool
 
--- in procedures with such frames
+-- in procedures with these frames
 abbrev pub stands : Stage → List Kinds → Context
 stands z kinds = context z.p z.base z.texts z.place z.home kinds
 
--- in the block of a procedure, so many procedures deep, or of the module
+-- in the block of a procedure, this many procedures deep, or of the module
 abbrev pub stands_in : Stage → (level : ℕ) → Option Which → Context
 stands_in z level around = stands z (kinds_around z.home (suc level) around)
 
@@ -121,7 +121,7 @@ BodyTyped z r =
     (result_of z.home.types r.heading) [] false r.body
     × AreKnown z.home.types r.variables
 
--- what statements are elaborated to be is typed, where names mean what is there
+-- what statements are elaborated to be is typed, if names mean what is there
 abbrev pub TypesStatements : (g : Gathers) → Elaborates g.Reported → Type 0
 TypesStatements g elaborates =
     (x : Context) (opens : ℕ → Bool) (s : Scope g.Reported)
@@ -194,7 +194,7 @@ abbrev pub NamesLocal : {T : Type 0} → List (List ℕ × Known T) → Type 0
 NamesLocal [] = Unit {0}
 NamesLocal (e ∷ es) = KnownLocal e.1 × NamesLocal es
 
--- the declarations of a procedure's block keep to such names
+-- the declarations of a procedure's block keep to these names
 abbrev pub LocalsStay : Gathers → Type 0
 LocalsStay g =
     (ends : List ℕ) (st : State (Unit {0}) g.Reported) (first : ℕ) (ds : List Decl)
@@ -235,7 +235,7 @@ module _ (g : Gathers) where
   DeclsAgree a seen i (d ∷ ds) =
       DeclAgrees a (unwrap_or (slice_get seen i) 0) (out-Decl d) × DeclsAgree a seen (i + 1) ds
 
--- So it is of all procedures of a block, at its end, where its declarations break no rule.
+-- So it is of all procedures of a block, at its end, if its declarations break no rule.
 abbrev pub HeadingsAgree : Gathers → Type 0
 HeadingsAgree g =
     (ends : List ℕ) (st : State (Unit {0}) g.Reported) (first : ℕ) (ds : List Decl)
@@ -297,7 +297,7 @@ pub record Enters {T : Type 0} (base : Types) (ends : List ℕ) (fs : List Forma
   pub locals : NamesLocal w.scope.own
   pub formed : (m : TypedModule) (opens : ℕ → Bool) → AreFormedNames m opens w.scope.own
 
--- the block of a procedure, with so many procedures within each of those in it
+-- the block of a procedure, with this many procedures within each of those in it
 pub record TypedBlock (g : Gathers) (base : Types) (ends : List ℕ) (block : ChecksBlock g.Reported)
     (ks : List ℕ) : Type 0 where
   pub known : (around : Option Which) (returns : Option (Result TypeNo g.Reported))
@@ -393,7 +393,7 @@ pub record AreBodiesTyped (z : Stage) (ss : List TypedStmt) : Type 0 where
   pub body : StmtsTyped (stands z []) None [] false ss
   pub variables : AreKnown z.home.types z.home.variables
 
--- The bodies of a module are typed, where its declarations and bodies break no rule.
+-- The bodies of a module are typed, if its declarations and bodies break no rule.
 abbrev pub ModulesAreTyped : Gathers → Type 0
 ModulesAreTyped g =
     (base : Types) (modules : List (List ℕ × ℕ)) (s : Scope g.Reported) (m : Module) (b : Block)

@@ -70,7 +70,7 @@ module _ (trees : List Module) (files : List ℕ) (jobs : List (List ℕ)) {t : 
   abbrev pub own_of : Option Table
   own_of = own_table b.tree needed_tables
 
-  -- the tables of its imports, and that of Console
+  -- the tables of its imports, and the table of Console
   abbrev pub tables_for : List Table
   tables_for = tables_behind own_of needed_tables ++ console ∷ []
 

@@ -1,4 +1,4 @@
--- What the checker makes of statements is typed, where names mean what is there.
+-- What the checker makes of statements is typed, if names mean what is there.
 use Rattle.std.specs.Prelude.{◌≡◌, ℕ, ◌+◌, Bool, true, ◌&&◌, List, length, Option, Some, None, Result, Ok, Err}
 use Rattle.std.specs.List.{list_all}
 use Rattle.m2_tree.specs.declared.expr.Expr.{Expr}

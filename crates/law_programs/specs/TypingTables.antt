@@ -118,8 +118,8 @@ walked_in s m b =
     walk_body least (elaborate_body least) (modules_in s) (procedure_ends (decls_in b)) s m b
 
 -- A body begins in this scope, with this block, and comes to this module. No rule is broken. The
--- types of the block's end are those of the module. The block's names stand under their numbers,
--- and the module's types are as the language has them.
+-- types of the block's end are the types of the module. The block's names stand under their
+-- numbers, and the module's types are as the language has them.
 pub record BodyStands (m : Module) (job : ℕ) (ts : List Table) (t : TypedModule) : Type 0 where
   pub scope : Scope least.Reported
   pub block : Block

@@ -10,7 +10,7 @@ use Rattle.check_block.specs.declared.inner.Outside.{Outside}
 use Rattle.check_block.specs.Inner.{entered_procedure, left_procedure}
 use Rattle.law_programs.specs.Carried.{ScopeWords}
 
--- The declarations of a block lead from such a scope to such a scope, and so do the ways into a
+-- The declarations of a block lead from a scope of this kind to another, and so do the ways into a
 -- procedure and back.
 pub record WordsStay (g : Gathers) : Type 0 where
   pub blocks : (ends : List ℕ) (st : State (Unit {0}) g.Reported) (first : ℕ) (ds : List Decl)

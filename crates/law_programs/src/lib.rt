@@ -15,7 +15,7 @@
 //!   `proofs/Carrying` and `proofs/Declaring` declarations, `proofs/Bounding` and `proofs/Reaching` procedures and tables,
 //!   `proofs/Exporting` what modules export, and `proofs/Walking` whole bodies.
 //! - `proofs/Operators` and `proofs/Calls` have a lemma for each definition of `check_operator` and `check_call`, and
-//!   `proofs/Meanings` those of `check_expr`, with the induction.
+//!   `proofs/Meanings` the lemmas of `check_expr`, with the induction.
 //!
 //! Why what the checker makes of statements is typed.
 //!
@@ -74,7 +74,7 @@
 //!   variables and procedures of a block in the order of their names, `proofs/Counting` that they stand in its lists,
 //!   `proofs/GraphsSteps` that other declarations keep it, `proofs/Definitions` that it is so behind a definition, and
 //!   `proofs/Exported` what is exported of them.
-//! - `proofs/Reached` has what is asked of tables, and `proofs/Tables` that jobs make such tables. `proofs/Begins` has where a
+//! - `proofs/Reached` has what is asked of tables, and `proofs/Tables` that jobs make them. `proofs/Begins` has where a
 //!   body begins, `proofs/Walked` what it comes to, and `proofs/Bodies` the bodies of a graph.
 //!
 //! The names of a module mean what is there, also where they stand for what other modules export:
@@ -109,8 +109,8 @@ ghost use Rattle.law_programs.specs.TypingStmts.{StatementsAreTyped};
 ghost use Rattle.law_programs.specs.TypingTables.{BodiesStand, TablesStand};
 ghost use Rattle.law_programs.specs.TypingWants.{BodiesAreOrdered, BodiesAreProvided, BodiesMakeModules};
 
-/// What the checker makes of expressions and designators is typed, wherever what it asks for is there. That is so where the
-/// least broken rule is kept, and where all of them are.
+/// What the checker makes of expressions and designators is typed, wherever what it asks for is there. That is so if
+/// the least broken rule is kept, and if all of them are.
 pub fn typing_laws()
     // Expressions are typed,
     ensures least_expressions { ExpressionsAreTyped least }
@@ -120,8 +120,8 @@ pub fn typing_laws()
     ensures every_designators { DesignatorsAreTyped every }
 {}
 
-/// Where the names of a scope are typed block by block, they mean what is there. That is so where the least broken rule is kept,
-/// and where all of them are.
+/// If the names of a scope are typed block by block, they mean what is there. That is so if the least broken rule is
+/// kept, and if all of them are.
 pub fn scope_laws()
     // Names mean what is there,
     ensures least_scopes { ScopesAreTyped least }
@@ -139,18 +139,18 @@ pub fn scope_laws()
     ensures every_same { FormalsStay every }
     // A variable of a module that is known is there,
     ensures variables { VariablesAreThere }
-    // and the names of a block are typed, where all sorts of them stand where they say.
+    // and the names of a block are typed, if all sorts of them stand where they say.
     ensures least_names { NamesAreTyped least }
     ensures every_names { NamesAreTyped every }
 {}
 
-/// Declarations carry on from scope to scope: arrays have indices of scalar types, variables stand where their names say, and
-/// sets that are constants have 32 bits. That is so where the least broken rule is kept, and where all of them are.
+/// Declarations carry on from scope to scope: arrays have indices of scalar types, variables stand where their names
+/// say, and sets that are constants have 32 bits. That is so if the least broken rule is kept, and if all of them are.
 pub fn carried_laws()
     // The declarations of definitions carry on,
     ensures least_defs { DefsCarry least }
     ensures every_defs { DefsCarry every }
-    // those of blocks,
+    // the declarations of blocks,
     ensures least_decls { DeclsCarry least }
     ensures every_decls { DeclsCarry every }
     ensures least_blocks { BlocksCarry least }
@@ -186,17 +186,17 @@ pub fn carried_laws()
 
 /// What the checker makes of statements is typed.
 pub fn typing_statement_laws()
-    // That is so where the least broken rule is kept,
+    // That is so if the least broken rule is kept,
     ensures least { StatementsAreTyped least }
-    // and where all of them are.
+    // and if all of them are.
     ensures every { StatementsAreTyped every }
 {}
 
-/// The bodies of the procedures in a procedure's block are typed, and so is its own. So are those of a module.
+/// The bodies of the procedures in a procedure's block are typed, and so is its own. So are the bodies of a module.
 pub fn typing_body_laws()
-    // That is so where the least broken rule is kept,
+    // That is so if the least broken rule is kept,
     ensures least { BlocksAreTyped least }
-    // and where all of them are.
+    // and if all of them are.
     ensures every { BlocksAreTyped every }
     // The same is so of modules.
     ensures least_modules { ModulesAreTyped least }
@@ -222,11 +222,11 @@ pub fn formed_reach_laws()
 
 /// The modules of a program know one another's variables.
 pub fn coherent_laws()
-    // Those that jobs make do, where they are a whole program,
+    // Those that jobs make do, if they are a whole program,
     ensures programs { ProgramsAreCoherent }
     // which the bodies are that start by a graph.
     ensures graphs { GraphsAreWhole }
-    // So the modules of each such program do, and they know types in order, with ranges of the language.
+    // So the modules of each program of this kind do, and they know types in order, with ranges of the language.
     ensures coherent { GraphsAreCoherent }
 {}
 
@@ -245,9 +245,9 @@ pub fn formed_tree_laws()
 
 /// In each module that the checker makes, what its bodies ask for is there.
 pub fn typing_want_laws()
-    // Each procedure with a body stands in the order of bodies, where the least broken rule is kept,
+    // Each procedure with a body stands in the order of bodies, if the least broken rule is kept,
     ensures least { BodiesAreOrdered least }
-    // and where all of them are.
+    // and if all of them are.
     ensures every { BodiesAreOrdered every }
     // So the texts of each body, and the types of its calls, are where the code looks for them,
     ensures provided { BodiesAreProvided }

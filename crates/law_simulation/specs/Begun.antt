@@ -1,6 +1,6 @@
 -- The meaning as laws on code have it: a WHILE evaluates its condition at most n times, since its
 -- code begins as often. So it may make one turn less than the language's meaning has. What this
--- makes of a whole run is a beginning of the language's run, and that of one with the bound n + 1.
+-- makes of a whole run is a beginning of the language's run, and of the run with the bound n + 1.
 use Rattle.std.specs.Prelude.{ℕ, zero, suc, ℤ, List, if◌then◌else◌}
 use Rattle.typed_tree.specs.declared.statement.TypedStmt.{TypedStmt, TypedStmt-F}
 use Rattle.def_meaning.specs.Answer.{State, Answer, Value, ◌▷◌, StillRunning}

@@ -1,4 +1,4 @@
--- What it is for the machine's run to be that of a program.
+-- What it is for the machine's run to be the run of a program.
 use Rattle.std.specs.Prelude.{◌≡◌, ℕ, ◌≤◌, List, ◌++◌}
 use Rattle.wasm_tree.specs.declared.module.WModule.{WModule}
 use Rattle.wasm_tree.specs.Machine.{Config, Over, run}
@@ -9,14 +9,14 @@ use Rattle.def_meaning.specs.Later.{output_of}
 
 -- The program's run with each bound, and the machine's run from a configuration.
 pub record Behaves (modules : List WModule) (c : Config) (program : ℕ → Outcome) : Type 0 where
-  -- where the program's run ends, the machine's run ends with the same number and the same bytes
+  -- if the program's run ends, the machine's run ends with the same number and the same bytes
   pub ends : (n k : ℕ) (out : List ℕ) → program n ≡ Ended k out
       → (m : ℕ) × (run modules m c ≡ (Over k, out))
-  -- where the program still runs with every bound, the machine still runs after every number of
+  -- if the program still runs with every bound, the machine still runs after every number of
   -- reductions
   pub goes_on : ((n : ℕ) → (out : List ℕ) × (program n ≡ StillRunning out)) → (m : ℕ)
       → IsOver (run modules m c).0 → ⊥
-  -- the machine never traps, and where it ends, the program ends
+  -- the machine never traps, and if it ends, the program ends
   pub only : (m : ℕ) (d : Config) (out : List ℕ) → IsOver d → run modules m c ≡ (d, out)
       → (n : ℕ) × (k : ℕ) × (d ≡ Over k) × (program n ≡ Ended k out)
   -- what the machine has printed is a beginning of what the program prints

@@ -23,7 +23,7 @@ use Rattle.law_simulation.specs.Behaves.{Behaves}
 
 -- ---- one body
 
--- The instances of the modules of a program are these, and their texts. The memory has so many
+-- The instances of the modules of a program are these, and their texts. The memory has this many
 -- bytes.
 pub record Ground : Type 0 where
   pub program : Modules
@@ -62,7 +62,7 @@ BodyDoes g calls does j f t =
 
 -- ---- all bodies
 
--- what a body does, where each loop makes at most n turns and calls nest at most n deep
+-- what a body does, if each loop makes at most n turns and calls nest at most n deep
 abbrev pub statements_do : Modules → (pages n place : ℕ) → TypedModule → Source → Outcome
 statements_do p pages n place m =
     body_does p n (calling p n n) m.body (body_environment p place m (storage p pages - body_frame))

@@ -1,5 +1,5 @@
--- The functions of a program do what is asked and what its bodies do, where its bodies are typed
--- and its modules linked.
+-- The functions of a program do what is asked and what its bodies do, if its bodies are typed and
+-- its modules linked.
 use Rattle.std.specs.Prelude.{◌≡◌, ℕ, suc, ◌+◌, ◌-◌, Bool, false, List, [], ◌∷◌, length, None, Some, slice_get}
 use Rattle.wasm_tree.specs.declared.module.WModule.{WModule}
 use Rattle.law_effect.specs.Effect.{Fixed, nest_calls}
@@ -58,7 +58,7 @@ module _ (modules : List WModule) (fx : Fixed) (serves : (k f : ℕ) → Bool) (
   abbrev pub AreTyped : Type 0
   AreTyped = (o : Spot p) → IsTypedRoutine o
 
-  -- a module whose body is typed. Its texts stand behind those of the procedures.
+  -- a module whose body is typed. Its texts stand behind the texts of the procedures.
   pub record IsTypedMain (place : ℕ) (m : TypedModule) : Type 0 where
     pub there : slice_get p place ≡ Some m
     pub helpers :
@@ -80,7 +80,7 @@ Parts =
     → (o : Spot p)
     → IsPart modules fx serves extra n limit p base texts (Spot p) part_of o
 
--- so does the body of each module, where all functions do what is asked
+-- so does the body of each module, if all functions do what is asked
 abbrev pub Mains : Type 0
 Mains =
     (modules : List WModule) (fx : Fixed) (serves : (k f : ℕ) → Bool) (extra : (k f : ℕ) → ℕ)

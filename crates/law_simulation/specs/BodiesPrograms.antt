@@ -19,7 +19,7 @@ serving (suc k) f = nat_lt f 5
 abbrev pub more_turns : (k f : ℕ) → ℕ
 more_turns k f = if serving k f then 2 ^ 32 else 0
 
--- what is known of a program whose loops make at most so many turns, and whose calls nest so deep
+-- what is known of a program whose loops make at most this many turns, and whose calls nest so deep
 pub record IsTypedProgram (p : Program) (pages n : ℕ) : Type 0 where
   pub linked : AreLinked (all p pages) (fixtures_of p pages) serving more_turns n (65536 * pages) p
       (ground p pages).base (ground p pages).texts
@@ -30,7 +30,7 @@ pub record IsTypedProgram (p : Program) (pages n : ℕ) : Type 0 where
       → IsTypedMain (all p pages) (fixtures_of p pages) serving more_turns n (65536 * pages) p
       (ground p pages).base (ground p pages).texts place m
 
--- the modules link, and do what the program does, where its data and a body's frame have room
+-- the modules link, and do what the program does, if its data and a body's frame have room
 abbrev pub TypedPrograms : Type 0
 TypedPrograms =
     (p : Program) (pages : ℕ)

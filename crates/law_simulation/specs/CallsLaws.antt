@@ -29,7 +29,7 @@ use Rattle.def_scheme.specs.Steps.{text_copied}
 use Rattle.law_simulation.specs.Scene.{Scene, IsSet, IsCell, AreAmong, place, Agrees, Locates, Reaches, Executes}
 use Rattle.law_simulation.specs.Frames.{Kinds, Kept, Alias, Open, kind_at, HasFrames}
 
--- a value that is taken as one of another type: where no check is made, it is one
+-- a value that is taken as one of another type: if no check is made, it is one
 abbrev pub Taken : Type 0
 Taken =
     (k : Scene)

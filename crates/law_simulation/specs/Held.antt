@@ -102,7 +102,7 @@ HeldNumbers =
     (k : Scene) (t : TypeNo) (h : Heading) (c : Coded) (value : Gives ℤ)
     → scalar_at k.setting.home.types t ≡ None → AgreesHeld k h c value → Agrees k t c value
 
--- no check is made where they are taken as values of a procedure type
+-- no check is made if they are taken as values of a procedure type
 abbrev pub HeldTaken : Type 0
 HeldTaken =
     (k : Scene)
@@ -171,7 +171,7 @@ held_call numbered t x xs =
     x ⨾ plain (check_code (pos 1) (pos 4294967295) 7) ⨾ with_number (λ n.
     plain (instr.LocalSet n ∷ []) ⨾ top_code ⨾ all_coded xs ⨾ value_call numbered n t)
 
--- where the module has the type of the functions with this heading
+-- if the module has the type of the functions with this heading
 abbrev pub HeldCalls : Type 0
 HeldCalls =
     (k : Scene)

@@ -34,7 +34,7 @@ module _ (modules : List WModule) (fx : Fixed) (serves : (k f : ℕ) → Bool) (
   nowhere place m =
       record { place = place; types = m.types; frames = []; withs = []; next = 0; free = 0 }
 
-  -- what all scenes in a module have in common, where calls nest so deep
+  -- what all scenes in a module have in common, if calls nest so deep
   abbrev pub core : (own place : ℕ) → TypedModule → (d : ℕ) → Scene
   core own place m d = record {
     modules = modules;
@@ -65,8 +65,8 @@ module _ (modules : List WModule) (fx : Fixed) (serves : (k f : ℕ) → Bool) (
     abbrev pub AllDo : (d : ℕ) → Type 0
     AllDo d = (i : Index) → PartDoes d (part i)
 
-    -- the function is the scheme's, and its body does what the definition says where all functions
-    -- do what is asked
+    -- the function is the scheme's, and its body does what the definition says if all functions do
+    -- what is asked
     pub record IsPart (i : Index) : Type 0 where
       pub procedure : (d : ℕ)
           → IsProcedure (core (part i).own (part i).place (part i).home d) (part i).home

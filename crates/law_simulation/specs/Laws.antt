@@ -1,5 +1,5 @@
 -- What is proved of constructs: the scheme's code of each does what the definition of a run says,
--- where that of its parts does.
+-- if the code of its parts does.
 use Rattle.std.specs.Prelude.{◌≡◌, ℕ, ◌<◌, ℤ, length, pos, negsuc, ◌≤ℤ◌, Bool, false, List, [], ◌∷◌, ◌++◌, Some, None, unsigned_abs, if◌then◌else◌}
 use Rattle.typed_tree.specs.declared.computed.Argument.TheOpen as layer
 use Rattle.typed_tree.specs.declared.computed.Arithmetic.TheVariants as op
@@ -132,7 +132,7 @@ Combinations =
     → GoesOn k bitset bitset (code.link_layer (layer.Combine o y)).code
     (meaning.link_layer p ask (layer.Combine o value))
 
--- operators behind one another, where each takes what the one before gives
+-- operators behind one another, if each takes what the one before gives
 pub data AreLinked (k : Scene) : TypeNo → List Linked → List Continues → Type 0 where
   no_links : (t : TypeNo) → AreLinked k t [] []
   more_links : (t : TypeNo) (l : Linked) (ls : List Linked) (f : Continues) (fs : List Continues)
@@ -488,7 +488,7 @@ pub data AreArms (k : Scene) (function : Bool) : List steps.Arm → List stateme
       → AreArms k function (record { labels = labels; code = x } ∷ xs)
       (record { labels = labels; does = d } ∷ ys)
 
--- CASE where its labels are tested one after another: they are too few or too far apart for a table
+-- CASE, if its labels are tested one after another: they are too few or too far apart for a table
 abbrev pub Cases : Type 0
 Cases =
     (k : Scene)
@@ -503,7 +503,7 @@ Cases =
     → Executes k function (steps.case_code x.code xs otherwise) (λ a s.
     value a s ▷ λ v s. statements.choose_arm v ys other a s)
 
--- without ELSE there is a fault where no label is that of the value
+-- without ELSE there is a fault if no label has the value
 abbrev pub Unlabelled : Type 0
 Unlabelled =
     (k : Scene) → IsSet k → (function : Bool)

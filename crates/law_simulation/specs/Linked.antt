@@ -77,7 +77,7 @@ part_of o = record {
 
 -- the instances of the modules, with their texts
 module _ (p : Modules) (base : List Ty) (texts : Location → ℕ → ℕ) where
-  -- where a tree of a module stands, in procedures with such frames
+  -- where a tree of a module stands, in procedures with these frames
   abbrev pub context : (place : ℕ) → TypedModule → List Kinds → Context
   context place m kinds = record {
     p = p;

@@ -44,7 +44,7 @@ abbrev pub AreModules : Program → Type 0
 AreModules p = (place : ℕ) (m : TypedModule) → slice_get p place ≡ Some m → IsModule p place m
 
 -- The bodies of its procedures and its own are typed, with their texts where they stand among all.
--- The types of its variables and of those of its procedures are there.
+-- The types of its variables and of its procedures' variables are there.
 pub record IsTypedModule (p : Program) (pages place : ℕ) (m : TypedModule) : Type 0 where
   pub procedures : (w : Which) (r : Routine)
       → routine_of m w ≡ Some r

@@ -203,8 +203,8 @@ pub record IsBased (base : List Ty) (texts : Location → ℕ → ℕ) (world : 
   pub is : world ≡ base ++ more
   pub same : (i : ℕ) (p : Location) (k : ℕ) → i < length base → x (i ∷ p) k ≡ texts (i ∷ p) k
 
--- the function is back in its caller, which had these locals and operands, with a result where
--- there is one
+-- the function is back in its caller, which had these locals and operands, with a result if there
+-- is one
 pub record CallGives (p : Modules) (world : List Ty) (x : Location → ℕ → ℕ) (limit : ℕ)
     (result : Result) (locals below : List Value) (v : ℤ) (s : Source) (r : Effect) : Type 0 where
   pub bytes : List ℕ

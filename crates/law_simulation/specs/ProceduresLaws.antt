@@ -1,4 +1,4 @@
--- A procedure's function does what is asked, where its body does what the definition says.
+-- A procedure's function does what is asked, if its body does what the definition says.
 use Rattle.std.specs.Prelude.{◌≡◌, ℕ, suc, ◌+◌, ◌<◌, ◌^◌, Bool, true, false, nat_eq, nat_lt, List, [], ◌∷◌, ◌++◌, length, Option, Some, None, if◌then◌else◌}
 use Rattle.std.specs.List.{flat_map}
 use Rattle.wasm_tree.specs.declared.instr.Instr.{Instr}
@@ -73,7 +73,8 @@ abbrev pub coded_body : Numbered → TypedModule → Routine → (outer : List T
 coded_body numbered m r outer text =
     function_code numbered m (frame m.types r ∷ outer) (top_of m r) text r.body
 
--- so many locals: the arguments, two for addresses of the storage, and those that the body asks for
+-- how many locals: the arguments, two for addresses of the storage, and those that the body asks
+-- for
 abbrev pub locals_in : Numbered → TypedModule → Routine → (outer : List Ty) → (text : ℕ) → ℕ
 locals_in numbered m r outer text =
     top_of m r

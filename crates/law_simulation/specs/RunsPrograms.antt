@@ -66,7 +66,7 @@ fixtures_of p pages = record {
 
 -- ---- the law
 
--- where the function of each body does what its statements do
+-- if the function of each body does what its statements do
 abbrev pub BodiesDo : Program → (pages : ℕ) → (serves : (k f : ℕ) → Bool) → (extra : (k f : ℕ) → ℕ)
     → Type 0
 BodiesDo p pages serves extra =

@@ -267,7 +267,7 @@ pub record Agrees (k : Scene) (t : TypeNo) (code : Coded) (value : Gives ℤ) : 
       → Into (GivesNumber k t (runs k rest) stack)
       (runs k ((code (inside k exit) c).0 ++ rest) st stack) (value k.around s)
 
--- it does so also where something more is kept
+-- it does so also if something more is kept
 abbrev pub AgreesBeside : Scene → TypeNo → Coded → Gives ℤ → Type 0
 AgreesBeside k t code value =
     (n : ℕ) (v : Value) → k.kept n ≡ None → Agrees (keeping k n v) t code value
@@ -284,8 +284,8 @@ pub record Locates (k : Scene) (t : Ty) (code : Coded) (found : Gives Location) 
       → Into (GivesPlace k t (runs k rest) stack)
       (runs k ((code (inside k exit) c).0 ++ rest) st stack) (found k.around s)
 
--- the code of a component goes on from the address of what has type t to that of a component with
--- type u
+-- the code of a component goes on from the address of what has type t to the address of a component
+-- with type u
 pub record Reaches (k : Scene) (t u : Ty) (code : Coded) (reach : Location → Gives Location)
     : Type 0 where
   pub grows : (exit : ℕ) (c : Counts) → Grows c (code (inside k exit) c).1
@@ -302,7 +302,7 @@ pub record Reaches (k : Scene) (t u : Ty) (code : Coded) (reach : Location → G
       (runs k ((code (inside k exit) c).0 ++ rest) st (stack ++ I32 (place k l) ∷ []))
       (reach l k.around s)
 
--- and that of what is behind a value of one type gives one of another
+-- and the code of what is behind a value of one type gives one of another
 pub record GoesOn (k : Scene) (t u : TypeNo) (code : Coded) (value : ℤ → Gives ℤ) : Type 0 where
   pub grows : (exit : ℕ) (c : Counts) → Grows c (code (inside k exit) c).1
   pub gives : (exit : ℕ) (c : Counts)

@@ -18,15 +18,15 @@ use Rattle.law_simulation.specs.TreesTyped.{Context}
 use Rattle.law_simulation.specs.Fitting.{Fits}
 use Rattle.law_simulation.specs.StmtsTyped.{AreStmts}
 
--- the scene is one of the context, for a body with this result in which loops make at most so many
--- turns
+-- the scene is one of the context, for a body with this result in which loops make at most this
+-- many turns
 pub record Suits (x : Context) (ask : Asks) (result : Result) (n : ℕ) (ws : List Ty) (k : Scene)
     : Type 0 where
   pub fits : Fits x ask ws k
   pub turns : k.turns ≡ n
   pub typed : k.result ≡ result
 
--- in every such scene
+-- in every scene that suits
 abbrev pub Bodies : Type 0
 Bodies =
     (x : Context) (ask : Asks) (result : Result) (n a b : ℕ) (body : List TypedStmt)

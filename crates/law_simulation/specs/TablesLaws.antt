@@ -1,4 +1,4 @@
--- CASE by a table: its code does what the statement does, where its parts do.
+-- CASE by a table: its code does what the statement does, if its parts do.
 use Rattle.std.specs.Prelude.{◌≡◌, ℕ, ℤ, Bool, true, List, length, None}
 use Rattle.wasm_tree.specs.declared.store.Value.{Value}
 use Rattle.def_meaning.specs.Answer.{◌▷◌}
@@ -11,8 +11,8 @@ use Rattle.def_scheme.specs.Steps as steps
 use Rattle.law_simulation.specs.Scene.{Scene, IsSet, keeping, IsGrowing, Agrees, Executes}
 use Rattle.law_simulation.specs.Laws.{AreArms}
 
--- where its labels are few and close together: the value is kept in a local, and one jump leads to
--- the arm, or past all
+-- if its labels are few and close together: the value is kept in a local, and one jump leads to the
+-- arm, or past all
 abbrev pub TableCases : Type 0
 TableCases =
     (k : Scene)

@@ -88,8 +88,8 @@ pub record IsNamed (x : Context) (f : Procedure) : Type 0 where
   pub result : result_of home.types routine.heading ≡ result_of x.home.types f.heading
   pub heading : heading_at home.types routine.heading ≡ heading_at x.home.types f.heading
 
--- one that the module calls: its heading is a procedure type, and where it is another module's, it
--- is called through the table, and the module has the type of its function
+-- one that the module calls: its heading is a procedure type, and if it is another module's, it is
+-- called through the table, and the module has the type of its function
 pub record IsCallable (x : Context) (f : Procedure) : Type 0 where
   pub named : IsNamed x f
   pub signed : is_own x.home f.home ≡ false
@@ -120,8 +120,8 @@ pub record HasText (x : Context) (at : ℕ) (text : List ℕ) : Type 0 where
   pub same : (j : ℕ) → j < length text → get_or x.characters (at + j) 0 ≡ get_or text j 0
   pub small : (j : ℕ) → get_or text j 0 < 256
 
--- where no check is made, each value of one type is one of the other, or the expression is a
--- constant of it
+-- if no check is made, each value of one type is one of the other, or the expression is a constant
+-- of it
 pub record IsTaken (m : TypedModule) (t : TypeNo) (e : TypedExpr) (of : TypeNo) : Type 0 where
   pub free : is_free m.types t (expr_part (numbering_of m) e).constant of ≡ true
       → AreAmong m.types of t

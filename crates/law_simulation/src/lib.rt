@@ -1,7 +1,7 @@
 //! Why the linked modules of a program do what the program does, construct by construct, and then for whole programs.
 //! There is no code here but what names the laws.
 //!
-//! Why code does what the definition of a run says: each construct of the scheme does so where its parts do.
+//! Why code does what the definition of a run says: each construct of the scheme does so if its parts do.
 //!
 //! - `specs/Scene` says where the code of a body runs, what stands there on both sides, and when code agrees with the
 //!   definition of a run.
@@ -9,15 +9,15 @@
 //! - `specs/Begun` has the run with a WHILE that is bounded as its code is, by how often it begins; `specs/Bodies` and all above it
 //!   speak of the language's run again.
 //!
-//! Why the code of a CASE that jumps by a table does what the CASE does, where its parts do.
+//! Why the code of a CASE that jumps by a table does what the CASE does, if its parts do.
 //!
 //! Why code does what the definition of a run says, of what calls need: values that are taken for others, whole copies,
 //! strings and results, formals and variables of procedures, arguments, and calls.
 //!
-//! Why the linked modules of a program do what the program does, where the functions of its bodies do what their statements
-//! do.
+//! Why the linked modules of a program do what the program does, if the functions of its bodies do what their
+//! statements do.
 //!
-//! - `specs/Behaves` says what it is for a machine's run to be that of a program.
+//! - `specs/Behaves` says what it is for a machine's run to be the run of a program.
 //! - `specs/RunsPrograms` says what stands in the memory and in the table when a program begins.
 //! - `specs/Bodies` says when the function of a body does what the definition of a run says of it.
 //!
@@ -43,19 +43,19 @@
 //! - `specs/StmtsTyped` says which statements have parts of the types that they ask for.
 //! - `specs/StmtsLaws` has the laws.
 //!
-//! Why the functions of a program do what its procedures and bodies do, where its bodies are typed and its modules are
+//! Why the functions of a program do what its procedures and bodies do, if its bodies are typed and its modules are
 //! linked.
 //!
 //! - `specs/Linked` says what linking gives each module.
 //! - `specs/BodiesLaws` has the laws on bodies, and `specs/BodiesPrograms` the one on whole programs.
 //!
-//! What storage and values have where the ranges of all types are ranges of the language.
+//! What storage and values have if the ranges of all types are ranges of the language.
 //!
-//! - `specs/Ranges` of `law_modules` says what such ranges are.
+//! - `specs/Ranges` of `law_modules` says what these ranges are.
 //! - `specs/TypesLaws` has the laws.
 //!
-//! Why the code of a linked program finds what it looks for, and why the modules of a program do what it does where they are
-//! as the checker leaves them.
+//! Why the code of a linked program finds what it looks for, and why the modules of a program do what it does if they
+//! are as the checker leaves them.
 //!
 //! - `specs/Knows` says what a module knows of the others.
 //! - `specs/Modules` says what is known of the modules of a program, and of the trees of their bodies.
@@ -87,7 +87,7 @@ pub fn expression_laws()
     // The divisor of DIV and MOD is checked.
     ensures quotients { Quotients }
     ensures remainders { Remainders }
-    // AND and OR evaluate their second operand only where the first does not decide.
+    // AND and OR evaluate their second operand only if the first does not decide.
     ensures conjunctions { Conjunctions }
     ensures disjunctions { Disjunctions }
     ensures combinations { Combinations }
@@ -141,10 +141,10 @@ pub fn statement_laws()
     ensures ifs { Ifs }
     // The record of a WITH is found once.
     ensures withs { Withs }
-    // The labels of a CASE are tested in turn, and without ELSE there is a fault where none fits.
+    // The labels of a CASE are tested in turn, and without ELSE there is a fault if none fits.
     ensures cases { Cases }
     ensures unlabelled { Unlabelled }
-    // The limit of a FOR is kept, and its variable steps on where that does not pass the limit.
+    // The limit of a FOR is kept, and its variable steps on if that does not pass the limit.
     ensures fors { Fors }
     ensures whiles { Whiles }
     ensures repeats { Repeats }
@@ -202,7 +202,7 @@ pub fn held_laws()
     ensures calls { HeldCalls }
 {}
 
-/// Link's run calls the bodies in start order. Where each does what its statements do, the whole run ends as the program's
+/// Link's run calls the bodies in start order. If each does what its statements do, the whole run ends as the program's
 /// run does, goes on as it does, and prints the same.
 pub fn program_laws()
     ensures bodies { BodiesBehave }
@@ -212,7 +212,7 @@ pub fn program_laws()
 
 /// Functions do what is asked of procedures.
 pub fn procedure_laws()
-    // Where the body does what the definition says, the function does what is asked, with fault 8 where storage ends.
+    // If the body does what the definition says, the function does what is asked, with fault 8 if storage ends.
     ensures routines { RoutineDoes }
 {}
 
@@ -243,7 +243,7 @@ pub fn statement_tree_laws()
 
 /// Typed bodies do what the definition of a run says.
 pub fn typed_body_laws()
-    // The body of each procedure, where the functions that it calls do what is asked.
+    // The body of each procedure, if the functions that it calls do what is asked.
     ensures parts { Parts }
     // The body of each module.
     ensures mains { Mains }

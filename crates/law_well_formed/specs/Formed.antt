@@ -1,4 +1,4 @@
--- What the checker makes of expressions is well formed, where names mean what is there.
+-- What the checker makes of expressions is well formed, if names mean what is there.
 use Rattle.std.specs.Prelude.{◌≡◌, ℕ, ◌<◌, Bool, true, Some, Result, Ok, Err}
 use Rattle.m2_tree.specs.declared.name.Ident.{Ident}
 use Rattle.m2_tree.specs.declared.expr.Expr.{Expr}
@@ -34,7 +34,7 @@ module _ (m : TypedModule) (withs : ℕ) where
   FormedValue (value.Whole t d) = IsPlace m withs d
   FormedValue value.Untaken = Unit {0}
 
--- where names may stand for the modules that are open
+-- names may stand for the modules that are open
 module _ (m : TypedModule) (opens : ℕ → Bool) (withs : ℕ) where
   -- what a name means is there
   abbrev pub FormedMeaning : Meaning → Type 0
@@ -59,8 +59,8 @@ module _ (m : TypedModule) (opens : ℕ → Bool) (withs : ℕ) where
   FormedDesignated (designated.Standard f) = Unit {0}
   FormedDesignated (designated.Module k) = opens k ≡ true
 
--- The types that are known in a scope are those of the module, its names mean what is there, and so
--- do those that open modules export.
+-- The types that are known in a scope are the types of the module, its names mean what is there,
+-- and so do those that open modules export.
 pub record IsFormed (g : Gathers) (m : TypedModule) (opens : ℕ → Bool) (withs : ℕ)
     (s : Scope g.Reported) : Type 0 where
   pub types : (t : TypeNo) (x : Made) → made_at s.types t ≡ Some x → made_at m.types t ≡ Some x
@@ -68,7 +68,7 @@ pub record IsFormed (g : Gathers) (m : TypedModule) (opens : ℕ → Bool) (with
   pub members : (k : ℕ) (name : Ident) → opens k ≡ true
       → Holds (FormedMeaning m opens withs) (member g s.tables k name)
 
--- what the checker makes of an expression, where broken rules are gathered so
+-- what the checker makes of an expression, if broken rules are gathered so
 abbrev pub ExpressionsAreFormed : Gathers → Type 0
 ExpressionsAreFormed g = (m : TypedModule) (opens : ℕ → Bool) (withs : ℕ) (s : Scope g.Reported)
     → IsFormed g m opens withs s → (e : Expr)

@@ -22,7 +22,7 @@ use Rattle.check_body.specs.declared.procedure.Walk.{Walk}
 use Rattle.check_body.specs.Elaborating.{Elaborates}
 use Rattle.check_body.specs.Bodies.{ChecksBlock, checks_block}
 
--- statements of bodies are well formed, where names mean what is there
+-- statements of bodies are well formed, if names mean what is there
 abbrev pub FormsStatements : (g : Gathers) → Elaborates g.Reported → Type 0
 FormsStatements g elaborates =
     (m : TypedModule) (opens : ℕ → Bool) (s : Scope g.Reported)
@@ -31,7 +31,7 @@ FormsStatements g elaborates =
     → (returns : Option (Result TypeNo g.Reported)) (body : List Stmt)
     → Holds (AreStmts m (is_there returns) 0 false) (elaborates s returns body)
 
--- Procedures in procedures are numbered from here on, where so many stand within each.
+-- Procedures in procedures are numbered from here on, if this many stand within each.
 abbrev pub AreNumbered : (ends : List ℕ) → (first : ℕ) → List ℕ → Type 0
 AreNumbered ends first ks = (i c : ℕ) → slice_get ks i ≡ Some c
     → slice_get ends (first + i) ≡ Some (first + i + 1 + c)
@@ -78,7 +78,7 @@ pub record Begins {T : Type 0} (ends : List ℕ) (w : Walk T) (ks : List ℕ) : 
   pub awaits : (name : List ℕ) → holds_of is_awaiting (find_name name w.scope.own) ≡ false
   pub numbers : AreNumbered ends (length w.bodies.locals) ks
 
--- the block of a procedure, with so many procedures within each of those in it
+-- the block of a procedure, with this many procedures within each of those in it
 pub record FormedBlock (g : Gathers) (ends : List ℕ) (block : ChecksBlock g.Reported) (ks : List ℕ)
     : Type 0 where
   pub keeps : (around : Option Which) (returns : Option (Result TypeNo g.Reported))

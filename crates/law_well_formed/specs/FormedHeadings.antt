@@ -37,7 +37,7 @@ abbrev pub declared_by : (g : Gathers) → (ends : List ℕ) → Course g.Report
 declared_by g ends c ds = fold (with_decl g ends) c ds
 
 -- In the block of the declarations `before`, `d` and `rest`, which begins with scope a, so the
--- declaration d is met in one scope; the block ends with another, and so many of its names stand
+-- declaration d is met in one scope; the block ends with another, and this many of its names stand
 -- before d.
 module _ (g : Gathers) (ends : List ℕ) (a : Scope g.Reported) (first : ℕ) (before : List Decl)
     (d : Decl) (rest : List Decl) where
@@ -93,7 +93,7 @@ heading_in (meaning.Standard f) = None
 heading_in (meaning.Module k) = None
 
 -- In this scope the name of a heading means a procedure, whose type has the formals and the result
--- that are computed where the procedure's block begins, behind so many names of the block.
+-- that are computed where the procedure's block begins, behind this many names of the block.
 pub record HeadingStands (g : Gathers) (w : Scope g.Reported) (n : ℕ) (h : Heading) : Type 0 where
   pub means : Meaning
   pub named : find_name h.name.name w.own ≡ Some (Headed (Ok means))

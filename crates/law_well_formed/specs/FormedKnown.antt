@@ -61,8 +61,8 @@ abbrev pub entries_of : List ModuleTypes → List (ℕ × List Made)
 entries_of ms = map (λ m. (m.number, m.made)) ms
 
 -- A table reaches modules below this number, and the types of each module are the same in all
--- tables. They stand in order, have ranges of the language, and what the table exports means such
--- types and such numbers.
+-- tables. They stand in order, have ranges of the language, and what the table exports means types
+-- and numbers of this kind.
 pub record TableFormed (types_of : ℕ → List Made) (below : ℕ) (t : Table) : Type 0 where
   pub reached : AllByRecursion (λ m. (m.number < below) × (m.made ≡ types_of m.number)) t.reached
   pub ordered : OthersOrdered [] (entries_of t.reached)
@@ -84,7 +84,7 @@ OwnFormed types_of below (Some t) =
 
 -- ---- the laws
 
--- The table of a definition is such a table, where those of its imports are.
+-- The table of a definition is formed so, if the tables of its imports are.
 abbrev pub TablesAreFormed : Gathers → Type 0
 TablesAreFormed g =
     (types_of : ℕ → List Made) (home : ℕ) (m : Module) (tables : List Table)

@@ -63,7 +63,7 @@ pub record StartedFrom (base types : Types) : Type 0 where
 -- ---- names
 
 module _ (types : Types) where
-  -- the type that a name means, or that of what it means, is known
+  -- the type that a name means, or the type of what it means, is known
   abbrev pub MeaningOrdered : Meaning → Type 0
   MeaningOrdered (meaning.Constant v) = Unit {0}
   MeaningOrdered (meaning.Type t n) = is_known types t ≡ true
@@ -101,8 +101,8 @@ module _ (types : Types) where
 
 -- ---- scopes
 
--- The types that a scope knows are those, and further types of the module. They stand in order, and
--- its names and the types of its variables mean such types.
+-- The types that a scope knows are the types of `base`, and further types of the module. They stand
+-- in order. Its names mean types that it knows, and it knows the types of its variables.
 pub record ScopeOrdered {T : Type 0} (base : Types) (s : Scope T) : Type 0 where
   pub started : StartedFrom base s.types
   pub types : AreOrdered s.types
@@ -112,7 +112,7 @@ pub record ScopeOrdered {T : Type 0} (base : Types) (s : Scope T) : Type 0 where
   pub tables : TablesOrdered s.types s.tables
   pub variables : AreKnown s.types s.variables
 
--- where no rule is broken
+-- if no rule is broken
 abbrev pub StateOrdered : {A T : Type 0} → Types → State A T → Type 0
 StateOrdered base st = Holds (λ x. ScopeOrdered base st.0) st.1
 
@@ -122,7 +122,7 @@ MadeOrdered base st = Holds (λ t. ScopeOrdered base st.0 × (is_known st.0.type
 
 -- ---- the laws
 
--- a type expression leads from such a scope to such a scope
+-- a type expression leads from a scope of this kind to another
 abbrev pub TypesAreOrdered : Gathers → Type 0
 TypesAreOrdered g =
     (base : Types) (s : Scope g.Reported) → ScopeOrdered base s → (t : TypeExpr)
@@ -154,7 +154,7 @@ BlocksAreOrdered g =
     → (ds : List Decl)
     → StateOrdered base (let d = declared_block g ends st first ds in (d.0, d.1))
 
--- and those of a module, behind its imports
+-- and the declarations of a module, behind its imports
 abbrev pub ModulesAreOrdered : Gathers → Type 0
 ModulesAreOrdered g =
     (base : Types) (modules : List (List ℕ × ℕ)) (ends : List ℕ) (s : Scope g.Reported) (m : Module)
@@ -179,8 +179,8 @@ LeftAreOrdered g =
 abbrev pub first_types : ℕ → List Table → Types
 first_types home tables = record { home = home; own = []; others = others_of tables }
 
--- a module begins in such a scope, if the types that its tables reach stand in order, and their
--- names mean such types
+-- a module begins in a scope of this kind, if the types that its tables reach stand in order, and
+-- their names mean these types
 abbrev pub FirstAreOrdered : Gathers → Type 0
 FirstAreOrdered g =
     (home : ℕ) (tables : List Table)

@@ -1,5 +1,5 @@
 -- What the checker makes has ranges of the language: constants are numbers of their types, and
--- types have such ranges.
+-- types have these ranges.
 use Rattle.std.specs.Prelude.{◌≡◌, ℕ, ℤ, ◌≤ℤ◌, pos, negsuc, Bool, true, false, ◌&&◌, int_le, List, [], ◌∷◌, Option, Some, None}
 use Rattle.std.specs.List.{list_all}
 use Rattle.m2_tree.specs.declared.expr.Expr.{Expr, Expr-F, fold-Expr}
@@ -225,7 +225,7 @@ pub record ScopeRanged {T : Type 0} (s : Scope T) : Type 0 where
   pub outer : BlocksRanged s.types s.outer
   pub tables : TablesRanged s.types s.tables
 
--- where no rule is broken
+-- if no rule is broken
 abbrev pub StateRanged : {A T : Type 0} → State A T → Type 0
 StateRanged st = Holds (λ x. ScopeRanged st.0) st.1
 
@@ -237,7 +237,7 @@ ConstantsAreRanged g =
     (s : Scope g.Reported) → ScopeRanged s → (e : Expr) → fits e ≡ true
     → Holds (ValueRanged s.types) (constant g s (part g e))
 
--- a type expression leads from such a scope to such a scope
+-- a type expression leads from a scope of this kind to another
 abbrev pub TypesAreRanged : Gathers → Type 0
 TypesAreRanged g =
     (s : Scope g.Reported) → ScopeRanged s → (t : TypeExpr) → fits_type t ≡ true
@@ -272,7 +272,7 @@ BlocksAreRanged g =
     → list_all fits_decl ds ≡ true
     → StateRanged (let d = declared_block g ends st first ds in (d.0, d.1))
 
--- and those of a module, behind its imports
+-- and the declarations of a module, behind its imports
 abbrev pub ModulesAreRanged : Gathers → Type 0
 ModulesAreRanged g =
     (modules : List (List ℕ × ℕ)) (ends : List ℕ) (s : Scope g.Reported) (m : Module)
@@ -297,8 +297,8 @@ LeftAreRanged g =
 abbrev pub first_types : ℕ → List Table → Types
 first_types home tables = record { home = home; own = []; others = others_of tables }
 
--- a module begins in such a scope, if the types that its tables reach have such ranges, and their
--- constants are such numbers
+-- a module begins in a scope of this kind, if the types that its tables reach have these ranges,
+-- and their constants are numbers of their types
 abbrev pub FirstAreRanged : Gathers → Type 0
 FirstAreRanged g =
     (home : ℕ) (tables : List Table)
@@ -307,7 +307,7 @@ FirstAreRanged g =
     → TablesRanged (first_types home tables) tables
     → ScopeRanged (first_scope {T = g.Reported} home tables)
 
--- the constants that it exports are such numbers
+-- the constants that it exports are numbers of their types
 abbrev pub ExportsAreRanged : Gathers → Type 0
 ExportsAreRanged g = (s : Scope g.Reported) → ScopeRanged s → ExportsRanged s.types (exports s.own)
 
@@ -319,8 +319,8 @@ abbrev pub TablesReach : List Table → Type 0
 TablesReach [] = Unit {0}
 TablesReach (t ∷ ts) = ReachedRanged t.reached × TablesReach ts
 
--- the types that a table reaches have such ranges, and so have those that a module knows of its
--- tables
+-- the types that a table reaches have ranges of the language, and so have those that a module knows
+-- of its tables
 abbrev pub ReachedAreRanged : Type 0
 ReachedAreRanged =
     ((types : Types) → AreRanged types → ReachedRanged (reached_of types))

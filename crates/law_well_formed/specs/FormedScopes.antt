@@ -1,5 +1,5 @@
--- Scopes whose names mean what is there, and declarations that lead from such a scope to such a
--- scope.
+-- Scopes whose names mean what is there, and declarations that lead from a scope of this kind to
+-- another.
 use Rattle.std.specs.Prelude.{◌≡◌, ℕ, Bool, true, false, List, [], ◌∷◌, Option, Some, None, Result, Ok, slice_get}
 use Rattle.m2_tree.specs.declared.name.Ident.{Ident}
 use Rattle.m2_tree.specs.declared.decl.Decl.{Decl, Decl-F, out-Decl}

@@ -1,4 +1,4 @@
--- What the checker makes of statements is well formed, where names mean what is there.
+-- What the checker makes of statements is well formed, if names mean what is there.
 use Rattle.std.specs.Prelude.{ℕ, Bool, List, length}
 use Rattle.m2_tree.specs.declared.stmt.Stmt.{Stmt}
 use Rattle.typed_tree.specs.declared.typed_module.TypedModule.{TypedModule}

@@ -30,7 +30,7 @@ AreKnown types ts = AllByRecursion (λ t. is_known types t ≡ true) ts
 
 -- ---- cells
 
--- so many cells a type has at most
+-- how many cells a type has at most
 abbrev pub max_cells : ℕ
 max_cells = 131072
 
@@ -38,7 +38,7 @@ abbrev pub cells_of_fields : Types → List (List ℕ × TypeNo) → ℕ
 cells_of_fields types [] = 0
 cells_of_fields types (f ∷ fs) = cells_at types f.1 + cells_of_fields types fs
 
--- those of an array's elements, those of a record's fields in all, and else one
+-- of an array the cells of its elements, of a record the cells of its fields in all, and else one
 abbrev pub cells_of : Types → Shape → ℕ
 cells_of types (shape.Scalar s) = 1
 cells_of types shape.Set = 1
@@ -77,7 +77,7 @@ abbrev pub BeginsWith : (own : List Made) → Option (List Made) → Type 0
 BeginsWith own None = Unit {0}
 BeginsWith own (Some known) = (more : List Made) × (own ≡ known ++ more)
 
--- All types that a module knows stand in order. Its own stand behind those of all others.
+-- All types that a module knows stand in order. Its own stand behind the types of all others.
 pub record AreOrdered (types : Types) : Type 0 where
   pub own : AreOrderedFrom types.others types.home [] types.own
   pub others : OthersOrdered [] types.others

@@ -5,7 +5,7 @@
 //!
 //! - `specs/Formed` says when what the checker makes of a part is well formed, and what a scope is to know for that.
 //! - `proofs/Basics` has results that are as a fact says, `proofs/Operators` and `proofs/Calls` a lemma for each definition of
-//!   `check_operator` and `check_call`, and `proofs/Meanings` those of `check_expr`, with the induction.
+//!   `check_operator` and `check_call`, and `proofs/Meanings` the lemmas of `check_expr`, with the induction.
 //!
 //! Why a module stands on the modules that it imports, and on no others.
 //!
@@ -28,7 +28,7 @@
 //! - `proofs/Effects` has a lemma for each definition of assignments and calls, `proofs/StmtsSteps` for each of `check_stmt_parts`, and
 //!   `proofs/Statements` the induction over statements.
 //!
-//! Why declarations lead from scopes whose names mean what is there to such scopes.
+//! Why declarations lead from scopes whose names mean what is there to scopes of the same kind.
 //!
 //! - `specs/FormedScopes` says when names are formed, and what a declaration keeps.
 //! - `proofs/Names` and `proofs/ScopesGrowth` have what one name more and one type more do, `proofs/ScopesTypeExprs` the types that are
@@ -53,15 +53,15 @@
 //! - `specs/FormedRanges` says when a value is a number of its type, and a scope knows types with ranges of the language.
 //! - `proofs/RangesTypes` has what one type more does, `proofs/Subranges` subranges, `proofs/RangesMade` type expressions, and
 //!   `proofs/RangesDeclarations` the declarations of definitions and of blocks.
-//! - `proofs/Values` has a lemma for each operator and standard function on constants, and `proofs/Constants` those of
-//!   constant expressions, with the induction.
+//! - `proofs/Values` has a lemma for each operator and standard function on constants, and `proofs/Constants` the
+//!   lemmas of constant expressions, with the induction.
 //! - `proofs/RangesBlocks` has imports, whole blocks, and the way into procedures and back, and `proofs/RangesTables` where a module
 //!   begins, and what it exports.
 //!
 //! Types in order.
 //!
 //! - `specs/Ordered` says when types stand in order.
-//! - `proofs/Trees` has the trees of one module and of those before it, and `proofs/Shaped` those of all types.
+//! - `proofs/Trees` has the trees of one module and of those before it, and `proofs/Shaped` the trees of all types.
 //!
 //! Why what the checker makes stands in order.
 //!
@@ -103,8 +103,8 @@
 //!
 //! - `specs/FormedFrames` says where procedures stand, when frames have room, and what the characters of texts are.
 //! - `proofs/Rooms` has the frames, `proofs/Nested` one procedure in a procedure, `proofs/FramesBlocks`
-//!   the procedures of a block and blocks in blocks, `proofs/FramesProcedures` those of a module, and `proofs/FramesModules` whole
-//!   modules.
+//!   the procedures of a block and blocks in blocks, `proofs/FramesProcedures` the procedures of a module, and
+//!   `proofs/FramesModules` whole modules.
 #![tactic(auto)]
 
 ghost use Rattle.check_body.specs.Checks.{elaborate_body};
@@ -128,17 +128,17 @@ ghost use Rattle.check_scope.specs.Elaborated.{least, every};
 
 /// What the checker makes of expressions is well formed.
 pub fn formed_laws()
-    // That is so where the least broken rule is kept,
+    // That is so if the least broken rule is kept,
     ensures least { ExpressionsAreFormed least }
-    // and where all of them are.
+    // and if all of them are.
     ensures every { ExpressionsAreFormed every }
 {}
 
 /// The modules that a table or a typed module names are imported.
 pub fn import_laws()
-    // That is so of tables where the least broken rule is kept,
+    // That is so of tables if the least broken rule is kept,
     ensures tables_least { TablesNameImports least }
-    // and where all of them are,
+    // and if all of them are,
     ensures tables_every { TablesNameImports every }
     // and of typed modules.
     ensures least { ModulesNameImports least }
@@ -147,29 +147,29 @@ pub fn import_laws()
 
 /// What the table of a definition exports is the module's own, and the procedures among it are numbered in their order.
 pub fn table_laws()
-    // That is so where the least broken rule is kept,
+    // That is so if the least broken rule is kept,
     ensures least { TablesExportOwn least × TablesNumberProcedures least }
-    // and where all of them are.
+    // and if all of them are.
     ensures every { TablesExportOwn every × TablesNumberProcedures every }
 {}
 
 /// What the checker makes of statements is well formed.
 pub fn formed_statement_laws()
-    // That is so where the least broken rule is kept,
+    // That is so if the least broken rule is kept,
     ensures least { StatementsAreFormed least }
-    // and where all of them are.
+    // and if all of them are.
     ensures every { StatementsAreFormed every }
 {}
 
 /// Declarations lead from formed names to formed names.
 pub fn formed_scope_laws()
-    // That is so where the least broken rule is kept,
+    // That is so if the least broken rule is kept,
     ensures least { DeclarationsLead least }
-    // and where all of them are.
+    // and if all of them are.
     ensures every { DeclarationsLead every }
 {}
 
-/// Names are numbered, where the least broken rule is kept and where all of them are.
+/// Names are numbered, if the least broken rule is kept, and if all of them are.
 pub fn formed_number_laws()
     // Declarations lead from numbered names to numbered names.
     ensures least { DeclarationsNumber least }
@@ -190,9 +190,9 @@ pub fn formed_heading_laws()
     ensures every_headings { HeadingsStay every }
 {}
 
-/// In a scope whose types have ranges of the language, and whose constants are numbers of their types, constant expressions
-/// mean such numbers, and declarations lead to such a scope. That is so where the least broken rule is kept, and where all of
-/// them are.
+/// In a scope whose types have ranges of the language, and whose constants are numbers of their types, constant
+/// expressions mean numbers of their types, and declarations lead to a scope of the same kind. That is so if the least
+/// broken rule is kept, and if all of them are.
 pub fn formed_range_laws()
     // Constant expressions mean numbers of their types.
     ensures least_constants { ConstantsAreRanged least }
@@ -203,28 +203,28 @@ pub fn formed_range_laws()
     // So do the declarations of definitions,
     ensures least_defs { DefsAreRanged least }
     ensures every_defs { DefsAreRanged every }
-    // and those of blocks.
+    // and the declarations of blocks.
     ensures least_decls { DeclsAreRanged least }
     ensures every_decls { DeclsAreRanged every }
 {}
 
 /// The same of whole definitions, blocks and modules, and of the way into procedures and back.
 pub fn block_range_laws()
-    // The imports and the declarations of a definition lead to such a scope,
+    // The imports and the declarations of a definition lead to a scope of this kind,
     ensures least_definitions { DefinitionsAreRanged least }
     ensures every_definitions { DefinitionsAreRanged every }
-    // and so do those of a block and of a module.
+    // and so do the declarations of a block and of a module.
     ensures least_blocks { BlocksAreRanged least }
     ensures every_blocks { BlocksAreRanged every }
     ensures least_modules { ModulesAreRanged least }
     ensures every_modules { ModulesAreRanged every }
-    // The scope in which a procedure's block begins is such a scope,
+    // The scope in which a procedure's block begins is a scope of this kind,
     ensures least_entered { EnteredAreRanged least }
     ensures every_entered { EnteredAreRanged every }
     // and so is the one behind the procedure.
     ensures least_left { LeftAreRanged least }
     ensures every_left { LeftAreRanged every }
-    // A module begins in such a scope, if its tables allow it, and exports such constants.
+    // A module begins in a scope of this kind, if its tables allow it, and exports constants of this kind.
     ensures least_first { FirstAreRanged least }
     ensures every_first { FirstAreRanged every }
     ensures least_exports { ExportsAreRanged least }
@@ -233,7 +233,7 @@ pub fn block_range_laws()
     ensures reached { ReachedAreRanged }
 {}
 
-/// What is so where types stand in order.
+/// What is so if types stand in order.
 pub fn ordered_laws()
     // The tree of a type is by its shape,
     ensures trees { TreesAreByShape }
@@ -243,8 +243,8 @@ pub fn ordered_laws()
     ensures whole { TypesAreWhole }
 {}
 
-/// Declarations lead from scopes whose types stand in order to such scopes. That is so where the least broken rule is
-/// kept, and where all of them are.
+/// Declarations lead from scopes whose types stand in order to scopes of the same kind. That is so if the least broken
+/// rule is kept, and if all of them are.
 pub fn formed_order_laws()
     // Type expressions make types in order.
     ensures least_types { TypesAreOrdered least }
@@ -252,7 +252,7 @@ pub fn formed_order_laws()
     // So do the declarations of definitions,
     ensures least_defs { DefsAreOrdered least }
     ensures every_defs { DefsAreOrdered every }
-    // and those of blocks,
+    // and the declarations of blocks,
     ensures least_decls { DeclsAreOrdered least }
     ensures every_decls { DeclsAreOrdered every }
     // whole definitions,
@@ -268,26 +268,26 @@ pub fn formed_order_laws()
 
 /// The same of the way into procedures and back, and of where a module begins.
 pub fn order_bound_laws()
-    // The scope in which a procedure's block begins is such a scope,
+    // The scope in which a procedure's block begins is a scope of this kind,
     ensures least_entered { EnteredAreOrdered least }
     ensures every_entered { EnteredAreOrdered every }
     // and so is the one behind the procedure.
     ensures least_left { LeftAreOrdered least }
     ensures every_left { LeftAreOrdered every }
-    // A module begins in such a scope, if its tables allow it, and what it exports means such types.
+    // A module begins in a scope of this kind, if its tables allow it, and what it exports means types of this kind.
     ensures least_first { FirstAreOrdered least }
     ensures every_first { FirstAreOrdered every }
     ensures least_exports { ExportsAreOrdered least }
     ensures every_exports { ExportsAreOrdered every }
 {}
 
-/// Tables of definitions reach types in order, with ranges of the language, and so the modules of bodies know such types.
-/// That is so where the least broken rule is kept, and where all of them are.
+/// Tables of definitions reach types in order, with ranges of the language, and so the modules of bodies know these
+/// types. That is so if the least broken rule is kept, and if all of them are.
 pub fn formed_known_laws()
-    // Tables reach such types,
+    // Tables reach these types,
     ensures least_tables { TablesAreFormed least }
     ensures every_tables { TablesAreFormed every }
-    // and the modules of bodies know such types.
+    // and the modules of bodies know these types.
     ensures least_bodies { BodiesAreFormed least }
     ensures every_bodies { BodiesAreFormed every }
 {}
@@ -314,17 +314,17 @@ pub fn fits_laws()
 
 /// The statements of bodies are well formed, and so is what stands in the blocks of procedures.
 pub fn formed_body_laws()
-    // That is so where the least broken rule is kept,
+    // That is so if the least broken rule is kept,
     ensures least { FormsStatements least (elaborate_body least) × BlocksAreFormed least }
-    // and where all of them are.
+    // and if all of them are.
     ensures every { FormsStatements every (elaborate_body every) × BlocksAreFormed every }
 {}
 
 /// The modules of bodies are well formed.
 pub fn formed_module_laws()
-    // That is so where the least broken rule is kept,
+    // That is so if the least broken rule is kept,
     ensures least { ModulesAreFormed least }
-    // and where all of them are.
+    // and if all of them are.
     ensures every { ModulesAreFormed every }
 {}
 
@@ -333,8 +333,8 @@ pub fn formed_module_laws()
 pub fn frame_laws()
     // What the build accepts has frames of less than two gigabytes.
     ensures room { FramesHaveRoom }
-    // Procedures stand where they are to stand, where the least broken rule is kept,
+    // Procedures stand where they are to stand, if the least broken rule is kept,
     ensures least { ModulesAreNested least }
-    // and where all of them are.
+    // and if all of them are.
     ensures every { ModulesAreNested every }
 {}

@@ -21,7 +21,7 @@ use Rattle.layout_storage.specs.Counted.{character_count}
 
 -- ---- what does not fit
 
--- so many bytes the variables and texts of a module may have, and a frame
+-- how many bytes the variables and texts of a module may have, and a frame
 abbrev pub most : ℕ
 most = 16777216
 

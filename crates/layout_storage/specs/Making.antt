@@ -64,7 +64,7 @@ with_types types known home ms = add_module (all_made types known home ms)
 abbrev pub with_module : Types → Known → ℕ × List Made → Known
 with_module types known e = with_types types known e.0 e.1
 
--- the module's own count, also where others know some of them
+-- the module's own count, also if others know some of them
 abbrev pub replace_module : Making → Known
 replace_module x = insert_entry nat_eq x.modules x.home x.own
 

@@ -96,8 +96,8 @@ with_module types before e = before ++ (e.0, module_trees types before e.0 e.1) 
 abbrev pub other_trees : Types → Trees
 other_trees types = fold (with_module types) [] types.others
 
--- The trees of all types that a module knows. Those of an implementation stand before those of its
--- definition, which others may know under the same number: the module has these and more.
+-- The trees of all types that a module knows. The trees of an implementation stand before the trees
+-- of its definition, which others may know under the same number: the module has these and more.
 unfoldable pub known_trees : Types → Trees
 known_trees types =
     (types.home, module_trees types (other_trees types) types.home types.own) ∷ other_trees types

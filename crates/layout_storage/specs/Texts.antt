@@ -169,7 +169,7 @@ abbrev pub characters : Texts → ℕ
 characters [] = 0
 characters (t ∷ ts) = length t + characters ts
 
--- the texts of the procedures whose bodies stand before that of a procedure
+-- the texts of the procedures whose bodies stand before the body of a procedure
 abbrev pub is_which : Which → Which → Bool
 is_which (which.Module m) (which.Module n) = m == n
 is_which (which.Module m) (which.Local n) = false

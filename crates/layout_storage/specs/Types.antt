@@ -26,8 +26,8 @@ mutual
     Nothing : Ty
     Field : (field others : Ty) → Ty
 
-  -- the heading of a procedure: its formals, each with how it is passed and its type or that of its
-  -- elements, and at the end the type of the result, if there is one
+  -- the heading of a procedure: its formals, each with how it is passed and its type or the type of
+  -- its elements, and at the end the type of the result, if there is one
   pub data Heading : Type 0 where
     Proper : Heading
     Function : (result : Ty) → Heading

@@ -17,7 +17,7 @@ pub fn sum(first: u32, second: u32) -> u32
     cap_size(u64::from(first) + u64::from(second))
 }
 
-/// The size of so many parts of one size.
+/// The size of `count` parts of one size.
 pub fn product(count: u32, part: u32) -> u32
     ensures { result ≡ cap_size (count * part) }
 {

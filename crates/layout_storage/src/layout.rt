@@ -21,8 +21,8 @@ use std::alloc::{AllocError, Global};
 use tree_parts::Items;
 use typed_tree::{Imported, Routine, TypedModule, Types};
 
-/// Where the variables of a module stand, and those of its procedures. A size or an offset that does not fit into 32 bits
-/// is the greatest number that does.
+/// Where the variables of a module stand, and the variables of its procedures. A size or an offset that does not fit
+/// into 32 bits is the greatest number that does.
 #[derive(Drop)]
 pub struct Layout {
     /// The types that the module knows.

@@ -199,7 +199,7 @@ fn others_of(alloc: Global, types: &Types) -> Result<Extents, AllocError>
     Ok(modules)
 }
 
-/// Enters the module, also where one of its number is there: an implementation has the types of its definition and more.
+/// Enters the module, also if one of its number is there: an implementation has the types of its definition and more.
 fn replace_module(making: Making) -> Result<Extents, AllocError>
     ensures { IfOk result (λ x. x ≡ replace_module making) }
 {

@@ -55,8 +55,8 @@ impl Layout {
         start_of(&self.variables, variable)
     }
 
-    /// Where a variable of the module begins, in bytes behind the first one. `None` if there is no such variable. The layout
-    /// is the module's.
+    /// Where a variable of the module begins, in bytes behind the first one. `None` if there is no variable of this
+    /// number. The layout is the module's.
     pub fn offset(&self, module_body: &TypedModule, variable: usize) -> Option<u32>
         requires layout { IsLayout module_body.now self.now }
         requires fits { AllFits module_body.now }
@@ -70,8 +70,8 @@ impl Layout {
         }
     }
 
-    /// The bytes of a procedure's frame, the 16 reserved ones among them. `None` if there is no such procedure. The layout is
-    /// the module's.
+    /// The bytes of a procedure's frame, the 16 reserved ones among them. `None` if there is no procedure of this
+    /// number. The layout is the module's.
     pub fn frame(&self, module_body: &TypedModule, which: Which) -> Option<u32>
         requires layout { IsLayout module_body.now self.now }
         requires fits { AllFits module_body.now }

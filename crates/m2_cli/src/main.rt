@@ -4,7 +4,7 @@
 //! is built in memory. `run` executes what was built, `build` writes it into a folder, and `check` does neither. What is
 //! refused is a line each on standard output, and explained on standard error. All that this program says itself goes there.
 //!
-//! The statuses are those of `m2c` for what is refused, and those of `m2run` for runs: see docs/statuses.md.
+//! The statuses are the statuses of `m2c` for what is refused, and of `m2run` for runs: see docs/statuses.md.
 #![tactic(auto)]
 
 mod building;

@@ -9,7 +9,7 @@ use tool_words::PROGRAM;
 /// How often the pages from 1 to 1024 are halved until one number is left.
 const HALVINGS: usize = 10;
 
-/// Whether a program that breaks no other rule fits into so many pages.
+/// Whether a program that breaks no other rule fits into this many pages.
 fn fits<R: AllocGlobal + Threads + Sync>(
     rt: &R,
     files: &[SourceFile],
@@ -23,8 +23,8 @@ fn fits<R: AllocGlobal + Threads + Sync>(
     }
 }
 
-/// The least number of pages into which a program fits that does not fit into those of the options. Nothing if it does not
-/// fit into 1024.
+/// The least number of pages into which a program fits that does not fit into the pages of the options. Nothing if it
+/// does not fit into 1024.
 fn least_pages<R: AllocGlobal + Threads + Sync>(
     rt: &R,
     files: &[SourceFile],

@@ -7,7 +7,7 @@ use std::io::ErrorKind;
 use std::rt::Files;
 use std::{fs, io};
 
-/// The folder of a program, and behind it those of libraries.
+/// The folder of a program, and behind it the folders of libraries.
 #[derive(Drop)]
 pub struct Places<'a, R> {
     rt: &'a R,

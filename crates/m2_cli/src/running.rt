@@ -42,7 +42,7 @@ enum Course {
     Unwritten,
 }
 
-/// Makes at most so many reductions, and writes what is printed by them.
+/// Makes at most `steps` reductions, and writes what is printed by them.
 fn run_slice<P: Print>(instances: &mut Instances<'_>, steps: u64, screen: &mut Screen<P>) -> Course
     requires { screen.old.failures + 1 < 2 ^ 64 }
 {
@@ -57,7 +57,7 @@ fn run_slice<P: Print>(instances: &mut Instances<'_>, steps: u64, screen: &mut S
     course
 }
 
-/// Makes at most so many reductions, slice by slice.
+/// Makes at most `steps` reductions, slice by slice.
 fn run_slices<P: Print>(instances: &mut Instances<'_>, steps: u64, screen: &mut Screen<P>) -> Course
     requires { screen.old.failures ≡ 0 }
 {
@@ -175,8 +175,8 @@ where
     }
 }
 
-/// Builds the program of this file in memory, and executes it for at most so many reductions. It prints on this stream. The
-/// status.
+/// Builds the program of this file in memory, and executes it for at most `steps` reductions. It prints on this stream.
+/// The status.
 pub fn run_file<R, P>(rt: &R, setting: &Setting, path: &str, steps: u64, out: P) -> Result<u8, Exit>
 where
     R: Files + Print + Eprint + AllocGlobal + Threads + Sync,

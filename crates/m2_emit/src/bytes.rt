@@ -40,9 +40,9 @@ pub fn emit(
     })
 }
 
-/// The bytes of the module link for these modules, which are in start order: it has so many pages (of 65536 bytes) of
-/// memory, and runs the bodies. The only error is that memory ran out, or that link has no encoding, as a number does not
-/// fit into 32 bits.
+/// The bytes of the module link for these modules, which are in start order: it has `pages` pages (of 65536 bytes) of
+/// memory, and runs the bodies. The only error is that memory ran out, or that link has no encoding, as a number does
+/// not fit into 32 bits.
 pub fn emit_link(
     alloc: Global,
     modules: &[&ModuleBytes],

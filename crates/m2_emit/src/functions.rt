@@ -26,7 +26,8 @@ fn procedure(
     requires texts { AreTexts home.now texts.now }
     requires found { slice_get home.now.procedures number ≡ Some routine.now }
     ensures { let m = home.now in
-        IfOk result (λ f. f ≡ routine_function (numbering_of m) m (which.Module number) routine.now) }
+        IfOk result (λ f.
+        f ≡ routine_function (numbering_of m) m (which.Module number) routine.now) }
 {
     let which = Which::Module(number);
     routine_function(alloc, home, which, routine, texts.offset_of(which))
@@ -43,7 +44,8 @@ fn local(
     requires texts { AreTexts home.now texts.now }
     requires found { slice_get home.now.locals number ≡ Some routine.now }
     ensures { let m = home.now in
-        IfOk result (λ f. f ≡ routine_function (numbering_of m) m (which.Local number) routine.now) }
+        IfOk result (λ f.
+        f ≡ routine_function (numbering_of m) m (which.Local number) routine.now) }
 {
     let which = Which::Local(number);
     routine_function(alloc, home, which, routine, texts.offset_of(which))
@@ -78,8 +80,8 @@ fn push_locals(
 ) -> Result<(), EncodeError>
     requires { AreTexts home.now texts.now }
     ensures { let m = home.now in
-        OnOk result
-        (functions.new ≡ functions.old ++ functions_from (numbering_of m) m which.Local 0 m.locals) }
+        OnOk result (functions.new
+        ≡ functions.old ++ functions_from (numbering_of m) m which.Local 0 m.locals) }
 {
     let routines = home.module_body().locals.as_slice();
     for (number, routine) in routines.iter().enumerate() {

@@ -213,7 +213,7 @@ fn fixed_limits(size: u32) -> Limits
     }
 }
 
-/// The module link for these modules in start order, with so many pages of memory.
+/// The module link for these modules in start order, with `pages` pages of memory.
 pub fn link_of(alloc: Global, modules: &[&ModuleBytes], pages: u32) -> Result<WModule, EncodeError>
     requires { pages ≤ max_pages }
     ensures { IfOk result (λ m. m ≡ link_of (parts (map (λ m. m.now) modules.now)) pages) }

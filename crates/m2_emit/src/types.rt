@@ -45,7 +45,7 @@ fn body_types(alloc: Global) -> Result<Items<FuncType>, AllocError>
     Ok(types)
 }
 
-/// A frame's address, and so many numbers.
+/// A frame's address, and this many numbers.
 #[tactic(auto, using(crate::proofs::Lists::one_more))]
 fn params_of(alloc: Global, arguments: usize) -> Result<Items<ValueType>, AllocError>
     ensures { IfOk result (λ params. params ≡ I32 ∷ so_many arguments) }

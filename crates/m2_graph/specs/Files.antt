@@ -25,7 +25,7 @@ files_of borrowed = number_files 0 (map (λ f. (f.0.now, f.1.now)) borrowed)
 abbrev pub is_before : File → File → Bool
 is_before f g = is_lt (slice_cmp nat_cmp f.name g.name)
 
--- The same files, by their names, and as they were given where these are equal.
+-- The same files, by their names, and as they were given if these are equal.
 pub record AreInOrder (files ordered : List File) : Type 0 where
   pub same : IsPermutation files ordered
   pub sorted : IsSortedBy is_before ordered

@@ -53,7 +53,7 @@ abbrev pub definition_of : List Module → List ℕ → Option ℕ
 definition_of modules name = first_that (defines name) modules
 
 -- The pairs: for each module, the definitions that it imports, as it imports them. A name without
--- definition, as that of a built in module, makes no pair.
+-- definition, as the name of a built in module, makes no pair.
 abbrev pub links_of : List Module → Module → List ℕ
 links_of modules m = filter_map (λ i. definition_of modules i.name) (imports_of m)
 
@@ -81,7 +81,7 @@ abbrev pub body_links : List Module → Module → List ℕ
 body_links modules m =
     cond (is_definition m) (links_at modules m (first_that (implements m.name.name) modules)) []
 
--- A walk goes through a definition's imports, and then through those of its implementation.
+-- A walk goes through a definition's imports, and then through the imports of its implementation.
 abbrev pub walk_of : List Module → Module → List ℕ
 walk_of modules m = links_of modules m ++ body_links modules m
 

@@ -1,5 +1,5 @@
 -- Which files are refused, and where. The modules are in the order of their files: by the files'
--- names, and as given where these are equal.
+-- names, and as given if these are equal.
 use Rattle.std.specs.Prelude.{ℕ, Bool, not, ◌&&◌, ◌||◌, ◌==◌, nat_lt, List, [], ◌∷◌, ◌++◌, Option, Some, None, map, cond, codes, fold, length}
 use Rattle.std.specs.List.{filter}
 use Rattle.std.specs.Option.{is_none, is_some}

@@ -51,8 +51,8 @@ pub record IsReportedCycle (modules : List Module) (node : ℕ) (pos : Pos) : Ty
   pub is_tree : slice_get modules node ≡ Some tree
   pub back : IsBack modules node (imports_of tree) pos
 
--- what is reported of cycles: nothing where there are none, else a definition, and the place of one
--- of its imports
+-- what is reported of cycles: nothing if there are none, else a definition, and the place of one of
+-- its imports
 abbrev pub AreCycles : List Module → Option (ℕ × Pos) → Type 0
 AreCycles modules None = (node : ℕ) → ¬ Leads (links modules) node node
 AreCycles modules (Some cycle) = IsReportedCycle modules cycle.0 cycle.1

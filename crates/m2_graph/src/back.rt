@@ -54,7 +54,8 @@ fn back_in_import(
 ) -> Option<Pos>
     requires indexed { IsIndexed program.now }
     requires leading { AreLeading (modules_of program.now) node leading.now }
-    ensures { IsFirstBack (modules_of program.now) node (named_by import.now.from import.now.names) result }
+    ensures { IsFirstBack (modules_of program.now) node (named_by import.now.from import.now.names)
+        result }
 {
     match &import.from {
         Some(from) => back_in_names(program, leading, node, from_ref(from)),

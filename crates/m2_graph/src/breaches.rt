@@ -27,7 +27,7 @@ fn least_with(least: Option<Breach>, other: Breach) -> Option<Breach>
     }
 }
 
-/// The least, where this breach is added if `holds`.
+/// The least, if this breach is added if `holds`.
 fn with_breach(least: Option<Breach>, holds: bool, pos: Pos, broken: Rule) -> Option<Breach>
     ensures { result ≡ fold least_with least (breach_where holds pos broken) }
 {
@@ -52,7 +52,7 @@ fn is_bad_import(program: &Program<'_>, tree: &Module, name: &Name) -> bool
         || (!is_definition(tree) && *name == tree.name.name)
 }
 
-/// The least, where the breaches of these imports are added.
+/// The least, if the breaches of these imports are added.
 fn with_names(
     program: &Program<'_>,
     tree: &Module,
@@ -60,7 +60,8 @@ fn with_names(
     least: Option<Breach>,
 ) -> Option<Breach>
     requires { IsIndexed program.now }
-    ensures { result ≡ fold least_with least (import_breaches (modules_of program.now) tree.now names.now) }
+    ensures { result
+        ≡ fold least_with least (import_breaches (modules_of program.now) tree.now names.now) }
 {
     let mut found = least;
     for ident in names {
@@ -99,7 +100,8 @@ fn is_repeated(program: &Program<'_>, number: usize, tree: &Module) -> bool
 fn is_without_program(program: &Program<'_>, number: usize) -> bool
     requires indexed { IsIndexed program.now }
     requires within { number < length (modules_of program.now) }
-    ensures { result ≡ is_without_program (modules_of program.now) (take number (modules_of program.now)) }
+    ensures { result
+        ≡ is_without_program (modules_of program.now) (take number (modules_of program.now)) }
 {
     number == 0 && program.program.is_none()
 }
@@ -130,7 +132,8 @@ fn is_lone(program: &Program<'_>, tree: &Module) -> bool
 /// The least breach of an import.
 fn import_breach(program: &Program<'_>, tree: &Module) -> Option<Breach>
     requires { IsIndexed program.now }
-    ensures { result ≡ least_of (import_breaches (modules_of program.now) tree.now (imports_of tree.now)) }
+    ensures { result
+        ≡ least_of (import_breaches (modules_of program.now) tree.now (imports_of tree.now)) }
 {
     let mut found = None;
     let imports = tree.imports.as_slice();
@@ -184,7 +187,7 @@ fn file_breach(program: &Program<'_>, number: usize, given: usize, tree: &Module
     with_breach(lonely, given == MAX_FILES, FIRST_PLACE, Rule::FileCount)
 }
 
-/// The least, where what is reported of cycles is added.
+/// The least, if what is reported of cycles is added.
 fn with_cycle(least: Option<Breach>, cycle: Option<(usize, Pos)>, number: usize) -> Option<Breach>
     ensures { result ≡ fold least_with least (cycle_breaches cycle number) }
 {

@@ -32,8 +32,8 @@ pub fn jobs_of_files(
 ) -> Result<Jobs, AllocError>
     requires indexed { IsIndexed program.now }
     requires same { modules_of program.now ≡ trees (map file_of sources.now) }
-    requires numbering { IsNumbering (links (modules_of program.now)) (map is_definition (modules_of program.now))
-        numbered }
+    requires numbering { IsNumbering (links (modules_of program.now))
+        (map is_definition (modules_of program.now)) numbered }
     ensures jobs { IfOk result (λ j.
         IsJobs (map file_of sources.now) j.files.items (map (λ job. job.items) j.jobs.items)) }
     ensures smaller { IfOk result (λ j. AreJobs (map (λ job. job.items) j.jobs.items)) }

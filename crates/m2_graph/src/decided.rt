@@ -35,7 +35,8 @@ pub fn decide(
 ) -> Result<Decided, AllocError>
     requires indexed { IsIndexed program.now }
     requires same { modules_of program.now ≡ trees (map file_of sources.now) }
-    ensures reported { IfOk result (λ j. IsReported (map file_of sources.now) (map report_of j.refusals.items)) }
+    ensures reported { IfOk result (λ j.
+        IsReported (map file_of sources.now) (map report_of j.refusals.items)) }
     ensures numbering { IfOk result (λ j.
         IsNumbering (links (modules_of program.now))
         (map is_definition (modules_of program.now)) j.numbered) }

@@ -9,7 +9,7 @@ use thiserror::Error;
 /// Why files have no graph.
 #[derive(Debug, Drop, Error)]
 pub enum GraphError {
-    /// Rules of imports (20 to 25) that files break, one for each such file, in order of their names.
+    /// Rules of imports (20 to 25) that files break, one for each of these files, in order of their names.
     #[error("refusals 20 to 25")]
     Refused(Vec<Refusal>),
     /// 90: a request for memory was refused.

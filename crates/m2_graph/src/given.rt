@@ -33,7 +33,8 @@ pub fn given_all(
     sources: &[Source<'_>],
     numbers: &[usize],
 ) -> Result<Vec<usize>, AllocError>
-    ensures { IfOk result (λ all. all.items ≡ map (given_of (map file_of sources.now)) numbers.now) }
+    ensures { IfOk result (λ all.
+        all.items ≡ map (given_of (map file_of sources.now)) numbers.now) }
 {
     let mut all = Vec::new(alloc);
     for number in numbers {
@@ -45,7 +46,8 @@ pub fn given_all(
 /// The body that starts where a walk comes to a module.
 fn body_of(program: &Program<'_>, node: usize) -> Option<usize>
     requires { IsIndexed program.now }
-    ensures { result ≡ body_of (modules_of program.now) node (slice_get (modules_of program.now) node) }
+    ensures { result
+        ≡ body_of (modules_of program.now) node (slice_get (modules_of program.now) node) }
 {
     if node >= program.modules.len() {
         return None;
@@ -88,7 +90,7 @@ fn bodies_of(
     Ok(bodies)
 }
 
-/// The files of the bodies that start, in order, where this is the program module.
+/// The files of the bodies that start, in order, if this is the program module.
 pub fn starts_of(
     alloc: Global,
     program: &Program<'_>,

@@ -44,7 +44,7 @@ impl Drop for Graph {
     }
 }
 
-/// The graph of files in order, where these definitions have numbers, this is the program module, and nothing is refused.
+/// The graph of files in order, if these definitions have numbers, this is the program module, and nothing is refused.
 fn graph_with(
     alloc: Global,
     program: &Program<'_>,
@@ -54,8 +54,8 @@ fn graph_with(
 ) -> Result<Graph, AllocError>
     requires indexed { IsIndexed program.now }
     requires same { modules_of program.now ≡ trees (map file_of sources.now) }
-    requires numbering { IsNumbering (links (modules_of program.now)) (map is_definition (modules_of program.now))
-        numbered }
+    requires numbering { IsNumbering (links (modules_of program.now))
+        (map is_definition (modules_of program.now)) numbered }
     requires program { first_that is_program (modules_of program.now) ≡ Some first }
     ensures jobs { IfOk result (λ g.
         IsJobs (map file_of sources.now) g.files.items (map (λ job. job.items) g.jobs.items)) }
@@ -101,10 +101,10 @@ impl Graph {
     ghost use Rattle.m2_graph.specs.Files.{files_of};
     ghost use Rattle.m2_graph.specs.Graph.{IsGraph, IsRefusal};
 
-    /// The graph of a program of these files, each a name and a module. Files are taken in order of their names by their
-    /// bytes, and as given where these are equal.
+    /// The graph of a program of these files, each a name and a module. Files are taken in order of their names by
+    /// their bytes, and as given if these are equal.
     ///
-    /// `Refused` where a rule of imports is broken. For each file that breaks one the least place, and there the least
+    /// `Refused` if a rule of imports is broken. For each file that breaks one the least place, and there the least
     /// number, is reported, in that order of the files:
     ///
     /// - 20, at the module's name in the import: a module other than Console is imported and has no definition, or a body
@@ -112,12 +112,12 @@ impl Graph {
     /// - 21, at the module's name: a second file for a definition or a body, or a module named Console or link;
     /// - 22, at the module's name in the import, for cycles of definitions: the definition on a cycle with the least
     ///   file name, at its first import that leads back to it. Of several files of a definition only the first counts;
-    /// - 23, at the module's name, for each program module but the first; at 1:1 of the first file where there is none, and
-    ///   of a file without name where there is no file;
+    /// - 23, at the module's name, for each program module but the first; at 1:1 of the first file if there is none,
+    ///   and of a file without name if there is no file;
     /// - 24, at the module's name: an implementation without definition, or a definition without implementation;
     /// - 25, at 1:1 of the 1025th file that is given.
     ///
-    /// `NoMemory` where a request for memory was refused.
+    /// `NoMemory` if a request for memory was refused.
     pub fn of(alloc: Global, files: &[(&str, &Module)]) -> Result<Graph, GraphError>
         ensures graph { IfOk result (λ g.
             IsGraph (files_of files.now) g.files.items (map (λ job. job.items) g.jobs.items)
@@ -138,7 +138,7 @@ impl Graph {
         &self.files
     }
 
-    /// For each job its prerequisites: the jobs of the definitions that it imports, and for a body that of its own
+    /// For each job its prerequisites: the jobs of the definitions that it imports, and for a body the job of its own
     /// definition. Each stands once, and has a smaller number.
     pub fn jobs(&self) -> &[Vec<usize>]
         ensures jobs { result.now ≡ self.now.jobs.items }

@@ -112,7 +112,8 @@ pub fn add_imports(
     targets: &mut Items<usize>,
 ) -> Result<(), AllocError>
     requires { IsIndexed program.now }
-    ensures { OnOk result (targets.new ≡ targets.old ++ links_of (modules_of program.now) tree.now) }
+    ensures { OnOk result
+        (targets.new ≡ targets.old ++ links_of (modules_of program.now) tree.now) }
 {
     let imports = tree.imports.as_slice();
     for import in imports {
@@ -132,7 +133,7 @@ fn links_of(alloc: Global, program: &Program<'_>, tree: &Module) -> Result<Items
 }
 
 /// For each module the numbers of the definitions that it imports, in the order in which it imports them. A name
-/// without definition, as that of a built in module, gives none; where there are several definitions of a name, the
+/// without definition, as the name of a built in module, gives none; if there are several definitions of a name, the
 /// first stands for all.
 pub fn links(alloc: Global, program: &Program<'_>) -> Result<Vec<Items<usize>>, AllocError>
     requires { IsIndexed program.now }

@@ -98,7 +98,8 @@ pub fn prerequisites(
 ) -> Result<Vec<usize>, AllocError>
     requires below { ArePlacesBelow (length flags.old) places.now }
     requires unmarked { AreUnmarked flags.old }
-    ensures jobs { IfOk result (λ jobs. AreEachOnce jobs.items (filter_map (place_of places.now) nodes.now)) }
+    ensures jobs { IfOk result (λ jobs.
+        AreEachOnce jobs.items (filter_map (place_of places.now) nodes.now)) }
     ensures same { OnOk result (length flags.new ≡ length flags.old) }
     ensures unmarked { OnOk result (AreUnmarked flags.new) }
 {

@@ -13,7 +13,8 @@ use tree_parts::Items;
 
 fn add_own(program: &Program<'_>, tree: &Module, needs: &mut Items<usize>) -> Result<(), AllocError>
     requires { IsIndexed program.now }
-    ensures { OnOk result (needs.new ≡ needs.old ++ own_definition (modules_of program.now) tree.now) }
+    ensures { OnOk result
+        (needs.new ≡ needs.old ++ own_definition (modules_of program.now) tree.now) }
 {
     if is_definition(tree) {
         return Ok(());
@@ -42,7 +43,8 @@ fn add_body(
     walked: &mut Items<usize>,
 ) -> Result<(), AllocError>
     requires { IsIndexed program.now }
-    ensures { OnOk result (walked.new ≡ walked.old ++ body_links (modules_of program.now) tree.now) }
+    ensures { OnOk result
+        (walked.new ≡ walked.old ++ body_links (modules_of program.now) tree.now) }
 {
     if !is_definition(tree) {
         return Ok(());

@@ -19,7 +19,8 @@ use tree_parts::Items;
 
 /// Which of the modules are definitions.
 pub fn definition_flags(alloc: Global, modules: &[&Module]) -> Result<Vec<bool>, AllocError>
-    ensures { IfOk result (λ flags. flags.items ≡ map is_definition (map (λ m. m.now) modules.now)) }
+    ensures { IfOk result (λ flags.
+        flags.items ≡ map is_definition (map (λ m. m.now) modules.now)) }
 {
     let mut flags = Vec::new(alloc);
     for module in modules {

@@ -31,8 +31,8 @@ fn add_refusal(
     breach: Option<Breach>,
     refusals: &mut Vec<Refusal>,
 ) -> Result<(), AllocError>
-    ensures { OnOk result
-        (map report_of refusals.new.items ≡ map report_of refusals.old.items ++ reported_at file.now breach) }
+    ensures { OnOk result (map report_of refusals.new.items
+        ≡ map report_of refusals.old.items ++ reported_at file.now breach) }
 {
     match breach {
         None => Ok(()),
@@ -74,7 +74,8 @@ pub fn refused_of(
 ) -> Result<Vec<Refusal>, AllocError>
     requires indexed { IsIndexed program.now }
     requires same { modules_of program.now ≡ trees (map file_of sources.now) }
-    ensures { IfOk result (λ rs. map report_of rs.items ≡ refused_of (map file_of sources.now) cycle) }
+    ensures { IfOk result (λ rs.
+        map report_of rs.items ≡ refused_of (map file_of sources.now) cycle) }
 {
     if sources.is_empty() {
         let mut refusals = Vec::new(alloc);

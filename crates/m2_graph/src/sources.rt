@@ -28,7 +28,7 @@ fn borrow_sources<'a>(
     Ok(all)
 }
 
-/// The files in order of their names by their bytes, and as given where these are equal.
+/// The files in order of their names by their bytes, and as given if these are equal.
 pub fn in_order<'a>(
     alloc: Global,
     files: &[(&'a str, &'a Module)],

@@ -118,7 +118,8 @@ fn type_decls(cursor: &mut Cursor, room: usize) -> Result<Items<TypeDecl>, Stop>
 }
 
 fn type_part(cursor: &mut Cursor, room: usize) -> Result<Items<TypeDecl>, Stop>
-    ensures { ReadsAs (λ xs. xs) (read («Type» ▸ many type_decl) room cursor.old) result cursor.new }
+    ensures { ReadsAs (λ xs. xs) (read («Type» ▸ many type_decl) room cursor.old) result
+        cursor.new }
 {
     cursor.expect(Symbol::Type)?;
     let found = type_decls(cursor, room)?;
@@ -254,7 +255,7 @@ fn body(cursor: &mut Cursor, room: usize) -> Result<Option<Items<Stmt>>, Stop>
     Ok(Some(found))
 }
 
-/// Declarations and a body up to the END, with so many levels of nesting left.
+/// Declarations and a body up to the END, with this many levels of nesting left.
 #[cycle(decl)]
 #[tactic(auto, using(def_grammar::proofs::Rules::block_is))]
 pub(crate) fn block(cursor: &mut Cursor, room: usize) -> Result<Block, Stop>

@@ -44,8 +44,8 @@ fn contents_with(is_implementation: bool, block: Block) -> Contents
 
 /// The module behind a FROM, if there is one.
 fn source(cursor: &mut Cursor) -> Result<Option<Ident>, Stop>
-    ensures { ReadsAs (option_map ident_of) (read (opt (From ▸ ident)) max_nesting cursor.old) result
-        cursor.new }
+    ensures { ReadsAs (option_map ident_of) (read (opt (From ▸ ident)) max_nesting cursor.old)
+        result cursor.new }
 {
     if !cursor.eat(Symbol::From) {
         return Ok(None);
@@ -159,12 +159,12 @@ fn module(cursor: &mut Cursor) -> Result<Module, Stop>
 
 /// The tree of a module, from the tokens of its text and the token of the text's end.
 ///
-/// The grammar is that of "Programming in Modula-2" (4th edition, Report), as far as docs/LANGUAGE.md takes it. A list
-/// with no tree is refused at the least place: 11 for a closing name that is not the opening one, 12 for the first
-/// token of the 201st level of nesting, and 13 (POINTER, QUALIFIED, EXPORT, SET, MODULE) or 10 (any other) for the
-/// first token with which no module goes on. The other error is that memory ran out.
+/// The grammar is the grammar of "Programming in Modula-2" (4th edition, Report), as far as docs/LANGUAGE.md takes it.
+/// A list with no tree is refused at the least place: 11 for a closing name that is not the opening one, 12 for the
+/// first token of the 201st level of nesting, and 13 (POINTER, QUALIFIED, EXPORT, SET, MODULE) or 10 (any other) for
+/// the first token with which no module goes on. The other error is that memory ran out.
 pub fn parse(alloc: Global, tokens: &[Token]) -> Result<Module, ParseError>
-    // The tree is that of the tokens; a refusal is at the least place.
+    // The tree is the tree of the tokens; a refusal is at the least place.
     ensures exact { Parses tokens.now result }
     // Tokens that have a tree are not refused, and it is the only one.
     ensures complete { (m : Module) → IsTree tokens.now m → Answers result m }

@@ -3,8 +3,8 @@ use Rattle.std.specs.Prelude.{◌≡◌, ℕ, Bool, List, map, slice_get, slice_
 use Rattle.std.specs.List.{list_all}
 use Rattle.pool_board.specs.Results.{IsCopy}
 
--- The cell of this name is that of the job, and it is known what it holds. The names are those of
--- the cells of all jobs.
+-- The cell of this name is the cell of the job, and it is known what it holds. The names are the
+-- names of the cells of all jobs.
 pub record IsSettled {X : Type 0} (names : List ℕ) (job cell : ℕ) (known : Option X) : Type 0 where
   pub cell_is : slice_get names job ≡ Some cell
   pub out : X

@@ -10,7 +10,7 @@ use once_cell::race::Note;
 use pool_board::{Gate, Pool, Ran, Work};
 use std::alloc::{AllocError, Global};
 
-/// For each job what a worker handed back of it, or nothing where no worker ran it.
+/// For each job what a worker handed back of it, or nothing if no worker ran it.
 pub fn place_results<W: Work, G: Gate>(
     alloc: Global,
     pool: &Pool<'_, W, G>,
@@ -94,7 +94,8 @@ pub fn gather_results<W: Work, G: Gate>(
         (W.defines pool.now.work.now) r.job b.value
         (map (λ u. u.cell) r.used.items)
         (map (λ u. u.known) r.used.items))) }
-    ensures { IfOk result (λ v. AreResults pool.now.graph.now (W.defines pool.now.work.now) v.items) }
+    ensures { IfOk result (λ v.
+        AreResults pool.now.graph.now (W.defines pool.now.work.now) v.items) }
 {
     let mut outs = Vec::with_capacity(alloc, pool.graph.jobs())?;
     let mut settled = Vec::with_capacity(alloc, pool.graph.jobs())?;
@@ -129,11 +130,11 @@ fn settle<W: Work, G: Gate>(
         → IfSome (slice_index_or settled.old.items p None)
         (λ n. IsSettled (map cell_name pool.now.cells.now) p n.cell n.known) }
     ensures same { settled.new.items ≡ settled.old.items }
-    ensures kept { let founded = IsFounded (λ n. n.known) settled.old.items (W.defines pool.now.work.now)
-        (prerequisites_of pool.now.graph.now job) job in
+    ensures kept { let founded = IsFounded (λ n. n.known) settled.old.items
+        (W.defines pool.now.work.now) (prerequisites_of pool.now.graph.now job) job in
         IfSome result (λ k.
-        MatchResult k (λ n.
-        (s : IsSettled (map cell_name pool.now.cells.now) job n.cell n.known) × founded s.out)
+        MatchResult k
+        (λ n. (s : IsSettled (map cell_name pool.now.cells.now) job n.cell n.known) × founded s.out)
         (λ b. founded b.value)) }
     ensures all { IfSome place (λ r.
         IsTrue (all_settled settled.old.items (prerequisites_of pool.now.graph.now job))
@@ -193,7 +194,7 @@ fn agree<W: Work, G: Gate>(
     true
 }
 
-// Whether a job is settled. Where it is, what was used of it is what its note knows.
+// Whether a job is settled. If it is, what was used of it is what its note knows.
 fn agrees<T>(settled: &mut Vec<Option<Note<T>>>, job: usize, used: Note<T>) -> bool
     requires { IfSome (slice_index_or settled.old.items job None) (λ n. used.cell ≡ n.cell) }
     ensures same { settled.new.items ≡ settled.old.items }
@@ -287,8 +288,8 @@ fn run_here<W: Work, G: Gate>(
 ) -> Result<W::Out, AllocError>
     requires job { job < length pool.now.graph.now }
     requires before { length before.now ≡ job }
-    ensures { IfOk result
-        (W.defines pool.now.work.now job (items_at before.now (prerequisites_of pool.now.graph.now job))) }
+    ensures { IfOk result (W.defines pool.now.work.now job
+        (items_at before.now (prerequisites_of pool.now.graph.now job))) }
 {
     let _jobs = pool.graph.jobs();
     let outs = picks(alloc, before, pool.graph.prerequisites(job))?;

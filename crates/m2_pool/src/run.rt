@@ -43,7 +43,8 @@ pub fn run_jobs<R: Threads + Sync, W: Work, G: Gate>(
     ensures workers { (result ≡ Err PoolRefusal.Workers)
         ↔ ¬ ((1 ≤ workers) × (workers ≤ max_workers)) }
     ensures graph { result ≢ Err PoolRefusal.Prerequisite }
-    ensures results { IfOk result (λ r. AreResults (W.graph work.now) (W.defines work.now) r.0.items) }
+    ensures results { IfOk result (λ r.
+        AreResults (W.graph work.now) (W.defines work.now) r.0.items) }
     ensures seats { IfOk result (λ r. length r.1.seats.items ≡ workers) }
     ensures admitted { IfOk result
         (λ r. All (λ l. All (G.admits gate.now) l) (map (λ l. l.items) r.1.seats.items)) }
@@ -72,7 +73,8 @@ pub fn run_on<R: Threads + Sync, W: Work, G: Gate>(
     requires cells { length cells.now ≡ length graph.now }
     requires seats { IsAllSeats board seats.items × (0 < board.workers) }
     requires new { All (λ s. s.had ≡ []) seats.items }
-    ensures results { IfOk result (λ r. AreResults (W.graph work.now) (W.defines work.now) r.0.items) }
+    ensures results { IfOk result (λ r.
+        AreResults (W.graph work.now) (W.defines work.now) r.0.items) }
     ensures seats { IfOk result (λ r. length r.1.seats.items ≡ board.workers) }
     ensures admitted { IfOk result
         (λ r. All (λ l. All (G.admits gate.now) l) (map (λ l. l.items) r.1.seats.items)) }
@@ -171,7 +173,8 @@ fn all_work<R: Threads + Sync, W: Work, G: Gate>(
     pool: &Pool<'_, W, G>,
     members: Vec<Member<W>>,
 ) -> Result<Vec<Result<Member<W>, AllocError>>, AllocError>
-    requires seats { All (λ m. (m.seat.board ≡ pool.now.board.now.id) × (m.seat.had ≡ []) × (m.ran.items ≡ []))
+    requires seats { All
+        (λ m. (m.seat.board ≡ pool.now.board.now.id) × (m.seat.had ≡ []) × (m.ran.items ≡ []))
         members.items }
     ensures count { IfOk result (λ v. length v.items ≡ length members.items) }
     ensures each { IfOk result (λ v.
@@ -240,7 +243,8 @@ fn return_result<W: Work, G: Gate>(
     ensures count { IfOk result (λ r. length r.0.items ≡ length ended.items) }
     ensures seats { IfOk result (λ r.
         All (λ s. IsWorked pool.now.board.now.id pool.now.graph.now s) r.0.items) }
-    ensures admitted { IfOk result (λ r. All (λ s. All (G.admits pool.now.gate.now) s.had) r.0.items) }
+    ensures admitted { IfOk result (λ r.
+        All (λ s. All (G.admits pool.now.gate.now) s.had) r.0.items) }
     ensures ran { IfOk result (λ r. map (λ a. a.job) r.1.items ≡ all_had r.0.items) }
     ensures stands { IfOk result (λ o.
         All (λ r.

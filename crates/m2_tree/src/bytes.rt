@@ -24,7 +24,8 @@ impl Model for Inline {
 
     ghost view = { λ n. take n.len n.bytes };
 
-    ghost invariant = { λ n. (n.len ≤ 14) × (length n.bytes ≡ 14) × (n.bytes ≡ fill_place (take n.len n.bytes)) };
+    ghost invariant = { λ n.
+        (n.len ≤ 14) × (length n.bytes ≡ 14) × (n.bytes ≡ fill_place (take n.len n.bytes)) };
 
     ghost inverse = { λ list. record { len = length list; bytes = fill_place list } };
 
@@ -60,7 +61,7 @@ enum Place {
     Shared(Arc<Vec<u8>>),
 }
 
-/// A list of bytes that takes 16 bytes, and shares memory with its clones where it is longer than 14. Contracts see the
+/// A list of bytes that takes 16 bytes, and shares memory with its clones if it is longer than 14. Contracts see the
 /// list.
 pub(crate) struct Bytes {
     place: Place,

@@ -12,7 +12,7 @@ use std::fmt;
 /// It is printed as `FILE:LINE:COL: refusal NUMBER`.
 #[derive(Debug, Drop)]
 pub struct Refusal {
-    /// The file's name as it was given. It is empty where a call was borrowed no name.
+    /// The file's name as it was given. It is empty if a call was borrowed no name.
     pub file: String,
     /// The place of the token or byte that is refused.
     pub pos: Pos,

@@ -56,8 +56,8 @@ abbrev pub reported_at : (file : List ℕ) (line column number : ℕ) → Report
 reported_at file line column number =
     record { file = file; line = line; column = column; number = number }
 
--- the refusals are these, in order of the names of their files, and as they are found where these
--- are equal
+-- the refusals are these, in order of the names of their files, and as they are found if these are
+-- equal
 abbrev pub AreReported : List Reported → List Refusal → Type 0
 AreReported all refusals =
     (found : List Refusal) × (map report_of found ≡ all) × AreInOrder found refusals
@@ -250,8 +250,8 @@ pub record IsProgram (files : List SourceFile) (pages : ℕ) (link : List ℕ)
   pub whole : (lacking n : ℕ) → halt_status < lacking → (out : List ℕ)
       → strict_run lacking program pages n ≢ Ended lacking out
 
--- The outcome of a build of these files. Rules of tokens and of the grammar come first, then those
--- of imports, then those of modules, and then what does not fit into the memory.
+-- The outcome of a build of these files. Rules of tokens and of the grammar come first, then rules
+-- of imports, then rules of modules, and then what does not fit into the memory.
 abbrev pub IsBuilt : List SourceFile → (pages : ℕ) → Outcome → Type 0
 IsBuilt files pages (outcome.Refused refusals) =
     AreUnread files refusals.items

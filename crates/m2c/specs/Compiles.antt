@@ -29,7 +29,7 @@ AreWorkers n = (1 ≤ n) × (n ≤ max_workers)
 abbrev pub ArePages : ℕ → Type 0
 ArePages n = (1 ≤ n) × (n ≤ max_pages)
 
--- the number of workers, or else that of pages, is none that it may be
+-- the number of workers, or else the number of pages, is none that it may be
 abbrev pub IsWrong : Options → BuildFault → Type 0
 IsWrong o Workers = (o.workers < 1) ⊎ (max_workers < o.workers)
 IsWrong o Pages = AreWorkers o.workers × ((o.pages < 1) ⊎ (max_pages < o.pages))
@@ -138,7 +138,7 @@ module _ {D S : Type 0} (calls : D → Option (List Call)) (failures : D → ℕ
       pub same_dir : dir_after ≡ dir
       pub same_out : out_after ≡ out
 
-    -- all files are there, and the ending is that of their build
+    -- all files are there, and the ending is the ending of their build
     pub record IsOfBuild (names : List (List ℕ)) (options : Options) (ending : Ending)
         (files files_after : I) (dir dir_after : D) (out out_after : S) : Type 0 where
       pub fine : AreFine options
@@ -155,7 +155,7 @@ module _ {D S : Type 0} (calls : D → Option (List Call)) (failures : D → ℕ
         ⊎ (IsLacking names options ending files files_after dir dir_after out out_after
         ⊎ IsOfBuild names options ending files files_after dir dir_after out out_after)
 
-    -- The status and the words are those of an ending that comes.
+    -- The status and the words belong to an ending that comes.
     pub record Compiles {E : Type 0} (front reason : I → List ℕ)
         (reported_words : E → Option (List ℕ)) (failed_words : E → ℕ) (names : List (List ℕ))
         (options : Options) (answer : ℕ) (files files_after : I) (dir dir_after : D)

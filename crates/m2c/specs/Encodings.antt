@@ -11,7 +11,7 @@ use Rattle.m2c.specs.Build.{modules, refused_by, data_and_stack, HaveGraph}
 
 -- No module of the files breaks a rule, and the data of the program fits into the pages. Then the
 -- module link has an encoding, and so has the module of each body: all numbers of its code fit, and
--- so do those of its types, its locals, its blocks and its bytes.
+-- so do the numbers of its types, its locals, its blocks and its bytes.
 abbrev pub ProgramsFit : Type 0
 ProgramsFit =
     (files : List SourceFile) (trees : List (List ℕ × Module)) (numbers : List ℕ)

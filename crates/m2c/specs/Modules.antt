@@ -12,7 +12,7 @@ use Rattle.build_jobs.specs.declared.outcome.Compiled.TheVariants.{Defined, Buil
 use Rattle.build_jobs.specs.Compiling.{tables_of, typed_body}
 use Rattle.build_jobs.specs.Encoded.{needed_of}
 
--- what became of the module of a file, where the file of each job is given by its place
+-- what became of the module of a file, if the file of each job is given by its place
 abbrev pub result_of : (files : List ℕ) → List Compiled → (file : ℕ) → Option Compiled
 result_of files results file = option_and_then (slice_get results) (number_of files file)
 

@@ -1,5 +1,5 @@
 -- The order in which refusals are reported: by the names of their files, byte by byte, and as they
--- are found where these are equal.
+-- are found if these are equal.
 use Rattle.std.specs.Prelude.{List, Bool}
 use Rattle.std.specs.List.Sorted.{IsPermutation, IsSortedBy, IsStableBy}
 use Rattle.std.specs.Ordering.{nat_cmp, is_lt}

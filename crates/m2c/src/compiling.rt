@@ -17,7 +17,7 @@ use std::alloc::Global;
 use std::thread::Threads;
 use write_directory::{OutDir, save};
 
-/// Whether these options can be had. Else the fault of the number of workers, or else that of pages.
+/// Whether these options can be had. Else the fault of the number of workers, or else of the number of pages.
 fn check_options(options: Options) -> Result<(), BuildFault>
     ensures { Checks options result }
 {

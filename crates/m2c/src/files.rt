@@ -98,25 +98,25 @@ impl From<EncodeError> for BuildFault {
 /// are given:
 ///
 /// - the rule of tokens (1 to 7) or of the grammar (10 to 13) that a text breaks first, with its place;
-/// - if no text breaks one, the rules of imports (20 to 25) that files break, one for each such file (see
+/// - if no text breaks one, the rules of imports (20 to 25) that files break, one for each of these files (see
 ///   `m2_graph::Graph::of`);
-/// - if there is none of these either, the least rule that each module breaks (24, 30 to 38, 40 to 53), or 60 where its
+/// - if there is none of these either, the least rule that each module breaks (24, 30 to 38, 40 to 53), or 60 if its
 ///   variables and strings, or a frame, are too large, but nothing for a module that needs another of which something is
 ///   reported;
-/// - if there is none of these either, 61 at the begin of the program module's file where the variables and strings of
-///   all modules that are reached, and 4096 bytes, need more than so many pages.
+/// - if there is none of these either, 61 at the begin of the program module's file if the variables and strings of
+///   all modules that are reached, and 4096 bytes, need more pages than the options allow.
 ///
 /// A program of which nothing is reported is compiled to the module link and, in start order, the modules that are reached
 /// from the program module. They are valid, they link, and they do what the program does: they print the same bytes and
 /// end with the same number, and they go on where it goes on. Nothing that its run asks for is missing.
 ///
-/// The work goes in two rounds of jobs over so many threads: a job for each file, in the order in which they are given,
-/// and then the jobs of the graph. The gate lets workers in to the jobs of both. What is answered does not depend on how
-/// many workers there are, on whom the gate lets in, or on who comes first.
+/// The work goes in two rounds of jobs over as many threads as the options say: a job for each file, in the order in
+/// which they are given, and then the jobs of the graph. The gate lets workers in to the jobs of both. What is answered
+/// does not depend on how many workers there are, on whom the gate lets in, or on who comes first.
 ///
-/// `Workers` (70) where the number of workers is not from 1 to 64, else `Pages` (73) where the number of pages is not
-/// from 1 to 1024; both come before memory is asked for. Else the only error is that memory ran out (`NoMemory`, 90), or
-/// that a module has no encoding (`NoEncoding`, which has no number).
+/// `Workers` (70) if the number of workers is not from 1 to 64, else `Pages` (73) if the number of pages is not from 1
+/// to 1024; both come before memory is asked for. Else the only error is that memory ran out (`NoMemory`, 90), or that
+/// a module has no encoding (`NoEncoding`, which has no number).
 pub fn build<R: Threads + Sync, G: Gate>(
     rt: &R,
     alloc: Global,

@@ -27,8 +27,8 @@ fn add_copy(
     module: &ModuleBytes,
 ) -> Result<(), AllocError>
     requires { IsName module.now.name }
-    ensures { OnOk result
-        (map name_bytes copies.new.items ≡ map name_bytes copies.old.items ++ named_bytes module.now ∷ []) }
+    ensures { OnOk result (map name_bytes copies.new.items
+        ≡ map name_bytes copies.old.items ++ named_bytes module.now ∷ []) }
 {
     let name = text_of(alloc, &module.name)?;
     let bytes = Vec::from_slice(alloc, module.bytes.as_slice())?;

@@ -6,7 +6,7 @@ ghost use Rattle.m2c.specs.Order.{AreInOrder};
 use m2_tree::Refusal;
 use std::alloc::AllocError;
 
-/// Refusals in order of the names of their files by their bytes, and as they are found where these are equal.
+/// Refusals in order of the names of their files by their bytes, and as they are found if these are equal.
 pub fn in_order(found: Vec<Refusal>) -> Result<Vec<Refusal>, AllocError>
     ensures { IfOk result (λ reported. AreInOrder found.items reported.items) }
 {

@@ -66,7 +66,9 @@ fn program_file<'a>(trees: &[(&'a str, &'a Module)]) -> &'a str
 /// 61 at the begin of the file of the program module.
 fn too_large(alloc: Global, trees: &[(&str, &Module)]) -> Result<Vec<Refusal>, AllocError>
     ensures { IfOk result (λ rs.
-        map report_of rs.items ≡ reported_at (program_file (borrow_trees trees.now)) 1 1 (number_of rule.LargeProgram) ∷ []) }
+        map report_of rs.items
+        ≡ reported_at (program_file (borrow_trees trees.now)) 1 1 (number_of rule.LargeProgram)
+        ∷ []) }
 {
     let mut refusals = Vec::new(alloc);
     let file = program_file(trees);
@@ -79,7 +81,7 @@ fn too_large(alloc: Global, trees: &[(&str, &Module)]) -> Result<Vec<Refusal>, A
     Ok(refusals)
 }
 
-/// Whether the data of modules, and the least stack, need more than so many pages.
+/// Whether the data of modules, and the least stack, need more than `pages` pages.
 fn is_too_large(modules: &[&ModuleBytes], pages: u32) -> bool
     requires { length modules.now ≤ max_files }
     ensures { let ms = parts (map (λ m. m.now) modules.now) in
@@ -88,7 +90,7 @@ fn is_too_large(modules: &[&ModuleBytes], pages: u32) -> bool
     data_size(modules) + LEAST_STACK > PAGE * u64::from(pages)
 }
 
-/// The modules of the program that a graph has, where no module breaks a rule and the data fits.
+/// The modules of the program that a graph has, if no module breaks a rule and the data fits.
 fn build_modules(
     alloc: Global,
     files: &[SourceFile],
@@ -114,7 +116,7 @@ fn build_modules(
     Ok(Outcome::Built { link, modules })
 }
 
-/// The outcome of the program that a graph has, where no module breaks a rule.
+/// The outcome of the program that a graph has, if no module breaks a rule.
 fn program(
     alloc: Global,
     files: &[SourceFile],
@@ -249,7 +251,7 @@ fn let_go<R: Threads + Sync, G: Gate>(runner: &Runner<'_, R, G>, reads: &mut [Re
     );
 }
 
-/// The outcome of a build where the numbers of workers and pages are fine.
+/// The outcome of a build if the numbers of workers and pages are fine.
 pub fn outcome_of<R: Threads + Sync, G: Gate>(
     runner: &Runner<'_, R, G>,
     files: &[SourceFile],

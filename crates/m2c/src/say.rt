@@ -105,7 +105,8 @@ fn say_range<E: Sink>(err: &mut E, front: &str, option: &str, most: u64, given: 
 /// Says in a line why nothing was built. False if the stream failed.
 fn say_fault<E: Sink>(err: &mut E, front: &str, options: Options, fault: BuildFault) -> bool
     requires { E.failed err.old + 1 < 2 ^ 64 }
-    ensures { Says E.reported E.failed result (fault_words front.now options fault) err.old err.new }
+    ensures { Says E.reported E.failed result (fault_words front.now options fault) err.old
+        err.new }
 {
     match fault {
         BuildFault::Workers => {

@@ -29,7 +29,7 @@ impl<'a> Lines<'a> {
         self.begins.len()
     }
 
-    /// In front of which byte a line begins, and that of the end of the text if there is no such line.
+    /// In front of which byte a line begins, and the end of the text if there is no line of this number.
     fn begin(&self, number: usize) -> usize {
         match self.begins.get(number) {
             Some(at) => *at,

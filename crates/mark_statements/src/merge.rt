@@ -145,9 +145,9 @@ fn merge_codes(
     Ok(Some(text))
 }
 
-/// The rows of code, with a comment in front of those of each statement. The marked code is that of the same text with marks. The
-/// functions of the code have their names at these places, in this order. Nothing if the marked code without its marks is not the
-/// code.
+/// The rows of code, with a comment in front of the rows of each statement. The marked code is the code of the same
+/// text with marks. The functions of the code have their names at these places, in this order. Nothing if the marked
+/// code without its marks is not the code.
 ///
 /// The only error is that memory ran out.
 pub fn with_statements(

@@ -28,7 +28,7 @@ struct Range {
 #[derive(Drop)]
 pub struct Statements {
     pub all: Vec<Statement>,
-    /// Those of each procedure, and of the module, by the place of the name.
+    /// The range of each procedure, and of the module, by the place of the name.
     ranges: IndexMap<u64, Range>,
 }
 

@@ -48,7 +48,7 @@ pub struct Screen {
 }
 
 impl Screen {
-    /// A stream that took nothing yet, and has room for so many bytes.
+    /// A stream that took nothing yet, and has room for `room` bytes.
     pub fn with_room(alloc: Global, room: usize) -> Screen
         ensures { result.failures ≡ 0 }
     {

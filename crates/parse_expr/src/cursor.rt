@@ -79,7 +79,7 @@ impl<'a> Cursor<'a> {
         }
     }
 
-    /// The kind of the next token, and the end where none is left.
+    /// The kind of the next token, and the end if none is left.
     pub fn peek(&self) -> Kind
         ensures { result ≡ kind_at self.now }
     {
@@ -113,7 +113,8 @@ impl<'a> Cursor<'a> {
 
     /// Takes the next token, which has to be this symbol, and answers its place.
     pub fn expect(&mut self, symbol: Symbol) -> Result<Pos, Stop>
-        ensures { ReadsAs (λ t. t.pos) (one_token (the.Symbol symbol ∷ []) self.old) result self.new }
+        ensures { ReadsAs (λ t. t.pos) (one_token (the.Symbol symbol ∷ []) self.old) result
+            self.new }
     {
         match self.rest {
             [token, rest @ ..] if is_symbol(&token.lexeme, symbol) => {

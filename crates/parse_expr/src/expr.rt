@@ -90,7 +90,7 @@ fn push_indexes(
 }
 
 impl Cursor<'_> {
-    /// An expression, with so many levels of nesting left.
+    /// An expression, with this many levels of nesting left.
     #[cycle(expr)]
     #[tactic(auto, using(def_grammar::proofs::Rules::expr_is))]
     pub fn expr(&mut self, room: usize) -> Result<Expr, Stop>
@@ -124,7 +124,8 @@ impl Cursor<'_> {
     /// The operators and the terms behind the first one.
     #[cycle(expr)]
     fn terms(&mut self, room: usize) -> Result<Items<(Operator<AddOp>, Expr)>, Stop>
-        ensures { ReadsAs (map add_operand) (read (many (add_op · term)) room self.old) result self.new }
+        ensures { ReadsAs (map add_operand) (read (many (add_op · term)) room self.old) result
+            self.new }
     {
         let mut found = Items::new(self.alloc);
         while let Some(op) = self.add_op() {
@@ -146,7 +147,8 @@ impl Cursor<'_> {
     /// The operators and the factors behind the first one.
     #[cycle(expr)]
     fn factors(&mut self, room: usize) -> Result<Items<(Operator<MulOp>, Expr)>, Stop>
-        ensures { ReadsAs (map multiply_operand) (read (many (mul_op · factor)) room self.old) result self.new }
+        ensures { ReadsAs (map multiply_operand) (read (many (mul_op · factor)) room self.old)
+            result self.new }
     {
         let mut found = Items::new(self.alloc);
         while let Some(op) = self.mul_op() {
@@ -186,8 +188,8 @@ impl Cursor<'_> {
 
     #[cycle(expr)]
     fn negation(&mut self, room: usize) -> Result<Expr, Stop>
-        ensures { ReadsAs (λ p. Expr.Not p.0.pos p.1) (read (nest (symbol Not · factor)) room self.old)
-            result self.new }
+        ensures { ReadsAs (λ p. Expr.Not p.0.pos p.1)
+            (read (nest (symbol Not · factor)) room self.old) result self.new }
     {
         let inner = self.enter(Symbol::Not, room)?;
         let pos = self.expect(Symbol::Not)?;
@@ -320,7 +322,8 @@ impl Cursor<'_> {
     /// One field, or the indexes of one bracket.
     #[cycle(expr)]
     fn selector(&mut self, room: usize, found: &mut Items<Selector>) -> Result<(), Stop>
-        ensures { ReadsOnto selectors_of (read selector room self.old) found.old result found.new self.new }
+        ensures { ReadsOnto selectors_of (read selector room self.old) found.old result found.new
+            self.new }
     {
         if self.sees(Symbol::Dot) {
             let dot = self.expect(Symbol::Dot)?;

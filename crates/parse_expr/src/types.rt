@@ -267,7 +267,7 @@ impl Cursor<'_> {
         }
     }
 
-    /// A type, with so many levels of nesting left.
+    /// A type, with this many levels of nesting left.
     #[cycle(types)]
     #[tactic(auto, using(def_grammar::proofs::Rules::type_is))]
     pub fn type_expr(&mut self, room: usize) -> Result<TypeExpr, Stop>
@@ -322,8 +322,8 @@ impl Cursor<'_> {
     #[cycle(types)]
     #[tactic(auto, using(def_grammar::proofs::Rules::inner_dims_is))]
     fn inner_array(&mut self, room: usize) -> Result<TypeExpr, Stop>
-        ensures { ReadsAs (λ p. TypeExpr.Array (simple_pos p.0) p.0 p.1) (read (nest dims) room self.old)
-            result self.new }
+        ensures { ReadsAs (λ p. TypeExpr.Array (simple_pos p.0) p.0 p.1)
+            (read (nest dims) room self.old) result self.new }
     {
         let inner = self.enter_inner(room)?;
         let (index, element) = self.dims(inner)?;
@@ -334,7 +334,8 @@ impl Cursor<'_> {
     #[cycle(types)]
     #[tactic(auto, using(def_grammar::proofs::Loops::lists))]
     fn fields(&mut self, room: usize) -> Result<Items<Field>, Stop>
-        ensures { ReadsAs (λ p. present (with_first p)) (read fields room self.old) result self.new }
+        ensures { ReadsAs (λ p. present (with_first p)) (read fields room self.old) result
+            self.new }
     {
         let mut found = Items::new(self.alloc);
         self.maybe_field(room, &mut found)?;
@@ -346,8 +347,8 @@ impl Cursor<'_> {
 
     #[cycle(types)]
     fn maybe_field(&mut self, room: usize, found: &mut Items<Field>) -> Result<(), Stop>
-        ensures { ReadsOnto option_to_list (read (opt field) room self.old) found.old result found.new
-            self.new }
+        ensures { ReadsOnto option_to_list (read (opt field) room self.old) found.old result
+            found.new self.new }
     {
         if !self.sees_name() {
             return Ok(());

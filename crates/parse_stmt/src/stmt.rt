@@ -131,7 +131,7 @@ fn for_of(
     Ok(Stmt::For(variable, start, limit, step, body))
 }
 
-/// Statements, with so many levels of nesting left. An empty one leaves no trace.
+/// Statements, with this many levels of nesting left. An empty one leaves no trace.
 #[cycle(stmt)]
 #[tactic(auto, using(def_grammar::proofs::Rules::stmts_is, def_grammar::proofs::Loops::lists))]
 pub fn stmts(cursor: &mut Cursor, room: usize) -> Result<Items<Stmt>, Stop>
@@ -251,7 +251,8 @@ fn rest(cursor: &mut Cursor, room: usize) -> Result<Rest, Stop>
 #[cycle(stmt)]
 #[tactic(auto, using(def_grammar::proofs::Rules::elsif_part_is))]
 fn elsif_part(cursor: &mut Cursor, room: usize) -> Result<Rest, Stop>
-    ensures { ReadsAs (λ p. rest_of (inl p)) (read (nest elsif_part) room cursor.old) result cursor.new }
+    ensures { ReadsAs (λ p. rest_of (inl p)) (read (nest elsif_part) room cursor.old) result
+        cursor.new }
 {
     let inner = cursor.enter(Symbol::Elsif, room)?;
     cursor.expect(Symbol::Elsif)?;

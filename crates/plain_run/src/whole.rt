@@ -217,10 +217,10 @@ fn run_prepared<'a>(
     Ok(Report { end, out })
 }
 
-/// Runs a program, given as the modules that are reached in start order, in memories of so many pages. Each loop makes at
-/// most so many turns as the bound says, and calls nest at most so deep. On `Ok` it is exactly the run of the definition.
-/// The only errors are that memory ran out, that a number does not fit into the machine's types, or that parts nest
-/// deeper than is allowed.
+/// Runs a program, given as the modules that are reached in start order, in memories of `pages` pages. Each loop makes
+/// at most `bound` turns, and calls nest at most as deep. On `Ok` it is exactly the run of the definition. The only
+/// errors are that memory ran out, that a number does not fit into the machine's types, or that parts nest deeper than
+/// is allowed.
 pub fn run(
     alloc: Global,
     modules: &[TypedModule],

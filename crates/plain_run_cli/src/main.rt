@@ -1,8 +1,9 @@
 //! The plain interpreter as a program: `plain_run [--memory PAGES] [--bound N] FILE...`.
 //!
-//! It runs a program by the definition of what programs do, and prints its bytes. The status is 0 where the program ended by
-//! itself or by HALT, 1 where it ended otherwise (reported on standard error) or was refused (a refusal a line on standard
-//! output), 2 for the command line, 3 where a file, memory or standard output failed, and 4 where it still runs at the bound.
+//! It runs a program by the definition of what programs do, and prints its bytes. The status is 0 if the program ended
+//! by itself or by HALT, 1 if it ended otherwise (reported on standard error) or was refused (a refusal a line on
+//! standard output), 2 for the command line, 3 if a file, memory or standard output failed, and 4 if it still runs at
+//! the bound.
 #![tactic(auto)]
 
 mod words;

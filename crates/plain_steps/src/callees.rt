@@ -90,7 +90,7 @@ fn home_at<'a>(modules: &[Prepared<'a>], place: usize) -> Option<Prepared<'a>>
     }
 }
 
-/// The frames so many procedures outwards.
+/// The frames this many procedures outwards.
 fn outer(
     alloc: Global,
     frames: &[Items<Named>],
@@ -161,7 +161,7 @@ pub fn variable_callee<'a>(around: &Around<'a>, v: i64) -> Result<Option<Callee<
     }
 }
 
-/// A procedure of a procedure, which is declared so many procedures outwards. The only error is that memory ran out.
+/// A procedure of a procedure, which is declared this many procedures outwards. The only error is that memory ran out.
 #[tactic(auto, using(crate::proofs::Asking::nested))]
 pub fn nested_callee<'a>(
     around: &Around<'a>,

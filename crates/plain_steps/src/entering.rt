@@ -227,7 +227,7 @@ fn pass_all(
     }
 }
 
-/// The names of variables, behind those of the formals.
+/// The names of variables, behind the names of the formals.
 #[tactic(auto, using(crate::proofs::Begins::variables))]
 fn add_variables(
     alloc: Global,

@@ -1,4 +1,4 @@
-//! Statements, where what they take is there.
+//! Statements, if what they take is there.
 
 ghost use Rattle.std.specs.Prelude.{◌≡◌, ◌+ℤ◌, ◌∷◌, [], ◌++◌, pos, false, Some, IfOk, OnOk};
 ghost use Rattle.std.specs.Option.{option_copied};

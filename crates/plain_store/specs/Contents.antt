@@ -12,12 +12,12 @@ abbrev pub or_rest : Option Contents → Contents → Contents
 or_rest None rest = rest
 or_rest (Some f) rest = f
 
--- the number of the whole, those of its first components, and those of all others
+-- the number of the whole, the numbers of its first components, and the numbers of all others
 abbrev pub in_parts : ℤ → List Contents → Contents → Contents
 in_parts own parts rest [] = own
 in_parts own parts rest (k ∷ r) = or_rest (slice_get parts k) rest r
 
--- so many components of one kind
+-- this many components of one kind
 abbrev pub in_array : ℕ → Contents → Contents
 in_array n one [] = pos 0
 in_array n one (k ∷ r) = if nat_lt k n then one r else pos 0
@@ -35,7 +35,7 @@ abbrev pub or_nought : Option Held → Contents
 or_nought None r = pos 0
 or_nought (Some h) r = contents h r
 
--- one after another, so many times
+-- one after another, this many times
 abbrev pub repeat_item : {A : Type 0} → ℕ → A → List A
 repeat_item zero x = []
 repeat_item (suc n) x = repeat_item n x ++ x ∷ []

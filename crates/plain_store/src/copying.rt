@@ -37,7 +37,7 @@ fn copies(alloc: Global, parts: &[Held]) -> Result<Items<Held>, AllocError>
     Ok(all)
 }
 
-/// These parts, and so many copies of one more behind them. The only error is that memory ran out.
+/// These parts, and this many copies of one more behind them. The only error is that memory ran out.
 pub fn fill_parts(
     alloc: Global,
     parts: Items<Held>,

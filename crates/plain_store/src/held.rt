@@ -14,7 +14,7 @@ pub enum Held {
     Same(i64),
     /// The number of the whole, what its first components hold, and what each of the others holds.
     Parts(i64, Items<Held>, Boxed<Held>),
-    /// So many components that each hold this. The whole holds 0, and so do all others.
+    /// This many components that each hold this. The whole holds 0, and so do all others.
     Array(usize, Boxed<Held>),
 }
 
@@ -30,7 +30,7 @@ pub fn own_of(held: &Held) -> i64
     }
 }
 
-/// What a component holds; nothing where all holds 0.
+/// What a component holds; nothing if all holds 0.
 #[tactic(auto, using(crate::proofs::Layers::layers))]
 pub fn component(held: &Held, number: usize) -> Option<&Held>
     ensures { (r : Location) → or_nought (option_copied result) r
@@ -52,7 +52,7 @@ pub fn component(held: &Held, number: usize) -> Option<&Held>
     }
 }
 
-/// What a component of components holds; nothing where all holds 0.
+/// What a component of components holds; nothing if all holds 0.
 pub fn part_at<'a>(held: &'a Held, at: &[usize]) -> Option<&'a Held>
     ensures { (r : Location) → or_nought (option_copied result) r
         ≡ contents held.now (at.now ++ r) }

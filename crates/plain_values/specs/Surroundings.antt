@@ -131,7 +131,7 @@ steps_in a ss st =
 
 -- ---- surroundings that are made
 
--- those of the statements of a WITH
+-- the surroundings of the statements of a WITH
 pub record IsUnder (a : Around) (l : Location) (inner : Around) : Type 0 where
   pub program : inner.program.now ≡ a.program.now
   pub asks : asks_of inner ≡ asks_of a

@@ -27,7 +27,7 @@ pub struct Operands {
     pub second: i64,
 }
 
-/// The value, where it lies within these bounds, else this fault.
+/// The value, if it lies within these bounds, else this fault.
 pub fn within(low: i64, high: i64, fault: u32, v: i64, st: &State) -> Answer<i64>
     ensures { answer_meaning result st.now ≡ within low high fault v (view_of st.now) }
 {

@@ -109,7 +109,7 @@ pub fn bits(v: i64) -> u64
     v.unsigned_abs()
 }
 
-/// The bits of the first that are not among those of the second.
+/// The bits of the first that the second does not have.
 pub fn without(a: u64, b: u64) -> u64
     ensures { result ≡ without a b }
 {

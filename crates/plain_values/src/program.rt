@@ -15,7 +15,7 @@ pub struct Program<'a> {
     pub alloc: Global,
     /// The modules that are reached, in start order.
     pub modules: &'a [Prepared<'a>],
-    /// So many turns does each loop make at most, and so deep do calls nest.
+    /// How many turns each loop makes at most, and how deep calls nest at most.
     pub bound: usize,
 }
 
@@ -43,7 +43,7 @@ pub struct Around<'a> {
     pub withs: Items<Items<usize>>,
     /// The number of the next instance.
     pub next: usize,
-    /// So many bytes of storage are free.
+    /// How many bytes of storage are free.
     pub left: usize,
 }
 

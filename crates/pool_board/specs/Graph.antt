@@ -17,11 +17,11 @@ IsJobGraph graph =
     → (0 < times p (prerequisites_of graph job) → p < job)
     × (times p (prerequisites_of graph job) ≤ 1)
 
--- every mark is that of a smaller job
+-- every mark is the mark of a smaller job
 abbrev pub AreBelow : List (Option ℕ) → ℕ → Type 0
 AreBelow marks job = (p : ℕ) → IfSome (slice_index_or marks p None) (λ mark. mark < job)
 
--- the jobs that name the job, where the first row is of the job `first`
+-- the jobs that name the job, if the first row is of the job `first`
 abbrev pub naming_from : ℕ → List (List ℕ) → ℕ → List ℕ
 naming_from first [] job = []
 naming_from first (row ∷ rows) job =

@@ -23,7 +23,7 @@ TakenIsHad seats = (job : ℕ) → 0 < times job (all_met seats) → (i : ℕ) �
 abbrev pub answers_to : List (List ℕ) → ℕ → List Counted → ℕ
 answers_to graph job counts = left_at graph job 0 counts
 
--- at most one count was answered that it ended a job's wait, and one was exactly where all edges to
+-- at most one count was answered that it ended a job's wait, and one was exactly if all edges to
 -- the job were counted
 abbrev pub AnsweredOnce : List (List ℕ) → List Counted → Type 0
 AnsweredOnce graph counts =

@@ -1,5 +1,5 @@
 -- The results of a graph's jobs: one answer, of which each part comes of the parts before it, and
--- the case where one definition gives them.
+-- the case that one definition gives them.
 use Rattle.std.specs.Prelude.{◌≡◌, ℕ, zero, suc, List, [], ◌∷◌, ◌++◌, length, map, slice_get, Option, Some, None}
 use Rattle.pool_board.specs.Graph.{prerequisites_of}
 
@@ -13,7 +13,7 @@ abbrev pub items_at : {X : Type 0} → List X → List ℕ → List X
 items_at xs [] = []
 items_at xs (p ∷ ps) = with_item (slice_get xs p) (items_at xs ps)
 
--- the results of the first n jobs, where `defined job outs` is a job's result from those of its
+-- the results of the first n jobs, if `defined job outs` is a job's result from the results of its
 -- prerequisites
 abbrev pub results_below : {X : Type 0} → List (List ℕ) → (ℕ → List X → X) → ℕ → List X
 results_below graph defined zero = []
@@ -30,7 +30,7 @@ abbrev pub AreCoherent : {X : Type 0} → List (List ℕ) → (defines : ℕ →
 AreCoherent {X} graph defines xs = (job : ℕ) (x : X) → slice_get xs job ≡ Some x
     → defines job (items_at xs (prerequisites_of graph job)) x
 
--- The results of all jobs are one answer, where `defines job outs x` says that x may come of a job
+-- The results of all jobs are one answer, if `defines job outs x` says that x may come of a job
 -- from these results of its prerequisites.
 pub record AreResults {X : Type 0} (graph : List (List ℕ)) (defines : ℕ → List X → X → Type 0)
     (xs : List X) : Type 0 where
@@ -43,8 +43,8 @@ pub record IsCopy {X : Type 0} (defines : ℕ → List X → X → Type 0) (out 
   pub serves : (job : ℕ) (before after : List X) (y : X)
       → defines job (before ++ out ∷ after) y → defines job (before ++ x ∷ after) y
 
--- The cell of this name is that of the job, and what is known of it may come of the job from what
--- is known of the prerequisites' cells. The names are those of the cells of all jobs.
+-- The cell of this name is the cell of the job, and what is known of it may come of the job from
+-- what is known of the prerequisites' cells. The names are the names of the cells of all jobs.
 pub record IsRan {X : Type 0} (names : List ℕ) (graph : List (List ℕ))
     (defines : ℕ → List X → X → Type 0) (job cell : ℕ) (known : Option X) (used : List ℕ)
     (used_known : List (Option X)) : Type 0 where

@@ -50,8 +50,7 @@ pub record IsConsistent (graph : List (List ℕ)) (had met : List ℕ) (counts :
   pub edges : (from edge : ℕ) → 0 < count_of_edge from edge counts
       → edge < length (targets_of graph from)
   pub counted_once : (from edge : ℕ) → count_of_edge from edge counts ≤ 1
-  -- where c of the p edges to a job were counted, the numbers left are p - 1 down to p - c, each
-  -- once
+  -- if c of the p edges to a job were counted, the numbers left are p - 1 down to p - c, each once
   pub enough : (job : ℕ) → counted_to graph job counts ≤ waiting_of graph job
   pub left_once : (job number : ℕ) → waiting_of graph job ≤ counted_to graph job counts + number
       → number < waiting_of graph job → left_at graph job number counts ≡ 1
@@ -86,7 +85,7 @@ pub record IsKept {S : Type 0} (graph : List (List ℕ)) (workers : ℕ) (s : St
   -- a claim word is 1 if the job was had, else 0
   pub claimed : (job : ℕ) → job < length graph
       → slice_index s.words job ≡ times job (together had_of s.views)
-  -- a waiting word is the number of prerequisites less that of the edges counted
+  -- a waiting word is the number of prerequisites less the number of the edges counted
   pub waits : (job : ℕ)
       → job < length graph
       → slice_index s.words (length graph + job) + counted_to graph job (together counts_of s.views)

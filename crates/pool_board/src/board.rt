@@ -37,7 +37,8 @@ impl Model for Board {
     ghost use Rattle.std.specs.Prelude.{map, vec_capacity};
     ghost use Rattle.pool_board.specs.Seats.{IsBoard};
 
-    ghost view = { λ b. record { id = b.table.shared.table_id; graph = b.graph; workers = b.workers } };
+    ghost view = { λ b.
+        record { id = b.table.shared.table_id; graph = b.graph; workers = b.workers } };
 
     ghost invariant = { λ b.
         IsBoard b.graph b.table.shared.key.graph.value b.workers b.table.shared.key.workers
@@ -70,7 +71,8 @@ impl Model for BoardSeat {
           counts = s.seat.me.0.counts;
         } };
 
-    ghost invariant = { λ s. IsSeat s.seat.table_id.words (vec_capacity s.had) s.had.items s.seat.me };
+    ghost invariant = { λ s.
+        IsSeat s.seat.table_id.words (vec_capacity s.had) s.had.items s.seat.me };
 }
 
 /// Who had which job.
@@ -114,8 +116,10 @@ impl Board {
         requires job { job < length self.now.graph }
         ensures board { seat.new.board ≡ seat.old.board }
         ensures counts { seat.new.counts ≡ seat.old.counts }
-        ensures had { MatchBool result (seat.new.had ≡ seat.old.had ++ job ∷ []) (seat.new.had ≡ seat.old.had) }
-        ensures met { MatchBool result (seat.new.met ≡ seat.old.met) (seat.new.met ≡ seat.old.met ++ job ∷ []) }
+        ensures had { MatchBool result (seat.new.had ≡ seat.old.had ++ job ∷ [])
+            (seat.new.had ≡ seat.old.had) }
+        ensures met { MatchBool result (seat.new.met ≡ seat.old.met)
+            (seat.new.met ≡ seat.old.met ++ job ∷ []) }
         ensures fresh { IsTrue result → (edge : ℕ) → count_of_edge job edge seat.new.counts ≡ 0 }
     {
         let found = self.table.shared.swap::<Claiming>(&mut seat.seat, job, 1);
@@ -157,7 +161,8 @@ impl Board {
     pub fn close(self, seats: Vec<BoardSeat>) -> Tally
         requires { IsAllSeats self seats.items }
         ensures seats { map (λ l. l.items) result.seats.items ≡ map (λ s. s.had) seats.items }
-        ensures gatherer { result.gatherer.items ≡ without (all_had seats.items) (length self.graph) }
+        ensures gatherer { result.gatherer.items
+            ≡ without (all_had seats.items) (length self.graph) }
         ensures each { (job : ℕ)
             → job < length self.graph
             → times job (one_list (map (λ l. l.items) result.seats.items) ++ result.gatherer.items)
@@ -196,8 +201,8 @@ fn count_word<E: Edge>(
     waiting: usize,
 ) -> u64
     requires edge { (from ≡ E.from) × (edge ≡ E.edge) }
-    requires may { Counts shared.now.table_id shared.now.key.graph.value from edge waiting seat.old.table_id
-        seat.old.me.0 }
+    requires may { Counts shared.now.table_id shared.now.key.graph.value from edge waiting
+        seat.old.table_id seat.old.me.0 }
     ensures table { (seat.new.table_id ≡ seat.old.table_id)
         × (seat.new.id ≡ seat.old.id)
         × (seat.new.me.1 ≡ seat.old.me.1) }
@@ -241,8 +246,8 @@ fn open_for(
     ))
 }
 
-// The words of a board on which nothing was done: those of the claims, those of the waiting jobs, and one that is never
-// written, so that a board without jobs has a word too.
+// The words of a board on which nothing was done: the words of the claims, the words of the waiting jobs, and one that
+// is never written, so that a board without jobs has a word too.
 fn first_words(alloc: Global, graph: &JobGraph) -> Result<Vec<u64>, AllocError>
     ensures { IfOk result (λ v. IsFresh graph.now v.items) }
 {

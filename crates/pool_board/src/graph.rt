@@ -30,7 +30,7 @@ impl Model for JobGraph {
 impl JobGraph {
     /// The graph whose job `j` has the prerequisites `prerequisites[j]`.
     ///
-    /// The refusal is `Prerequisite` exactly where a prerequisite is not smaller than its job or is repeated, and else
+    /// The refusal is `Prerequisite` exactly if a prerequisite is not smaller than its job or is repeated, and else
     /// `NoMemory`.
     pub fn of(alloc: Global, prerequisites: &[Vec<usize>]) -> Result<JobGraph, PoolRefusal>
         ensures ok { IfOk result (λ g. g ≡ map (λ l. l.items) prerequisites.now) }
@@ -141,7 +141,7 @@ fn is_sound_by_marks(list: &[usize], job: usize, marks: &mut [Option<usize>]) ->
     true
 }
 
-// Whether the mark is that of the job.
+// Whether the mark is the job's.
 fn is_mark(mark: Option<usize>, job: usize) -> bool
     ensures { IsTrue result ↔ (mark ≡ Some job) }
 {
@@ -191,7 +191,8 @@ fn all_targets(alloc: Global, prerequisites: &[Vec<usize>]) -> Result<Vec<Vec<us
 // An empty row for each job.
 fn no_targets(alloc: Global, jobs: usize) -> Result<Vec<Vec<usize>>, AllocError>
     ensures count { IfOk result (λ v. length v.items ≡ jobs) }
-    ensures empty { IfOk result (λ v. (p : ℕ) → slice_index_or (map (λ l. l.items) v.items) p [] ≡ []) }
+    ensures empty { IfOk result (λ v.
+        (p : ℕ) → slice_index_or (map (λ l. l.items) v.items) p [] ≡ []) }
 {
     let mut table = Vec::with_capacity(alloc, jobs)?;
     for _ in 0..jobs {

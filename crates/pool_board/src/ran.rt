@@ -10,14 +10,14 @@ use once_cell::race::{Note, OnceBox};
 #[derive(Drop)]
 pub struct Ran<W: Work> {
     pub job: usize,
-    /// A note of the job's cell, which knows the result that was put there. Where the cell had been set before, the
-    /// result itself.
+    /// A note of the job's cell, which knows the result that was put there. If the cell had been set before, the result
+    /// itself.
     pub kept: Result<Note<W::Out>, Box<W::Out>>,
     pub used: Vec<Note<W::Out>>,
 }
 
 impl<W: Work> Ran<W> {
-    /// Puts a result into the cell of its job. Where the cell is set already, the result is handed back.
+    /// Puts a result into the cell of its job. If the cell is set already, the result is handed back.
     pub fn publish(
         cell: &OnceBox<W::Out>,
         job: usize,

@@ -22,7 +22,8 @@ pub trait Work: Copy + Send + Sync {
     /// Runs a job of the graph, given the results of its prerequisites in their order. It fails only for want of memory.
     fn run(&self, job: usize, prerequisites: &[&Self::Out]) -> Result<Self::Out, AllocError>
         requires job { job < length (graph self.now) }
-        requires prerequisites { length prerequisites.now ≡ length (prerequisites_of (graph self.now) job) }
+        requires prerequisites { length prerequisites.now
+            ≡ length (prerequisites_of (graph self.now) job) }
         ensures { IfOk result (λ x. defines self.now job (map (λ p. p.now) prerequisites.now) x) };
 
     /// The same result once more, which may stand in its place. It fails only for want of memory.

@@ -15,7 +15,7 @@ use crossbeam_deque::{Steal, Stealer, Worker};
 use once_cell::race::{Note, OnceBox};
 use std::alloc::{AllocError, Global};
 
-// How often a worker whose own deque is empty goes round those of the others before it ends.
+// How often a worker whose own deque is empty goes round the deques of the others before it ends.
 const ROUNDS: usize = 1000;
 
 /// A worker: its place among the workers, its seat, its own deque, and what it ran, in the order of its seat's list.
@@ -87,7 +87,7 @@ fn next_job(own: &mut Worker<usize>, stealers: &[Stealer<usize>], number: usize)
     None
 }
 
-// A job from the deque of another worker than that of this number.
+// A job from the deque of another worker than the one of this number.
 fn stolen(stealers: &[Stealer<usize>], number: usize) -> Option<usize> {
     for (other, stealer) in stealers.iter().enumerate() {
         if other != number
@@ -118,7 +118,8 @@ fn attempt<W: Work, G: Gate>(
         (W.defines pool.now.work.now) r.job b.value (map (λ u. u.cell) r.used.items)
         (map (λ u. u.known) r.used.items))) member.old.ran.items }
     ensures seat { member.new.seat.board ≡ pool.now.board.now.id }
-    ensures counts { OnOk result (IsWorked pool.now.board.now.id pool.now.graph.now member.new.seat) }
+    ensures counts { OnOk result
+        (IsWorked pool.now.board.now.id pool.now.graph.now member.new.seat) }
     ensures admitted { OnOk result (All (G.admits pool.now.gate.now) member.new.seat.had) }
     ensures ran { OnOk result (map (λ r. r.job) member.new.ran.items ≡ member.new.seat.had) }
     ensures stands { All (λ r.
@@ -165,7 +166,8 @@ fn run<W: Work, G: Gate>(
     used: Vec<Note<W::Out>>,
 ) -> Result<Ran<W>, AllocError>
     requires job { job < length pool.now.graph.now }
-    requires prerequisites { length prerequisites.now ≡ length (prerequisites_of pool.now.graph.now job) }
+    requires prerequisites { length prerequisites.now
+        ≡ length (prerequisites_of pool.now.graph.now job) }
     requires cells { map (λ u. u.cell) used.items
         ≡ items_at (map cell_name pool.now.cells.now) (prerequisites_of pool.now.graph.now job) }
     requires known { map (λ u. u.known) used.items ≡ map (λ p. Some p.now) prerequisites.now }

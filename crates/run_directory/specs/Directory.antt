@@ -59,7 +59,7 @@ abbrev pub items_of : Option (Vec ℕ) → Option (List ℕ)
 items_of None = None
 items_of (Some bytes) = Some bytes.items
 
--- the reads with others behind them, where they are noted
+-- the reads with others behind them, if they are noted
 abbrev pub with_reads : Option (List FileRead) → List FileRead → Option (List FileRead)
 with_reads None more = None
 with_reads (Some reads) more = Some (reads ++ more)

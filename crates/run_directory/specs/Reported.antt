@@ -100,7 +100,7 @@ Says reported failed false bytes before after = PartPrinted reported failed byte
 
 -- ---- what a report says
 
--- linked and executed for so many reductions, the modules printed these bytes and are there
+-- linked and executed for `steps` reductions, the modules printed these bytes and are there
 pub record HasRun (trees : List WModule) (steps : ℕ) (bytes : List ℕ) (config : Config)
     : Type 0 where
   pub first : Config
@@ -177,8 +177,8 @@ pub record FirstMissing (reads : List FileRead) (names : List (List ℕ)) (repor
 
 -- ---- what comes of a directory
 
--- what comes of modules that are there, and of those of these names behind them: these are there as
--- well and the report is of all, or it names the first that is not
+-- what comes of modules that are there, and of the modules of these names behind them: these are
+-- there as well and the report is of all, or it names the first that is not
 abbrev pub ComesOf : {S : Type 0} → (S → Option (List ℕ)) → (S → ℕ) → (reads : List FileRead)
     (first : List WModule) (names : List (List ℕ)) (steps : ℕ) → Report → (before after : S)
     → Type 0
@@ -205,8 +205,8 @@ Comes reported failed reads steps report before after =
     ComesOfLink reported failed reads steps report before after
     ⊎ (IsMissing reads link_name report × Printed reported failed [] before after)
 
--- Files of a directory are read, and a report comes of them. The status and the words are those of
--- the report.
+-- Files of a directory are read, and a report comes of them. The status and the words are the
+-- report's.
 pub record Executes {D S E : Type 0} (noted : D → Option (List FileRead)) (gives : D → Files)
     (front reason : D → List ℕ) (reported : S → Option (List ℕ)) (failed : S → ℕ)
     (reported_words : E → Option (List ℕ)) (failed_words : E → ℕ) (steps : ℕ) (answer : ℕ)

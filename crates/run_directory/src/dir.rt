@@ -7,7 +7,7 @@ use std::alloc::Global;
 
 /// A directory, or what stands for one.
 pub trait InDir {
-    /// The files that it was asked for, in order and with what they gave, where it notes them.
+    /// The files that it was asked for, in order and with what they gave, if it notes them.
     ghost reads: { Self → Option (List FileRead) } = { λ _. None };
 
     /// What reading the file of that name in it may give: its bytes, or nothing.
@@ -19,7 +19,7 @@ pub trait InDir {
     /// What stands behind the file's name in that message: why it cannot be read, or nothing.
     ghost behind: { Self → List ℕ } = { λ _. [] };
 
-    /// The bytes of the file of this name. `None` where the file or memory failed.
+    /// The bytes of the file of this name. `None` if the file or memory failed.
     fn read(&mut self, alloc: Global, name: &str) -> Option<Vec<u8>>
         ensures noted { reads self.new
             ≡ with_reads (reads self.old) (Read name.now (items_of result) ∷ []) }

@@ -90,7 +90,7 @@ pub fn alone(alloc: Global, tree: ValidModule) -> Result<Vec<ValidModule>, Alloc
     Ok(list)
 }
 
-/// These modules, and behind them those of these names.
+/// These modules, and behind them the modules of these names.
 pub fn modules_of<'n, D: InDir>(
     alloc: Global,
     dir: &mut D,

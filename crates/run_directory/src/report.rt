@@ -10,7 +10,7 @@ pub enum Report<'a> {
     Ran(End),
     /// The file of the module of this name could not be read.
     Unread(&'a str),
-    /// A fault of the module of this name; `link` stands for all where they could not be linked.
+    /// A fault of the module of this name; `link` stands for all if they could not be linked.
     Refused(&'a str, WFault),
     /// The run was broken off.
     Broken(RunFault),

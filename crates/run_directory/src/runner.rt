@@ -15,7 +15,7 @@ use wasm_engine::{Instances, Sink};
 use wasm_tree::WFault;
 use wasm_valid::ValidModule;
 
-/// Links the modules, and executes them for so many reductions.
+/// Links the modules, and executes them for `steps` reductions.
 fn run_all<S: Sink>(
     alloc: Global,
     modules: &[ValidModule],
@@ -55,9 +55,9 @@ fn run_named<'n, D: InDir, S: Sink>(
     }
 }
 
-/// Does what `m2run` does after its command line: reads `link.wasm` in this directory, and the file `M.wasm` for each of
-/// its exports `tab.M` (M a name other than link), in their order, each of them decoded and validated before the next;
-/// links them and executes them for so many reductions. The program prints on `out`.
+/// Does what `m2run` does after its command line: reads `link.wasm` in this directory, and the file `M.wasm` for each
+/// of its exports `tab.M` (M a name other than link), in their order, each of them decoded and validated before the
+/// next; links them and executes them for `steps` reductions. The program prints on `out`.
 ///
 /// The answer is the status: 0 if the program ended by itself or by HALT; 1 if it ended otherwise; 3 if a file, a module,
 /// memory or `out` failed; 4 if it goes on. What 1 and 3 mean is reported in a line on `err`. If a file cannot be read, the

@@ -55,7 +55,7 @@ fn status(report: Report<'_>) -> u8
     }
 }
 
-/// The word for the end of a run with this number: that of a fault from 1 to 8, and `unknown` for any other number.
+/// The word for the end of a run with this number: the word of a fault from 1 to 8, and `unknown` for any other number.
 pub fn end_word(number: u8) -> &'static str
     ensures { result.now ≡ end_word number }
 {

@@ -25,7 +25,7 @@ pub fn behind(pos: Pos, byte: u8) -> Pos
     }
 }
 
-/// The place so many bytes to the right.
+/// The place `count` bytes to the right.
 pub fn right(pos: Pos, count: usize) -> Pos
     requires { pos.col + count < 2 ^ 32 }
     ensures line { result.line ≡ pos.line }
@@ -64,7 +64,8 @@ fn mark_of(text: &[u8]) -> Mark
 /// What stands behind the comment whose opening stands before this text, and its place.
 pub fn comment_end(text: &[u8], start: Pos) -> Option<(&[u8], Pos)>
     requires { HasRoom start text.now }
-    ensures { MatchOption result (NeverCloses text.now) (λ end. Closes text.now start end.0.now end.1) }
+    ensures { MatchOption result (NeverCloses text.now) (λ end.
+        Closes text.now start end.0.now end.1) }
 {
     let mut rest = text;
     let mut pos = start;

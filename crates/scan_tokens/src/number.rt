@@ -79,7 +79,8 @@ fn value_of(form: Numeral, digits: &[u8]) -> Result<u32, TokenRule>
 /// How a number is written, and its digits.
 fn split(run: &[u8]) -> (Numeral, &[u8])
     requires { 0 < length run.now }
-    ensures last { (front : List ℕ) × (last : ℕ) × (run.now ≡ front ++ last ∷ []) × (result.0 ≡ form_by last) }
+    ensures last { (front : List ℕ) × (last : ℕ) × (run.now ≡ front ++ last ∷ [])
+        × (result.0 ≡ form_by last) }
     ensures digits { run.now ≡ result.1.now ++ suffix result.0 }
 {
     let front = &run[..run.len() - 1];

@@ -24,7 +24,8 @@ pub const MAX_TEXT: usize = 1_048_576;
 /// more than 1048576 bytes at 1:1 before all else. The other error is that memory ran out.
 pub fn scan(alloc: Global, text: &[u8]) -> Result<Vec<Token>, ScanError>
     // What is answered are the tokens of the text.
-    ensures tokens { IfOk result (λ tokens. (length text.now ≤ max_text) × HasTokens text.now tokens.items) }
+    ensures tokens { IfOk result (λ tokens.
+        (length text.now ≤ max_text) × HasTokens text.now tokens.items) }
     // What is refused is the refusal of the text.
     ensures refused { IfErr result (IfRefused (Refuses text.now)) }
     // A text that has tokens is not refused.
@@ -51,7 +52,8 @@ pub fn scan(alloc: Global, text: &[u8]) -> Result<Vec<Token>, ScanError>
 
 /// A text divides in at most one way.
 pub fn one_division()
-    ensures { (text : Text) (ms ns : List Member) → Divides text ms [] → Divides text ns [] → ms ≡ ns }
+    ensures { (text : Text) (ms ns : List Member) → Divides text ms [] → Divides text ns []
+        → ms ≡ ns }
 {}
 
 /// A text that divides is not refused, unless it is too long.

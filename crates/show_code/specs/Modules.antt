@@ -114,7 +114,7 @@ data_text d = offset_text (codes "data") d.offset ++ (string_text d.bytes ++ cod
 
 -- ---- functions
 
--- these bytes so many times
+-- these bytes this many times
 abbrev pub repeat_bytes : ℕ → List ℕ → List ℕ
 repeat_bytes zero bytes = []
 repeat_bytes (suc count) bytes = repeat_bytes count bytes ++ bytes

@@ -89,7 +89,8 @@ fn put_label(page: &mut Page, label: u32) -> Result<(), AllocError>
 
 /// Puts the labels that branches name.
 fn put_labels(page: &mut Page, labels: &[Op]) -> Result<(), AllocError>
-    ensures { OnOk result (page.new ≡ page.old ++ flat_map (λ o. label_text (label_of o)) labels.now) }
+    ensures { OnOk result
+        (page.new ≡ page.old ++ flat_map (λ o. label_text (label_of o)) labels.now) }
 {
     for label in labels {
         put_label(page, label_of(*label))?;
@@ -108,7 +109,8 @@ fn put_targets(page: &mut Page, labels: &[Op], last: u32) -> Result<(), AllocErr
 
 /// Puts a branch to one of several labels.
 fn put_table(page: &mut Page, level: usize, labels: &[Op], last: u32) -> Result<(), AllocError>
-    ensures { OnOk result (page.new ≡ page.old ++ row level (targets_text (map label_of labels.now) last)) }
+    ensures { OnOk result
+        (page.new ≡ page.old ++ row level (targets_text (map label_of labels.now) last)) }
 {
     page.put_indent(level)?;
     put_targets(page, labels, last)?;

@@ -331,7 +331,8 @@ fn put_heading(
     number: usize,
     type_index: u32,
 ) -> Result<(), AllocError>
-    ensures { OnOk result (page.new ≡ page.old ++ heading_text (title_at titles.now number) type_index) }
+    ensures { OnOk result
+        (page.new ≡ page.old ++ heading_text (title_at titles.now number) type_index) }
 {
     page.put(b"  (func (type ")?;
     page.put_number(u64::from(type_index))?;
@@ -347,7 +348,8 @@ fn put_function(
     number: usize,
     function: &Function,
 ) -> Result<(), AllocError>
-    ensures { OnOk result (page.new ≡ page.old ++ function_text (title_at titles.now number) function.now) }
+    ensures { OnOk result
+        (page.new ≡ page.old ++ function_text (title_at titles.now number) function.now) }
 {
     put_heading(page, titles, number, function.type_index)?;
     put_all_locals(page, function.body.locals.as_slice())?;
@@ -414,7 +416,8 @@ fn put_all_functions(
     titles: &[Vec<u8>],
     module_tree: &WModule,
 ) -> Result<(), AllocError>
-    ensures { OnOk result (page.new ≡ page.old ++ functions_text titles.now 0 module_tree.now.functions) }
+    ensures { OnOk result
+        (page.new ≡ page.old ++ functions_text titles.now 0 module_tree.now.functions) }
 {
     put_functions(page, titles, module_tree.functions.as_slice())
 }

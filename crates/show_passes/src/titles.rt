@@ -88,7 +88,7 @@ impl Titles {
         Ok(())
     }
 
-    /// The procedures that are declared in those of a body.
+    /// The procedures that are declared in the procedures of a body.
     fn add_nested(&mut self, decls: &[Decl]) -> Result<(), AllocError> {
         for decl in decls {
             if let Decl::Procedure(_, block) = decl {
@@ -167,7 +167,7 @@ fn decls_of(tree: &Module) -> &[Decl] {
     }
 }
 
-/// What the functions of the module of a body are, from its tree and that of its definition.
+/// What the functions of the module of a body are, from its tree and the tree of its definition.
 pub fn titles_of(
     alloc: Global,
     tree: &Module,

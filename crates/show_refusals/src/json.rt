@@ -75,7 +75,8 @@ pub fn show_json<O: Sink>(
     out: &mut O,
 ) -> Result<(), AllocError>
     requires { O.failed out.old + 1 < 2 ^ 64 }
-    // The objects of the first refusals are printed in order, and those of all unless memory ran out or the stream failed.
+    // The objects of the first refusals are printed in order, and the objects of all unless memory ran out or the
+    // stream failed.
     ensures { (count : ℕ) × (rows : List Row) × (all : Bool)
         × (map (λ (row : Row). row.refusal) rows ≡ take count refusals.now)
         × (IsOk result → all ≡ true → count ≡ length refusals.now)

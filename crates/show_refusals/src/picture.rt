@@ -75,7 +75,8 @@ pub fn part_around<'a>(spot: &Spot<'a>) -> Part<'a>
 
 /// Writes the mark, in red if colour is asked for.
 fn push_mark(text: &mut String, count: usize, colour: bool) -> Result<(), AllocError>
-    ensures { OnOk result (string_bytes text.new ≡ string_bytes text.old ++ paint_mark colour (replicate count 94)) }
+    ensures { OnOk result
+        (string_bytes text.new ≡ string_bytes text.old ++ paint_mark colour (replicate count 94)) }
 {
     if !colour {
         return push_times(text, '^', count);
@@ -121,8 +122,10 @@ fn mark_line(
 
 /// A line of source with its number, and a line with a mark under the token.
 pub fn draw(alloc: Global, number: u32, part: &Part<'_>, colour: bool) -> Result<String, AllocError>
-    ensures { IfOk result (λ lines. string_bytes lines
-        ≡ picture colour number part.now.front.now part.now.bytes.now part.now.back.now part.now.start part.now.end) }
+    ensures { IfOk result (λ lines.
+        string_bytes lines
+        ≡ picture colour number part.now.front.now part.now.bytes.now part.now.back.now
+        part.now.start part.now.end) }
 {
     let gutter = format!(in alloc; "{number} | ")?;
     let text = show_bytes(alloc, part.front, part.bytes)?;

@@ -27,9 +27,11 @@ pub fn show<O: Sink, E: Sink>(
 ) -> Result<(), AllocError>
     requires out { O.failed out.old + 1 < 2 ^ 64 }
     requires err { E.failed err.old + 1 < 2 ^ 64 }
-    // The lines of the first refusals are printed in order, and those of all unless memory ran out.
-    ensures { (count : ℕ) × (all : Bool) × (IsOk result → count ≡ length refusals.now)
-        × Says O.reported O.failed all (flat_map line_of (take count refusals.now)) out.old out.new }
+    // The lines of the first refusals are printed in order, and the lines of all unless memory ran out.
+    ensures { (count : ℕ) × (all : Bool)
+        × (IsOk result → count ≡ length refusals.now)
+        × Says O.reported O.failed all (flat_map line_of (take count refusals.now)) out.old
+        out.new }
 {
     let failures = err.failures();
     for refusal in refusals {

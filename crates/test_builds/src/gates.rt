@@ -50,7 +50,7 @@ impl Gate for Counting {
     }
 }
 
-/// Lets the first so many in, and holds whoever comes next until another has come, for so many turns.
+/// Lets the first ones in, and holds whoever comes next until another has come, for a number of turns.
 #[derive(Drop)]
 pub struct Meeting {
     first: usize,
@@ -59,7 +59,7 @@ pub struct Meeting {
 }
 
 impl Meeting {
-    /// Nobody has come, and so many are let in at once.
+    /// Nobody has come, and this many are let in at once.
     pub fn after(first: usize) -> Meeting {
         Meeting {
             first,

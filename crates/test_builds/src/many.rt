@@ -38,7 +38,7 @@ fn add_module(alloc: Global, files: &mut Vec<SourceFile>, k: usize) -> Result<()
     Ok(())
 }
 
-/// So many modules, each of which imports the one before it, and a program that imports the last.
+/// This many modules, each of which imports the one before it, and a program that imports the last.
 fn many(alloc: Global, count: usize) -> Result<Vec<SourceFile>> {
     let mut files = Vec::new(alloc);
     for k in 0..count {
@@ -62,7 +62,7 @@ fn outcome<R: Threads + Sync>(
     Ok(build(rt, alloc, files, options, &Always(true))?)
 }
 
-/// The bytes of link, and behind them those of each module.
+/// The bytes of link, and behind them the bytes of each module.
 fn bytes_of(
     alloc: Global,
     link: &[u8],
@@ -75,7 +75,7 @@ fn bytes_of(
     Ok(all)
 }
 
-/// What so many workers build of files; executed, it is to print a byte for each module, and P last.
+/// What this many workers build of files; executed, it is to print a byte for each module, and P last.
 fn build_many<R: Threads + Sync>(
     rt: &R,
     alloc: Global,

@@ -47,7 +47,7 @@ fn options(workers: usize) -> Options {
     Options { workers, pages: 16 }
 }
 
-/// What is reported of the files, a line for each refusal, or nothing where they are built.
+/// What is reported of the files, a line for each refusal, or nothing if they are built.
 fn report_of<R: Threads + Sync + AllocGlobal, G: Gate + Sync>(
     rt: &R,
     files: &[SourceFile],
@@ -109,7 +109,7 @@ fn expect_first<R: Threads + Sync + Abort + AllocGlobal>(rt: &R, gate: &Always) 
     expect_first_of(rt, &files, gate);
 }
 
-/// The first program and spaces behind it, so many bytes in all.
+/// The first program and spaces behind it, `length` bytes in all.
 fn with_spaces(alloc: Global, length: usize) -> Result<Vec<SourceFile>, AllocError> {
     let mut text = String::from_str(alloc, FIRST)?;
     for _ in FIRST.len()..length {

@@ -17,7 +17,8 @@ const LINKS: [usize; 2] = [8, 18];
 /// The same of the body's module: the header, what ends with the types, and what ends with the imports.
 const BODIES: [usize; 3] = [8, 44, 158];
 
-/// Reads each proper beginning, and answers how many there are. Those of these lengths are modules, all others malformed.
+/// Reads each proper beginning, and answers how many there are. The beginnings of these lengths are modules, all others
+/// malformed.
 fn check_beginnings(alloc: Global, bytes: &[u8], modules: &[usize]) -> Result<u64> {
     let mut count = 0u64;
     for length in 0..bytes.len() {

@@ -3,7 +3,7 @@
 use anyhow::{Context, Result};
 use std::alloc::Global;
 
-/// How many reductions are made at most where nothing is said of them.
+/// How many reductions are made at most if nothing is said of them.
 const MOST: u64 = 1_000_000_000;
 
 /// What comes of a directory's modules.
@@ -12,11 +12,11 @@ pub struct Expected {
     /// The most reductions that are made.
     pub steps: u64,
     pub status: u8,
-    /// How many are made, where it comes to a run.
+    /// How many are made, if it comes to a run.
     pub reductions: Option<u64>,
     /// The bytes on standard output, two hexadecimal digits each.
     pub out: String,
-    /// The line on standard error, or no text where there is none. Nothing where its words are free.
+    /// The line on standard error, or no text if there is none. Nothing if its words are free.
     pub err: Option<String>,
 }
 

@@ -77,7 +77,7 @@ fn check_end(expected: &Expected, came: &Came) -> Result<()> {
     }
 }
 
-/// So many reductions lead to the end, and one less do not.
+/// This many reductions lead to the end, and one less do not.
 fn check_reductions(rt: &HostRuntime, path: &str, status: u8, reductions: u64) -> Result<()> {
     let came = run(rt, path, reductions)?;
     if came.status != status {

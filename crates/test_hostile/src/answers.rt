@@ -24,7 +24,7 @@ const FEW: usize = 2;
 /// The status if a file, a module, memory or a stream failed.
 const FAILED: u8 = 3;
 
-/// Builds the files with so many workers, asks the other calls of what is built, and answers whether memory sufficed.
+/// Builds the files with this many workers, asks the other calls of what is built, and answers whether memory sufficed.
 pub fn ask<R: Print + AllocGlobal + Threads + Sync>(
     rt: &R,
     files: &[SourceFile],
@@ -124,7 +124,7 @@ fn ask_modules<R: Print + AllocGlobal>(
     Ok(few && many)
 }
 
-/// Links and runs the modules with room for so many bytes. Whether memory sufficed.
+/// Links and runs the modules with room for `room` bytes. Whether memory sufficed.
 fn ask_run<R: Print + AllocGlobal>(rt: &R, modules: &[ValidModule], room: usize) -> Result<bool> {
     let mut instances = match Instances::link(rt.alloc(), modules) {
         Ok(instances) => instances,

@@ -19,7 +19,7 @@ pub struct Paper {
 }
 
 impl Paper {
-    /// A stream that took nothing yet, and has room for so many bytes.
+    /// A stream that took nothing yet, and has room for `room` bytes.
     pub fn with_room(room: usize) -> Paper
         ensures { result.failures ≡ 0 }
     {

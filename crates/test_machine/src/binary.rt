@@ -21,7 +21,7 @@ const OPCODES: [u8; 65] = [
     0xAD,
 ];
 
-/// The number of the fault that the bytes have, or 0 where they are a module.
+/// The number of the fault that the bytes have, or 0 if they are a module.
 fn number_of(alloc: Global, bytes: &[u8]) -> u32 {
     match read_module(alloc, bytes) {
         Ok(_) => 0,
@@ -62,7 +62,7 @@ fn expect_again(rt: &impl Abort, alloc: Global, code: &[u8]) {
     }
 }
 
-/// So many instructions with this beginning, each but the first inside another.
+/// `count` instructions with this beginning, each but the first inside another.
 fn nest_blocks(alloc: Global, beginning: &[u8], count: u32) -> Result<Vec<u8>, AllocError> {
     let mut code = Vec::new(alloc);
     for _ in 0..count {

@@ -76,7 +76,7 @@ const INVALID: [u8; 26] = [
     0x01, 0x00, 0x0A, 0x06, 0x01, 0x04, 0x00, 0x41, 0x00, 0x0B,
 ];
 
-/// A folder over memory: the files of link, of M and of N, where they are there. It notes which files it is asked for.
+/// A folder over memory: the files of link, of M and of N, if they are there. It notes which files it is asked for.
 #[derive(Drop)]
 struct Folder<'a> {
     link: Option<&'a [u8]>,
@@ -179,8 +179,8 @@ fn reports_what_is_wrong_with_files(rt: HostRuntime) -> Result<(), Fail> {
     Ok(())
 }
 
-/// Each write fails in turn: that of the printed byte, and each of the line that reports it, which changes no status. No
-/// stream is asked again after its failure.
+/// Each write fails in turn: the write of the printed byte, and each write of the line that reports it, which changes
+/// no status. No stream is asked again after its failure.
 #[test]
 fn each_write_fails_in_turn(rt: HostRuntime) {
     let alloc = rt.alloc();

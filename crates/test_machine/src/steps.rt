@@ -317,7 +317,7 @@ fn stores(rt: HostRuntime) {
     }
 }
 
-/// The operands, the operation, and what it gives: nothing where it traps.
+/// The operands, the operation, and what it gives: nothing if it traps.
 const OPERATIONS: [(u64, u64, Operation, Option<u64>); 32] = [
     (0xFFFF_FFFF_FFFF_FFFE, 3, Operation::Add, Some(1)),
     (
@@ -437,7 +437,7 @@ const OPERATIONS: [(u64, u64, Operation, Option<u64>); 32] = [
 fn operations(rt: HostRuntime) {
     let alloc = rt.alloc();
     for (left, right, operation, gives) in OPERATIONS {
-        // 1 is printed where the operation gives that number
+        // 1 is printed if the operation gives that number
         let code = [
             Op::I64Const(left),
             Op::I64Const(right),

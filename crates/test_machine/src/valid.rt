@@ -52,7 +52,7 @@ fn accepts_what_is_valid(rt: HostRuntime) -> Result<(), Fail> {
     let number = Some(ValueType::I64);
     let add = Op::Numeric(Numeric::I32Add);
     let rows: [(&[Op], bool); 10] = [
-        // Labels are those of the blocks around.
+        // Labels are the labels of the blocks around.
         (&[Op::Block(None, 1), Op::Br(1)], true),
         (&[Op::Block(None, 1), Op::Br(5)], false),
         // Nothing is left.

@@ -6,7 +6,8 @@ use std::test::Fail;
 
 // Job 0 comes first, then 1 and 2, then 3.
 fn diamond(alloc: Global) -> Result<Vec<Vec<usize>>, AllocError>
-    ensures { IfOk result (λ v. map (λ l. l.items) v.items ≡ [] ∷ (0 ∷ []) ∷ (0 ∷ []) ∷ (1 ∷ 2 ∷ []) ∷ []) }
+    ensures { IfOk result (λ v.
+        map (λ l. l.items) v.items ≡ [] ∷ (0 ∷ []) ∷ (0 ∷ []) ∷ (1 ∷ 2 ∷ []) ∷ []) }
 {
     let mut jobs = Vec::new(alloc);
     jobs.push(Vec::new(alloc))?;
@@ -52,7 +53,7 @@ fn a_graph_reports_its_jobs(rt: HostRuntime) {
     assert!(rt; graph.targets(2) == [3].as_slice());
 }
 
-/// The number of the refusal of these lists of prerequisites, or 0 where they are a graph's.
+/// The number of the refusal of these lists of prerequisites, or 0 if they are a graph's.
 fn number_of(alloc: Global, jobs: &[Vec<usize>]) -> u8 {
     match JobGraph::of(alloc, jobs) {
         Ok(_) => 0,

@@ -211,7 +211,7 @@ fn is_one_too_many(alloc: Global, files: &[(&str, &Module)]) -> Result<bool, All
     }
 }
 
-/// The same of so many files with this tree.
+/// The same of `count` files with this tree.
 fn are_too_many(alloc: Global, tree: &Module, count: usize) -> Result<bool, AllocError> {
     let mut files = Vec::new(alloc);
     for _ in 0..count {

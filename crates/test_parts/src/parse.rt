@@ -94,7 +94,7 @@ fn accepts(rt: HostRuntime) -> Result<(), Fail> {
     Ok(())
 }
 
-/// A part that comes so many times comes to this.
+/// A part that comes this many times comes to this.
 fn expect_nested(rt: &impl Abort, alloc: Global, nested: &Nested, times: u32, expected: Reported) {
     let text = text_of(alloc, nested, times).expect(rt, "memory");
     assert!(rt; outcome(alloc, text.as_slice()) == expected, "{times}");

@@ -2,7 +2,7 @@
 
 use std::alloc::{AllocError, Global};
 
-/// A text of a head, a part that comes so many times, a middle, an end that comes as often, and a tail.
+/// A text of a head, a part that comes some number of times, a middle, an end that comes as often, and a tail.
 #[derive(Clone, Copy)]
 pub struct Nested<'a> {
     pub head: &'a [u8],
@@ -19,7 +19,7 @@ fn add_times(text: &mut Vec<u8>, part: &[u8], times: u32) -> Result<(), AllocErr
     Ok(())
 }
 
-/// The text in which the part comes so many times.
+/// The text in which the part comes `times` times.
 pub fn text_of(alloc: Global, nested: &Nested, times: u32) -> Result<Vec<u8>, AllocError> {
     let mut text = Vec::from_slice(alloc, nested.head)?;
     add_times(&mut text, nested.part, times)?;

@@ -3,7 +3,7 @@ use m2_tree::{Lexeme, Symbol, Token};
 use std::alloc::{AllocError, Global};
 use std::test::Fail;
 
-/// Line, column and number of the refusal, or zeros where there are tokens.
+/// Line, column and number of the refusal, or zeros if there are tokens.
 fn report_of(alloc: Global, text: &[u8]) -> Result<(u32, u32, u32), AllocError> {
     match scan(alloc, text) {
         Ok(_) => Ok((0, 0, 0)),

@@ -11,7 +11,7 @@ use std::test::Fail;
 use std::thread;
 use std::thread::Threads;
 
-// The result of a job is half that of its first prerequisite, or the key. It counts how many jobs are run.
+// The result of a job is half the result of its first prerequisite, or the key. It counts how many jobs are run.
 #[derive(Clone, Copy)]
 struct Halving<'a> {
     key: u64,
@@ -174,7 +174,7 @@ fn came<R: Threads + Sync, G: Gate>(
     Ok(Ended { outs, tally, runs })
 }
 
-// What comes of four jobs, where the cell of one was set before.
+// What comes of four jobs, if the cell of one was set before.
 fn came_strangely<R: Threads + Sync + Abort>(
     rt: &R,
     alloc: Global,
@@ -269,7 +269,8 @@ fn a_job_is_stolen_from_the_other_worker(rt: HostRuntime) -> Result<(), Fail> {
     Ok(())
 }
 
-// All jobs stand on the strange result: that of the first job is taken as it was handed back, the others are run again.
+// All jobs stand on the strange result: the result of the first job is taken as it was handed back, the others are run
+// again.
 #[test]
 fn what_stands_on_a_strange_result_is_run_again(rt: HostRuntime) -> Result<(), Fail> {
     let came = came_strangely(&rt, rt.alloc(), 0, 640)?;

@@ -27,7 +27,7 @@ impl Gate for Always {
     }
 }
 
-/// Who else builds a program: so many workers, and whether the gate lets them in.
+/// Who else builds a program: how many workers, and whether the gate lets them in.
 const OTHERS: [(usize, bool); 4] = [(2, true), (8, true), (64, true), (4, false)];
 
 /// How many pages the memory has if nothing is said of it.
@@ -44,7 +44,7 @@ pub struct Expected {
 pub struct Program {
     pub name: String,
     pub files: Vec<SourceFile>,
-    /// All its modules, `link.wasm` too; none where their bytes are not stated.
+    /// All its modules, `link.wasm` too; none if their bytes are not stated.
     pub modules: Vec<Expected>,
     /// Bytes that stand together somewhere in a module.
     pub pieces: Vec<Expected>,
@@ -232,7 +232,7 @@ fn decided_built(
     execute_modules(alloc, program, link, modules)
 }
 
-/// What is wrong with a program, if something is: it is built with so many workers, compared and executed.
+/// What is wrong with a program, if something is: it is built with this many workers, compared and executed.
 pub fn decide_row<R: Threads + Sync + Eprint>(
     rt: &R,
     alloc: Global,
@@ -254,7 +254,7 @@ pub fn decide_row<R: Threads + Sync + Eprint>(
     }
 }
 
-/// The bytes of link, and behind them those of each module.
+/// The bytes of link, and behind them the bytes of each module.
 fn join_modules(alloc: Global, link: &[u8], modules: &[(String, Vec<u8>)]) -> Result<Vec<u8>> {
     let mut all = Vec::from_slice(alloc, link)?;
     for module in modules {
@@ -263,7 +263,7 @@ fn join_modules(alloc: Global, link: &[u8], modules: &[(String, Vec<u8>)]) -> Re
     Ok(all)
 }
 
-/// What so many workers build, whom the gate lets in or not: all bytes, or none if the program is refused.
+/// What this many workers build, whom the gate lets in or not: all bytes, or none if the program is refused.
 fn bytes_by<R: Threads + Sync>(
     rt: &R,
     alloc: Global,

@@ -58,7 +58,7 @@ fn bytes_of(alloc: Global, digits: &str) -> Result<Vec<u8>> {
     Ok(bytes)
 }
 
-/// Takes the text as that of the file that was named last.
+/// Takes the text as the text of the file that was named last.
 fn with_file(alloc: Global, reading: &mut Reading) -> Result<()> {
     if reading.name.is_empty() {
         return Ok(());

@@ -46,7 +46,7 @@ fn empty_row(alloc: Global) -> Row {
     }
 }
 
-/// Takes the text as that of the file that was named last.
+/// Takes the text as the text of the file that was named last.
 fn with_file(alloc: Global, row: &mut Row) -> Result<()> {
     if row.name.is_empty() {
         return Ok(());
@@ -78,7 +78,7 @@ fn with_line(alloc: Global, row: &mut Row, line: &str) -> Result<()> {
     Ok(())
 }
 
-/// What so many workers report of the files, a line for each refusal.
+/// What this many workers report of the files, a line for each refusal.
 fn report_of<R: Threads + Sync>(
     rt: &R,
     alloc: Global,
@@ -136,7 +136,8 @@ fn with_next<R: Threads + Sync + Eprint>(
     Ok(count)
 }
 
-/// Builds the files of each row of a file by so many workers, one number after another, and compares what is reported of them.
+/// Builds the files of each row of a file by these numbers of workers, one after another, and compares what is reported
+/// of them.
 pub fn check_all<R: Threads + Sync + Files + Eprint + AllocGlobal>(
     rt: &R,
     name: &str,

@@ -9,8 +9,8 @@ use std::process::Abort;
 use std::test::Fail;
 use std::thread::Threads;
 
-/// What fails: the read and the write of that number, counted from 1, the removal of files, and each stream behind so many
-/// bytes.
+/// What fails: the read and the write of that number, counted from 1, the removal of files, and each stream behind a
+/// number of bytes.
 #[derive(Clone, Copy)]
 struct Trouble {
     read: usize,
@@ -40,7 +40,7 @@ struct Came {
     failures: u64,
 }
 
-/// Options with so many workers and 16 pages.
+/// Options with this many workers and 16 pages.
 fn workers(workers: usize) -> Options {
     Options { workers, pages: 16 }
 }

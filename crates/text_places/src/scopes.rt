@@ -52,7 +52,7 @@ fn goes_on(behind: Option<Symbol>) -> bool {
     matches!(behind, Some(Symbol::Comma | Symbol::Colon))
 }
 
-/// Adds variables that stand in so many procedures.
+/// Adds variables that stand in this many procedures.
 fn push_variables(
     visible: &mut Vec<Declared>,
     list: &[usize],

@@ -118,7 +118,7 @@ impl Names {
         }
     }
 
-    /// Adds a name that a module exports, if it is that of a type.
+    /// Adds a name that a module exports, if it is the name of a type.
     fn push_exported(
         &mut self,
         texts: &Texts<'_>,
@@ -188,7 +188,7 @@ impl Names {
     }
 }
 
-/// The names of at most so many types that the program declares, as they are written in this text.
+/// The names of at most this many types that the program declares, as they are written in this text.
 pub fn type_names(
     alloc: Global,
     texts: &Texts<'_>,

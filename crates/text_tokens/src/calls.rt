@@ -14,7 +14,7 @@ pub struct Call {
     pub open: Option<usize>,
 }
 
-/// An argument, by the number that it has among those of a call, from 0.
+/// An argument, by the number that it has among the arguments of a call, from 0.
 #[derive(Clone, Copy)]
 pub struct Argument {
     pub call: Call,

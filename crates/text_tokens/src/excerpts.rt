@@ -10,7 +10,7 @@ const MOST_SHOWN: usize = 60;
 /// What stands behind a piece that is shown in part.
 const AND_MORE: &[u8] = b" ..";
 
-/// The place of the token of this number, or that of the last one.
+/// The place of the token of this number, or the place of the last one.
 fn place_of(tokens: &[Token], number: usize) -> Option<Pos> {
     match tokens.get(number) {
         Some(token) => Some(token.pos),

@@ -47,7 +47,8 @@ pub fn closes(symbol: Symbol) -> bool {
     )
 }
 
-/// How many brackets are open behind a token, if so many are open before it. Nothing if it closes one more than are open.
+/// How many brackets are open behind a token, if `depth` are open before it. Nothing if it closes one more than are
+/// open.
 pub fn depth_behind(token: &Token, depth: usize) -> Option<usize> {
     match symbol_of(token) {
         Some(symbol) => {

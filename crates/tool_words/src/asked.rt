@@ -31,7 +31,7 @@ pub enum Pass {
 pub struct Setting {
     /// The workers and the pages of memory.
     pub options: Options,
-    /// The folders in which modules are looked for behind that of the program, in this order.
+    /// The folders in which modules are looked for behind the folder of the program, in this order.
     pub libraries: Vec<String>,
     /// Whether it is said what is found.
     pub is_verbose: bool,

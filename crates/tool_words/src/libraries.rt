@@ -1,4 +1,4 @@
-//! The folders of libraries: those of the command line, and those of the environment.
+//! The folders of libraries: from the command line, and from the environment.
 
 use crate::PROGRAM;
 use anyhow::Result;
@@ -66,8 +66,9 @@ where
     Ok(folders)
 }
 
-/// The folders in which modules are looked for behind that of the program: those behind `--lib` as they are given, and
-/// then those of the variable `M2_LIB`. An empty name, and a folder behind `--lib` that is not there, are reported.
+/// The folders in which modules are looked for behind the folder of the program: those behind `--lib` as they are
+/// given, and then those in the variable `M2_LIB`. An empty name, and a folder behind `--lib` that is not there, are
+/// reported.
 pub fn libraries_of<R>(rt: &R, names: &[&str]) -> Result<Vec<String>, Exit>
 where
     R: Files + Env + Eprint + AllocGlobal,

@@ -74,7 +74,7 @@ fn is_own(tree: &Module, table: &Table) -> bool {
     table.name.as_bytes() == tree.name.name.as_bytes()
 }
 
-/// The tables behind that of a body's own definition.
+/// The tables behind the table of a body's own definition.
 fn behind(alloc: Global, tables: &[Shared<Table>]) -> Result<Items<Shared<Table>>> {
     let mut all = Items::new(alloc);
     for table in tables {
@@ -83,7 +83,7 @@ fn behind(alloc: Global, tables: &[Shared<Table>]) -> Result<Items<Shared<Table>
     Ok(all)
 }
 
-/// A body, by the number of its job. The first table is that of its own definition, where it has one.
+/// A body, by the number of its job. The first table is the table of its own definition, if it has one.
 fn typed_body(
     alloc: Global,
     number: u32,

@@ -7,7 +7,7 @@ use crate::computed::{Component, Link, Place, Root, TypedExpr};
 use std::alloc::{AllocError, Global};
 use tree_parts::Items;
 
-/// An operator and its second operand behind a first one. Where that is a chain, it gets one operator more. The only error
+/// An operator and its second operand behind a first one. If that is a chain, it gets one operator more. The only error
 /// is that memory ran out.
 pub fn link_operand(alloc: Global, first: TypedExpr, link: Link) -> Result<TypedExpr, AllocError>
     ensures { IfOk result (λ e. e ≡ link_operand first link) }

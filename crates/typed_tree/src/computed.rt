@@ -24,7 +24,7 @@ pub struct Slot {
 pub struct LocalProcedure {
     /// How many procedures outwards it is declared: 0 in the procedure that calls it.
     pub up: usize,
-    /// Its number among all such procedures of the module, in the order of their headings, from 0.
+    /// Its number among all procedures in procedures of the module, in the order of their headings, from 0.
     pub number: usize,
     /// Its heading as a procedure type.
     pub heading: TypeNo,
@@ -229,9 +229,9 @@ impl TypedExpr {
 pub enum Link {
     /// The base type, and the operand.
     Arithmetic(Arithmetic, TypeNo, TypedExpr),
-    /// The operand is evaluated only where the result so far is TRUE.
+    /// The operand is evaluated only if the result so far is TRUE.
     And(TypedExpr),
-    /// The operand is evaluated only where the result so far is FALSE.
+    /// The operand is evaluated only if the result so far is FALSE.
     Or(TypedExpr),
     Combine(SetOperator, TypedExpr),
 }

@@ -23,9 +23,9 @@ pub enum Value {
     /// One made of number literals alone, which takes the type that its place asks for.
     Number(i64),
     Scalar(ScalarValue),
-    /// Element k is there where bit k is 1.
+    /// Element k is there if bit k is 1.
     Set(u32),
-    /// A string. One of length 1 is a character where no array is asked for.
+    /// A string. One of length 1 is a character if no array is asked for.
     Text(Shared<Quoted>),
 }
 
@@ -66,7 +66,7 @@ pub struct LocalVariable {
     /// Its number among the formals and then the variables of the procedure, from 0.
     pub number: usize,
     pub kind: LocalKind,
-    /// Its type, of an open array that of the elements.
+    /// Its type, of an open array the type of the elements.
     pub of: TypeNo,
 }
 
@@ -75,7 +75,7 @@ pub struct LocalVariable {
 pub struct NestedProcedure {
     /// The level of the procedure around it.
     pub level: usize,
-    /// Its number among all such procedures of the module, in the order of their headings, from 0.
+    /// Its number among all procedures in procedures of the module, in the order of their headings, from 0.
     pub number: usize,
     /// Its heading as a procedure type.
     pub heading: TypeNo,

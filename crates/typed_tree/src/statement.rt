@@ -45,7 +45,7 @@ pub enum TypedStmt {
     Halt,
     /// The condition, what is done then, and what is done else, if ELSE or ELSIF stands. An ELSIF is an IF in the ELSE.
     If(TypedExpr, Items<TypedStmt>, Option<Items<TypedStmt>>),
-    /// The selector, the arms, and what is done where no label has its value, if ELSE stands.
+    /// The selector, the arms, and what is done if no label has its value, if ELSE stands.
     Case(TypedExpr, Items<TypedArm>, Option<Items<TypedStmt>>),
     While(TypedExpr, Items<TypedStmt>),
     Repeat(Items<TypedStmt>, TypedExpr),

@@ -13,7 +13,7 @@ pub struct Routine {
     pub pos: Pos,
     /// Its heading as a procedure type, which has its formals.
     pub heading: TypeNo,
-    /// 1 for a procedure of the module, one more than that of the procedure around it for others.
+    /// 1 for a procedure of the module, one more than the level of the procedure around it for others.
     pub level: usize,
     /// The procedure in which it is declared, if there is one.
     pub around: Option<Which>,
@@ -49,7 +49,7 @@ pub struct TypedModule {
     pub pos: Pos,
     /// The modules that the definition and then the body imports, in order, each once, without Console.
     pub imports: Items<Imported>,
-    /// The types that are known in it. Those of its own definition come first among its own.
+    /// The types that are known in it. The types of its own definition come first among its own.
     pub types: Types,
     /// The types of its variables: those of its definition, and then its own, in order.
     pub variables: Items<TypeNo>,

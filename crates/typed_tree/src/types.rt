@@ -12,7 +12,7 @@ pub enum Home {
     Module(u32),
 }
 
-/// A type: where it is made, and its number among the types that are made there. Types are the same where these agree.
+/// A type: where it is made, and its number among the types that are made there. Types are the same if these agree.
 #[derive(Clone, Copy, PartialEq, Eq)]
 pub struct TypeNo {
     pub home: Home,

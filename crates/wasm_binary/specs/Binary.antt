@@ -139,7 +139,7 @@ element =
     as_value (λ p. record { table = p.0; offset = p.1.0; functions = p.1.1 })
     (λ e. (e.table, (e.offset, e.functions))) (unsigned · (code · vector unsigned))
 
--- groups of locals, where there are so many before them: fewer than 2 ^ 32 in all
+-- groups of locals, if there are this many before them: fewer than 2 ^ 32 in all
 unfoldable pub locals_at : (count before : ℕ) → List ℕ → Reading (List Locals)
 locals_at zero before bytes = Ok ([], bytes)
 locals_at (suc count) before bytes =
@@ -183,7 +183,7 @@ unfoldable pub skip_all : List ℕ → List ℕ → Result (List ℕ) WFault
 skip_all [] bytes = Ok bytes
 skip_all (h ∷ hs) bytes = skip h bytes >>= λ s. skip_all hs s.1
 
--- so many bodies, of functions of these types
+-- this many bodies, of functions of these types
 unfoldable pub bodies : (types : List ℕ) → List ℕ → Reading (List Function)
 bodies [] bytes = Ok ([], bytes)
 bodies (t ∷ ts) bytes =
@@ -203,8 +203,7 @@ code_content types bytes =
     close_part n.0 n.1 fs.1 >>= λ rest.
     Ok (fs.0, rest)
 
--- the code section, which has to come where there is a function section, and may not where there is
--- none
+-- the code section, which has to come if there is a function section, and may not if there is none
 abbrev pub code_section : (types : List ℕ) → List ℕ → Reading (List Function)
 code_section [] bytes = Ok ([], bytes)
 code_section (t ∷ ts) [] = Err Malformed

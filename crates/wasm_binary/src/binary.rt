@@ -51,7 +51,7 @@ impl Binary for u32 {
     }
 }
 
-/// So many values, one after another.
+/// `count` values, one after another.
 pub fn many<T: Binary>(alloc: Global, count: u32, bytes: &[u8]) -> Result<(Items<T>, &[u8]), WFault>
     requires { length bytes.now < 2 ^ 32 }
     ensures gives { Gives (λ x. (x.0, x.1.now)) result (many T.format count bytes.now) }
@@ -90,7 +90,7 @@ fn entries<T: Binary>(alloc: Global, bytes: &[u8]) -> Result<(Items<T>, &[u8]), 
     many(alloc, count, rest)
 }
 
-/// The section of this number, or nothing where another one or the end stands.
+/// The section of this number, or nothing if another one or the end stands.
 pub fn section<T: Binary>(
     alloc: Global,
     number: u8,
@@ -126,16 +126,18 @@ pub fn write_vector<T: Binary>(out: &mut Writer, items: &[T]) -> Result<(), Enco
     Ok(())
 }
 
-/// Appends the section of this number, or nothing where it has no entry. The only error is that memory ran out, or that
+/// Appends the section of this number, or nothing if it has no entry. The only error is that memory ran out, or that
 /// the section has no encoding.
 pub fn write_section<T: Binary>(
     out: &mut Writer,
     number: u8,
     items: &[T],
 ) -> Result<(), EncodeError>
-    ensures written { OnOk result (out.new ≡ out.old ++ (section number T.format).encoding items.now) }
+    ensures written { OnOk result
+        (out.new ≡ out.old ++ (section number T.format).encoding items.now) }
     ensures fits { OnOk result ((section number T.format).fits items.now ≡ true) }
-    ensures unfit { result ≡ Err EncodeError.NoEncoding → (section number T.format).fits items.now ≡ false }
+    ensures unfit { result ≡ Err EncodeError.NoEncoding
+        → (section number T.format).fits items.now ≡ false }
 {
     if items.is_empty() {
         return Ok(());

@@ -82,7 +82,7 @@ fn code_content_at<'a>(
     Ok((functions, rest))
 }
 
-/// The code section, which has to come where functions have types, and may not where none has.
+/// The code section, which has to come if functions have types, and may not if none has.
 fn code_section_at<'a>(
     alloc: Global,
     types: &[u32],
@@ -142,10 +142,10 @@ fn module_at(alloc: Global, bytes: &[u8]) -> Result<WModule, WFault>
     })
 }
 
-/// The module that the bytes encode. `Malformed` or `OutsideProfile` where they encode none: which of the two, the first
+/// The module that the bytes encode. `Malformed` or `OutsideProfile` if they encode none: which of the two, the first
 /// byte decides that cannot continue an encoding or that breaks a stated size.
 pub fn read_module(alloc: Global, bytes: &[u8]) -> Result<WModule, WFault>
-    // A module exactly where the bytes encode it.
+    // A module exactly if the bytes encode it.
     ensures decided { MatchResult result (λ m. Encodes bytes.now m)
         (λ e. (e ≡ NoMemory) ⊎ ((m : WModule) → ¬ (Encodes bytes.now m))) }
     // Which fault it is.
@@ -156,7 +156,7 @@ pub fn read_module(alloc: Global, bytes: &[u8]) -> Result<WModule, WFault>
     module_at(alloc, bytes)
 }
 
-/// Appends the code section, or nothing where there is no function.
+/// Appends the code section, or nothing if there is no function.
 fn write_code_section(out: &mut Writer, functions: &[Function]) -> Result<(), EncodeError>
     ensures written { OnOk result (out.new ≡ out.old ++ code_encoding functions.now) }
     ensures bodies { OnOk result (list_all (λ f. body.fits f.body) functions.now ≡ true) }

@@ -1,4 +1,4 @@
--- Code inside a block, where so many levels of nesting are left for the block.
+-- Code inside a block, if this many levels of nesting are left for the block.
 use Rattle.std.specs.Prelude.{ℕ, zero, suc, Bool, false, List}
 use Rattle.wasm_tree.specs.declared.instr.Instr.{Instr}
 use Rattle.wasm_code.specs.Instructions.{code_within}

@@ -60,7 +60,7 @@ abbrev pub else_encoding : Option (List (List ℕ)) → List ℕ
 else_encoding None = []
 else_encoding (Some is) = 0x05 ∷ concat is
 
--- an instruction, where each one inside it is given by its encoding
+-- an instruction, if each one inside it is given by its encoding
 abbrev pub encoding_step : Instr-F (List ℕ) → List ℕ
 encoding_step layer.Unreachable = 0x00 ∷ []
 encoding_step (layer.Block t is) = 0x02 ∷ block_type.encoding t ++ concat is ++ 0x0B ∷ []
@@ -117,8 +117,8 @@ instr_fits = fold-Instr (ℕ → Bool) fits_step
 abbrev pub no_offset : List ℕ → Result (List ℕ) WFault
 no_offset bytes = skip 0x00 bytes >>= λ s. skip 0x00 s.1 >>= λ t. Ok t.1
 
--- a load, a store or a numeric instruction, behind its opcode, where the opcode is one of the
--- first, the second or the third kind
+-- a load, a store or a numeric instruction, behind its opcode, if the opcode is one of the first,
+-- the second or the third kind
 abbrev pub memory_reading : Option load.Load → Option StoreWidth → Option numeric.Numeric → List ℕ
     → Reading Instr
 memory_reading (Some l) width number bytes = no_offset bytes >>= λ rest. Ok (Load l, rest)
@@ -162,7 +162,7 @@ plain_of b bytes =
 abbrev pub opens : ℕ → Bool
 opens b = (b == 0x02) || (b == 0x03) || (b == 0x04)
 
--- the instruction with one sequence that such an opcode begins
+-- the instruction with one sequence that an opcode of this kind begins
 abbrev pub one_sided : ℕ → Option ValueType → List Instr → Instr
 one_sided b t is = if b == 0x02 then Block t is else (if b == 0x03 then Loop t is else If t is None)
 
@@ -177,7 +177,7 @@ abbrev pub instr_of : (nested : ℕ → List ℕ → Reading Instr) → ℕ → 
 instr_of nested b bytes =
     if opens b then nested b bytes else plain_of b bytes
 
--- at most so many instructions and what ends them, where `nested` reads an instruction that holds
+-- at most this many instructions and what ends them; `nested` reads an instruction that holds
 -- others
 unfoldable pub sequence : (nested : ℕ → List ℕ → Reading Instr) (most : ℕ) → List ℕ
     → Reading Sequence
@@ -203,14 +203,14 @@ closing inner b t is Else bytes =
     then (with_end (inner bytes) >>= λ others. Ok (If t is (Some others.0), others.1))
     else Err OutsideProfile
 
--- an instruction that holds others, behind its opcode, where so many levels of nesting are left
+-- an instruction that holds others, behind its opcode, if this many levels of nesting are left
 unfoldable pub nested_instruction : (levels : ℕ) → ℕ → List ℕ → Reading Instr
 nested_instruction zero b bytes = Err OutsideProfile
 nested_instruction (suc levels) b bytes =
     block_type.reading bytes >>= λ t. sequence (nested_instruction levels) (length t.1) t.1 >>= λ s.
     closing (λ rest. sequence (nested_instruction levels) (length rest) rest) b t.0 s.0.0 s.0.1 s.1
 
--- instructions and what ends them, where so many levels of nesting are left
+-- instructions and what ends them, if this many levels of nesting are left
 abbrev pub code_in : (levels : ℕ) → List ℕ → Reading Sequence
 code_in levels bytes = sequence (nested_instruction levels) (length bytes) bytes
 

@@ -5,7 +5,7 @@ use Rattle.std.specs.Prelude.{ℕ, zero, suc, ◌+◌, ◌-◌, ◌*◌, ◌/◌
 use Rattle.wasm_tree.specs.declared.fault.WFault.TheVariants.{Malformed}
 use Rattle.wasm_tree.specs.Format.{Format, Reading, ◌>>=◌}
 
--- a number of at most so many groups
+-- a number of at most this many groups
 unfoldable pub groups : (most n : ℕ) → List ℕ
 groups zero n = []
 groups (suc most) n = if nat_lt n 128 then n ∷ [] else (128 + n % 128) ∷ groups most (n / 128)

@@ -11,7 +11,7 @@ use Rattle.wasm_tree.specs.declared.instr.Load.TheVariants as load
 use Rattle.wasm_tree.specs.declared.instr.StoreWidth.{StoreWidth}
 use Rattle.wasm_tree.specs.declared.instr.StoreWidth.TheVariants.{Eight, One, Two, Four}
 
--- the place of a comparison among those of one width
+-- the place of a comparison among the comparisons of one width
 abbrev pub relation_number : Relation → ℕ
 relation_number Eq = 0
 relation_number Ne = 1

@@ -73,7 +73,7 @@ entries p = record {
   fits = λ xs. nat_lt 0 (length xs) && (vector p).fits xs;
 }
 
--- the bytes behind a part that is stated to take so many of them: what is left of it is nothing,
+-- the bytes behind a part that is stated to take this many of them: what is left of it is nothing,
 -- and all are there
 abbrev pub close_part : (size : ℕ) (bytes left : List ℕ) → Result (List ℕ) WFault
 close_part size bytes left =
@@ -99,7 +99,7 @@ bytes_left = record {
   fits = λ bytes. list_all (λ b. nat_lt b 256) bytes;
 }
 
--- a section, which is left out where it has no entry (Core 1.0, section 5.5.2)
+-- a section, which is left out if it has no entry (Core 1.0, section 5.5.2)
 abbrev pub section_encoding : {A : Type 0} → (number : ℕ) → Format A → List A → List ℕ
 section_encoding number p [] = []
 section_encoding number p (x ∷ xs) = number ∷ (with_size (entries p)).encoding (x ∷ xs)

@@ -19,7 +19,7 @@ is_plain (op.IfElse t n m) = false
 is_plain (op.BrTable n l) = false
 is_plain _ = true
 
--- the operation with one sequence, of so many, that such an opcode begins
+-- the operation with one sequence, of this many, that an opcode of this kind begins
 abbrev pub one_sided_op : ℕ → Option ValueType → (count : ℕ) → Op
 one_sided_op b t n =
     if b == 0x02 then op.Block t n else (if b == 0x03 then op.Loop t n else op.If t n)
@@ -40,7 +40,7 @@ onto_code before read = read >>= λ is. Ok (before ++ flat is.0, is.1)
 abbrev pub label_encoding : Op → List ℕ
 label_encoding o = unsigned.encoding (label_of o)
 
--- an instruction that holds others, behind its type, where so many levels of nesting are left for
+-- an instruction that holds others, behind its type, if this many levels of nesting are left for
 -- these
 abbrev pub sides_of : (levels : ℕ) → ℕ → Option ValueType → List ℕ → Reading Instr
 sides_of levels b t bytes =

@@ -31,7 +31,7 @@ pub enum Ending {
     Else,
 }
 
-/// What ends a sequence, where the opcode does.
+/// What ends a sequence, if the opcode does.
 fn ending_of(opcode: u8) -> Option<Ending>
     ensures { result ≡ ending_of opcode }
 {
@@ -91,7 +91,7 @@ fn put_branches(scratch: &mut Vec<Op>, labels: &[u32]) -> Result<(), AllocError>
     Ok(())
 }
 
-/// So many labels, one after another.
+/// `count` labels, one after another.
 fn many_labels(alloc: Global, count: u32, bytes: &[u8]) -> Result<(Items<u32>, &[u8]), WFault>
     ensures gives { Gives (λ x. (x.0, x.1.now)) result (many unsigned count bytes.now) }
     ensures count { IfOk result (λ x. length x.0 ≡ count) }
@@ -245,7 +245,7 @@ fn block_type_at(bytes: &[u8]) -> Result<(Option<ValueType>, &[u8]), WFault>
     }
 }
 
-/// The operation with one sequence, of so many, that the opcode begins.
+/// The operation with one sequence, of this many, that the opcode begins.
 #[inline(always)]
 fn one_sided(opcode: u8, kind: Option<ValueType>, count: u32) -> Op
     ensures { result ≡ one_sided_op opcode kind count }
@@ -291,7 +291,7 @@ fn close_two(scratch: &mut Vec<Op>, place: usize, second: usize, kind: Option<Va
     set_op(scratch, place, Op::IfElse(kind, count, others));
 }
 
-/// Reads what stands behind the type of an instruction that holds others, where so many levels of nesting are left for
+/// Reads what stands behind the type of an instruction that holds others, if this many levels of nesting are left for
 /// these. Its operation is put into its place when it is known how many they are.
 #[cycle(code)]
 fn sides_onto<'a>(
@@ -326,7 +326,7 @@ fn sides_onto<'a>(
     }
 }
 
-/// Reads the instruction that this opcode begins and that holds others, where so many levels of nesting are left.
+/// Reads the instruction that this opcode begins and that holds others, if this many levels of nesting are left.
 #[inline(never)]
 #[cycle(code)]
 #[tactic(auto, unfolding(crate::specs::Instructions::nested_instruction))]
@@ -369,7 +369,7 @@ fn instr_onto<'a>(
     }
 }
 
-/// Puts instructions on the scratch up to what ends them, where so many levels of nesting are left.
+/// Puts instructions on the scratch up to what ends them, if this many levels of nesting are left.
 #[cycle(code)]
 fn code_in<'a>(
     alloc: Global,
@@ -472,7 +472,8 @@ fn write_block_type(out: &mut Writer, kind: Option<ValueType>) -> Result<(), All
 
 /// Appends how many labels there are, and then each.
 fn write_labels(out: &mut Writer, labels: &[Op]) -> Result<(), AllocError>
-    ensures { OnOk result (out.new ≡ out.old ++ (vector unsigned).encoding (map label_of labels.now)) }
+    ensures { OnOk result
+        (out.new ≡ out.old ++ (vector unsigned).encoding (map label_of labels.now)) }
 {
     out.unsigned(labels.len() as u64)?;
     for label in labels {

@@ -73,7 +73,7 @@ fn op_fits(op: Op, rest: &[Op], levels: u16) -> bool
     }
 }
 
-/// Whether code fits into a block for which so many levels are left.
+/// Whether code fits into a block for which this many levels are left.
 #[cycle(fits)]
 fn fits_inside(ops: &[Op], levels: u16) -> bool
     ensures { result ≡ fits_inside levels (tree ops.now) }

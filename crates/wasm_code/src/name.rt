@@ -22,7 +22,7 @@ fn is_utf8(text: &[u8]) -> bool
 #[tactic(auto, unfolding(crate::specs::Parts::name))]
 pub fn name_at(alloc: Global, bytes: &[u8]) -> Result<(Items<u8>, &[u8]), WFault>
     ensures gives { Gives (λ x. (x.0, x.1.now)) result (name.reading bytes.now) }
-    // Memory is asked for only where there is a name.
+    // Memory is asked for only if there is a name.
     ensures memory { result ≡ Err WFault.NoMemory → IsOk (name.reading bytes.now) }
     ensures shorter { IfOk result (λ x. length x.1.now ≤ length bytes.now) }
 {

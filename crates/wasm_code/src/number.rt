@@ -40,7 +40,7 @@ fn groups_at(most: u8, bytes: &[u8]) -> Result<(u32, &[u8]), WFault>
     }
 }
 
-/// The number below 2^32 at the front, and the bytes behind it. `Malformed` where there is none, or in a longer encoding.
+/// The number below 2^32 at the front, and the bytes behind it. `Malformed` if there is none, or in a longer encoding.
 #[inline(always)]
 #[tactic(auto, unfolding(crate::specs::Number::groups_at))]
 pub fn unsigned_at(bytes: &[u8]) -> Result<(u32, &[u8]), WFault>
@@ -100,7 +100,7 @@ fn signed_at(most: u8, top: u64, bytes: &[u8]) -> Result<(u64, &[u8]), WFault>
     }
 }
 
-/// The signed number of 32 bits at the front, as its bits, and the bytes behind it. `Malformed` where there is none.
+/// The signed number of 32 bits at the front, as its bits, and the bytes behind it. `Malformed` if there is none.
 #[inline(always)]
 #[tactic(auto, unfolding(crate::specs::Number::signed_groups_at))]
 pub fn signed32_at(bytes: &[u8]) -> Result<(u32, &[u8]), WFault>
@@ -121,7 +121,7 @@ fn long_signed32_at(bytes: &[u8]) -> Result<(u32, &[u8]), WFault>
     Ok((bits as u32, rest))
 }
 
-/// The signed number of 64 bits at the front, as its bits, and the bytes behind it. `Malformed` where there is none.
+/// The signed number of 64 bits at the front, as its bits, and the bytes behind it. `Malformed` if there is none.
 #[inline(always)]
 #[tactic(auto, unfolding(crate::specs::Number::signed_groups_at))]
 pub fn signed64_at(bytes: &[u8]) -> Result<(u64, &[u8]), WFault>

@@ -65,7 +65,7 @@ fn test_of(opcode: u8) -> Option<Numeric>
     }
 }
 
-/// The numeric instruction of this opcode, where it is no test.
+/// The numeric instruction of this opcode, if it is no test.
 fn calculation_of(opcode: u8) -> Option<Numeric>
     ensures { result ≡ find_opcode numeric_opcode opcode calculations }
 {

@@ -6,7 +6,7 @@ ghost use Rattle.wasm_code.specs.Parts.{close_part};
 
 use wasm_tree::WFault;
 
-/// The first bytes, so many or as many as there are.
+/// The first bytes, `size` or as many as there are.
 pub fn front(bytes: &[u8], size: u32) -> &[u8]
     ensures front { result.now ≡ take size bytes.now }
     ensures short { length result.now ≤ size }
@@ -20,7 +20,7 @@ pub fn front(bytes: &[u8], size: u32) -> &[u8]
     }
 }
 
-/// The bytes behind a part of so many bytes, of which these are left. `Malformed` where some are, or some are missing.
+/// The bytes behind a part of `size` bytes, of which these are left. `Malformed` if some are, or some are missing.
 pub fn close_part<'a>(size: u32, bytes: &'a [u8], left: &[u8]) -> Result<&'a [u8], WFault>
     ensures gives { Gives (λ x. x.now) result (close_part size bytes.now left.now) }
     ensures memory { result ≢ Err WFault.NoMemory }
@@ -34,7 +34,7 @@ pub fn close_part<'a>(size: u32, bytes: &'a [u8], left: &[u8]) -> Result<&'a [u8
     }
 }
 
-/// The bytes behind this one. `Malformed` where another one or the end stands.
+/// The bytes behind this one. `Malformed` if another one or the end stands.
 pub fn skip(byte: u8, bytes: &[u8]) -> Result<&[u8], WFault>
     ensures gives { Gives (λ x. (tt, x.now)) result (skip byte bytes.now) }
     ensures memory { result ≢ Err WFault.NoMemory }

@@ -15,7 +15,7 @@ const LONGEST: u8 = 10;
 /// The most bytes of a part.
 const MAX_PART: usize = 4294967295;
 
-/// Bytes of the binary format, in the order in which they are written. Contracts see the list of them. Where memory is
+/// Bytes of the binary format, in the order in which they are written. Contracts see the list of them. If memory is
 /// refused, nothing is appended.
 #[derive(Drop)]
 pub struct Writer {
@@ -78,7 +78,7 @@ impl Writer {
         self.bytes.extend_from_slice(bytes)
     }
 
-    /// Makes room for so many bytes more, so that they ask for memory once.
+    /// Makes room for `count` bytes more, so that they ask for memory once.
     pub(crate) fn reserve(&mut self, count: usize) -> Result<(), AllocError>
         ensures { self.new ≡ self.old }
     {
@@ -134,10 +134,12 @@ impl Writer {
     /// Appends a part behind the number of its bytes: a section's content, a body or a name. The only error is that memory
     /// ran out, or that the part has no encoding: it has more than `MAX_PART` bytes.
     pub fn sized(&mut self, part: &[u8]) -> Result<(), EncodeError>
-        ensures ok { OnOk result (self.new ≡ self.old ++ (unsigned.encoding (length part.now) ++ part.now)) }
+        ensures ok { OnOk result
+            (self.new ≡ self.old ++ (unsigned.encoding (length part.now) ++ part.now)) }
         ensures err { OnErr result (self.new ≡ self.old) }
         ensures fits { OnOk result ((with_size bytes_left).fits part.now ≡ true) }
-        ensures unfit { result ≡ Err EncodeError.NoEncoding → nat_lt (length part.now) (2 ^ 32) ≡ false }
+        ensures unfit { result ≡ Err EncodeError.NoEncoding
+            → nat_lt (length part.now) (2 ^ 32) ≡ false }
     {
         if part.len() > MAX_PART {
             return Err(EncodeError::NoEncoding);

@@ -31,7 +31,7 @@ IsEnd StillRunning (Going st now callers) = Unit {0}
 IsEnd StillRunning (Over k) = ⊥
 IsEnd StillRunning Trapped = ⊥
 
--- how a run is over, where it is
+-- how a run is over, if it is
 abbrev pub end_of : Config → Option End
 end_of (Over k) = Some (Done k)
 end_of Trapped = Some Trap
@@ -43,7 +43,7 @@ pub record IsIdle {S : Type 0} (reported : S → Option (List ℕ)) (old new : I
   pub config : config_of new ≡ config_of old
   pub bytes : reported after ≡ reported before
 
--- so many reductions were made, and what they printed was taken
+-- this many reductions were made, and what they printed was taken
 pub record Made {S : Type 0} (reported : S → Option (List ℕ)) (failed : S → ℕ) (n : ℕ)
     (old new : Instances) (before after : S) : Type 0 where
   pub config : config_of new ≡ (run (modules_of old) n (config_of old)).0
@@ -70,7 +70,7 @@ pub record Stops {S : Type 0} (reported : S → Option (List ℕ)) (failed : S �
   pub bytes : reported after ≡ reported before
   pub breaks : Breaks failed e before after
 
--- so many reductions were made, and what they printed was taken
+-- this many reductions were made, and what they printed was taken
 pub record Runs {S : Type 0} (reported : S → Option (List ℕ)) (failed : S → ℕ) (steps : ℕ) (e : End)
     (old new : Instances) (before after : S) : Type 0 where
   pub config : config_of new ≡ (run (modules_of old) steps (config_of old)).0

@@ -32,7 +32,7 @@ pub record Holds (modules : List WModule) (table : List (List KnownFunction)) (c
   pub well : IsWell modules c
   pub right : StaysRight modules table c
 
--- so many reductions lead there, and print nothing
+-- this many reductions lead there, and print nothing
 abbrev pub Goes : List WModule → (n : ℕ) → (old new : Config) → Type 0
 Goes modules n old new = (new, []) ≡ run modules n old
 
@@ -58,8 +58,8 @@ least_divisor = 1
 abbrev pub greatest_divisor : ℕ
 greatest_divisor = 4294967295
 
--- the quotient rounded down, and the remainder from 0 up, where the divisor is between its bounds
--- and division is defined
+-- the quotient rounded down, and the remainder from 0 up, if the divisor is between its bounds and
+-- division is defined
 abbrev pub IsQuotient : (x y n : ℕ) → Type 0
 IsQuotient x y n =
     IsBetween y least_divisor greatest_divisor × (q r : ℕ) × (operation_result DivS x y ≡ Some q)

@@ -43,7 +43,7 @@ fn place_reaching(store: &Store, memories: &[Pages], instance: usize, reach: usi
     Some(place)
 }
 
-/// Sets bytes to 0, so many from a place on.
+/// Sets bytes to 0, `count` from a place on.
 fn clear(bytes: &mut [u8], to: usize, count: usize)
     requires { to + count ≤ length bytes.old }
     ensures { bytes.new ≡ cleared_bytes count to bytes.old }
@@ -126,7 +126,7 @@ fn copy_in_memory(memory: &mut Pages, to: usize, from: usize, count: usize)
     copy(memory.bytes.as_mut_slice(), to, from, count);
 }
 
-/// How far so many bytes from each of two places on reach.
+/// How far `count` bytes from each of two places on reach.
 fn reach_of_both(to: u32, from: u32, count: u32) -> usize
     ensures { result ≡ max to from + count }
 {

@@ -47,7 +47,8 @@ fn next_numeric(code: &[Op]) -> Option<(Numeric, &[Op])>
 #[inline(always)]
 fn add(stack: &mut Operands, number: u32)
     requires { ∥ IsI32 stack.old.known.values ∥₁ }
-    ensures { Combined true Numeric.I32Add (I32 number) stack.old.known.values stack.new.known.values }
+    ensures { Combined true Numeric.I32Add (I32 number) stack.old.known.values
+        stack.new.known.values }
 {
     let n = stack.top_i32();
     stack.set_i32(n.wrapping_add(number));

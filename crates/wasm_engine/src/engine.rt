@@ -27,7 +27,7 @@ use wasm_valid::ValidModule;
 /// Where a run is.
 #[derive(Clone, Copy, Debug, PartialEq, Eq)]
 pub enum End {
-    /// The run is over: 0 where it came to its end, else the number that stopped it.
+    /// The run is over: 0 if it came to its end, else the number that stopped it.
     Done(u8),
     /// The run trapped.
     Trap,
@@ -71,7 +71,8 @@ pub struct Instances<'a> {
     end: End,
     is_broken: bool,
     // What an instruction needs is there, and the table is right, as long as the run was not broken off.
-    ghost sound: { ∥ (is_broken ≡ false → Holds modules.now table (config_at end (going machine))) ∥₁ },
+    ghost sound: { ∥ (is_broken ≡ false → Holds modules.now table (config_at end (going machine)))
+        ∥₁ },
 }
 
 /// The memories, as the run has them.
@@ -166,11 +167,11 @@ fn start<'a>(
 impl<'a> Instances<'a> {
     ghost use Rattle.wasm_engine.specs.Instances.{config_of, modules_of, has_failed, end_of, IsIdle, Made, Settles, Stops, Breaks, Runs, RunsPart};
 
-    /// Links the modules, the first of which is `link`: it answers the others' imports from `link`, and the host answers
-    /// `put` and `stop` from `host`. Its `run` is then about to be executed. `Unlinked` (83) where there is no module, no
-    /// function without parameters and results exported as `run` by the first, or an import that is missing or of another
-    /// type; `SegmentOutside` (84) where a segment reaches outside its table or memory. `run` is looked for first; then
-    /// the first module at fault in order decides, its imports before its segments.
+    /// Links the modules, the first of which is `link`: it answers the others' imports from `link`, and the host
+    /// answers `put` and `stop` from `host`. Its `run` is then about to be executed. `Unlinked` (83) if there is no
+    /// module, no function without parameters and results exported as `run` by the first, or an import that is missing
+    /// or of another type; `SegmentOutside` (84) if a segment reaches outside its table or memory. `run` is looked for
+    /// first; then the first module at fault in order decides, its imports before its segments.
     pub fn link(alloc: Global, modules: &'a [ValidModule]) -> Result<Instances<'a>, WFault>
         ensures gives { Gives (λ i. config_of i) result (link modules.now) }
         ensures fresh { IfOk result (λ i. (modules_of i ≡ modules.now) × (has_failed i ≡ false)) }
@@ -187,13 +188,15 @@ impl<'a> Instances<'a> {
         })
     }
 
-    /// Executes link's `run` for so many further reductions, or up to its end if that comes first, and hands each printed
-    /// byte to `out`. After an end each later call answers the same, and asks for no memory. `Write` (91) exactly where `out`
-    /// failed, `NoMemory` (90) where memory was refused; each later call then answers `Ended` (92) and does nothing.
+    /// Executes link's `run` for `steps` further reductions, or up to its end if that comes first, and hands each
+    /// printed byte to `out`. After an end each later call answers the same, and asks for no memory. `Write` (91)
+    /// exactly if `out` failed, `NoMemory` (90) if memory was refused; each later call then answers `Ended` (92) and
+    /// does nothing.
     pub fn run<S: Sink>(&mut self, steps: u64, out: &mut S) -> Result<End, RunFault>
         requires { S.failed out.old + 1 < 2 ^ 64 }
         // Without a fault: exactly these reductions, the bytes that they print, and where the run is then.
-        ensures ok { IfOk result (λ e. Runs S.reported S.failed steps e self.old self.new out.old out.new) }
+        ensures ok { IfOk result (λ e.
+            Runs S.reported S.failed steps e self.old self.new out.old out.new) }
         ensures unbroken { OnOk result (has_failed self.new ≡ false) }
         // With one: the bytes of the reductions before it.
         ensures err { OnErr result
@@ -201,7 +204,8 @@ impl<'a> Instances<'a> {
         ensures write { (result ≡ Err RunFault.Write) ↔ (S.failed out.new ≡ S.failed out.old + 1) }
         ensures others { (result ≡ Err RunFault.Write → ⊥) → S.failed out.new ≡ S.failed out.old }
         ensures ended { (result ≡ Err RunFault.Ended) ↔ (has_failed self.old ≡ true) }
-        ensures nothing { result ≡ Err RunFault.Ended → IsIdle S.reported self.old self.new out.old out.new }
+        ensures nothing { result ≡ Err RunFault.Ended
+            → IsIdle S.reported self.old self.new out.old out.new }
         // After an end nothing is done, and the answer is the same.
         ensures over { has_failed self.old ≡ false
             → (e : End)
@@ -209,7 +213,8 @@ impl<'a> Instances<'a> {
             → (result ≡ Ok e) × IsIdle S.reported self.old self.new out.old out.new }
         ensures modules { modules_of self.new ≡ modules_of self.old }
         // Each reduction finds what it needs, and traps only by a rule of the standard.
-        ensures safe { has_failed self.old ≡ false → StaysSafe (modules_of self.old) (config_of self.old) }
+        ensures safe { has_failed self.old ≡ false
+            → StaysSafe (modules_of self.old) (config_of self.old) }
     {
         if self.is_broken {
             return Err(RunFault::Ended);
@@ -228,9 +233,11 @@ impl<'a> Instances<'a> {
         requires room { S.failed out.old + 1 < 2 ^ 64 }
         requires broken { has_failed self.old ≡ true }
         requires sound { ∥ Holds (modules_of self.old) self.old.table (config_of self.old) ∥₁ }
-        ensures ok { IfOk result (λ e. Runs S.reported S.failed steps e self.old self.new out.old out.new) }
+        ensures ok { IfOk result (λ e.
+            Runs S.reported S.failed steps e self.old self.new out.old out.new) }
         ensures err { IfErr result (λ e.
-            RunsPart S.reported steps self.old out.old out.new × Breaks S.failed e out.old out.new) }
+            RunsPart S.reported steps self.old out.old out.new
+            × Breaks S.failed e out.old out.new) }
         ensures keeps { (modules_of self.new ≡ modules_of self.old)
             × (has_failed self.new ≡ has_failed self.old) × (self.new.table ≡ self.old.table) }
     {
@@ -309,7 +316,8 @@ fn go<'a>(
     requires most { 0 < most }
     requires sound { ∥ Holds modules.now table.now (going machine.old) ∥₁ }
     ensures within { IfOk result (λ p. (0 < p.0) × (p.0 ≤ most)) }
-    ensures made { IfOk result (λ p. progress p.1 machine.new ≡ run modules.now p.0 (going machine.old)) }
+    ensures made { IfOk result (λ p.
+        progress p.1 machine.new ≡ run modules.now p.0 (going machine.old)) }
 {
     let mut left = most;
     loop {

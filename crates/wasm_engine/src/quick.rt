@@ -238,7 +238,7 @@ fn reductions_of(function: KnownFunction) -> u64
 }
 
 /// Pushes three constants and executes the call of check behind them, if the number on top is between its bounds. It
-/// makes so many reductions, or none.
+/// makes this many reductions, or none.
 fn bounds_at_once<'a>(
     modules: &'a [ValidModule],
     table: &[Items<KnownFunction>],
@@ -431,7 +431,7 @@ fn constant_at_once<'a>(
     }
 }
 
-/// Makes several reductions at once, if what is next is known: so many, or none.
+/// Makes several reductions at once, if what is next is known: this many, or none.
 #[inline(always)]
 fn at_once<'a>(
     modules: &'a [ValidModule],
@@ -477,7 +477,8 @@ pub fn several<'a>(
     requires most { 0 < most }
     requires sound { ∥ Holds modules.now table.now (going machine.old) ∥₁ }
     ensures within { IfOk result (λ p. (0 < p.0) × (p.0 ≤ most)) }
-    ensures made { IfOk result (λ p. progress p.1 machine.new ≡ run modules.now p.0 (going machine.old)) }
+    ensures made { IfOk result (λ p.
+        progress p.1 machine.new ≡ run modules.now p.0 (going machine.old)) }
 {
     let made = at_once(modules, table, machine, most)?;
     if made > 0 {

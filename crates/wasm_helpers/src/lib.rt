@@ -11,7 +11,7 @@ use wasm_tree::{Load, Numeric, Op, Operation, Relation, StoreWidth};
 /// 2^32 - 1: added to a number of 32 bits, it takes 1 off.
 const GREATEST: u32 = 4_294_967_295;
 
-/// The number of the function that ends a run, and that of check.
+/// The number of the function that ends a run, and the number of check.
 const STOP: u32 = 1;
 
 const CHECK: u32 = 4;

@@ -15,7 +15,7 @@ use Rattle.wasm_tree.specs.Machine.{Activation, Config, Going, callee_at, own_fu
 use Rattle.law_effect.specs.Bytes.{byte, copied_bytes, cleared_bytes}
 use Rattle.wasm_helpers.specs.Codes.{check_typed, copy_typed, fill_typed, div_typed, mod_typed}
 
--- so many reductions lead from one configuration to another, and print nothing
+-- this many reductions lead from one configuration to another, and print nothing
 pub record Leads (modules : List WModule) (n : ℕ) (c d : Config) : Type 0 where
   pub path : run modules n c ≡ (d, [])
 
@@ -38,8 +38,8 @@ CheckReturns =
     callers)
     (Going st (with now rest (below ++ I64 v ∷ [])) callers)
 
--- so does the number on top where three constants stand in front of the call: its bounds, and what
--- it ends with if it is not between them
+-- so does the number on top if three constants stand in front of the call: its bounds, and what it
+-- ends with if it is not between them
 abbrev pub bounds_before : (lo hi k g : ℕ) → List Instr → List Instr
 bounds_before lo hi k g rest =
     instr.I64Const lo ∷ instr.I64Const hi ∷ instr.I64Const k ∷ instr.Call g ∷ rest
@@ -57,7 +57,7 @@ BoundsReturn =
     (Going st (with now (bounds_before lo hi k g rest) (below ++ I64 v ∷ [])) callers)
     (Going st (with now rest (below ++ I64 v ∷ [])) callers)
 
--- a call of fill, where the bytes are there, clears them
+-- a call of fill, if the bytes are there, clears them
 abbrev pub fill_reductions : (count : ℕ) → ℕ
 fill_reductions count = count * 16 + 7
 
@@ -76,7 +76,7 @@ FillReturns =
     (Going (with_memory_bytes st place memory (cleared_bytes k to memory.bytes))
     (with now rest below) callers)
 
--- a call of copy, where the bytes are there and have room, copies them from the first on
+-- a call of copy, if the bytes are there and have room, copies them from the first on
 abbrev pub copy_reductions : (count : ℕ) → ℕ
 copy_reductions count = count * 21 + 7
 

@@ -104,8 +104,8 @@ fn run_index(alloc: Global, first: &ValidModule, found: Option<ExportKind>) -> R
     }
 }
 
-/// The index of the function without parameters and results that the first module exports as `run`. `Unlinked` where
-/// there is none.
+/// The index of the function without parameters and results that the first module exports as `run`. `Unlinked` if there
+/// is none.
 pub fn run_of(alloc: Global, modules: &[ValidModule]) -> Result<u32, WFault>
     ensures { Gives (λ f. f) result (run_of modules.now) }
 {

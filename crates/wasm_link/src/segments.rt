@@ -59,7 +59,7 @@ fn write<T: Copy>(
     Ok(())
 }
 
-/// The addresses of functions, or nothing where one is unknown.
+/// The addresses of functions, or nothing if one is unknown.
 fn addresses(
     alloc: Global,
     instance: &Instance,

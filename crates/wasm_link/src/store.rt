@@ -19,8 +19,8 @@ fn with_function(
     instance: &mut Instance,
     callee: Callee,
 ) -> Result<(), AllocError>
-    ensures { OnOk result
-        (link_result store.new instance.new ≡ with_function callee (link_result store.old instance.old)) }
+    ensures { OnOk result (link_result store.new instance.new
+        ≡ with_function callee (link_result store.old instance.old)) }
 {
     let address = store.functions.len();
     store.functions.push(callee)?;
@@ -65,8 +65,8 @@ fn with_table(
     instance: &mut Instance,
     table: TableType,
 ) -> Result<(), AllocError>
-    ensures { OnOk result
-        (with_table table (link_result store.old instance.old) ≡ Ok (link_result store.new instance.new)) }
+    ensures { OnOk result (with_table table (link_result store.old instance.old)
+        ≡ Ok (link_result store.new instance.new)) }
 {
     let address = store.tables.len();
     let fresh = fresh_table(alloc, table)?;
@@ -138,7 +138,8 @@ pub fn with_memories(
 
 /// The value of an instruction that is constant, whatever stands behind it.
 fn constant(store: &Store, instance: &Instance, op: Op) -> Option<Value>
-    ensures { (rest : List Op) → result ≡ constant (link_result store.now instance.now) (head tree op rest) }
+    ensures { (rest : List Op)
+        → result ≡ constant (link_result store.now instance.now) (head tree op rest) }
 {
     match op {
         Op::I32Const(number) => Some(Value::I32(number)),

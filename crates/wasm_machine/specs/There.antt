@@ -23,6 +23,6 @@ HasSlots st m slot =
     × (slice_get st.tables place ≡ Some table)
     × ((a : ℕ) → slice_get table.slots slot ≡ Some (Some a) → IsThere (slice_get st.functions a))
 
--- the operands below with what was made of the others, where something was
+-- the operands below with what was made of the others, if something was
 abbrev pub replace_operands : Option (List Value × Value) → Option (List Value)
 replace_operands o = option_map (λ p. p.0 ++ p.1 ∷ []) o

@@ -14,7 +14,7 @@ use crate::frame::{Label, Machine, Reduced};
 use std::alloc::AllocError;
 use wasm_tree::{Op, label_of, split_ops};
 
-/// A block begins: a branch to it keeps so many operands and goes on there.
+/// A block begins: a branch to it keeps this many operands and goes on there.
 #[inline(always)]
 pub fn inside<'a>(
     machine: &mut Machine<'a>,
@@ -38,8 +38,8 @@ pub fn inside<'a>(
     Ok(Reduced::On)
 }
 
-/// A block begins that holds so many of the instructions ahead: a branch to it keeps so many operands and goes on behind
-/// it.
+/// A block begins that holds this many of the instructions ahead: a branch to it keeps this many operands and goes on
+/// behind it.
 #[inline(always)]
 pub fn block<'a>(
     machine: &mut Machine<'a>,
@@ -115,7 +115,7 @@ pub fn branch(machine: &mut Machine<'_>, label: u32) -> Result<Reduced, AllocErr
     }
 }
 
-/// A branch where the topmost operand is not 0.
+/// A branch if the topmost operand is not 0.
 #[tactic(auto, using(crate::proofs::Opened::out_br_if))]
 #[inline(always)]
 pub fn branch_if(machine: &mut Machine<'_>, label: u32) -> Result<Reduced, AllocError>
@@ -165,7 +165,7 @@ pub fn branch_table(
     branch(machine, choice(branches, number, default))
 }
 
-/// The same, where so many of the instructions ahead are the branches.
+/// The same, if this many of the instructions ahead are the branches.
 #[inline(always)]
 pub fn table<'a>(
     machine: &mut Machine<'a>,
@@ -187,11 +187,11 @@ pub fn table<'a>(
     branch_table(machine, branches, default)
 }
 
-/// The end of a block, or of the function where there is none.
+/// The end of a block, or of the function if there is none.
 #[inline(always)]
 pub fn end(machine: &mut Machine<'_>) -> Result<Reduced, AllocError>
-    requires { ∥ IsReadyToEnd (activation machine.old.now) (split_last (activation machine.old.now).labels)
-        ∥₁ }
+    requires { ∥ IsReadyToEnd (activation machine.old.now)
+        (split_last (activation machine.old.now).labels) ∥₁ }
     ensures { IfOk result (λ r.
         progress r machine.new
         ≡ end_block (store_of machine.old) (activation machine.old.now) (callers_of machine.old)

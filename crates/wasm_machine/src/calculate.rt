@@ -61,7 +61,8 @@ fn operate(stack: &mut Operands, operation: Operation) -> bool
 #[inline(always)]
 fn replace_top(stack: &mut Operands, numeric: Numeric) -> bool
     requires { ∥ AreNumbers numeric stack.old.known.values ∥₁ }
-    ensures { if_kept stack.new.known.values result ≡ replace_operands (calculation numeric stack.old.known.values) }
+    ensures { if_kept stack.new.known.values result
+        ≡ replace_operands (calculation numeric stack.old.known.values) }
 {
     match numeric {
         Numeric::I32Eqz => {

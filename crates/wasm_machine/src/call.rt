@@ -23,7 +23,8 @@ use wasm_valid::ValidModule;
 
 #[inline(always)]
 fn push_locals(locals: &mut Operands, groups: &[Locals]) -> Result<(), AllocError>
-    ensures { OnOk result (locals.new.known.values ≡ locals.old.known.values ++ flat_map zeros groups.now) }
+    ensures { OnOk result
+        (locals.new.known.values ≡ locals.old.known.values ++ flat_map zeros groups.now) }
 {
     for group in groups {
         locals.push_zeros(*group)?;
@@ -43,7 +44,7 @@ fn no_frame<'a>(alloc: Global) -> Frame<'a> {
     }
 }
 
-/// Makes a frame, whatever it was, that of a function that begins with the topmost operands, so many.
+/// Makes a frame, whatever it was, the frame of a function that begins with the topmost operands, this many.
 #[inline(always)]
 fn enter<'a>(
     frame: &mut Frame<'a>,
@@ -75,7 +76,8 @@ pub fn first_frame<'a>(
     instance: usize,
     function: TypedFunction<'a>,
 ) -> Result<Frame<'a>, AllocError>
-    ensures { IfOk result (λ f. activation f ≡ enter_function instance (typed_function function.entry) []) }
+    ensures { IfOk result (λ f.
+        activation f ≡ enter_function instance (typed_function function.entry) []) }
 {
     let mut frame = no_frame(alloc);
     enter(&mut frame, instance, function, &Operands::new(alloc), 0)?;
@@ -109,7 +111,8 @@ fn call_typed<'a>(
     number: usize,
     function: TypedFunction<'a>,
 ) -> Result<Reduced, AllocError>
-    requires { length (typed_function function).type.params ≤ length machine.old.now.stack.known.values }
+    requires { length (typed_function function).type.params
+        ≤ length machine.old.now.stack.known.values }
     ensures { IfOk result (λ r.
         progress r machine.new
         ≡ called_typed (store_of machine.old) (activation machine.old.now)

@@ -58,7 +58,7 @@ pub struct Machine<'a> {
     pub spare: Vec<Frame<'a>>,
 }
 
-// Written by hand, as that of a frame.
+// Written by hand, as the drop of a frame.
 impl Drop for Machine<'_> {
     fn drop(self) {
         let Machine {

@@ -15,7 +15,7 @@ use crate::places::memory_of;
 use wasm_operands::{load_number, load_size};
 use wasm_tree::{Load, StoreWidth};
 
-/// So many bytes from a place on, where they are there.
+/// `size` bytes from a place on, if they are there.
 fn bytes_at(bytes: &[u8], place: usize, size: usize) -> Option<&[u8]>
     requires { place + size < 2 ^ 64 }
     ensures { bytes_seen result ≡ bytes_at size place bytes.now }
@@ -75,10 +75,10 @@ fn store_bytes(machine: &mut Machine<'_>, bytes: &[u8]) -> Reduced
     requires few { length bytes.now ≤ 8 }
     requires address { ∥ IsI32 machine.old.now.stack.known.values ∥₁ }
     requires memory { IsThere (memory_of (store_of machine.old) machine.old.now.instance) }
-    ensures { progress result machine.new ≡ or_trap (top_i32 machine.old.now.stack.known.values) (λ p.
+    ensures { progress result machine.new
+        ≡ or_trap (top_i32 machine.old.now.stack.known.values) (λ p.
         or_trap (memory_of (store_of machine.old) machine.old.now.instance)
-        (stores (store_of machine.old)
-        (record (activation machine.old.now) { stack = p.0 })
+        (stores (store_of machine.old) (record (activation machine.old.now) { stack = p.0 })
         (callers_of machine.old) p.1 bytes.now)) }
 {
     let place = machine.now.stack.pop_i32() as usize;

@@ -22,10 +22,11 @@ pub fn the<T>(items: &[T], index: usize) -> &T
     &items[index]
 }
 
-/// Where the value of a global stands among those of all.
+/// Where the value of a global stands among the values of all.
 #[inline(always)]
 pub fn place_of_global(store: &Store, globals: &Operands, instance: usize, index: u32) -> usize
-    requires { IsThere (global_at (record store.now { globals = globals.now.known.values }) instance index) }
+    requires { IsThere
+        (global_at (record store.now { globals = globals.now.known.values }) instance index) }
     ensures { global_at (record store.now { globals = globals.now.known.values }) instance index
         ≡ slice_get globals.now.known.values result }
 {
@@ -60,7 +61,8 @@ pub fn callee_in(store: &Store, instance: usize, slot: u32) -> Option<Callee>
 /// The module's memory, behind its place.
 #[inline(always)]
 pub fn memory_of<'m>(store: &Store, memories: &'m [Pages], instance: usize) -> (usize, &'m Pages)
-    requires { IsThere (memory_of (record store.now { memories = map memory_from memories.now }) instance) }
+    requires { IsThere
+        (memory_of (record store.now { memories = map memory_from memories.now }) instance) }
     ensures { memory_of (record store.now { memories = map memory_from memories.now }) instance
         ≡ Some (result.0, memory_from result.1.now) }
 {

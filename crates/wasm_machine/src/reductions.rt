@@ -65,7 +65,7 @@ fn choose<'a>(
     )
 }
 
-/// An `if` begins that has one side, so many of the instructions ahead.
+/// An `if` begins that has one side, this many of the instructions ahead.
 #[tactic(auto, using(wasm_tree::proofs::Flat::tree_none))]
 #[inline(always)]
 fn choose_one<'a>(
@@ -87,7 +87,7 @@ fn choose_one<'a>(
     choose(machine, given, body, &[], behind)
 }
 
-/// An `if` begins that has two sides: so many of the instructions ahead, and so many behind these.
+/// An `if` begins that has two sides: this many of the instructions ahead, and this many behind these.
 #[inline(always)]
 fn choose_two<'a>(
     machine: &mut Machine<'a>,

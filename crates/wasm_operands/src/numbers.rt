@@ -6,7 +6,7 @@ ghost use Rattle.wasm_tree.specs.Numbers.{truth, compares, operation_result, ext
 
 use wasm_tree::{Load, Operation, Relation};
 
-/// 1 where it holds, else 0.
+/// 1 if it holds, else 0.
 #[inline(always)]
 pub fn truth(holds: bool) -> u32
     ensures { result ≡ truth holds }
@@ -87,7 +87,7 @@ fn division_of(operation: Operation, n: u64, m: u64) -> Option<u64>
     }
 }
 
-/// What is made of two numbers of 64 bits, or nothing where it is not defined.
+/// What is made of two numbers of 64 bits, or nothing if it is not defined.
 #[inline(always)]
 pub fn operation_result(operation: Operation, n: u64, m: u64) -> Option<u64>
     ensures { result ≡ operation_result operation n m }

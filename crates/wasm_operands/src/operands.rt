@@ -34,7 +34,7 @@ fn zero_of(value_type: ValueType) -> Value
     }
 }
 
-/// Keeps the topmost cells, so many, and the lowest ones up to a height.
+/// Keeps the topmost cells, this many, and the lowest ones up to a height.
 #[inline(always)]
 fn keep(cells: &mut Vec<u64>, height: usize, count: usize)
     requires { height + count ≤ length cells.old.items }
@@ -53,7 +53,8 @@ fn keep(cells: &mut Vec<u64>, height: usize, count: usize)
 /// Appends cells, mostly one.
 #[inline(always)]
 fn append(cells: &mut Vec<u64>, more: &[u64]) -> Result<(), AllocError>
-    ensures { cells.new.items ≡ (if is_ok result then cells.old.items ++ more.now else cells.old.items) }
+    ensures { cells.new.items
+        ≡ (if is_ok result then cells.old.items ++ more.now else cells.old.items) }
 {
     if more.len() == 1 {
         cells.push(more[0])?;
@@ -66,7 +67,8 @@ fn append(cells: &mut Vec<u64>, more: &[u64]) -> Result<(), AllocError>
 /// Appends a cell.
 #[inline(always)]
 fn push_cell(cells: &mut Vec<u64>, cell: u64) -> Result<(), AllocError>
-    ensures { cells.new.items ≡ (if is_ok result then cells.old.items ++ cell ∷ [] else cells.old.items) }
+    ensures { cells.new.items
+        ≡ (if is_ok result then cells.old.items ++ cell ∷ [] else cells.old.items) }
 {
     if cells.capacity() <= cells.len() {
         cells.reserve(1)?;
@@ -148,7 +150,7 @@ impl Operands {
         Ok(())
     }
 
-    /// Puts the topmost ones of others on top, so many.
+    /// Puts the topmost ones of others on top, this many.
     #[inline(always)]
     pub fn push_end(&mut self, from: &Operands, count: usize) -> Result<(), AllocError>
         requires { count ≤ length from.now.known.values }
@@ -203,7 +205,8 @@ impl Operands {
     #[inline(always)]
     pub fn drop_last(&mut self)
         requires { 0 < length self.old.known.values }
-        ensures { self.new.known.values ≡ take (length self.old.known.values - 1) self.old.known.values }
+        ensures { self.new.known.values
+            ≡ take (length self.old.known.values - 1) self.old.known.values }
     {
         let height = self.cells.len() - 1;
         self.truncate(height);
@@ -276,7 +279,7 @@ impl Operands {
         self.known = known_as(&self.known, &self.known, &NONE, &height, &0);
     }
 
-    /// Keeps the topmost ones, so many, and the lowest ones up to a height.
+    /// Keeps the topmost ones, this many, and the lowest ones up to a height.
     #[inline(always)]
     pub fn keep(&mut self, height: usize, count: usize)
         requires { height + count ≤ length self.old.known.values }

@@ -48,7 +48,7 @@ behind (op.IfElse t n m) rest = drop m (drop n rest)
 behind (op.BrTable n l) rest = drop n rest
 behind _ rest = rest
 
--- the trees of the list, of so many instructions at most
+-- the trees of the list, of this many instructions at most
 unfoldable pub tree_within : ℕ → List Op → List Instr
 tree_within zero ops = []
 tree_within (suc n) [] = []

@@ -1,5 +1,5 @@
 -- The machine (Core 1.0, section 4): one reduction begins an instruction, or reaches the end of a
--- block or a function. Where no rule of the standard applies, it traps.
+-- block or a function. If no rule of the standard applies, it traps.
 use Rattle.std.specs.Prelude.{ℕ, zero, suc, ◌+◌, ◌-◌, ◌%◌, ◌^◌, ◌==◌, Bool, true, false, ◌&&◌, List, [], ◌∷◌, ◌++◌, length, take, drop, replicate, slice_get, slice_set, slice_index_or, Option, Some, None, nat_le, nat_lt, if◌then◌else◌}
 use Rattle.std.specs.Int.{w32, w64}
 use Rattle.std.specs.Option.{option_and_then, option_map}
@@ -27,7 +27,7 @@ use Rattle.wasm_tree.specs.declared.store.Store.{Store}
 
 -- ---- configurations
 
--- a block that was begun and did not end. A branch to it keeps so many operands above those that
+-- a block that was begun and did not end. A branch to it keeps this many operands above those that
 -- stood below the block, and goes on with its code, behind a block or at the loop again; behind the
 -- end stands the rest (4.2.10)
 pub record Label : Type 0 where
@@ -74,7 +74,7 @@ split_end n xs =
 abbrev pub topmost : List Value → Option Value
 topmost stack = slice_get stack (length stack - 1)
 
--- the topmost operand, where it is of 32 or of 64 bits, above the others
+-- the topmost operand, if it is of 32 or of 64 bits, above the others
 abbrev pub top_i32 : List Value → Option (List Value × ℕ)
 top_i32 stack =
     option_and_then (λ p. elim p.1 [ I32 n ↦ Some (p.0, n) | I64 n ↦ None ]) (split_last stack)
@@ -227,7 +227,7 @@ return_to st callers results = elim (split_last callers) [
 
 -- ---- labels (4.4.5)
 
--- the code of a block begins: a branch to it keeps so many operands and goes on there
+-- the code of a block begins: a branch to it keeps this many operands and goes on there
 abbrev pub inside : Store → Activation → List Activation → (arity : ℕ) → (again body : List Instr)
     → Progress
 inside st now callers arity again body = (
@@ -241,12 +241,12 @@ inside st now callers arity again body = (
   [],
 )
 
--- the lowest operands, so many, and those that are kept
+-- the lowest operands, this many, and those that are kept
 abbrev pub keep_operands : (height : ℕ) → (List Value × List Value) → List Value
 keep_operands height split = take height split.0 ++ split.1
 
--- a branch that finds a label, the last of those before and itself, or goes out of the function
--- where there is none
+-- a branch that finds a label, the last of those before and itself, or goes out of the function if
+-- there is none
 abbrev pub branch_to : Store → Activation → List Activation → Option (List Label × Label) → Progress
 branch_to st now callers None =
     or_trap (split_end now.arity now.stack) (λ p. return_to st callers p.1)
@@ -285,7 +285,7 @@ memory_of st m =
     (slice_get i.memories 0))
     (instance_of st m)
 
--- so many bytes from a place on, where they are there
+-- this many bytes from a place on, if they are there
 abbrev pub bytes_at : (size place : ℕ) → List ℕ → Option (List ℕ)
 bytes_at size place bytes =
     if nat_le (place + size) (length bytes) then Some (take size (drop place bytes)) else None
@@ -317,7 +317,7 @@ stores st now callers place bytes memory =
 
 -- ---- numbers (4.4.1)
 
--- the operands below and the result, where the topmost ones suit
+-- the operands below and the result, if the topmost ones suit
 abbrev pub one_i32 : List Value → (ℕ → Value) → Option (List Value × Value)
 one_i32 stack f = option_map (λ p. (p.0, f p.1)) (top_i32 stack)
 
@@ -427,7 +427,7 @@ reduce modules (Going st now callers) = next modules st now callers now.rest
 reduce modules (Over k) = (Over k, [])
 reduce modules Trapped = (Trapped, [])
 
--- so many reductions
+-- this many reductions
 unfoldable pub run : List WModule → ℕ → Config → Progress
 run modules zero c = (c, [])
 run modules (suc n) c =

@@ -10,7 +10,7 @@ use Rattle.wasm_tree.specs.declared.instr.Load.TheVariants as load
 use Rattle.wasm_tree.specs.declared.instr.StoreWidth.{StoreWidth}
 use Rattle.wasm_tree.specs.declared.instr.StoreWidth.TheVariants.{Eight, One, Two, Four}
 
--- 1 where it holds, else 0
+-- 1 if it holds, else 0
 abbrev pub truth : Bool → ℕ
 truth b = if b then 1 else 0
 
@@ -37,7 +37,7 @@ compares w GeU n m = nat_le m n
 abbrev pub division_of : (divisor result : ℕ) → Option ℕ
 division_of divisor result = if divisor == 0 then None else Some result
 
--- the least number of 64 bits by -1 has a quotient that is no such number
+-- the least number of 64 bits by -1 has a quotient that is no number of 64 bits
 abbrev pub is_too_great : (n m : ℕ) → Bool
 is_too_great n m = (n == 2 ^ 63) && (m == 2 ^ 64 - 1)
 

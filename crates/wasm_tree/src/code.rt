@@ -13,17 +13,17 @@ use std::marker::Model;
 #[derive(Clone, Copy, PartialEq, Eq)]
 pub enum Op {
     Unreachable,
-    /// The next ones, so many, stand inside.
+    /// The next ones, this many, stand inside.
     Block(Option<ValueType>, u32),
-    /// The next ones, so many, stand inside.
+    /// The next ones, this many, stand inside.
     Loop(Option<ValueType>, u32),
-    /// The next ones, so many, are its only side.
+    /// The next ones, this many, are its only side.
     If(Option<ValueType>, u32),
-    /// The next ones, so many, are its first side, and so many behind these the second.
+    /// The next ones, this many, are its first side, and this many behind these the second.
     IfElse(Option<ValueType>, u32, u32),
     Br(u32),
     BrIf(u32),
-    /// The next ones, so many, are `Br`s to the labels in the table. The last number is the default.
+    /// The next ones, this many, are `Br`s to the labels in the table. The last number is the default.
     BrTable(u32, u32),
     Return,
     Call(u32),
@@ -76,7 +76,7 @@ impl Code {
     }
 }
 
-/// The first ones of a list, so many or all, and those behind them.
+/// The first ones of a list, this many or all, and those behind them.
 #[inline(always)]
 pub fn split_ops(ops: &[Op], count: u32) -> (&[Op], &[Op])
     ensures front { result.0.now ≡ take count ops.now }
@@ -96,7 +96,7 @@ pub fn first_of(ops: &[Op]) -> Option<(Op, &[Op])>
     }
 }
 
-/// What stands behind an instruction and the code inside it, where `rest` stands behind its operation.
+/// What stands behind an instruction and the code inside it, if `rest` stands behind its operation.
 #[inline(always)]
 pub fn behind(op: Op, rest: &[Op]) -> &[Op]
     ensures { result.now ≡ behind op rest.now }

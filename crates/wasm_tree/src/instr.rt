@@ -3,7 +3,7 @@
 use crate::kinds::ValueType;
 use tree_parts::Items;
 
-/// How two numbers are compared (Core 1.0, section 2.4.1): as signed or as unsigned ones where that matters.
+/// How two numbers are compared (Core 1.0, section 2.4.1): as signed or as unsigned ones if that matters.
 #[derive(Clone, Copy, PartialEq, Eq)]
 pub enum Relation {
     Eq,
@@ -38,17 +38,17 @@ pub enum Operation {
 /// An instruction that takes numbers off the operand stack and pushes one (Core 1.0, section 2.4.1).
 #[derive(Clone, Copy, PartialEq, Eq)]
 pub enum Numeric {
-    /// Pushes 1 where the number of 32 bits is 0, else 0.
+    /// Pushes 1 if the number of 32 bits is 0, else 0.
     I32Eqz,
-    /// Pushes 1 where the two numbers of 32 bits compare so, else 0.
+    /// Pushes 1 if the two numbers of 32 bits compare so, else 0.
     I32Relation(Relation),
-    /// Pushes 1 where the number of 64 bits is 0, else 0.
+    /// Pushes 1 if the number of 64 bits is 0, else 0.
     I64Eqz,
-    /// Pushes 1 where the two numbers of 64 bits compare so, else 0.
+    /// Pushes 1 if the two numbers of 64 bits compare so, else 0.
     I64Relation(Relation),
     /// Adds two numbers of 32 bits.
     I32Add,
-    /// Does this with two numbers of 64 bits. A division traps where the divisor is 0 or the quotient has no bits.
+    /// Does this with two numbers of 64 bits. A division traps if the divisor is 0 or the quotient has no bits.
     I64Operation(Operation),
     /// Keeps the low 32 bits.
     I32WrapI64,
@@ -91,14 +91,14 @@ pub enum Instr {
     Block(Option<ValueType>, Items<Instr>),
     /// Executes its code; a branch to it begins it again.
     Loop(Option<ValueType>, Items<Instr>),
-    /// Executes the first side where the topmost operand is not 0, else the second, where there is one. A branch to it
-    /// goes on behind it.
+    /// Executes the first side if the topmost operand is not 0, else the second, if there is one. A branch to it goes
+    /// on behind it.
     If(Option<ValueType>, Items<Instr>, Option<Items<Instr>>),
     /// Branches to the block of this label.
     Br(u32),
-    /// The same, where the topmost operand is not 0.
+    /// The same, if the topmost operand is not 0.
     BrIf(u32),
-    /// Branches to the label that the topmost operand numbers, or to the last one where there is none of this number.
+    /// Branches to the label that the topmost operand numbers, or to the last one if there is none of this number.
     BrTable(Items<u32>, u32),
     /// Returns from the function.
     Return,

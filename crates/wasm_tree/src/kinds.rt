@@ -16,7 +16,7 @@ pub struct FuncType {
     pub results: Items<ValueType>,
 }
 
-/// The least size, and the greatest where there is one.
+/// The least size, and the greatest if there is one.
 #[derive(Clone, Copy, PartialEq, Eq)]
 pub struct Limits {
     pub min: u32,

@@ -54,7 +54,7 @@ pub struct Element {
     pub functions: Items<u32>,
 }
 
-/// So many locals of one type, one after another.
+/// A number of locals of one type, one after another.
 #[derive(Clone, Copy, PartialEq, Eq)]
 pub struct Locals {
     pub count: u32,

@@ -4,7 +4,7 @@ ghost use Rattle.std.specs.Prelude.{◌≡◌, ◌≢◌, ◌+◌, ◌<◌, ◌�
 
 use crate::encode::EncodeError;
 
-/// The sum. `NoEncoding` where it does not fit into 32 bits.
+/// The sum. `NoEncoding` if it does not fit into 32 bits.
 pub fn plus(first: u32, second: u32) -> Result<u32, EncodeError>
     ensures sum { IfOk result (λ n. n ≡ first + second) }
     ensures unfit { result ≡ Err EncodeError.NoEncoding → 2 ^ 32 ≤ first + second }
@@ -16,7 +16,7 @@ pub fn plus(first: u32, second: u32) -> Result<u32, EncodeError>
     }
 }
 
-/// The number in 32 bits. `NoEncoding` where it does not fit.
+/// The number in 32 bits. `NoEncoding` if it does not fit.
 pub fn small(n: usize) -> Result<u32, EncodeError>
     ensures same { IfOk result (λ k. k ≡ n) }
     ensures unfit { result ≡ Err EncodeError.NoEncoding → 2 ^ 32 ≤ n }

@@ -26,7 +26,7 @@ fn result_of(results: &[ValueType]) -> Option<ValueType>
     }
 }
 
-/// Whether the body is that of a function of this type. `Invalid` where it is not; `NoMemory` where memory is refused.
+/// Whether the body is the body of a function of this type. `Invalid` if it is not; `NoMemory` if memory is refused.
 /// `spares` and `ends` are room that the next body may use again.
 pub fn check_body<'a>(
     alloc: Global,

@@ -136,7 +136,8 @@ fn branch_if(blocks: &[Option<ValueType>], index: u32) -> Option<Effect<'static>
 
 /// The effect of `br_table` with this last label.
 fn branch_table(blocks: &[Option<ValueType>], index: u32) -> Option<Effect<'static>>
-    ensures { option_map change_of result ≡ option_map (λ (taken : List ValueType). Leaves (taken ++ I32 ∷ []))
+    ensures { option_map change_of result
+        ≡ option_map (λ (taken : List ValueType). Leaves (taken ++ I32 ∷ []))
         (slice_get (labels_of blocks.now) index) }
 {
     match label(blocks, index) {
@@ -203,7 +204,8 @@ fn takes(value_type: Option<ValueType>) -> Option<Effect<'static>>
 }
 
 fn keeps(value_type: Option<ValueType>) -> Option<Effect<'static>>
-    ensures { option_map change_of result ≡ option_map (λ t. Exchanges (t ∷ []) (t ∷ [])) value_type }
+    ensures { option_map change_of result
+        ≡ option_map (λ t. Exchanges (t ∷ []) (t ∷ [])) value_type }
 {
     match value_type {
         None => None,
@@ -211,7 +213,7 @@ fn keeps(value_type: Option<ValueType>) -> Option<Effect<'static>>
     }
 }
 
-/// The effect, where there is a memory.
+/// The effect, if there is a memory.
 fn with_memory<'a>(scope: &Scope<'_>, effect: Effect<'a>) -> Option<Effect<'a>>
     ensures { option_map change_of result
         ≡ option_map (λ _. change_of effect.entry) (slice_get (scope_of scope.now).memories 0) }
@@ -222,7 +224,7 @@ fn with_memory<'a>(scope: &Scope<'_>, effect: Effect<'a>) -> Option<Effect<'a>>
     }
 }
 
-/// What the instruction does to the operands, whatever code stands inside it. Nothing where it names what is not there.
+/// What the instruction does to the operands, whatever code stands inside it. Nothing if it names what is not there.
 #[inline(always)]
 pub fn effect_of<'a>(
     frame: &Frame<'a>,
@@ -230,7 +232,8 @@ pub fn effect_of<'a>(
     op: &Op,
 ) -> Option<Effect<'a>>
     ensures { (rest : List Op)
-        → option_map change_of result ≡ change (frame_context frame.now blocks.now) (open_instruction op.now rest) }
+        → option_map change_of result
+        ≡ change (frame_context frame.now blocks.now) (open_instruction op.now rest) }
 {
     let narrow = Some(ValueType::I32);
     let wide = Some(ValueType::I64);

@@ -9,7 +9,7 @@ use std::alloc::AllocError;
 use tree_parts::at;
 use wasm_tree::{Locals, ValueType};
 
-/// Declared locals. That of an index is found without a walk over the groups.
+/// Declared locals. The local of an index is found without a walk over the groups.
 #[derive(Clone, Copy)]
 pub struct Groups<'a> {
     pub groups: &'a [Locals],

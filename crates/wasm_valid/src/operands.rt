@@ -19,13 +19,13 @@ pub struct Operands {
 /// What an instruction does to the operands.
 #[derive(Clone, Copy)]
 pub enum Effect<'a> {
-    /// Takes the second and then the first, and gives the third, each where there is one.
+    /// Takes the second and then the first, and gives the third, each if there is one.
     Takes(Option<ValueType>, Option<ValueType>, Option<ValueType>),
     /// Takes and gives what a function of this type does.
     Calls(&'a FuncType),
     /// The same, below the number of a slot.
     CallsSlot(&'a FuncType),
-    /// Takes the second and then the first, where there is one; any operands may stand behind it.
+    /// Takes the second and then the first, if there is one; any operands may stand behind it.
     Leaves(Option<ValueType>, Option<ValueType>),
     /// Takes any operand.
     Drops,
@@ -47,7 +47,7 @@ impl Spares {
         }
     }
 
-    /// Keeps the list of these operands, where there is memory to do so.
+    /// Keeps the list of these operands, if there is memory to do so.
     pub(crate) fn keep(&mut self, operands: Operands) {
         let Operands { known, .. } = operands;
         match self.lists.push(known) {
@@ -158,7 +158,7 @@ fn exchange(
     put_all(operands, given)
 }
 
-/// Takes an operand of this type, where there is one.
+/// Takes an operand of this type, if there is one.
 #[inline(always)]
 fn take_given(operands: &mut Operands, wanted: Option<ValueType>) -> bool
     ensures { TakesIf result operands.old operands.new (result_types wanted) }
@@ -169,7 +169,7 @@ fn take_given(operands: &mut Operands, wanted: Option<ValueType>) -> bool
     }
 }
 
-/// Puts an operand of this type on top, where there is one.
+/// Puts an operand of this type on top, if there is one.
 #[inline(always)]
 fn put_given(operands: &mut Operands, given: Option<ValueType>) -> Result<(), WFault>
     ensures { Settles result (Puts operands.old operands.new (result_types given)) ⊥ }
@@ -183,7 +183,7 @@ fn put_given(operands: &mut Operands, given: Option<ValueType>) -> Result<(), WF
     }
 }
 
-/// Takes the second and then the first, and puts the third on top, each where there is one.
+/// Takes the second and then the first, and puts the third on top, each if there is one.
 #[inline(always)]
 fn exchange_few(
     operands: &mut Operands,
@@ -203,15 +203,15 @@ fn exchange_few(
     put_given(operands, given)
 }
 
-/// Takes the second and then the first, each where there is one. Any operands may stand behind it.
+/// Takes the second and then the first, each if there is one. Any operands may stand behind it.
 #[inline(always)]
 fn leave(
     operands: &mut Operands,
     first: Option<ValueType>,
     second: Option<ValueType>,
 ) -> Result<(), WFault>
-    ensures steps { Steps result (Rule (Leaves (result_types first ++ result_types second))) operands.old
-        operands.new }
+    ensures steps { Steps result (Rule (Leaves (result_types first ++ result_types second)))
+        operands.old operands.new }
     ensures memory { result ≢ Err WFault.NoMemory }
 {
     if !take_given(operands, second) {
@@ -231,7 +231,7 @@ pub fn types_of(value_type: &Option<ValueType>) -> &[ValueType]
     value_type.as_slice()
 }
 
-/// What the effect does to the operands. `Invalid` where they are other ones.
+/// What the effect does to the operands. `Invalid` if they are other ones.
 #[inline(always)]
 pub fn affect(operands: &mut Operands, effect: Effect<'_>) -> Result<(), WFault>
     ensures { Steps result (Rule (change_of effect.entry)) operands.old operands.new }

@@ -37,7 +37,8 @@ fn step(
     operands: &mut Operands,
 ) -> Result<(), WFault>
     ensures { (rest : List Op)
-        → Steps result (MayRule (change (frame_context frame.now blocks.now) (open_instruction op.now rest)))
+        → Steps result
+        (MayRule (change (frame_context frame.now blocks.now) (open_instruction op.now rest)))
         operands.old operands.new }
 {
     match effect_of(frame, blocks, op) {
@@ -75,8 +76,10 @@ fn check_last(operands: &mut Operands, wanted: Option<ValueType>) -> Result<(), 
 /// Whether others stand inside the instruction, or labels.
 #[inline(always)]
 fn holds_others(op: &Op) -> bool
-    ensures { (rest : List Op) → result ≡ false
-        → (behind op.now rest ≡ rest) × ((c : Context) → CodeFits c (open_instruction op.now rest)) }
+    ensures { (rest : List Op)
+        → result ≡ false
+        → (behind op.now rest ≡ rest)
+        × ((c : Context) → CodeFits c (open_instruction op.now rest)) }
 {
     match op {
         Op::Block(_, _) | Op::Loop(_, _) | Op::If(_, _) | Op::IfElse(_, _, _) | Op::BrTable(_, _) =>
@@ -110,7 +113,8 @@ fn check_front<'a>(
     op: &Op,
     rest: &'a [Op],
 ) -> Result<&'a [Op], WFault>
-    ensures fits { Decides result (CodeFits (frame_context frame.now blocks.old) (open_instruction op.now rest.now)) }
+    ensures fits { Decides result
+        (CodeFits (frame_context frame.now blocks.old) (open_instruction op.now rest.now)) }
     ensures blocks { OnOk result (blocks.new ≡ blocks.old) }
     ensures behind { IfOk result (λ x. x.now ≡ behind op.now rest.now) }
 {
@@ -131,7 +135,8 @@ fn check_inside(
     op: &Op,
     rest: &[Op],
 ) -> Result<(), WFault>
-    ensures fits { Decides result (CodeFits (frame_context frame.now blocks.old) (open_instruction op.now rest.now)) }
+    ensures fits { Decides result
+        (CodeFits (frame_context frame.now blocks.old) (open_instruction op.now rest.now)) }
     ensures blocks { OnOk result (blocks.new ≡ blocks.old) }
 {
     match *op {
@@ -187,7 +192,7 @@ fn check_block(
     Ok(())
 }
 
-/// Whether the code goes from no operands to what it is to give. `Invalid` where it does not.
+/// Whether the code goes from no operands to what it is to give. `Invalid` if it does not.
 #[cycle(code)]
 pub fn check_code(
     spares: &mut Spares,
@@ -250,8 +255,8 @@ fn are_constant(code: &[Op]) -> bool
     are_constant_ops(code)
 }
 
-/// Whether the code is a constant expression of this type (Core 1.0, section 3.3.7). `Invalid` where it is not, `NoMemory`
-/// where memory is refused.
+/// Whether the code is a constant expression of this type (Core 1.0, section 3.3.7). `Invalid` if it is not, `NoMemory`
+/// if memory is refused.
 pub fn check_constant(
     alloc: Global,
     scope: Scope<'_>,

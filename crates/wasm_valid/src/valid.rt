@@ -267,7 +267,7 @@ pub struct ValidModule {
     tree: WModule,
 }
 
-// Written by hand, as that of a tree.
+// Written by hand, as the drop of a tree.
 impl Drop for ValidModule {
     fn drop(self) {
         let ValidModule { tree } = self;
@@ -299,7 +299,7 @@ impl ValidModule {
         &self.tree
     }
 
-    /// The index of each of its functions' types, those of imported functions first.
+    /// The index of each of its functions' types, the types of imported functions first.
     pub fn function_types(&self, alloc: Global) -> Result<Vec<u32>, AllocError>
         ensures { IfOk result (λ v. v.items ≡ (context self.now).functions) }
     {
@@ -314,7 +314,7 @@ impl ValidModule {
     }
 }
 
-/// The module, if it is valid. `Invalid` where it is not; the module is then dropped.
+/// The module, if it is valid. `Invalid` if it is not; the module is then dropped.
 pub fn validate(alloc: Global, tree: WModule) -> Result<ValidModule, WFault>
     ensures { MatchResult result (λ v. (v ≡ tree) × IsValid tree)
         (λ e. ((e ≡ WFault.Invalid) × (¬ IsValid tree)) ⊎ (e ≡ WFault.NoMemory)) }

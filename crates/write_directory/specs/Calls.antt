@@ -10,7 +10,7 @@ pub data Call : Type 0 where
   -- these bytes are written as the file of this name
   Write : (name bytes : List ℕ) → (is_done : Bool) → Call
 
--- the calls with others behind them, where they are noted
+-- the calls with others behind them, if they are noted
 abbrev pub with_calls : Option (List Call) → List Call → Option (List Call)
 with_calls None more = None
 with_calls (Some calls) more = Some (calls ++ more)

@@ -8,7 +8,7 @@ pub trait OutDir {
     /// How often it failed.
     ghost failed: { Self → ℕ };
 
-    /// The calls that it was given, in order and with their answers, where it notes them.
+    /// The calls that it was given, in order and with their answers, if it notes them.
     ghost calls: { Self → Option (List Call) };
 
     /// Removes the file of this name. True if there is none either. False if that failed: then there is one failure more.

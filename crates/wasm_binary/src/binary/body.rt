@@ -13,7 +13,7 @@ use wasm_tree::{Body, EncodeError, Locals, Op, ValueType, WFault};
 /// The most locals of a body.
 const MAX_LOCALS: u64 = 4294967295;
 
-/// So many groups of locals, where there are so many locals before them.
+/// `count` groups of locals, with no locals before them.
 fn groups_at(alloc: Global, count: u32, bytes: &[u8]) -> Result<(Items<Locals>, &[u8]), WFault>
     ensures gives { Gives (λ x. (x.0, x.1.now)) result (locals_at count 0 bytes.now) }
     ensures shorter { IfOk result (λ x. length x.1.now ≤ length bytes.now) }
