@@ -29,9 +29,10 @@ use Rattle.def_typing.specs.Shapes.{shape_at, IsMade}
 use Rattle.def_typing.specs.Amounts.{Constant, Value}
 use Rattle.def_typing.specs.Operators.{◌!◌, Kind, Scalar, operand, Misapplied}
 use Rattle.def_typing.specs.Things.{Thing, AnOpenArray, AType, AStandard, Standing, Mistaken}
-use Rattle.def_typing.specs.Functions.{TakesOne, abs_takes, cap_takes, chr_takes, odd_takes, ord_takes, MayApply, Applies, applied, NamesScalar, names_scalar, BoundOf, greatest, smallest, MayConvert, Converts, arity, IsOfOne, of_abs, of_cap, of_chr, of_odd, of_ord, IsFunctionOf, declared, standard}
+use Rattle.def_typing.specs.Functions as functions
+use Rattle.def_typing.specs.Functions.{TakesOne, abs_takes, cap_takes, chr_takes, odd_takes, ord_takes, MayApply, Applies, applied, NamesScalar, names_scalar, BoundOf, greatest, smallest, MayConvert, Converts, arity, IsOfOne, of_abs, of_cap, of_chr, of_odd, of_ord, TakesValue, TakesType, IsFunctionOf, declared, standard}
 use Rattle.def_typing.specs.Parts.{first, Among, here, later}
-use Rattle.def_typing.specs.Expressions.{Beside, beside, behind, TakesValue, TakesType, Stands, Has, Calls, ArePassed, no_more, one_more, Miscalled, BrokenAsValue, broken, mistaken}
+use Rattle.def_typing.specs.Expressions.{Beside, beside, behind, Stands, Has, Calls, ArePassed, no_more, one_more, Miscalled, BrokenAsValue, broken, mistaken}
 use Rattle.def_typing.specs.Expressions as rules
 use Rattle.law_typing.specs.Judging.{Judges, Answers, means}
 use Rattle.law_typing.specs.Exact.{IsKind, kind_constant, kind_scalar, IsThing, thing_value, thing_variable, thing_open, thing_type, thing_procedure, thing_nested, thing_standard, thing_module, IsPlain}
@@ -44,24 +45,23 @@ use Rattle.law_typing.proofs.Finding.{Elsewhere, StandsFor, HasKind, IsBroken, I
 
 -- ---- standard functions and their arguments
 
-of_one_arity : {p : Standard} → IsOfOne p → arity p ≡ Some 1
+pub of_one_arity : {p : Standard} → IsOfOne p → arity p ≡ Some 1
 of_one_arity of_abs = refl
 of_one_arity of_cap = refl
 of_one_arity of_chr = refl
 of_one_arity of_odd = refl
 of_one_arity of_ord = refl
 
-value_arity : {p : Standard} {xs : List Expr} {x : Expr} → TakesValue p xs x → arity p ≡ Some (length xs)
-value_arity (rules.of_one i) = of_one_arity i
-value_arity rules.of_high = refl
-value_arity rules.to_convert = refl
+pub value_arity : {p : Standard} {xs : List Expr} {x : Expr} → TakesValue p xs x → arity p ≡ Some (length xs)
+value_arity (functions.of_one i) = of_one_arity i
+value_arity functions.to_convert = refl
 
-type_arity : {p : Standard} {xs : List Expr} {x : Expr} → TakesType p xs x → arity p ≡ Some (length xs)
-type_arity rules.of_max = refl
-type_arity rules.of_min = refl
-type_arity rules.of_conversion = refl
+pub type_arity : {p : Standard} {xs : List Expr} {x : Expr} → TakesType p xs x → arity p ≡ Some (length xs)
+type_arity functions.of_max = refl
+type_arity functions.of_min = refl
+type_arity functions.of_conversion = refl
 
-bound_arity : {p : Standard} {r : Range} {n : ℤ} → BoundOf r p n → arity p ≡ Some 1
+pub bound_arity : {p : Standard} {r : Range} {n : ℤ} → BoundOf r p n → arity p ≡ Some 1
 bound_arity greatest = refl
 bound_arity smallest = refl
 
@@ -72,19 +72,32 @@ takes_one (chr_takes n) = of_chr
 takes_one (odd_takes n) = of_odd
 takes_one ord_takes = of_ord
 
-applies_one : {p : Standard} {a k : Kind} → Applies p a k → IsOfOne p
+pub applies_one : {p : Standard} {a k : Kind} → Applies p a k → IsOfOne p
 applies_one (applied t c) = takes_one t
 
-unary_one : {p : Standard} {u : Unary} → UnaryIs p u → IsOfOne p
+pub unary_one : {p : Standard} {u : Unary} → UnaryIs p u → IsOfOne p
 unary_one is_abs = of_abs
 unary_one is_cap = of_cap
 unary_one is_chr = of_chr
 unary_one is_odd = of_odd
 unary_one is_ord = of_ord
 
-not_bound : {p : Standard} {u : Unary} {r : Range} {n : ℤ} → UnaryIs p u → BoundOf r p n → ⊥
+pub not_bound : {p : Standard} {u : Unary} {r : Range} {n : ℤ} → UnaryIs p u → BoundOf r p n → ⊥
 not_bound w greatest = elim w [ ]
 not_bound w smallest = elim w [ ]
+
+-- MAX and MIN
+pub data IsBound : Standard → Type 0 where
+  bound_max : IsBound Max
+  bound_min : IsBound Min
+
+pub bound_one : {p : Standard} → IsBound p → arity p ≡ Some 1
+bound_one bound_max = refl
+bound_one bound_min = refl
+
+pub bound_not_one : {p : Standard} → IsBound p → IsOfOne p → ⊥
+bound_not_one bound_max i = elim i [ ]
+bound_not_one bound_min i = elim i [ ]
 
 module _ (g : Gathers) (j : Judges g) (lawful : Lawful g j) (names : Ident → Standing) (exports : ℕ → Ident → Standing) (s : Scope g.Reported) where
   abbrev E : Breach → Type 0
@@ -148,6 +161,7 @@ module _ (g : Gathers) (j : Judges g) (lawful : Lawful g j) (names : Ident → S
   count_only at f e q (rules.misapplied i m z) = absurd (q (some_same _ _ (sym e ∙ of_one_arity i)))
   count_only at _ e q (rules.no_type t m z) = absurd (q (some_same _ _ (sym e ∙ type_arity t)))
   count_only at f e q (rules.misconverted m z h w) = absurd (q (some_same _ _ (sym e)))
+  count_only at f e q (rules.no_array m z) = absurd (q (some_same _ _ (sym e)))
   count_only at _ e q (rules.no_open_array m z w) = absurd (q (some_same _ _ (sym e)))
 
   miscounted_calls : {p : Standard} {xs : List Expr} {n : ℕ} (at : Pos) → arity p ≡ Some n → (n ≡ length xs → ⊥) → ((y : Expr) → Among y xs → Found y) → CallsSo at (AStandard p) xs (wrong_count g s at (map (meanings_of g) xs))
@@ -161,6 +175,7 @@ module _ (g : Gathers) (j : Judges g) (lawful : Lawful g j) (names : Ident → S
   proper_only at f e (rules.misapplied i m z) = let w = sym e ∙ of_one_arity i in absurd cc
   proper_only at _ e (rules.no_type t m z) = let w = sym e ∙ type_arity t in absurd cc
   proper_only at f e (rules.misconverted m z h w) = absurd cc
+  proper_only at f e (rules.no_array m z) = absurd cc
   proper_only at _ e (rules.no_open_array m z w) = absurd cc
 
   proper_calls : {p : Standard} {xs : List Expr} (at : Pos) → arity p ≡ None → ((y : Expr) → Among y xs → Found y) → CallsSo at (AStandard p) xs (reported_beside g at rule.WrongType (breaches_in_all g s (map (meanings_of g) xs)))
@@ -177,10 +192,6 @@ module _ (g : Gathers) (j : Judges g) (lawful : Lawful g j) (names : Ident → S
   abbrev OneFails : Standard → Expr → Breach → Type 0
   OneFails p x f = V x f ⊎ ((k : Kind) × H x k × Misapplied (MayApply p (operand k)) (Applies p (operand k)) (first x) rule.WrongArgument f)
 
-  one_valued : {p : Standard} {u : Unary} {x e : Expr} → UnaryIs p u → TakesValue p (x ∷ []) e → e ≡ x
-  one_valued w (rules.of_one i) = refl
-  one_valued w rules.of_high = refl
-
   one_fails : {p : Standard} {u : Unary} {x : Expr} (at : Pos) (f : Breach) → UnaryIs p u → M at (AStandard p) (x ∷ []) f → OneFails p x f
   one_fails at _ w (rules.no_function h m) = absurd (m 1 (standard (of_one_arity (unary_one w))))
   one_fails at _ w (rules.wrong_count i m) = absurd (m (some_same _ _ (sym (standard_function i) ∙ of_one_arity (unary_one w))))
@@ -188,20 +199,20 @@ module _ (g : Gathers) (j : Judges g) (lawful : Lawful g j) (names : Ident → S
   one_fails at f w (rules.no_value t m z) = inl (value_of_one w t m z)
     where
       value_of_one : {p : Standard} {u : Unary} {x e : Expr} {y : Thing} → UnaryIs p u → TakesValue p (x ∷ []) e → S e y → Mistaken (first e) y f → V x f
-      value_of_one w (rules.of_one i) m z = mistaken m z
-      value_of_one w rules.of_high m z = elim w [ ]
+      value_of_one w (functions.of_one i) m z = mistaken m z
   one_fails at f w (rules.misapplied {k = k} i m z) = inr (k, m, z)
   one_fails at _ w (rules.no_type t m z) = absurd (no_type_of_one w t)
     where
       no_type_of_one : {p : Standard} {u : Unary} {xs : List Expr} {e : Expr} → UnaryIs p u → TakesType p xs e → ⊥
-      no_type_of_one w rules.of_max = elim w [ ]
-      no_type_of_one w rules.of_min = elim w [ ]
-      no_type_of_one w rules.of_conversion = elim w [ ]
+      no_type_of_one w functions.of_max = elim w [ ]
+      no_type_of_one w functions.of_min = elim w [ ]
+      no_type_of_one w functions.of_conversion = elim w [ ]
+  one_fails at f w (rules.no_array m z) = elim w [ ]
   one_fails at _ w (rules.no_open_array m z q) = elim w [ ]
 
   fails_one : {p : Standard} {u : Unary} {x : Expr} (at : Pos) (f : Breach) → UnaryIs p u → OneFails p x f → M at (AStandard p) (x ∷ []) f ⊎ Any (x ∷ []) f
   fails_one {x = x} at f w (inl (broken b)) = inr (x, here, b)
-  fails_one at f w (inl (mistaken m z)) = inl (rules.no_value (rules.of_one (unary_one w)) m z)
+  fails_one at f w (inl (mistaken m z)) = inl (rules.no_value (functions.of_one (unary_one w)) m z)
   fails_one at f w (inr (k, m, z)) = inl (rules.misapplied (unary_one w) m z)
 
   any_one : {x : Expr} (f : Breach) → Any (x ∷ []) f → B x f
@@ -221,13 +232,13 @@ module _ (g : Gathers) (j : Judges g) (lawful : Lawful g j) (names : Ident → S
 
   -- ---- functions of types
 
-  abbrev NoScalar : Pos → Thing → Breach → Type 0
+  abbrev pub NoScalar : Pos → Thing → Breach → Type 0
   NoScalar at y f = ((r : Range) → NamesScalar s.types y r → ⊥) × (f ≡ at ! rule.NoType)
 
-  abbrev IsOfRange : TypeNo × Range → Range → Type 0
+  abbrev pub IsOfRange : TypeNo × Range → Range → Type 0
   IsOfRange p r = p.1 ≡ r
 
-  abbrev ScalarSo : Pos → Thing → Result (TypeNo × Range) g.Reported → Type 0
+  abbrev pub ScalarSo : Pos → Thing → Result (TypeNo × Range) g.Reported → Type 0
   ScalarSo at y r = Answers g j E IsOfRange (NamesScalar s.types y) (NoScalar at y) r
 
   no_scalar : {y : Thing} (at : Pos) → ((r : Range) → NamesScalar s.types y r → ⊥) → ScalarSo at y (report g at rule.NoType)
@@ -237,13 +248,13 @@ module _ (g : Gathers) (j : Judges g) (lawful : Lawful g j) (names : Ident → S
   range_in r (shape.Scalar q) = q
   range_in r other = r
 
-  one_range : {t : TypeNo} {r q : Range} → IsMade s.types t (shape.Scalar r) → NamesScalar s.types (AType t) q → q ≡ r
+  pub one_range : {t : TypeNo} {r q : Range} → IsMade s.types t (shape.Scalar r) → NamesScalar s.types (AType t) q → q ≡ r
   one_range {t = t} {r = r} m (names_scalar n) = ap (range_in r) (one_made s.types t n m)
 
   not_scalar : {t : TypeNo} (z : Option Shape) → shape_at s.types t ≡ z → ((r : Range) → z ≡ Some (shape.Scalar r) → ⊥) → (q : Range) → NamesScalar s.types (AType t) q → ⊥
   not_scalar z e n q (names_scalar m) = n q (sym e ∙ m)
 
-  scalar_by : (at : Pos) (t : TypeNo) (z : Option Shape) → shape_at s.types t ≡ z → ScalarSo at (AType t) (scalar_type g at t (scalar_of z))
+  pub scalar_by : (at : Pos) (t : TypeNo) (z : Option Shape) → shape_at s.types t ≡ z → ScalarSo at (AType t) (scalar_type g at t (scalar_of z))
   scalar_by at t None e = no_scalar at (not_scalar None e (λ r q. absurd cc))
   scalar_by at t (Some (shape.Scalar r)) e = means (t, r) r refl (names_scalar e) (λ q n. one_range e n) (λ f z. z.0 r (names_scalar e))
   scalar_by at t (Some shape.Set) e = no_scalar at (not_scalar _ e (λ r q. absurd cc))
@@ -262,29 +273,21 @@ module _ (g : Gathers) (j : Judges g) (lawful : Lawful g j) (names : Ident → S
   type_answers at _ _ (thing_standard p) = no_scalar at (λ r n. elim n [ ])
   type_answers at _ _ (thing_module k) = no_scalar at (λ r n. elim n [ ])
 
-  abbrev NamesIt : Expr → Range → Type 0
+  abbrev pub NamesIt : Expr → Range → Type 0
   NamesIt x r = (y : Thing) × S x y × NamesScalar s.types y r
 
-  abbrev NameFails : Expr → Breach → Type 0
+  abbrev pub NameFails : Expr → Breach → Type 0
   NameFails x f = B x f ⊎ ((y : Thing) × S x y × NoScalar (first x) y f)
 
-  scalar_answers : {x : Expr} → IsPlain x → Found x → Answers g j E IsOfRange (NamesIt x) (NameFails x) (scalar_named g s (meanings_of g x))
+  pub scalar_answers : {x : Expr} → IsPlain x → Found x → Answers g j E IsOfRange (NamesIt x) (NameFails x) (scalar_named g s (meanings_of g x))
   scalar_answers {x = x} i h = subst (λ (at : Pos). Answers g j E IsOfRange (NamesIt x) (NameFails x) (of_sort g at rule.NoType ((meanings_of g x).means s) ▷ type_named g s.types at)) (sym (at_is g i))
       (sort_answers g j lawful E (first x) rule.NoType h (type_answers (first x)) (no_scalar (first x) (λ r n. elim n [ ])))
 
   -- MAX and MIN
-  pub data IsBound : Standard → Type 0 where
-    bound_max : IsBound Max
-    bound_min : IsBound Min
-
-  bound_one : {p : Standard} → IsBound p → arity p ≡ Some 1
-  bound_one bound_max = refl
-  bound_one bound_min = refl
-
-  abbrev BoundedBy : Standard → Range → Kind → Type 0
+  abbrev pub BoundedBy : Standard → Range → Kind → Type 0
   BoundedBy p r l = (n : ℤ) × BoundOf r p n × (l ≡ Scalar (Constant (Some r.base) n))
 
-  bounded_by : {p : Standard} (q : TypeNo × Range) (r : Range) → IsBound p → IsOfRange q r → Answers g j E IsKind (BoundedBy p r) (λ f. ⊥) (Ok (computed.Constant (bound_by p q.0 q.1)))
+  pub bounded_by : {p : Standard} (q : TypeNo × Range) (r : Range) → IsBound p → IsOfRange q r → Answers g j E IsKind (BoundedBy p r) (λ f. ⊥) (Ok (computed.Constant (bound_by p q.0 q.1)))
   bounded_by q r bound_max e = subst (λ (x : Range). Answers g j E IsKind (BoundedBy Max x) (λ f. ⊥) (Ok (computed.Constant (bound_by Max q.0 q.1)))) e
       (means _ (Scalar (Constant (Some q.1.base) q.1.high)) (kind_constant (bound_by Max q.0 q.1)) (q.1.high, greatest, refl) (λ l m. one m) (λ f b. b))
     where
@@ -298,11 +301,7 @@ module _ (g : Gathers) (j : Judges g) (lawful : Lawful g j) (names : Ident → S
 
   bound_calls_by : {p : Standard} {x : Expr} {l : Kind} → IsBound p → C (AStandard p) (x ∷ []) l → (r : Range) × NamesIt x r × BoundedBy p r l
   bound_calls_by w (rules.of_function h e a) = elim h [ ]
-  bound_calls_by w (rules.of_one m a) = absurd (none w (applies_one a))
-    where
-      none : {p : Standard} → IsBound p → IsOfOne p → ⊥
-      none bound_max i = elim i [ ]
-      none bound_min i = elim i [ ]
+  bound_calls_by w (rules.of_one m a) = absurd (bound_not_one w (applies_one a))
   bound_calls_by w (rules.of_type {x = y} {r = r} {n = n} h m b) = (r, (y, h, m), (n, b, refl))
   bound_calls_by w (rules.greatest_index h) = elim w [ ]
 
@@ -310,8 +309,8 @@ module _ (g : Gathers) (j : Judges g) (lawful : Lawful g j) (names : Ident → S
   calls_bound {p = p} {x = x} l (r, (y, h, m), (n, b, e)) = subst (C (AStandard p) (x ∷ [])) (sym e) (rules.of_type h m b)
 
   type_of_bound : {p : Standard} {x : Expr} → IsBound p → TakesType p (x ∷ []) x
-  type_of_bound bound_max = rules.of_max
-  type_of_bound bound_min = rules.of_min
+  type_of_bound bound_max = functions.of_max
+  type_of_bound bound_min = functions.of_min
 
   bound_fails : {p : Standard} {x : Expr} (at : Pos) (f : Breach) → IsBound p → M at (AStandard p) (x ∷ []) f → NameFails x f
   bound_fails at _ w (rules.no_function h m) = absurd (m 1 (standard (bound_one w)))
@@ -320,18 +319,15 @@ module _ (g : Gathers) (j : Judges g) (lawful : Lawful g j) (names : Ident → S
   bound_fails at f w (rules.no_value t m z) = absurd (no_value_of w t)
     where
       no_value_of : {p : Standard} {x e : Expr} → IsBound p → TakesValue p (x ∷ []) e → ⊥
-      no_value_of bound_max (rules.of_one i) = elim i [ ]
-      no_value_of bound_min (rules.of_one i) = elim i [ ]
-  bound_fails at f w (rules.misapplied i m z) = absurd (none w i)
-    where
-      none : {p : Standard} → IsBound p → IsOfOne p → ⊥
-      none bound_max i = elim i [ ]
-      none bound_min i = elim i [ ]
+      no_value_of bound_max (functions.of_one i) = elim i [ ]
+      no_value_of bound_min (functions.of_one i) = elim i [ ]
+  bound_fails at f w (rules.misapplied i m z) = absurd (bound_not_one w i)
   bound_fails at _ w (rules.no_type t m z) = named w t m z
     where
       named : {p : Standard} {x e : Expr} {y : Thing} → IsBound p → TakesType p (x ∷ []) e → S e y → ((r : Range) → NamesScalar s.types y r → ⊥) → NameFails x (first e ! rule.NoType)
-      named w rules.of_max m z = inr (_, m, (z, refl))
-      named w rules.of_min m z = inr (_, m, (z, refl))
+      named w functions.of_max m z = inr (_, m, (z, refl))
+      named w functions.of_min m z = inr (_, m, (z, refl))
+  bound_fails at f w (rules.no_array m z) = elim w [ ]
   bound_fails at _ w (rules.no_open_array m z q) = elim w [ ]
 
   fails_bound : {p : Standard} {x : Expr} (at : Pos) (f : Breach) → IsBound p → NameFails x f → M at (AStandard p) (x ∷ []) f ⊎ Any (x ∷ []) f
@@ -369,15 +365,15 @@ module _ (g : Gathers) (j : Judges g) (lawful : Lawful g j) (names : Ident → S
   val_fails at _ (rules.no_function h m) = absurd (m 2 (standard refl))
   val_fails at _ (rules.wrong_count i m) = absurd (m (some_same _ _ (sym (standard_function i))))
   val_fails at f (rules.mispassed h r c b m z) = elim h [ ]
-  val_fails at f (rules.no_value rules.to_convert m z) = inl (inr (mistaken m z))
-  val_fails at _ (rules.no_type rules.of_conversion m z) = inl (inl (inr (_, m, (z, refl))))
+  val_fails at f (rules.no_value functions.to_convert m z) = inl (inr (mistaken m z))
+  val_fails at _ (rules.no_type functions.of_conversion m z) = inl (inl (inr (_, m, (z, refl))))
   val_fails at f (rules.misconverted {x = y} {r = r} {k = k} m n h z) = inr ((r, k), ((y, m, n), h), z)
 
   fails_val : {t x : Expr} (at : Pos) (f : Breach) → ValFails t x f → M at (AStandard Val) (t ∷ x ∷ []) f ⊎ Any (t ∷ x ∷ []) f
   fails_val {t = t} at f (inl (inl (inl b))) = inr (t, here, b)
-  fails_val {t = t} {x = x} at f (inl (inl (inr (y, m, (z, e))))) = inl (subst (M at (AStandard Val) (t ∷ x ∷ [])) (sym e) (rules.no_type rules.of_conversion m z))
+  fails_val {t = t} {x = x} at f (inl (inl (inr (y, m, (z, e))))) = inl (subst (M at (AStandard Val) (t ∷ x ∷ [])) (sym e) (rules.no_type functions.of_conversion m z))
   fails_val {x = x} at f (inl (inr (broken b))) = inr (x, later here, b)
-  fails_val at f (inl (inr (mistaken m z))) = inl (rules.no_value rules.to_convert m z)
+  fails_val at f (inl (inr (mistaken m z))) = inl (rules.no_value functions.to_convert m z)
   fails_val at f (inr (p, ((y, m, n), h), z)) = inl (rules.misconverted m n h z)
 
   any_val : {t x : Expr} (f : Breach) → Any (t ∷ x ∷ []) f → ValFails t x f
@@ -439,15 +435,15 @@ module _ (g : Gathers) (j : Judges g) (lawful : Lawful g j) (names : Ident → S
   high_fails at _ (rules.no_function h m) = absurd (m 1 (standard refl))
   high_fails at _ (rules.wrong_count i m) = absurd (m (some_same _ _ (sym (standard_function i))))
   high_fails at f (rules.mispassed h r c b m z) = elim h [ ]
-  high_fails at f (rules.no_value (rules.of_one i) m z) = elim i [ ]
-  high_fails at f (rules.no_value rules.of_high m z) = inr (_, m, inl z)
+  high_fails at f (rules.no_value (functions.of_one i) m z) = elim i [ ]
+  high_fails at f (rules.no_array m z) = inr (_, m, inl z)
   high_fails at f (rules.misapplied i m z) = elim i [ ]
   high_fails at _ (rules.no_type t m z) = elim t [ ]
   high_fails at _ (rules.no_open_array m z q) = inr (_, m, inr (z, q, refl))
 
   fails_high : {x : Expr} (at : Pos) (f : Breach) → HighBreaks x f → M at (AStandard High) (x ∷ []) f ⊎ Any (x ∷ []) f
   fails_high {x = x} at f (inl b) = inr (x, here, b)
-  fails_high at f (inr (y, m, inl z)) = inl (rules.no_value rules.of_high m z)
+  fails_high at f (inr (y, m, inl z)) = inl (rules.no_array m z)
   fails_high {x = x} at f (inr (y, m, inr (z, q, e))) = inl (subst (M at (AStandard High) (x ∷ [])) (sym e) (rules.no_open_array m z q))
 
   high_called : {x : Expr} (at : Pos) → IsPlain x → Found x → CallsSo at (AStandard High) (x ∷ []) (of_sort g (meanings_of g x).fixed.at rule.WrongArgument ((meanings_of g x).means s) ▷ high_of g (meanings_of g x).fixed.at)

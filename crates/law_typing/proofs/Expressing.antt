@@ -38,7 +38,7 @@ use Rattle.def_typing.specs.Parts as parts
 use Rattle.def_typing.specs.Parts.{first, Operand, factors, addends, Among, here, later}
 use Rattle.def_typing.specs.Expressions.{IsOperand, IsPart, an_operand, an_argument, Reads, Denotes, Selected, Selects, Chain, done, then, Calls, Misselected, SelectionFails, Miscalled, ChainFails, at_once, further, Fails}
 use Rattle.law_typing.specs.Judging.{Judges, Answers, means}
-use Rattle.law_typing.specs.Exact.{IsConst, is_const, IsKind, kind_constant, thing_value, Knows, IsExact, IsPlain, AreCallFree, plain_number, plain_character, plain_string, plain_set, plain_name, plain_call, plain_not, plain_brackets, plain_term, plain_sum, plain_relation, ArePlain, no_expression, one_expression, ArePlainOperands, no_operand, one_operand, ArePlainSelectors, no_selector, a_field, an_index}
+use Rattle.law_typing.specs.Exact.{IsConst, is_const, IsKind, kind_constant, thing_value, Knows, IsExact, IsPlain, plain_number, plain_character, plain_string, plain_set, plain_name, plain_call, plain_not, plain_brackets, plain_term, plain_sum, plain_relation, ArePlain, no_expression, one_expression, ArePlainOperands, no_operand, one_operand, ArePlainSelectors, no_selector, a_field, an_index, ArePlainItems, no_plain_item, one_plain_item, one_plain_range}
 use Rattle.law_typing.proofs.Combining.{Lawful, exact, both_answer, then_answer, Finds, finds, finds_as, plain_finds}
 use Rattle.law_typing.proofs.Joining.{operated_answers}
 use Rattle.law_typing.proofs.Singles.{signed_answers, negated_answers}
@@ -48,9 +48,11 @@ use Rattle.law_typing.proofs.Finding.{Elsewhere, StandsFor, HasKind, IsBroken, I
 use Rattle.law_typing.proofs.Routines.{calls_answer}
 use Rattle.typed_tree.specs.declared.meaning.Value.{Value as ConstantValue}
 use Rattle.def_typing.specs.Constants as fixed
-use Rattle.def_typing.specs.Constants.{Fixed, AConstant, FixedReads}
+use Rattle.def_typing.specs.Constants.{Fixed, AConstant, Fixes, FixedReads}
+use Rattle.check_const.specs.Parts.{constant}
 use Rattle.law_typing.proofs.Fixing.{as_constant_answers}
-use Rattle.law_typing.proofs.Constants.{FixedIn, braces}
+use Rattle.law_typing.proofs.Constants.{FixedFound, FixedIn, ConstBroken, const_valued, ItemSo, set_by, set_fixed, number_fixed, character_fixed, string_fixed, name_fixed, not_fixed, brackets_fixed, relation_fixed, term_fixed, sum_fixed, signed_fixed, single_so, range_so}
+use Rattle.law_typing.proofs.Applying.{call_fixed}
 
 module _ (g : Gathers) (j : Judges g) (lawful : Lawful g j) (names : Ident → Standing) (exports : ℕ → Ident → Standing) (s : Scope g.Reported) (knows : Knows g j names exports s) where
   abbrev E : Breach → Type 0
@@ -73,6 +75,10 @@ module _ (g : Gathers) (j : Judges g) (lawful : Lawful g j) (names : Ident → S
 
   abbrev Valued : Expr → Type 0
   Valued = IsValued g j lawful names exports s
+
+  -- the same of what has to be constant
+  abbrev Constant' : Expr → Type 0
+  Constant' = FixedFound g j lawful names exports s knows
 
   abbrev R : Expr-F Expr Selector Designator Item → Thing → Type 0
   R = Reads s.types names exports
@@ -130,11 +136,11 @@ module _ (g : Gathers) (j : Judges g) (lawful : Lawful g j) (names : Ident → S
   set_constant (fixed.fixed_set a) = (_, refl)
   set_constant (fixed.fixed_named_set e a) = (_, refl)
 
-  set_found : {e : Expr} (name : Option Ident) (at : Pos) (items : List Item) → out-Expr e ≡ layer.Set name at items → AreCallFree items → Found e
+  set_found : {e : Expr} (name : Option Ident) (at : Pos) (items : List Item) → out-Expr e ≡ layer.Set name at items → ((i : Item) → Among i items → ItemSo g j lawful names exports s knows i) → Found e
   set_found name at items h i = by_layer g j lawful names exports s (layer.Set name at items) ((expr_layer g (opened g (layer.Set name at items))).means s) h refl
       (finds_as g j lawful E (λ y m. made m) (λ y r. reads r) into out
       (plain_finds g j lawful E (then_answer g j lawful E {N = λ k y. y ≡ AValue k} {D = λ k f. ⊥}
-      (then_answer g j lawful E {N = λ x k. x ≡ AConstant k} {D = λ x f. ((k : Kind) → x ≡ AConstant k → ⊥) × (f ≡ spot ! rule.NoConstant)} (braces g j lawful names exports s knows name at items i) (as_constant_answers g j lawful E spot))
+      (then_answer g j lawful E {N = λ x k. x ≡ AConstant k} {D = λ x f. ((k : Kind) → x ≡ AConstant k → ⊥) × (f ≡ spot ! rule.NoConstant)} (set_by g j lawful names exports s knows name at items i) (as_constant_answers g j lawful E spot))
       (λ v k w. means (designated.Value (computed.Constant v)) (AValue k) (thing_value (kind_is w)) refl (λ y e. e) (λ f b. b)))))
     where
       spot : Pos
@@ -593,7 +599,7 @@ module _ (g : Gathers) (j : Judges g) (lawful : Lawful g j) (names : Ident → S
     found (plain_number {at = at} {n = n} h) = number_found at n h
     found (plain_character {at = at} {c = c} h) = character_found at c h
     found (plain_string {at = at} {text = text} h) = string_found at text h
-    found (plain_set {name = name} {at = at} {items = items} h i) = set_found name at items h i
+    found (plain_set {name = name} {at = at} {items = items} h i) = set_found name at items h (λ x m. fixed_item i x m)
     found (plain_name {d = d} h i) = name_found d h i (λ e x. found_index i e x.0 x.1 x.2 x.3)
     found (plain_call {d = d} {args = args} h i a) = call_found d args h i (λ e x. found_index i e x.0 x.1 x.2 x.3) (plain_all a) (λ x m. found_all a x m)
     found (plain_not {at = at} {x = x} h i) = not_found at x h i (found i)
@@ -619,6 +625,49 @@ module _ (g : Gathers) (j : Judges g) (lawful : Lawful g j) (names : Ident → S
     found_index (a_field h r) e y at (later m) q = found_index r e y at m q
     found_index (an_index h i r) e y at here q = subst Found (same_index y h q) (found i)
     found_index (an_index h i r) e y at (later m) q = found_index r e y at m q
+
+    -- the same expressions, if they have to be constant
+    pub fixed_found : {e : Expr} → IsPlain e → Constant' e
+    fixed_found (plain_number {at = at} {n = n} h) = number_fixed g j lawful names exports s knows at n h
+    fixed_found (plain_character {at = at} {c = c} h) = character_fixed g j lawful names exports s knows at c h
+    fixed_found (plain_string {at = at} {text = text} h) = string_fixed g j lawful names exports s knows at text h
+    fixed_found (plain_set {name = name} {at = at} {items = items} h i) = set_fixed g j lawful names exports s knows name at items h (λ x m. fixed_item i x m)
+    fixed_found (plain_name {d = d} h i) = name_fixed g j lawful names exports s knows d h
+    fixed_found (plain_call {d = d} {args = args} h i a) = call_fixed g j lawful names exports s knows d args h (plain_all a) (λ x m. fixed_all a x m) (λ x m. found_all a x m)
+    fixed_found (plain_not {at = at} {x = x} h i) = not_fixed g j lawful names exports s knows at x h i (fixed_found i)
+    fixed_found (plain_brackets {at = at} {x = x} h i) = brackets_fixed g j lawful names exports s knows at x h i (fixed_found i)
+    fixed_found (plain_term {x = x} {rest = rest} h i o) = term_fixed g j lawful names exports s knows x rest h i (fixed_found i) (plain_operands o) (λ y m. fixed_operands o y m)
+    fixed_found (plain_sum {sign = None} {x = x} {rest = rest} h i o) = sum_fixed g j lawful names exports s knows x rest h i (fixed_found i) (plain_operands o) (λ y m. fixed_operands o y m)
+    fixed_found (plain_sum {sign = Some sign} {x = x} {rest = rest} h i o) = signed_fixed g j lawful names exports s knows sign x rest h i (fixed_found i) (plain_operands o) (λ y m. fixed_operands o y m)
+    fixed_found (plain_relation {a = a} {b = b} {o = o} h i k) = relation_fixed g j lawful names exports s knows a o b h i k (fixed_found i) (fixed_found k)
+
+    fixed_all : {xs : List Expr} → ArePlain xs → (x : Expr) → Among x xs → Constant' x
+    fixed_all no_expression x m = elim m [ ]
+    fixed_all (one_expression i r) _ here = fixed_found i
+    fixed_all (one_expression i r) x (later m) = fixed_all r x m
+
+    fixed_operands : {xs : List Operand} → ArePlainOperands xs → (x : Operand) → Among x xs → Constant' x.of
+    fixed_operands no_operand x m = elim m [ ]
+    fixed_operands (one_operand i r) _ here = fixed_found i
+    fixed_operands (one_operand i r) x (later m) = fixed_operands r x m
+
+    fixed_item : {is : List Item} → ArePlainItems is → (i : Item) → Among i is → ItemSo g j lawful names exports s knows i
+    fixed_item no_plain_item i m = elim m [ ]
+    fixed_item (one_plain_item l n r) i here = single_so g j lawful names exports s knows i l (fixed_found l) n
+    fixed_item (one_plain_item l n r) i (later m) = fixed_item r i m
+    fixed_item (one_plain_range {high = high} l e k r) i here = range_so g j lawful names exports s knows i high l (fixed_found l) k (fixed_found k) e
+    fixed_item (one_plain_range l e k r) i (later m) = fixed_item r i m
+
+  pub exactly_fixed : (e : Expr) → IsPlain e → Answers g j E IsConst (λ k. Fixes s.types names exports e (AConstant k)) (rules.BrokenAsConstant s.types names exports e) (constant g s (meanings_of g e).fixed)
+  exactly_fixed e i = exact g j lawful E (λ k m. m) (λ k m. m) into out (const_valued g j lawful names exports s knows i (fixed_found i))
+    where
+      into : (f : Breach) → ConstBroken g j lawful names exports s knows e f → rules.BrokenAsConstant s.types names exports e f
+      into f (inl b) = rules.broken_constant b
+      into f (inr (x, m, (n, q))) = subst (rules.BrokenAsConstant s.types names exports e) (sym q) (rules.not_constant m n)
+
+      out : (f : Breach) → rules.BrokenAsConstant s.types names exports e f → ConstBroken g j lawful names exports s knows e f
+      out f (rules.broken_constant b) = inl b
+      out _ (rules.not_constant {x = x} m n) = inr (x, m, (n, refl))
 
   pub exactly : (e : Expr) → IsPlain e → IsExact g j names exports s e
   exactly e i = valued g j lawful names exports s i (found i)

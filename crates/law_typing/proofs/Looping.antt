@@ -44,22 +44,21 @@ use Rattle.def_typing.specs.Amounts as amounts
 use Rattle.def_typing.specs.Operators.{◌!◌, Kind, Scalar, operand}
 use Rattle.def_typing.specs.Things.{Thing, AVariable, Standing, Known, Ahead, Undeclared, Unknown, Misnamed, undeclared, not_yet, SuitsBase, IsAssignable, Misassigned}
 use Rattle.def_typing.specs.Parts.{first}
-use Rattle.def_typing.specs.Constants.{AConstant, Fixes, BrokenAsConstant}
-use Rattle.def_typing.specs.Expressions.{Has, BrokenAsValue}
+use Rattle.def_typing.specs.Constants.{AConstant, Fixes}
+use Rattle.def_typing.specs.Expressions.{Has, BrokenAsValue, BrokenAsConstant}
 use Rattle.def_typing.specs.Loops as rules
 use Rattle.def_typing.specs.Loops.{SuitsLimit, IsOfBase, IsLimit, Mislimits, no_limit, not_in_base, IsWholeConstant, whole_constant, IsStep, is_step, Missteps, no_step, step_zero, IsControl, is_control, BrokenControl, no_name, no_control, HasStep, by_one, by_constant, Runs, runs, BrokenRun}
 use Rattle.law_typing.specs.Judging.{Judges, Answers, means, refuses}
-use Rattle.law_typing.specs.Exact.{IsKind, IsConst, of_local, standing, Sees, sees, sees_nothing, sees_headless, sees_unknown, Knows, Repeats, of_declaration, IsPlain, IsCallFree, is_own_variable, KnowsOwn}
+use Rattle.law_typing.specs.Exact.{IsKind, IsConst, of_local, standing, Sees, sees, sees_nothing, sees_headless, sees_unknown, Knows, Repeats, of_declaration, IsPlain, IsPlain, is_own_variable, KnowsOwn}
 use Rattle.law_typing.proofs.Combining.{Lawful, Decided, holds, fails_it, accounts_as, accounts_one, declined, both_answer, Checks, passes, stops, stopped, checks_as, both_checks, map_checks, then_check}
 use Rattle.law_typing.proofs.Deciding.{range_decided}
 use Rattle.law_typing.proofs.Joining.{IsSide, side_scalar, side_set, side_routine, side_procedure, side_text, side_whole, side_untaken, side_is}
 use Rattle.law_typing.proofs.Placing.{value_suits, base_decided, bases_decided, whole_base}
-use Rattle.law_typing.proofs.Places.{at_is, free_at}
+use Rattle.law_typing.proofs.Places.{at_is}
 use Rattle.law_typing.proofs.Shaping.{class_of, class_is, one_made}
 use Rattle.law_typing.proofs.Selecting.{known_one}
 use Rattle.law_typing.proofs.Elements.{checks_answer, IsOrdinal, is_ordinal, NumberOf, number_answers, one_meaning}
-use Rattle.law_typing.proofs.Constants.{exactly_fixed}
-use Rattle.law_typing.proofs.Expressing.{exactly}
+use Rattle.law_typing.proofs.Expressing.{exactly, exactly_fixed}
 
 -- ---- limits
 
@@ -360,9 +359,9 @@ module _ (g : Gathers) (j : Judges g) (lawful : Lawful g j) (names : Ident → S
       breaks_constant : {e : Expr} {f : Breach} → K e f → StepBreaks (Some e) f
       breaks_step : {e : Expr} {k : Kind} {f : Breach} → F e k → Missteps (first e) (operand k) f → StepBreaks (Some e) f
 
-    step_answer : (step : Option Expr) → ((e : Expr) → step ≡ Some e → IsCallFree e) → Checks g j lawful E {A = ℤ} (Steps step) (StepBreaks step) (step_of g s (meant_if g step))
+    step_answer : (step : Option Expr) → ((e : Expr) → step ≡ Some e → IsPlain e) → Checks g j lawful E {A = ℤ} (Steps step) (StepBreaks step) (step_of g s (meant_if g step))
     step_answer None i = passes (pos 1) by_one (λ f z. elim z [ ])
-    step_answer (Some e) i = subst (λ (at : Pos). Checks g j lawful E {A = ℤ} (Steps (Some e)) (StepBreaks (Some e)) (constant g s (meanings_of g e).fixed ▷ step_by g at)) (sym (free_at g (i e refl)))
+    step_answer (Some e) i = subst (λ (at : Pos). Checks g j lawful E {A = ℤ} (Steps (Some e)) (StepBreaks (Some e)) (constant g s (meanings_of g e).fixed ▷ step_by g at)) (sym (at_is g (i e refl)))
         (checks_as g j lawful E (λ z. by_constant z.1 z.2) step_parts (λ f z. elim z [ inl b ↦ breaks_constant b | inr q ↦ breaks_step q.1 q.2 ]) broken_parts
         (then_check g j lawful E {P = λ k. IsStep (operand k)} {D = λ k f. Missteps (first e) (operand k) f} (exactly_fixed g j lawful names exports s knows e (i e refl)) (λ v k q. step_checks g j lawful E (first e) q)))
       where
@@ -415,7 +414,7 @@ module _ (g : Gathers) (j : Judges g) (lawful : Lawful g j) (names : Ident → S
     breaks_out f (rules.wrong_limit {t = t} {r = r} {k = k} c h m) = inr (inl (inr (((t, r), k), (c, h), m)))
     breaks_out f (rules.wrong_step h m) = inr (inr (breaks_step h m))
 
-    pub run_answers : (name : Ident) (start limit : Expr) (step : Option Expr) → IsPlain start → IsPlain limit → ((e : Expr) → step ≡ Some e → IsCallFree e)
+    pub run_answers : (name : Ident) (start limit : Expr) (step : Option Expr) → IsPlain start → IsPlain limit → ((e : Expr) → step ≡ Some e → IsPlain e)
         → Answers g j E {A = Course} {K = Unit {0}} (λ v u. Unit {0}) (λ u. R name start limit step) (BR name start limit step) (course_of g s name (meanings_of g start) (meanings_of g limit) (meant_if g step))
     run_answers name start limit step i k c = checks_answer g j lawful E (checks_as g j lawful E run_in run_out breaks_in breaks_out
         (map_checks g j lawful E (λ (p : (Control × TypedExpr) × (TypedExpr × ℤ)). let q : Course = record { control = p.0.0; start = p.0.1; limit = p.1.0; by = p.1.1 } in q)

@@ -152,6 +152,7 @@ module _ (g : Gathers) (j : Judges g) (lawful : Lawful g j) (names : Ident → S
   no_function_only at f w n (rules.misapplied i m z) = absurd (no_standard s.types w)
   no_function_only at _ w n (rules.no_type t m z) = absurd (no_standard s.types w)
   no_function_only at f w n (rules.misconverted m z q r) = absurd (no_standard s.types w)
+  no_function_only at f w n (rules.no_array m z) = absurd (no_standard s.types w)
   no_function_only at _ w n (rules.no_open_array m z q) = absurd (no_standard s.types w)
 
   called_function : {x : Thing} {xs : List Expr} {k : Kind} {h : TypeNo} → Heads s.types x h → C x xs k → (n : ℕ) × IsFunctionOf s.types x n
@@ -178,6 +179,7 @@ module _ (g : Gathers) (j : Judges g) (lawful : Lawful g j) (names : Ident → S
   count_wrong at f w m r n (rules.misapplied i z y) = absurd (no_standard s.types w)
   count_wrong at _ w m r n (rules.no_type t z y) = absurd (no_standard s.types w)
   count_wrong at f w m r n (rules.misconverted z y q c) = absurd (no_standard s.types w)
+  count_wrong at f w m r n (rules.no_array z y) = absurd (no_standard s.types w)
   count_wrong at _ w m r n (rules.no_open_array z y q) = absurd (no_standard s.types w)
 
   count_right : {x : Thing} {h t : TypeNo} {p : Signature} {xs : List Expr} (at : Pos) (f : Breach) → Heads s.types x h → IsMade s.types h (shape.Procedure p) → p.result ≡ Some t → length p.formals ≡ length xs → M at x xs f → Wrong p.formals xs f
@@ -189,6 +191,7 @@ module _ (g : Gathers) (j : Judges g) (lawful : Lawful g j) (names : Ident → S
   count_right at f w m r e (rules.misapplied i z y) = absurd (no_standard s.types w)
   count_right at _ w m r e (rules.no_type t z y) = absurd (no_standard s.types w)
   count_right at f w m r e (rules.misconverted z y q c) = absurd (no_standard s.types w)
+  count_right at f w m r e (rules.no_array z y) = absurd (no_standard s.types w)
   count_right at _ w m r e (rules.no_open_array z y q) = absurd (no_standard s.types w)
 
   wrong_right : {x : Thing} {h t : TypeNo} {p : Signature} {xs : List Expr} (at : Pos) (f : Breach) → Heads s.types x h → IsMade s.types h (shape.Procedure p) → p.result ≡ Some t → length p.formals ≡ length xs → Wrong p.formals xs f → M at x xs f
@@ -347,6 +350,7 @@ module _ (g : Gathers) (j : Judges g) (lawful : Lawful g j) (names : Ident → S
   uncalled at f n (rules.misapplied {p = p} i m z) = absurd (n (may_standard p))
   uncalled at _ n (rules.no_type {p = p} t m z) = absurd (n (may_standard p))
   uncalled at f n (rules.misconverted m z q r) = absurd (n (may_standard _))
+  uncalled at f n (rules.no_array m z) = absurd (n (may_standard _))
   uncalled at _ n (rules.no_open_array m z q) = absurd (n (may_standard _))
 
   called_answer : (at : Pos) (xs : List Expr) (c : Called) (x : Thing) → IsCallee c x → ((y : Expr) → Among y xs → IsPlain y) → ((y : Expr) → Among y xs → Found y) → So at x xs (callee_value g s at (map (meanings_of g) xs) c)

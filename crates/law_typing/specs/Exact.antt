@@ -62,7 +62,7 @@ use Rattle.check_operator.specs.Suits.{value_suited}
 use Rattle.check_call.specs.Effects.{target_at, assignment_of}
 use Rattle.typed_tree.specs.declared.statement.TypedStmt.{TypedStmt}
 use Rattle.typed_tree.specs.Types.{boolean}
-use Rattle.def_typing.specs.Constants.{IsBound, AConstant, Fixes, BrokenAsConstant}
+use Rattle.def_typing.specs.Constants.{IsBound, AConstant, Fixes}
 use Rattle.check_expr.specs.Effects.{call_statement}
 use Rattle.def_typing.specs.Actions.{IsAction, BrokenAction}
 use Rattle.def_typing.specs.Assignments.{Assigns, BrokenAssignment, IsCondition, BrokenCondition}
@@ -98,7 +98,7 @@ use Rattle.def_typing.specs.Amounts.{Constant, Value}
 use Rattle.def_typing.specs.Operators.{◌!◌, Kind, Scalar, Set, Text, Routine, Procedure, Whole, Untaken}
 use Rattle.def_typing.specs.Things.{Thing, AValue, AVariable, AnOpenArray, AType, AProcedure, ANested, AStandard, AModule, Headless, Standing, Known, Ahead, Undeclared, NotExported, Unknown}
 use Rattle.def_typing.specs.Parts.{Operand, factors, addends, Among}
-use Rattle.def_typing.specs.Expressions.{Has, BrokenAsValue}
+use Rattle.def_typing.specs.Expressions.{Has, BrokenAsValue, BrokenAsConstant}
 use Rattle.law_typing.specs.Judging.{Judges, Answers, Reports}
 
 -- ---- what is elaborated
@@ -220,41 +220,7 @@ module _ (g : Gathers) (j : Judges g) where
       Answers g j (Repeats names s) IsKind (Has s.types names exports e)
       (BrokenAsValue s.types names exports e) (value_of g s (meanings_of g e))
 
--- ---- expressions in whose braces nothing is called
-
-mutual
-  pub data IsCallFree : Expr → Type 0 where
-    free_number : {e : Expr} {at : Pos} {n : ℕ} → out-Expr e ≡ layer.Number at n → IsCallFree e
-    free_character : {e : Expr} {at : Pos} {c : ℕ} → out-Expr e ≡ layer.Char at c → IsCallFree e
-    free_string : {e : Expr} {at : Pos} {text : List ℕ} → out-Expr e ≡ layer.Text at text
-        → IsCallFree e
-    free_set : {e : Expr} {name : Option Ident} {at : Pos} {items : List Item}
-        → out-Expr e ≡ layer.Set name at items → AreCallFree items → IsCallFree e
-    free_name : {e : Expr} {d : Designator} → out-Expr e ≡ layer.Use d None → IsCallFree e
-    free_not : {e : Expr} {at : Pos} {x : Expr} → out-Expr e ≡ layer.Not at x → IsCallFree x
-        → IsCallFree e
-    free_brackets : {e : Expr} {at : Pos} {x : Expr} → out-Expr e ≡ layer.Bracketed at x
-        → IsCallFree x → IsCallFree e
-    free_term : {e : Expr} {x : Expr} {rest : List (Operator MulOp × Expr)}
-        → out-Expr e ≡ layer.Term x rest → IsCallFree x → AreCallFreeOperands (factors rest)
-        → IsCallFree e
-    free_sum : {e : Expr} {sign : Option (Operator Sign)} {x : Expr}
-        {rest : List (Operator AddOp × Expr)} → out-Expr e ≡ layer.Sum sign x rest → IsCallFree x
-        → AreCallFreeOperands (addends rest) → IsCallFree e
-    free_relation : {e : Expr} {a b : Expr} {o : Operator RelOp}
-        → out-Expr e ≡ layer.Relation a o b → IsCallFree a → IsCallFree b → IsCallFree e
-
-  pub data AreCallFreeOperands : List Operand → Type 0 where
-    no_free_operand : AreCallFreeOperands []
-    one_free_operand : {x : Operand} {xs : List Operand} → IsCallFree x.of
-        → AreCallFreeOperands xs → AreCallFreeOperands (x ∷ xs)
-
-  pub data AreCallFree : List Item → Type 0 where
-    no_free_item : AreCallFree []
-    one_free_item : {i : Item} {is : List Item} → IsCallFree (out-Item i).low
-        → (out-Item i).high ≡ None → AreCallFree is → AreCallFree (i ∷ is)
-    one_free_range : {i : Item} {is : List Item} {high : Expr} → IsCallFree (out-Item i).low
-        → (out-Item i).high ≡ Some high → IsCallFree high → AreCallFree is → AreCallFree (i ∷ is)
+-- ---- expressions by their parts
 
 mutual
   pub data IsPlain : Expr → Type 0 where
@@ -263,7 +229,7 @@ mutual
     plain_string : {e : Expr} {at : Pos} {text : List ℕ} → out-Expr e ≡ layer.Text at text
         → IsPlain e
     plain_set : {e : Expr} {name : Option Ident} {at : Pos} {items : List Item}
-        → out-Expr e ≡ layer.Set name at items → AreCallFree items → IsPlain e
+        → out-Expr e ≡ layer.Set name at items → ArePlainItems items → IsPlain e
     plain_name : {e : Expr} {d : Designator} → out-Expr e ≡ layer.Use d None
         → ArePlainSelectors (out-Designator d).selectors → IsPlain e
     plain_call :
@@ -301,6 +267,13 @@ mutual
         → out-Selector s ≡ layer.Index at x → IsPlain x → ArePlainSelectors ss
         → ArePlainSelectors (s ∷ ss)
 
+  pub data ArePlainItems : List Item → Type 0 where
+    no_plain_item : ArePlainItems []
+    one_plain_item : {i : Item} {is : List Item} → IsPlain (out-Item i).low
+        → (out-Item i).high ≡ None → ArePlainItems is → ArePlainItems (i ∷ is)
+    one_plain_range : {i : Item} {is : List Item} {high : Expr} → IsPlain (out-Item i).low
+        → (out-Item i).high ≡ Some high → IsPlain high → ArePlainItems is → ArePlainItems (i ∷ is)
+
 -- ---- statements of which this is known
 
 abbrev pub ArePlainLabels : List Item → Type 0
@@ -330,7 +303,7 @@ mutual
         → ((v : Expr) → e ≡ Some v → IsPlain v) → IsPlainStmt x
     plain_for : {x : Stmt} {name : Ident} {start limit : Expr} {by : Option Expr}
         {body : List Stmt} → out-Stmt x ≡ step.For name start limit by body → IsPlain start
-        → IsPlain limit → ((v : Expr) → by ≡ Some v → IsCallFree v) → ArePlainStmts body
+        → IsPlain limit → ((v : Expr) → by ≡ Some v → IsPlain v) → ArePlainStmts body
         → IsPlainStmt x
     plain_with : {x : Stmt} {d : Designator} {body : List Stmt} → out-Stmt x ≡ step.With d body
         → ArePlainSelectors (out-Designator d).selectors → ArePlainStmts body → IsPlainStmt x
@@ -361,7 +334,7 @@ mutual
 abbrev pub IsPlainSimple : Simple → Type 0
 IsPlainSimple (simple.Named q) = Unit {0}
 IsPlainSimple (simple.Enumeration at names) = Unit {0}
-IsPlainSimple (simple.Subrange of at low high) = IsCallFree low × IsCallFree high
+IsPlainSimple (simple.Subrange of at low high) = IsPlain low × IsPlain high
 
 mutual
   pub data IsPlainType : TypeExpr → Type 0 where
@@ -381,7 +354,7 @@ mutual
         → ArePlainFields fs → ArePlainFields (f ∷ fs)
 
 abbrev pub IsPlainLayer : Decl-F Decl Block → Type 0
-IsPlainLayer (decl_layer.Constants cs) = (c : ConstantDecl) → Among c cs → IsCallFree c.value
+IsPlainLayer (decl_layer.Constants cs) = (c : ConstantDecl) → Among c cs → IsPlain c.value
 IsPlainLayer (decl_layer.Types ts) = (d : TypeDecl) → Among d ts → IsPlainType d.of
 IsPlainLayer (decl_layer.Variables vs) = (v : Variables) → Among v vs → IsPlainType v.of
 IsPlainLayer (decl_layer.Procedure h b) = Unit {0}
@@ -476,7 +449,7 @@ ExpressionsAreExact g j =
 abbrev pub ConstantsAreExact : (g : Gathers) → Judges g → Type 0
 ConstantsAreExact g j =
     (names : Ident → Standing) (exports : ℕ → Ident → Standing) (s : Scope g.Reported)
-    → Knows g j names exports s → (e : Expr) → IsCallFree e
+    → Knows g j names exports s → (e : Expr) → IsPlain e
     → Answers g j (Repeats g j names s) IsConst
     (λ k. Fixes s.types names exports e (AConstant k)) (BrokenAsConstant s.types names exports e)
     (constant g s (part g e))
@@ -538,7 +511,7 @@ RunsAreExact g j =
     (s : Scope g.Reported)
     → Knows g j names exports s → KnowsOwn g j own s
     → (name : Ident) (start limit : Expr) (step : Option Expr)
-    → IsPlain start → IsPlain limit → ((e : Expr) → step ≡ Some e → IsCallFree e)
+    → IsPlain start → IsPlain limit → ((e : Expr) → step ≡ Some e → IsPlain e)
     → Answers g j (Repeats g j names s) {A = Course} {K = Unit {0}} (λ v u. Unit {0})
     (λ u. Runs s.types names exports own name start limit step)
     (BrokenRun s.types names exports own name start limit step)
@@ -586,7 +559,7 @@ HeadingsAreExact g j =
 abbrev pub SubrangesAreExact : (g : Gathers) → Judges g → Type 0
 SubrangesAreExact g j =
     (names : Ident → Standing) (exports : ℕ → Ident → Standing) (s : Scope g.Reported)
-    → Knows g j names exports s → (low high : Expr) → IsCallFree low → IsCallFree high
+    → Knows g j names exports s → (low high : Expr) → IsPlain low → IsPlain high
     → (q : Option Qualified)
     → Answers g j (Repeats g j names s) (λ (a r : Range). a ≡ r)
     (IsSubrange s.types names exports low high q) (BrokenSubrange s.types names exports low high q)
