@@ -46,7 +46,7 @@ use Rattle.def_typing.specs.Constants.{Fixed, AConstant, AScope, ANamedType, AFu
 use Rattle.def_typing.specs.Expressions as bodies
 use Rattle.def_typing.specs.Expressions.{HasComponents, has_components, Stands, as_written, Reads, Denotes, Selected, Selects, BrokenTypeArgument, in_fixed, no_scalar, in_components, no_scalar_component}
 use Rattle.law_typing.specs.Judging.{Judges, Answers, means}
-use Rattle.law_typing.specs.Exact.{IsConst, is_const, kind_of, kind_constant, Knows, IsPlain}
+use Rattle.law_typing.specs.Exact.{IsConst, is_const, kind_of, kind_constant, Knows}
 use Rattle.law_typing.proofs.Combining.{Lawful, declined, exact, both_answer, then_answer}
 use Rattle.law_typing.proofs.Deciding.{some_same}
 use Rattle.law_typing.proofs.Shaping.{scalar_is}
@@ -328,8 +328,8 @@ module _ (g : Gathers) (j : Judges g) (lawful : Lawful g j) (names : Ident → S
   passed_on at (Ok a) = refl
   passed_on at (Err e) = refl
 
-  bare_type : {t : Expr} → IsPlain t → (HasComponents t → ⊥) → IsFixedOf t → TypeSo t (type_argument g s.types (meanings_of g t).fixed.at (named_type ((meanings_of g t).fixed.denotes s)))
-  bare_type {t = t} i n h = subst (λ (at : Pos). TypeSo t (type_argument g s.types at (named_type ((meanings_of g t).fixed.denotes s)))) (sym (at_is g i))
+  bare_type : {t : Expr} → (HasComponents t → ⊥) → IsFixedOf t → TypeSo t (type_argument g s.types (meanings_of g t).fixed.at (named_type ((meanings_of g t).fixed.denotes s)))
+  bare_type {t = t} n h = subst (λ (at : Pos). TypeSo t (type_argument g s.types at (named_type ((meanings_of g t).fixed.denotes s)))) (sym (at_is g t))
       (subst (TypeSo t) (passed_on (first t) ((meanings_of g t).fixed.denotes s))
       (exact g j lawful O {N = NamesRange t} {C = T t} (λ r m. m) (λ r m. m) into (λ f b. out b)
       (then_answer g j lawful O {N = λ x r. FixedScalar s.types x r} {D = λ x f. NoRange (first t) x f} h (range_answers (first t)))))
@@ -358,9 +358,9 @@ module _ (g : Gathers) (j : Judges g) (lawful : Lawful g j) (names : Ident → S
   sorted at (Ok a) = named_by at a
   sorted at (Err e) = refl
 
-  composed_type : {t : Expr} → IsPlain t → HasComponents t → Found t → TypeSo t (type_argument g s.types (meanings_of g t).fixed.at (type_of g (meanings_of g t).fixed.at ((meanings_of g t).means s)))
-  composed_type {t = t} i c h = subst (TypeSo t) (sorted (meanings_of g t).fixed.at (of_sort g (meanings_of g t).fixed.at rule.NoType ((meanings_of g t).means s)))
-      (exact g j lawful O {N = NamesRange t} {C = T t} (λ r m. made m) (λ r m. named m) into (λ f b. out b) (scalar_answers g j lawful names exports s i h))
+  composed_type : {t : Expr} → HasComponents t → Found t → TypeSo t (type_argument g s.types (meanings_of g t).fixed.at (type_of g (meanings_of g t).fixed.at ((meanings_of g t).means s)))
+  composed_type {t = t} c h = subst (TypeSo t) (sorted (meanings_of g t).fixed.at (of_sort g (meanings_of g t).fixed.at rule.NoType ((meanings_of g t).means s)))
+      (exact g j lawful O {N = NamesRange t} {C = T t} (λ r m. made m) (λ r m. named m) into (λ f b. out b) (scalar_answers g j lawful names exports s h))
     where
       made : {r : Range} → NamesIt g j lawful names exports s t r → NamesRange t r
       made (_, m, names_scalar {t = u} n) = (ANamedType u, stands_named c m, fixed_scalar n)
@@ -378,12 +378,12 @@ module _ (g : Gathers) (j : Judges g) (lawful : Lawful g j) (names : Ident → S
       out (in_components n b) = inl b
       out (no_scalar_component {x = x} n m z) = inr (x, m, (z, refl))
 
-  type_by : {t : Expr} → IsPlain t → NamesSo t → IsFixedOf t → Found t → TypeSo t (type_argument g s.types (meanings_of g t).fixed.at ((meanings_of g t).fixed.names s))
-  type_by {t = t} i (bare n e) h q = subst (λ (x : Result (Option TypeNo) g.Reported). TypeSo t (type_argument g s.types (meanings_of g t).fixed.at x)) (sym e) (bare_type i n h)
-  type_by {t = t} i (composed c e) h q = subst (λ (x : Result (Option TypeNo) g.Reported). TypeSo t (type_argument g s.types (meanings_of g t).fixed.at x)) (sym e) (composed_type i c q)
+  type_by : {t : Expr} → NamesSo t → IsFixedOf t → Found t → TypeSo t (type_argument g s.types (meanings_of g t).fixed.at ((meanings_of g t).fixed.names s))
+  type_by {t = t} (bare n e) h q = subst (λ (x : Result (Option TypeNo) g.Reported). TypeSo t (type_argument g s.types (meanings_of g t).fixed.at x)) (sym e) (bare_type n h)
+  type_by {t = t} (composed c e) h q = subst (λ (x : Result (Option TypeNo) g.Reported). TypeSo t (type_argument g s.types (meanings_of g t).fixed.at x)) (sym e) (composed_type c q)
 
-  type_answers : {t : Expr} → IsPlain t → IsFixedOf t → Found t → TypeSo t (type_argument g s.types (meanings_of g t).fixed.at ((meanings_of g t).fixed.names s))
-  type_answers {t = t} i h q = type_by i (names_layer (out-Expr t) refl) h q
+  type_answers : {t : Expr} → IsFixedOf t → Found t → TypeSo t (type_argument g s.types (meanings_of g t).fixed.at ((meanings_of g t).fixed.names s))
+  type_answers {t = t} h q = type_by (names_layer (out-Expr t) refl) h q
 
   -- ---- what a call answers, with what is broken in its arguments
 
@@ -461,11 +461,11 @@ module _ (g : Gathers) (j : Judges g) (lawful : Lawful g j) (names : Ident → S
   fails_one {x = x} at f w (inl b) = inr (inl (x, functions.of_one (unary_one w), b))
   fails_one at f w (inr (k, m, z)) = inl (rules.fixed_misapplied (unary_one w) m z)
 
-  one_called : {p : Standard} {u : Unary} {x : Expr} (at : Pos) → UnaryIs p u → IsPlain x → IsFixedOf x → CallsSo at p (x ∷ []) (unary g p (value_at (meanings_of g x).fixed.at (constant g s (meanings_of g x).fixed)))
-  one_called {p = p} {x = x} at w i h = subst (λ (q : Pos). CallsSo at p (x ∷ []) (unary g p (value_at q (constant g s (meanings_of g x).fixed)))) (sym (at_is g i))
+  one_called : {p : Standard} {u : Unary} {x : Expr} (at : Pos) → UnaryIs p u → IsFixedOf x → CallsSo at p (x ∷ []) (unary g p (value_at (meanings_of g x).fixed.at (constant g s (meanings_of g x).fixed)))
+  one_called {p = p} {x = x} at w h = subst (λ (q : Pos). CallsSo at p (x ∷ []) (unary g p (value_at q (constant g s (meanings_of g x).fixed)))) (sym (at_is g x))
       (subst (CallsSo at p (x ∷ [])) (placed p (first x) (constant g s (meanings_of g x).fixed))
       (exact g j lawful O {M = OneOf p x} {B = OneFails p x} (λ l m. rules.fixed_of_one m.1 m.2) (λ l m. one_calls w m) (λ f b. fails_one at f w b) (λ f b. one_fails at f w b)
-      (then_answer g j lawful O {N = λ k l. Applies p (operand k) l} {D = λ k f. Misapplied (MayApply p (operand k)) (Applies p (operand k)) (first x) rule.WrongArgument f} (const_valued g j lawful names exports s knows i h) (λ v k q. const_unary (first x) w q))))
+      (then_answer g j lawful O {N = λ k l. Applies p (operand k) l} {D = λ k f. Misapplied (MayApply p (operand k)) (Applies p (operand k)) (first x) rule.WrongArgument f} (const_valued g j lawful names exports s knows h) (λ v k q. const_unary (first x) w q))))
 
   -- ---- MAX and MIN
 
@@ -498,11 +498,11 @@ module _ (g : Gathers) (j : Judges g) (lawful : Lawful g j) (names : Ident → S
   bound_fails at f w (inr (inr (_, functions.of_max, b))) = b
   bound_fails at f w (inr (inr (_, functions.of_min, b))) = b
 
-  bound_called : {p : Standard} {t : Expr} (at : Pos) → IsBound p → IsPlain t → IsFixedOf t → Found t → CallsSo at p (t ∷ []) (bound p (type_argument g s.types (meanings_of g t).fixed.at ((meanings_of g t).fixed.names s)))
-  bound_called {p = p} {t = t} at w i h q = subst (CallsSo at p (t ∷ [])) (bound_is p (type_argument g s.types (meanings_of g t).fixed.at ((meanings_of g t).fixed.names s)))
+  bound_called : {p : Standard} {t : Expr} (at : Pos) → IsBound p → IsFixedOf t → Found t → CallsSo at p (t ∷ []) (bound p (type_argument g s.types (meanings_of g t).fixed.at ((meanings_of g t).fixed.names s)))
+  bound_called {p = p} {t = t} at w h q = subst (CallsSo at p (t ∷ [])) (bound_is p (type_argument g s.types (meanings_of g t).fixed.at ((meanings_of g t).fixed.names s)))
       (exact g j lawful O {M = BoundOfType p t} {B = λ f. T t f ⊎ ((r : Range) × NamesRange t r × ⊥)} calls_bound (λ l m. bound_calls w m)
       (λ f b. elim b [ inl c ↦ inr (inr (t, type_of_bound w, c)) | inr c ↦ absurd c.2 ]) (λ f b. inl (bound_fails at f w b))
-      (then_answer g j lawful O {N = BoundIs p} {D = λ r f. ⊥} (type_answers i h q) (λ v r e. const_of g j lawful O (Ok (bound_by p v.0 v.1)) (bounded_by g j lawful names exports s v r w e))))
+      (then_answer g j lawful O {N = BoundIs p} {D = λ r f. ⊥} (type_answers h q) (λ v r e. const_of g j lawful O (Ok (bound_by p v.0 v.1)) (bounded_by g j lawful names exports s v r w e))))
 
   -- ---- VAL
 
@@ -536,10 +536,10 @@ module _ (g : Gathers) (j : Judges g) (lawful : Lawful g j) (names : Ident → S
   fails_val {x = x} at f (inl (inr b)) = inr (inl (x, functions.to_convert, b))
   fails_val at f (inr (p, ((y, m, n), h), z)) = inl (rules.fixed_misconverted m n h z)
 
-  val_called : {t x : Expr} (at : Pos) → IsPlain t → IsPlain x → IsFixedOf t → Found t → IsFixedOf x → CallsSo at Val (t ∷ x ∷ []) (conversion_call g (type_argument g s.types (meanings_of g t).fixed.at ((meanings_of g t).fixed.names s)) (meanings_of g x).fixed.at (constant g s (meanings_of g x).fixed))
-  val_called {t = t} {x = x} at i k h q p = subst (λ (o : Pos). CallsSo at Val (t ∷ x ∷ []) (conversion_call g (type_argument g s.types (meanings_of g t).fixed.at ((meanings_of g t).fixed.names s)) o (constant g s (meanings_of g x).fixed))) (sym (at_is g k))
+  val_called : {t x : Expr} (at : Pos) → IsFixedOf t → Found t → IsFixedOf x → CallsSo at Val (t ∷ x ∷ []) (conversion_call g (type_argument g s.types (meanings_of g t).fixed.at ((meanings_of g t).fixed.names s)) (meanings_of g x).fixed.at (constant g s (meanings_of g x).fixed))
+  val_called {t = t} {x = x} at h q p = subst (λ (o : Pos). CallsSo at Val (t ∷ x ∷ []) (conversion_call g (type_argument g s.types (meanings_of g t).fixed.at ((meanings_of g t).fixed.names s)) o (constant g s (meanings_of g x).fixed))) (sym (at_is g x))
       (exact g j lawful O {M = ValOf t x} {B = ValFails t x} calls_val (λ l m. val_calls m) (fails_val at) (val_fails at)
-      (then_answer g j lawful O {N = λ p l. Converts p.0 (operand p.1) l} {D = ConvertFails x} (both_answer g j lawful O (type_answers i h q) (const_valued g j lawful names exports s knows k p))
+      (then_answer g j lawful O {N = λ p l. Converts p.0 (operand p.1) l} {D = ConvertFails x} (both_answer g j lawful O (type_answers h q) (const_valued g j lawful names exports s knows p))
       (λ v p w. subst (λ (r : Range). Answers g j O IsConst (Converts r (operand p.1)) (ConvertFails x (r, p.1)) (conversion_of g v.0.0 v.0.1 (first x) v.1)) w.0 (const_converted (first x) v.0.0 v.0.1 w.1))))
 
   -- ---- all standard procedures, by the number of arguments
@@ -547,47 +547,44 @@ module _ (g : Gathers) (j : Judges g) (lawful : Lawful g j) (names : Ident → S
   abbrev parts : List Expr → List (Part g.Reported)
   parts xs = map (λ (m : Meant g.Reported). m.fixed) (map (meanings_of g) xs)
 
-  abbrev AllPlain : List Expr → Type 0
-  AllPlain xs = (y : Expr) → Among y xs → IsPlain y
-
   abbrev AllFixed : List Expr → Type 0
   AllFixed xs = (y : Expr) → Among y xs → IsFixedOf y
 
   abbrev AllFound : List Expr → Type 0
   AllFound xs = (y : Expr) → Among y xs → Found y
 
-  unary_calls : {p : Standard} {u : Unary} (at : Pos) (xs : List Expr) → UnaryIs p u → AllPlain xs → AllFixed xs → CallsSo at p xs (unary g p (one g s at (parts xs)))
-  unary_calls at [] w i h = miscounted at (fixed_one (unary_one w)) (λ e. absurd cc)
-  unary_calls at (x ∷ []) w i h = one_called at w (i x here) (h x here)
-  unary_calls at (x ∷ y ∷ xs) w i h = miscounted at (fixed_one (unary_one w)) (λ e. omega (arith, e))
+  unary_calls : {p : Standard} {u : Unary} (at : Pos) (xs : List Expr) → UnaryIs p u → AllFixed xs → CallsSo at p xs (unary g p (one g s at (parts xs)))
+  unary_calls at [] w h = miscounted at (fixed_one (unary_one w)) (λ e. absurd cc)
+  unary_calls at (x ∷ []) w h = one_called at w (h x here)
+  unary_calls at (x ∷ y ∷ xs) w h = miscounted at (fixed_one (unary_one w)) (λ e. omega (arith, e))
 
-  bounds_call : {p : Standard} (at : Pos) (xs : List Expr) → IsBound p → AllPlain xs → AllFixed xs → AllFound xs → CallsSo at p xs (bound p (type_only g s at (parts xs)))
-  bounds_call at [] w i h q = miscounted at (fixed_bound w) (λ e. absurd cc)
-  bounds_call at (x ∷ []) w i h q = bound_called at w (i x here) (h x here) (q x here)
-  bounds_call at (x ∷ y ∷ xs) w i h q = miscounted at (fixed_bound w) (λ e. omega (arith, e))
+  bounds_call : {p : Standard} (at : Pos) (xs : List Expr) → IsBound p → AllFixed xs → AllFound xs → CallsSo at p xs (bound p (type_only g s at (parts xs)))
+  bounds_call at [] w h q = miscounted at (fixed_bound w) (λ e. absurd cc)
+  bounds_call at (x ∷ []) w h q = bound_called at w (h x here) (q x here)
+  bounds_call at (x ∷ y ∷ xs) w h q = miscounted at (fixed_bound w) (λ e. omega (arith, e))
 
-  conversions_call : (at : Pos) (xs : List Expr) → AllPlain xs → AllFixed xs → AllFound xs → CallsSo at Val xs (conversion g s at (parts xs))
-  conversions_call at [] i h q = miscounted {p = Val} at refl (λ e. absurd cc)
-  conversions_call at (t ∷ []) i h q = miscounted {p = Val} at refl (λ e. omega (arith, e))
-  conversions_call at (t ∷ x ∷ []) i h q = val_called at (i t here) (i x (later here)) (h t here) (q t here) (h x (later here))
-  conversions_call at (t ∷ x ∷ y ∷ xs) i h q = miscounted {p = Val} at refl (λ e. omega (arith, e))
+  conversions_call : (at : Pos) (xs : List Expr) → AllFixed xs → AllFound xs → CallsSo at Val xs (conversion g s at (parts xs))
+  conversions_call at [] h q = miscounted {p = Val} at refl (λ e. absurd cc)
+  conversions_call at (t ∷ []) h q = miscounted {p = Val} at refl (λ e. omega (arith, e))
+  conversions_call at (t ∷ x ∷ []) h q = val_called at (h t here) (q t here) (h x (later here))
+  conversions_call at (t ∷ x ∷ y ∷ xs) h q = miscounted {p = Val} at refl (λ e. omega (arith, e))
 
-  standard_calls : (p : Standard) (at : Pos) (xs : List Expr) → AllPlain xs → AllFixed xs → AllFound xs → CallsSo at p xs (standard_call_value g s at (denoted.Standard p) (parts xs))
-  standard_calls Abs at xs i h q = unary_calls at xs is_abs i h
-  standard_calls Cap at xs i h q = unary_calls at xs is_cap i h
-  standard_calls Chr at xs i h q = unary_calls at xs is_chr i h
-  standard_calls High at xs i h q = uncalled at refl
-  standard_calls Max at xs i h q = bounds_call at xs bound_max i h q
-  standard_calls Min at xs i h q = bounds_call at xs bound_min i h q
-  standard_calls Odd at xs i h q = unary_calls at xs is_odd i h
-  standard_calls Ord at xs i h q = unary_calls at xs is_ord i h
-  standard_calls Val at xs i h q = conversions_call at xs i h q
-  standard_calls Inc at xs i h q = uncalled at refl
-  standard_calls Dec at xs i h q = uncalled at refl
-  standard_calls Incl at xs i h q = uncalled at refl
-  standard_calls Excl at xs i h q = uncalled at refl
-  standard_calls Halt at xs i h q = uncalled at refl
-  standard_calls Put at xs i h q = uncalled at refl
+  standard_calls : (p : Standard) (at : Pos) (xs : List Expr) → AllFixed xs → AllFound xs → CallsSo at p xs (standard_call_value g s at (denoted.Standard p) (parts xs))
+  standard_calls Abs at xs h q = unary_calls at xs is_abs h
+  standard_calls Cap at xs h q = unary_calls at xs is_cap h
+  standard_calls Chr at xs h q = unary_calls at xs is_chr h
+  standard_calls High at xs h q = uncalled at refl
+  standard_calls Max at xs h q = bounds_call at xs bound_max h q
+  standard_calls Min at xs h q = bounds_call at xs bound_min h q
+  standard_calls Odd at xs h q = unary_calls at xs is_odd h
+  standard_calls Ord at xs h q = unary_calls at xs is_ord h
+  standard_calls Val at xs h q = conversions_call at xs h q
+  standard_calls Inc at xs h q = uncalled at refl
+  standard_calls Dec at xs h q = uncalled at refl
+  standard_calls Incl at xs h q = uncalled at refl
+  standard_calls Excl at xs h q = uncalled at refl
+  standard_calls Halt at xs h q = uncalled at refl
+  standard_calls Put at xs h q = uncalled at refl
 
   -- ---- whatever is called
 
@@ -602,13 +599,13 @@ module _ (g : Gathers) (j : Judges g) (lawful : Lawful g j) (names : Ident → S
   abbrev CalledSo : Pos → List Expr → Fixed → Result ConstantValue g.Reported → Type 0
   CalledSo at xs x r = Answers g j O IsConst (Gives xs x) (CalledFails at xs x) r
 
-  called_so : (at : Pos) (xs : List Expr) → AllPlain xs → AllFixed xs → AllFound xs → (a : Denoted) (x : Fixed) → IsFixed a x → CalledSo at xs x (standard_call_value g s at a (parts xs))
-  called_so at xs i h q _ _ (fixed_procedure_of p) = standard_calls p at xs i h q
-  called_so at xs i h q _ _ (fixed_type t) = declined g j lawful O at rule.NoConstant (λ k c. c) refl (λ f e. e)
-  called_so at xs i h q _ _ (fixed_value v) = declined g j lawful O at rule.NoConstant (λ k c. c) refl (λ f e. e)
-  called_so at xs i h q _ _ fixed_variable = declined g j lawful O at rule.NoConstant (λ k c. c) refl (λ f e. e)
-  called_so at xs i h q _ _ fixed_procedure = declined g j lawful O at rule.NoConstant (λ k c. c) refl (λ f e. e)
-  called_so at xs i h q _ _ (fixed_module k) = declined g j lawful O at rule.NoConstant (λ k c. c) refl (λ f e. e)
+  called_so : (at : Pos) (xs : List Expr) → AllFixed xs → AllFound xs → (a : Denoted) (x : Fixed) → IsFixed a x → CalledSo at xs x (standard_call_value g s at a (parts xs))
+  called_so at xs h q _ _ (fixed_procedure_of p) = standard_calls p at xs h q
+  called_so at xs h q _ _ (fixed_type t) = declined g j lawful O at rule.NoConstant (λ k c. c) refl (λ f e. e)
+  called_so at xs h q _ _ (fixed_value v) = declined g j lawful O at rule.NoConstant (λ k c. c) refl (λ f e. e)
+  called_so at xs h q _ _ fixed_variable = declined g j lawful O at rule.NoConstant (λ k c. c) refl (λ f e. e)
+  called_so at xs h q _ _ fixed_procedure = declined g j lawful O at rule.NoConstant (λ k c. c) refl (λ f e. e)
+  called_so at xs h q _ _ (fixed_module k) = declined g j lawful O at rule.NoConstant (λ k c. c) refl (λ f e. e)
 
   abbrev R : Designator → List Expr → Fixed → Type 0
   R d xs x = FixedReads s.types names exports (layer.Use d (Some xs)) x
@@ -689,7 +686,7 @@ module _ (g : Gathers) (j : Judges g) (lawful : Lawful g j) (names : Ident → S
   breaks_in f (inl (inr (x, m, z))) = inl (inl (rules.fixed_at_selector m z))
   breaks_in f (inr (x, m, z)) = breaks_by f x m z
 
-  pub call_fixed : {e : Expr} (d : Designator) (xs : List Expr) → out-Expr e ≡ layer.Use d (Some xs) → AllPlain xs → AllFixed xs → AllFound xs → IsFixedOf e
-  call_fixed d xs h i k q = called_layer g j lawful names exports s knows (layer.Use d (Some xs)) (call_value g s (head g d).fixed.at ((head g d).fixed.denotes s) (parts xs)) h refl (λ k m. reads_by k m.0 m.1 m.2) by_reads breaks_in by_breaks
+  pub call_fixed : {e : Expr} (d : Designator) (xs : List Expr) → out-Expr e ≡ layer.Use d (Some xs) → AllFixed xs → AllFound xs → IsFixedOf e
+  call_fixed d xs h k q = called_layer g j lawful names exports s knows (layer.Use d (Some xs)) (call_value g s (head g d).fixed.at ((head g d).fixed.denotes s) (parts xs)) h refl (λ k m. reads_by k m.0 m.1 m.2) by_reads breaks_in by_breaks
       (subst (λ (at : Pos). Answers g j O IsConst (CallOf d xs) (CallBreaks d xs) (call_value g s at ((head g d).fixed.denotes s) (parts xs))) (sym (head_at g d))
-      (then_answer g j lawful O {N = Gives xs} {D = CalledFails (out-Designator d).name.pos xs} (designator_fixes g j lawful names exports s knows d) (called_so (out-Designator d).name.pos xs i k q)))
+      (then_answer g j lawful O {N = Gives xs} {D = CalledFails (out-Designator d).name.pos xs} (designator_fixes g j lawful names exports s knows d) (called_so (out-Designator d).name.pos xs k q)))

@@ -62,7 +62,7 @@ use Rattle.def_typing.specs.Parts.{Among, here, later, Named}
 use Rattle.def_typing.specs.Declarations as rules
 use Rattle.def_typing.specs.Declarations.{Declaration, OfConstant, OfType, OfVariables, OfProcedure, declared_by, declarations_of, names_of, constants_of, names_in, formals_in, Declares, AnyDeclares, Declared as Resolved, in_order, IsThere, IsHeaded, types_behind, procedure, is_variables, in_front_of, without, Says, Brings, Misdeclares, Differs, IsAwaited, AllAdded, Lacks, BrokenIn}
 use Rattle.law_typing.specs.Judging.{Judges, Answers, means, refuses, Reports, reports_nothing, reports_broken}
-use Rattle.law_typing.specs.Exact.{standing, is_own_variable, TakenAs, is_taken, awaits, not_taken, Knows, Repeats, IsPlain, IsPlainType, IsPlainLayer, ArePlainDecls, is_nested, IsBlockExact, AreOnce}
+use Rattle.law_typing.specs.Exact.{standing, is_own_variable, TakenAs, is_taken, awaits, not_taken, Knows, Repeats, IsCallFree, IsPlainType, IsPlainLayer, ArePlainDecls, is_nested, IsBlockExact, AreOnce}
 use Rattle.law_typing.proofs.Combining.{Lawful, Decided, holds, fails_it, Tells, silent, tells, tells_as, beside_tells, accounts_as, accounts_one}
 use Rattle.law_typing.proofs.Heading.{nil_right, append_assoc, heading_answers}
 use Rattle.law_typing.proofs.Agreeing.{agreement_decided}
@@ -260,7 +260,7 @@ module _ (g : Gathers) (j : Judges g) (lawful : Lawful g j) (exports : ℕ → I
 
   -- ---- constants
 
-  module _ (front : List Resolved) (c : Constant) (ds : List Declaration) (free : IsPlain c.value) where
+  module _ (front : List Resolved) (c : Constant) (ds : List Declaration) (free : IsCallFree c.value) where
     constant_exact : {s : Scope g.Reported} (k : KB front (OfConstant c ∷ ds) (Adding (c.name ∷ []) (Th front)) s) → Exactly g j lawful exports outside start taken awaited nested block said_constant front (OfConstant c) (constant g s (part g c.value))
     constant_exact {s = s} k names all = more_answers g j lawful (O front) (Repeat front (plain_one (OfConstant c)) ds refl refl refl k all) (constant_says g j lawful nested (T front) names (SetAt front (OfConstant c) names).there exports s (Read front (plain_one (OfConstant c)) ds refl refl refl k all) k.same.types c free)
 

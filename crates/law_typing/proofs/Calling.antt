@@ -35,7 +35,7 @@ use Rattle.def_typing.specs.Parts.{first, Among, here, later}
 use Rattle.def_typing.specs.Expressions.{Beside, beside, behind, Stands, Has, Calls, ArePassed, no_more, one_more, Miscalled, BrokenAsValue, broken, mistaken}
 use Rattle.def_typing.specs.Expressions as rules
 use Rattle.law_typing.specs.Judging.{Judges, Answers, means}
-use Rattle.law_typing.specs.Exact.{IsKind, kind_constant, kind_scalar, IsThing, thing_value, thing_variable, thing_open, thing_type, thing_procedure, thing_nested, thing_standard, thing_module, IsPlain}
+use Rattle.law_typing.specs.Exact.{IsKind, kind_constant, kind_scalar, IsThing, thing_value, thing_variable, thing_open, thing_type, thing_procedure, thing_nested, thing_standard, thing_module}
 use Rattle.law_typing.proofs.Combining.{Lawful, declined, exact, both_answer, then_answer, declined_beside, sort_answers}
 use Rattle.law_typing.proofs.Deciding.{some_same}
 use Rattle.law_typing.proofs.Places.{at_is}
@@ -219,16 +219,16 @@ module _ (g : Gathers) (j : Judges g) (lawful : Lawful g j) (names : Ident → S
   any_one f (x, here, b) = b
   any_one f (x, later m, b) = elim m [ ]
 
-  one_called : {p : Standard} {u : Unary} {x : Expr} (at : Pos) → UnaryIs p u → IsPlain x → Found x → CallsSo at (AStandard p) (x ∷ []) (value_of g s (meanings_of g x) ▷ unary_at g p u (meanings_of g x).fixed.at)
-  one_called {p = p} {u = u} {x = x} at w i h = subst (λ (q : Pos). CallsSo at (AStandard p) (x ∷ []) (value_of g s (meanings_of g x) ▷ unary_at g p u q)) (sym (at_is g i))
+  one_called : {p : Standard} {u : Unary} {x : Expr} (at : Pos) → UnaryIs p u → Found x → CallsSo at (AStandard p) (x ∷ []) (value_of g s (meanings_of g x) ▷ unary_at g p u (meanings_of g x).fixed.at)
+  one_called {p = p} {u = u} {x = x} at w h = subst (λ (q : Pos). CallsSo at (AStandard p) (x ∷ []) (value_of g s (meanings_of g x) ▷ unary_at g p u q)) (sym (at_is g x))
       (exact g j lawful E {M = λ l. (k : Kind) × H x k × Applies p (operand k) l} (λ k m. rules.of_one m.1 m.2) (λ k m. one_calls w m) (λ f b. fails_one at f w b) (λ f b. elim b [ inl m ↦ one_fails at f w m | inr a ↦ inl (broken (any_one f a)) ])
-      (then_answer g j lawful E {N = λ k l. Applies p (operand k) l} {D = λ k f. Misapplied (MayApply p (operand k)) (Applies p (operand k)) (first x) rule.WrongArgument f} (valued g j lawful names exports s i h) (λ v k q. one_answers g j lawful E (first x) w q)))
+      (then_answer g j lawful E {N = λ k l. Applies p (operand k) l} {D = λ k f. Misapplied (MayApply p (operand k)) (Applies p (operand k)) (first x) rule.WrongArgument f} (valued g j lawful names exports s h) (λ v k q. one_answers g j lawful E (first x) w q)))
 
   -- by the number of arguments
-  unary_calls : {p : Standard} {u : Unary} (at : Pos) (xs : List Expr) → UnaryIs p u → ((y : Expr) → Among y xs → IsPlain y) → ((y : Expr) → Among y xs → Found y) → CallsSo at (AStandard p) xs (meanings.unary g s at p u (map (meanings_of g) xs))
-  unary_calls at [] w i h = miscounted_calls at (of_one_arity (unary_one w)) (λ e. absurd cc) h
-  unary_calls at (x ∷ []) w i h = one_called at w (i x here) (h x here)
-  unary_calls at (x ∷ y ∷ xs) w i h = miscounted_calls at (of_one_arity (unary_one w)) (λ e. omega (arith, e)) h
+  unary_calls : {p : Standard} {u : Unary} (at : Pos) (xs : List Expr) → UnaryIs p u → ((y : Expr) → Among y xs → Found y) → CallsSo at (AStandard p) xs (meanings.unary g s at p u (map (meanings_of g) xs))
+  unary_calls at [] w h = miscounted_calls at (of_one_arity (unary_one w)) (λ e. absurd cc) h
+  unary_calls at (x ∷ []) w h = one_called at w (h x here)
+  unary_calls at (x ∷ y ∷ xs) w h = miscounted_calls at (of_one_arity (unary_one w)) (λ e. omega (arith, e)) h
 
   -- ---- functions of types
 
@@ -279,8 +279,8 @@ module _ (g : Gathers) (j : Judges g) (lawful : Lawful g j) (names : Ident → S
   abbrev pub NameFails : Expr → Breach → Type 0
   NameFails x f = B x f ⊎ ((y : Thing) × S x y × NoScalar (first x) y f)
 
-  pub scalar_answers : {x : Expr} → IsPlain x → Found x → Answers g j E IsOfRange (NamesIt x) (NameFails x) (scalar_named g s (meanings_of g x))
-  scalar_answers {x = x} i h = subst (λ (at : Pos). Answers g j E IsOfRange (NamesIt x) (NameFails x) (of_sort g at rule.NoType ((meanings_of g x).means s) ▷ type_named g s.types at)) (sym (at_is g i))
+  pub scalar_answers : {x : Expr} → Found x → Answers g j E IsOfRange (NamesIt x) (NameFails x) (scalar_named g s (meanings_of g x))
+  scalar_answers {x = x} h = subst (λ (at : Pos). Answers g j E IsOfRange (NamesIt x) (NameFails x) (of_sort g at rule.NoType ((meanings_of g x).means s) ▷ type_named g s.types at)) (sym (at_is g x))
       (sort_answers g j lawful E (first x) rule.NoType h (type_answers (first x)) (no_scalar (first x) (λ r n. elim n [ ])))
 
   -- MAX and MIN
@@ -334,15 +334,15 @@ module _ (g : Gathers) (j : Judges g) (lawful : Lawful g j) (names : Ident → S
   fails_bound {x = x} at f w (inl b) = inr (x, here, b)
   fails_bound {p = p} {x = x} at f w (inr (y, m, (z, e))) = inl (subst (M at (AStandard p) (x ∷ [])) (sym e) (rules.no_type (type_of_bound w) m z))
 
-  bound_called : {p : Standard} {x : Expr} (at : Pos) → IsBound p → IsPlain x → Found x → CallsSo at (AStandard p) (x ∷ []) (bound_at p (scalar_named g s (meanings_of g x)))
-  bound_called {p = p} {x = x} at w i h = exact g j lawful E {M = λ l. (r : Range) × NamesIt x r × BoundedBy p r l} {B = λ f. NameFails x f ⊎ ((r : Range) × NamesIt x r × ⊥)} calls_bound (λ l m. bound_calls_by w m)
+  bound_called : {p : Standard} {x : Expr} (at : Pos) → IsBound p → Found x → CallsSo at (AStandard p) (x ∷ []) (bound_at p (scalar_named g s (meanings_of g x)))
+  bound_called {p = p} {x = x} at w h = exact g j lawful E {M = λ l. (r : Range) × NamesIt x r × BoundedBy p r l} {B = λ f. NameFails x f ⊎ ((r : Range) × NamesIt x r × ⊥)} calls_bound (λ l m. bound_calls_by w m)
       (λ f b. elim b [ inl c ↦ fails_bound at f w c | inr c ↦ absurd c.2 ]) (λ f b. elim b [ inl m ↦ inl (bound_fails at f w m) | inr a ↦ inl (inl (any_one f a)) ])
-      (then_answer g j lawful E {N = BoundedBy p} {D = λ r f. ⊥} (scalar_answers i h) (λ q r e. bounded_by q r w e))
+      (then_answer g j lawful E {N = BoundedBy p} {D = λ r f. ⊥} (scalar_answers h) (λ q r e. bounded_by q r w e))
 
-  bound_calls : {p : Standard} (at : Pos) (xs : List Expr) → IsBound p → ((y : Expr) → Among y xs → IsPlain y) → ((y : Expr) → Among y xs → Found y) → CallsSo at (AStandard p) xs (meanings.bound g s at p (map (meanings_of g) xs))
-  bound_calls at [] w i h = miscounted_calls at (bound_one w) (λ e. absurd cc) h
-  bound_calls at (x ∷ []) w i h = bound_called at w (i x here) (h x here)
-  bound_calls at (x ∷ y ∷ xs) w i h = miscounted_calls at (bound_one w) (λ e. omega (arith, e)) h
+  bound_calls : {p : Standard} (at : Pos) (xs : List Expr) → IsBound p → ((y : Expr) → Among y xs → Found y) → CallsSo at (AStandard p) xs (meanings.bound g s at p (map (meanings_of g) xs))
+  bound_calls at [] w h = miscounted_calls at (bound_one w) (λ e. absurd cc) h
+  bound_calls at (x ∷ []) w h = bound_called at w (h x here)
+  bound_calls at (x ∷ y ∷ xs) w h = miscounted_calls at (bound_one w) (λ e. omega (arith, e)) h
 
   -- VAL
   abbrev ConvertFails : Expr → Range × Kind → Breach → Type 0
@@ -381,17 +381,17 @@ module _ (g : Gathers) (j : Judges g) (lawful : Lawful g j) (names : Ident → S
   any_val f (x, later here, b) = inl (inr (broken b))
   any_val f (x, later (later m), b) = elim m [ ]
 
-  val_called : {t x : Expr} (at : Pos) → IsPlain t → IsPlain x → Found t → Found x → CallsSo at (AStandard Val) (t ∷ x ∷ []) (conversion_at g (scalar_named g s (meanings_of g t)) (meanings_of g x).fixed.at (value_of g s (meanings_of g x)))
-  val_called {t = t} {x = x} at i k h q = subst (λ (p : Pos). CallsSo at (AStandard Val) (t ∷ x ∷ []) (conversion_at g (scalar_named g s (meanings_of g t)) p (value_of g s (meanings_of g x)))) (sym (at_is g k))
+  val_called : {t x : Expr} (at : Pos) → Found t → Found x → CallsSo at (AStandard Val) (t ∷ x ∷ []) (conversion_at g (scalar_named g s (meanings_of g t)) (meanings_of g x).fixed.at (value_of g s (meanings_of g x)))
+  val_called {t = t} {x = x} at h q = subst (λ (p : Pos). CallsSo at (AStandard Val) (t ∷ x ∷ []) (conversion_at g (scalar_named g s (meanings_of g t)) p (value_of g s (meanings_of g x)))) (sym (at_is g x))
       (exact g j lawful E calls_val (λ l m. val_calls_by m) (fails_val at) (λ f b. elim b [ inl m ↦ val_fails at f m | inr a ↦ any_val f a ])
-      (then_answer g j lawful E {N = λ p l. Converts p.0 (operand p.1) l} {D = ConvertFails x} (both_answer g j lawful E (scalar_answers i h) (valued g j lawful names exports s k q))
+      (then_answer g j lawful E {N = λ p l. Converts p.0 (operand p.1) l} {D = ConvertFails x} (both_answer g j lawful E (scalar_answers h) (valued g j lawful names exports s q))
       (λ v p w. subst (λ (r : Range). Answers g j E IsKind (Converts r (operand p.1)) (ConvertFails x (r, p.1)) (converted_value g v.0.0 v.0.1 (first x) v.1)) w.0 (converted_answers g j lawful E (first x) v.0.0 v.0.1 w.1))))
 
-  val_calls : (at : Pos) (xs : List Expr) → ((y : Expr) → Among y xs → IsPlain y) → ((y : Expr) → Among y xs → Found y) → CallsSo at (AStandard Val) xs (meanings.conversion g s at (map (meanings_of g) xs))
-  val_calls at [] i h = miscounted_calls {p = Val} at refl (λ e. absurd cc) h
-  val_calls at (t ∷ []) i h = miscounted_calls {p = Val} at refl (λ e. omega (arith, e)) h
-  val_calls at (t ∷ x ∷ []) i h = val_called at (i t here) (i x (later here)) (h t here) (h x (later here))
-  val_calls at (t ∷ x ∷ y ∷ xs) i h = miscounted_calls {p = Val} at refl (λ e. omega (arith, e)) h
+  val_calls : (at : Pos) (xs : List Expr) → ((y : Expr) → Among y xs → Found y) → CallsSo at (AStandard Val) xs (meanings.conversion g s at (map (meanings_of g) xs))
+  val_calls at [] h = miscounted_calls {p = Val} at refl (λ e. absurd cc) h
+  val_calls at (t ∷ []) h = miscounted_calls {p = Val} at refl (λ e. omega (arith, e)) h
+  val_calls at (t ∷ x ∷ []) h = val_called at (h t here) (h x (later here))
+  val_calls at (t ∷ x ∷ y ∷ xs) h = miscounted_calls {p = Val} at refl (λ e. omega (arith, e)) h
 
   -- HIGH
   abbrev HighOf : Thing → Kind → Type 0
@@ -446,31 +446,31 @@ module _ (g : Gathers) (j : Judges g) (lawful : Lawful g j) (names : Ident → S
   fails_high at f (inr (y, m, inl z)) = inl (rules.no_array m z)
   fails_high {x = x} at f (inr (y, m, inr (z, q, e))) = inl (subst (M at (AStandard High) (x ∷ [])) (sym e) (rules.no_open_array m z q))
 
-  high_called : {x : Expr} (at : Pos) → IsPlain x → Found x → CallsSo at (AStandard High) (x ∷ []) (of_sort g (meanings_of g x).fixed.at rule.WrongArgument ((meanings_of g x).means s) ▷ high_of g (meanings_of g x).fixed.at)
-  high_called {x = x} at i h = subst (λ (p : Pos). CallsSo at (AStandard High) (x ∷ []) (of_sort g p rule.WrongArgument ((meanings_of g x).means s) ▷ high_of g p)) (sym (at_is g i))
+  high_called : {x : Expr} (at : Pos) → Found x → CallsSo at (AStandard High) (x ∷ []) (of_sort g (meanings_of g x).fixed.at rule.WrongArgument ((meanings_of g x).means s) ▷ high_of g (meanings_of g x).fixed.at)
+  high_called {x = x} at h = subst (λ (p : Pos). CallsSo at (AStandard High) (x ∷ []) (of_sort g p rule.WrongArgument ((meanings_of g x).means s) ▷ high_of g p)) (sym (at_is g x))
       (exact g j lawful E calls_high (λ l m. high_calls_by m) (fails_high at) (λ f b. elim b [ inl m ↦ high_fails at f m | inr a ↦ inl (any_one f a) ])
       (sort_answers g j lawful E (first x) rule.WrongArgument h (high_answers (first x)) (no_high (first x) (λ t e. absurd cc) (λ h m. m))))
 
-  high_calls : (at : Pos) (xs : List Expr) → ((y : Expr) → Among y xs → IsPlain y) → ((y : Expr) → Among y xs → Found y) → CallsSo at (AStandard High) xs (meanings.high g s at (map (meanings_of g) xs))
-  high_calls at [] i h = miscounted_calls {p = High} at refl (λ e. absurd cc) h
-  high_calls at (x ∷ []) i h = high_called at (i x here) (h x here)
-  high_calls at (x ∷ y ∷ xs) i h = miscounted_calls {p = High} at refl (λ e. omega (arith, e)) h
+  high_calls : (at : Pos) (xs : List Expr) → ((y : Expr) → Among y xs → Found y) → CallsSo at (AStandard High) xs (meanings.high g s at (map (meanings_of g) xs))
+  high_calls at [] h = miscounted_calls {p = High} at refl (λ e. absurd cc) h
+  high_calls at (x ∷ []) h = high_called at (h x here)
+  high_calls at (x ∷ y ∷ xs) h = miscounted_calls {p = High} at refl (λ e. omega (arith, e)) h
 
   -- ---- all standard procedures
 
-  pub standard_answers : (p : Standard) (at : Pos) (xs : List Expr) → ((y : Expr) → Among y xs → IsPlain y) → ((y : Expr) → Among y xs → Found y) → CallsSo at (AStandard p) xs (callee_value g s at (map (meanings_of g) xs) (called.Standard p))
-  standard_answers Abs at xs i h = unary_calls at xs is_abs i h
-  standard_answers Cap at xs i h = unary_calls at xs is_cap i h
-  standard_answers Chr at xs i h = unary_calls at xs is_chr i h
-  standard_answers High at xs i h = high_calls at xs i h
-  standard_answers Max at xs i h = bound_calls at xs bound_max i h
-  standard_answers Min at xs i h = bound_calls at xs bound_min i h
-  standard_answers Odd at xs i h = unary_calls at xs is_odd i h
-  standard_answers Ord at xs i h = unary_calls at xs is_ord i h
-  standard_answers Val at xs i h = val_calls at xs i h
-  standard_answers Inc at xs i h = proper_calls at refl h
-  standard_answers Dec at xs i h = proper_calls at refl h
-  standard_answers Incl at xs i h = proper_calls at refl h
-  standard_answers Excl at xs i h = proper_calls at refl h
-  standard_answers Halt at xs i h = proper_calls at refl h
-  standard_answers Put at xs i h = proper_calls at refl h
+  pub standard_answers : (p : Standard) (at : Pos) (xs : List Expr) → ((y : Expr) → Among y xs → Found y) → CallsSo at (AStandard p) xs (callee_value g s at (map (meanings_of g) xs) (called.Standard p))
+  standard_answers Abs at xs h = unary_calls at xs is_abs h
+  standard_answers Cap at xs h = unary_calls at xs is_cap h
+  standard_answers Chr at xs h = unary_calls at xs is_chr h
+  standard_answers High at xs h = high_calls at xs h
+  standard_answers Max at xs h = bound_calls at xs bound_max h
+  standard_answers Min at xs h = bound_calls at xs bound_min h
+  standard_answers Odd at xs h = unary_calls at xs is_odd h
+  standard_answers Ord at xs h = unary_calls at xs is_ord h
+  standard_answers Val at xs h = val_calls at xs h
+  standard_answers Inc at xs h = proper_calls at refl h
+  standard_answers Dec at xs h = proper_calls at refl h
+  standard_answers Incl at xs h = proper_calls at refl h
+  standard_answers Excl at xs h = proper_calls at refl h
+  standard_answers Halt at xs h = proper_calls at refl h
+  standard_answers Put at xs h = proper_calls at refl h

@@ -47,7 +47,7 @@ use Rattle.def_typing.specs.Constants as rules
 use Rattle.def_typing.specs.Constants.{Fixed, AConstant, AScope, NoConstant, FixedMisnamed, IsBound, low_bound, high_bound, IsFixedPart, Fixes, as_fixed, FixedReads, FixedChain, fixed_done, fixed_then, AddUp, no_item, one_item, Adds, HasNumber, has_number, FixedChainFails, fixed_at_once, fixed_further, ItemFails, Misset, FixedFails, no_constant, IsTypePart}
 use Rattle.def_typing.specs.Expressions.{FixedBroken, fixed_fails, fixed_inside, in_type, BrokenTypeArgument}
 use Rattle.law_typing.specs.Judging.{Judges, Answers, means}
-use Rattle.law_typing.specs.Exact.{IsConst, is_const, kind_of, of_local, standing, Sees, sees, sees_nothing, sees_headless, sees_unknown, Knows, of_declaration, IsPlain}
+use Rattle.law_typing.specs.Exact.{IsConst, is_const, kind_of, of_local, standing, Sees, sees, sees_nothing, sees_headless, sees_unknown, Knows, of_declaration}
 use Rattle.law_typing.proofs.Combining.{Lawful, Decided, holds, fails_it, fine, exact, both_answer, then_answer, Checks, passes, stops, stopped}
 use Rattle.law_typing.proofs.Deciding.{same_decided, some_same}
 use Rattle.law_typing.proofs.Places.{opened, meant_is, at_is}
@@ -90,9 +90,9 @@ module _ (g : Gathers) (j : Judges g) (lawful : Lawful g j) (names : Ident → S
   abbrev pub ConstValued : Expr → Type 0
   ConstValued e = Answers g j O IsConst (λ k. F e (AConstant k)) (ConstBroken e) (constants.constant g s (meanings_of g e).fixed)
 
-  pub const_valued : {e : Expr} → IsPlain e → FixedFound e → ConstValued e
-  const_valued {e = e} i h = exact g j lawful O {M = λ k. (x : Fixed) × F e x × (x ≡ AConstant k)} {B = ConstBroken e} (λ k m. subst (F e) m.2 m.1) (λ k m. (AConstant k, m, refl)) (λ f b. b) (λ f b. b)
-      (subst (λ (at : Pos). Answers g j O IsConst (λ k. (x : Fixed) × F e x × (x ≡ AConstant k)) (ConstBroken e) ((meanings_of g e).fixed.denotes s ▷ as_constant g at)) (sym (at_is g i))
+  pub const_valued : {e : Expr} → FixedFound e → ConstValued e
+  const_valued {e = e} h = exact g j lawful O {M = λ k. (x : Fixed) × F e x × (x ≡ AConstant k)} {B = ConstBroken e} (λ k m. subst (F e) m.2 m.1) (λ k m. (AConstant k, m, refl)) (λ f b. b) (λ f b. b)
+      (subst (λ (at : Pos). Answers g j O IsConst (λ k. (x : Fixed) × F e x × (x ≡ AConstant k)) (ConstBroken e) ((meanings_of g e).fixed.denotes s ▷ as_constant g at)) (sym (at_is g e))
       (then_answer g j lawful O {N = λ x k. x ≡ AConstant k} {D = λ x f. ((k : Kind) → x ≡ AConstant k → ⊥) × (f ≡ first e ! rule.NoConstant)} h (as_constant_answers g j lawful O (first e))))
 
   -- ---- layers
@@ -190,9 +190,9 @@ module _ (g : Gathers) (j : Judges g) (lawful : Lawful g j) (names : Ident → S
       out _ (inl (no_constant (rules.an_inner i) m z)) = elim i [ ]
       out f (inr (x, rules.an_inner i, b)) = elim i [ ]
 
-  pub not_fixed : {e : Expr} (at : Pos) (x : Expr) → out-Expr e ≡ layer.Not at x → IsPlain x → FixedFound x → FixedFound e
-  not_fixed at x h i q = const_layer (layer.Not at x) (operate.negation g at (constants.constant g s (meanings_of g x).fixed)) h refl (λ t p. elim p [ ]) (λ k m. rules.fixed_negated m.1 m.2) reads into out
-      (then_answer g j lawful O {N = Negates} {D = λ a f. ((k : Kind) → Negates a k → ⊥) × (f ≡ at ! rule.WrongType)} (const_valued i q) (λ v k i. const_negated g j lawful O at i))
+  pub not_fixed : {e : Expr} (at : Pos) (x : Expr) → out-Expr e ≡ layer.Not at x → FixedFound x → FixedFound e
+  not_fixed at x h q = const_layer (layer.Not at x) (operate.negation g at (constants.constant g s (meanings_of g x).fixed)) h refl (λ t p. elim p [ ]) (λ k m. rules.fixed_negated m.1 m.2) reads into out
+      (then_answer g j lawful O {N = Negates} {D = λ a f. ((k : Kind) → Negates a k → ⊥) × (f ≡ at ! rule.WrongType)} (const_valued q) (λ v k i. const_negated g j lawful O at i))
     where
       reads : (y : Fixed) → R (layer.Not at x) y → (k : Kind) × ((a : Kind) × F x (AConstant a) × Negates a k) × (y ≡ AConstant k)
       reads _ (rules.fixed_negated {a = a} {k = k} m n) = (k, (a, m, n), refl)
@@ -206,8 +206,8 @@ module _ (g : Gathers) (j : Judges g) (lawful : Lawful g j) (names : Ident → S
       out _ (inl (rules.fixed_not_boolean {a = a} m n)) = inr (a, m, (n, refl))
       out f (inr (y, (rules.an_inner parts.in_not), b)) = inl (inl b)
 
-  pub brackets_fixed : {e : Expr} (at : Pos) (x : Expr) → out-Expr e ≡ layer.Bracketed at x → IsPlain x → FixedFound x → FixedFound e
-  brackets_fixed at x h i q = const_layer (layer.Bracketed at x) (constants.constant g s (meanings_of g x).fixed) h refl (λ t p. elim p [ ]) (λ k m. rules.fixed_brackets m) reads (λ f b. part_broken (rules.an_inner parts.in_brackets) b) out (const_valued i q)
+  pub brackets_fixed : {e : Expr} (at : Pos) (x : Expr) → out-Expr e ≡ layer.Bracketed at x → FixedFound x → FixedFound e
+  brackets_fixed at x h q = const_layer (layer.Bracketed at x) (constants.constant g s (meanings_of g x).fixed) h refl (λ t p. elim p [ ]) (λ k m. rules.fixed_brackets m) reads (λ f b. part_broken (rules.an_inner parts.in_brackets) b) out (const_valued q)
     where
       reads : (y : Fixed) → R (layer.Bracketed at x) y → (k : Kind) × F x (AConstant k) × (y ≡ AConstant k)
       reads _ (rules.fixed_brackets {k = k} m) = (k, m, refl)
@@ -216,13 +216,13 @@ module _ (g : Gathers) (j : Judges g) (lawful : Lawful g j) (names : Ident → S
       out _ (inl (no_constant (rules.an_inner parts.in_brackets) m z)) = inr (_, m, (z, refl))
       out f (inr (y, (rules.an_inner parts.in_brackets), b)) = inl b
 
-  pub relation_fixed : {e : Expr} (a : Expr) (o : Operator RelOp) (b : Expr) → out-Expr e ≡ layer.Relation a o b → IsPlain a → IsPlain b → FixedFound a → FixedFound b → FixedFound e
-  relation_fixed a o b h i k p q = const_layer (layer.Relation a o b) (operate.constant_operation g (op.Relation o.op) o.pos (meanings_of g a).fixed.at (constants.constant g s (meanings_of g a).fixed) (meanings_of g b).fixed.at (constants.constant g s (meanings_of g b).fixed)) h refl (λ t p. elim p [ ])
+  pub relation_fixed : {e : Expr} (a : Expr) (o : Operator RelOp) (b : Expr) → out-Expr e ≡ layer.Relation a o b → FixedFound a → FixedFound b → FixedFound e
+  relation_fixed a o b h p q = const_layer (layer.Relation a o b) (operate.constant_operation g (op.Relation o.op) o.pos (meanings_of g a).fixed.at (constants.constant g s (meanings_of g a).fixed) (meanings_of g b).fixed.at (constants.constant g s (meanings_of g b).fixed)) h refl (λ t p. elim p [ ])
       (λ l m. rules.fixed_relation m.1.0 m.1.1 m.2) reads into out
-      (subst (λ (t : Pos). Answers g j O IsConst Related Breaks (operate.constant_operation g (op.Relation o.op) o.pos t (constants.constant g s (meanings_of g a).fixed) (meanings_of g b).fixed.at (constants.constant g s (meanings_of g b).fixed))) (sym (at_is g i))
-      (subst (λ (t : Pos). Answers g j O IsConst Related Breaks (operate.constant_operation g (op.Relation o.op) o.pos (first a) (constants.constant g s (meanings_of g a).fixed) t (constants.constant g s (meanings_of g b).fixed))) (sym (at_is g k))
+      (subst (λ (t : Pos). Answers g j O IsConst Related Breaks (operate.constant_operation g (op.Relation o.op) o.pos t (constants.constant g s (meanings_of g a).fixed) (meanings_of g b).fixed.at (constants.constant g s (meanings_of g b).fixed))) (sym (at_is g a))
+      (subst (λ (t : Pos). Answers g j O IsConst Related Breaks (operate.constant_operation g (op.Relation o.op) o.pos (first a) (constants.constant g s (meanings_of g a).fixed) t (constants.constant g s (meanings_of g b).fixed))) (sym (at_is g b))
       (then_answer g j lawful O {N = λ c l. Makes s.types (op.Relation o.op) (operand c.0) (operand c.1) l} {D = λ c f. Misused s.types (op.Relation o.op) o.pos (first a) (first b) (operand c.0) (operand c.1) f}
-      (both_answer g j lawful O (const_valued i p) (const_valued k q)) (λ v c w. const_operated g j lawful O s.types (op.Relation o.op) o.pos (first a) (first b) w.0 w.1))))
+      (both_answer g j lawful O (const_valued p) (const_valued q)) (λ v c w. const_operated g j lawful O s.types (op.Relation o.op) o.pos (first a) (first b) w.0 w.1))))
     where
       Related : Kind → Type 0
       Related l = (c : Kind × Kind) × (F a (AConstant c.0) × F b (AConstant c.1)) × Makes s.types (op.Relation o.op) (operand c.0) (operand c.1) l
@@ -275,10 +275,10 @@ module _ (g : Gathers) (j : Judges g) (lawful : Lawful g j) (names : Ident → S
   abbrev StepFails : (Kind → Type 0) → (Breach → Type 0) → Pos → Operand → Breach → Type 0
   StepFails P Q left x f = (Q f ⊎ ConstBroken x.of f) ⊎ ((k : Kind × Kind) × (P k.0 × F x.of (AConstant k.1)) × Misused s.types x.op x.spot left (first x.of) (operand k.0) (operand k.1) f)
 
-  step_answers : {P : Kind → Type 0} {Q : Breach → Type 0} {v : Result ConstantValue g.Reported} (left : Pos) (x : Operand) → IsPlain x.of → FixedFound x.of → Answers g j O IsConst P Q v → Answers g j O IsConst (Stepped P x) (StepFails P Q left x) (step left v x)
-  step_answers {P = P} {Q = Q} {v = v} left x i h a = subst (λ (at : Pos). Answers g j O IsConst (Stepped P x) (StepFails P Q left x) (operate.constant_operation g x.op x.spot left v at (constants.constant g s (meanings_of g x.of).fixed))) (sym (at_is g i))
+  step_answers : {P : Kind → Type 0} {Q : Breach → Type 0} {v : Result ConstantValue g.Reported} (left : Pos) (x : Operand) → FixedFound x.of → Answers g j O IsConst P Q v → Answers g j O IsConst (Stepped P x) (StepFails P Q left x) (step left v x)
+  step_answers {P = P} {Q = Q} {v = v} left x h a = subst (λ (at : Pos). Answers g j O IsConst (Stepped P x) (StepFails P Q left x) (operate.constant_operation g x.op x.spot left v at (constants.constant g s (meanings_of g x.of).fixed))) (sym (at_is g x.of))
       (then_answer g j lawful O {N = λ k c. Makes s.types x.op (operand k.0) (operand k.1) c} {D = λ k f. Misused s.types x.op x.spot left (first x.of) (operand k.0) (operand k.1) f}
-      (both_answer g j lawful O a (const_valued i h)) (λ p k i. const_operated g j lawful O s.types x.op x.spot left (first x.of) i.0 i.1))
+      (both_answer g j lawful O a (const_valued h)) (λ p k i. const_operated g j lawful O s.types x.op x.spot left (first x.of) i.0 i.1))
 
   module _ (P : Kind → Type 0) (Q : Breach → Type 0) where
     chain_of : (x : Operand) (xs : List Operand) (k : Kind) → (c : Kind) × Stepped P x c × Chained c xs k → (a : Kind) × P a × Chained a (x ∷ xs) k
@@ -310,17 +310,17 @@ module _ (g : Gathers) (j : Judges g) (lawful : Lawful g j) (names : Ident → S
     end_of : {a k : Kind} → P a → Chained a [] k → P k
     end_of m fixed_done = m
 
-  chain_answers : (xs : List Operand) {P : Kind → Type 0} {Q : Breach → Type 0} {v : Result ConstantValue g.Reported} (left : Pos) → ((x : Operand) → Among x xs → IsPlain x.of) → ((x : Operand) → Among x xs → FixedFound x.of) → Answers g j O IsConst P Q v
+  chain_answers : (xs : List Operand) {P : Kind → Type 0} {Q : Breach → Type 0} {v : Result ConstantValue g.Reported} (left : Pos) → ((x : Operand) → Among x xs → FixedFound x.of) → Answers g j O IsConst P Q v
       → Answers g j O IsConst (λ k. (a : Kind) × P a × Chained a xs k) (InChain P Q left xs) (fold (step left) v xs)
-  chain_answers [] {P = P} {Q = Q} left i h a = exact g j lawful O {N = λ k. (a : Kind) × P a × Chained a [] k} {C = InChain P Q left []} (λ k m. (k, m, fixed_done)) (λ k m. end_of P Q m.1 m.2) (λ f b. inl b)
+  chain_answers [] {P = P} {Q = Q} left h a = exact g j lawful O {N = λ k. (a : Kind) × P a × Chained a [] k} {C = InChain P Q left []} (λ k m. (k, m, fixed_done)) (λ k m. end_of P Q m.1 m.2) (λ f b. inl b)
       (λ f b. elim b [ inl c ↦ c | inr c ↦ elim c [ inl d ↦ elim d.1 [ ] | inr d ↦ elim d.2 [ ] ] ]) a
-  chain_answers (x ∷ xs) {P = P} {Q = Q} left i h a = exact g j lawful O {N = λ k. (a : Kind) × P a × Chained a (x ∷ xs) k} {C = InChain P Q left (x ∷ xs)} (chain_of P Q x xs) (λ k m. of_chain P Q m.1 m.2) (fails_of P Q left x xs) (of_fails P Q left x xs)
-      (chain_answers xs {P = Stepped P x} {Q = StepFails P Q left x} left (λ y m. i y (later m)) (λ y m. h y (later m)) (step_answers left x (i x here) (h x here) a))
+  chain_answers (x ∷ xs) {P = P} {Q = Q} left h a = exact g j lawful O {N = λ k. (a : Kind) × P a × Chained a (x ∷ xs) k} {C = InChain P Q left (x ∷ xs)} (chain_of P Q x xs) (λ k m. of_chain P Q m.1 m.2) (fails_of P Q left x xs) (of_fails P Q left x xs)
+      (chain_answers xs {P = Stepped P x} {Q = StepFails P Q left x} left (λ y m. h y (later m)) (step_answers left x (h x here) a))
 
-  pub term_fixed : {e : Expr} (x : Expr) (rest : List (Operator MulOp × Expr)) → out-Expr e ≡ layer.Term x rest → IsPlain x → FixedFound x → ((y : Operand) → Among y (factors rest) → IsPlain y.of) → ((y : Operand) → Among y (factors rest) → FixedFound y.of) → FixedFound e
-  term_fixed x rest h i q k p = const_layer (layer.Term x rest) (fold (step (first x)) (constants.constant g s (meanings_of g x).fixed) (factors rest)) h
-      (ap (λ (r : Result ConstantValue g.Reported). of_value r) (fold_factors (meanings_of g x).fixed.at rest (constants.constant g s (meanings_of g x).fixed) ∙ ap (λ (t : Pos). fold (step t) (constants.constant g s (meanings_of g x).fixed) (factors rest)) (at_is g i)))
-      (λ t p. elim p [ ]) (λ k m. rules.fixed_term m.1 m.2) reads into out (chain_answers (factors rest) (first x) k p (const_valued i q))
+  pub term_fixed : {e : Expr} (x : Expr) (rest : List (Operator MulOp × Expr)) → out-Expr e ≡ layer.Term x rest → FixedFound x → ((y : Operand) → Among y (factors rest) → FixedFound y.of) → FixedFound e
+  term_fixed x rest h q p = const_layer (layer.Term x rest) (fold (step (first x)) (constants.constant g s (meanings_of g x).fixed) (factors rest)) h
+      (ap (λ (r : Result ConstantValue g.Reported). of_value r) (fold_factors (meanings_of g x).fixed.at rest (constants.constant g s (meanings_of g x).fixed) ∙ ap (λ (t : Pos). fold (step t) (constants.constant g s (meanings_of g x).fixed) (factors rest)) (at_is g x)))
+      (λ t p. elim p [ ]) (λ k m. rules.fixed_term m.1 m.2) reads into out (chain_answers (factors rest) (first x) p (const_valued q))
     where
       reads : (y : Fixed) → R (layer.Term x rest) y → (k : Kind) × ((a : Kind) × F x (AConstant a) × Chained a (factors rest) k) × (y ≡ AConstant k)
       reads _ (rules.fixed_term {a = a} {k = k} m c) = (k, (a, m, c), refl)
@@ -337,10 +337,10 @@ module _ (g : Gathers) (j : Judges g) (lawful : Lawful g j) (names : Ident → S
       out f (inr (y, (rules.an_inner parts.first_factor), b)) = inl (inl b)
       out f (inr (_, rules.an_inner (parts.other_factor {x = y} a), b)) = inr (inl (y, a, inl b))
 
-  pub sum_fixed : {e : Expr} (x : Expr) (rest : List (Operator AddOp × Expr)) → out-Expr e ≡ layer.Sum None x rest → IsPlain x → FixedFound x → ((y : Operand) → Among y (addends rest) → IsPlain y.of) → ((y : Operand) → Among y (addends rest) → FixedFound y.of) → FixedFound e
-  sum_fixed x rest h i q k p = const_layer (layer.Sum None x rest) (fold (step (first x)) (constants.constant g s (meanings_of g x).fixed) (addends rest)) h
-      (ap (λ (r : Result ConstantValue g.Reported). of_value r) (fold_addends (meanings_of g x).fixed.at rest (constants.constant g s (meanings_of g x).fixed) ∙ ap (λ (t : Pos). fold (step t) (constants.constant g s (meanings_of g x).fixed) (addends rest)) (at_is g i)))
-      (λ t p. elim p [ ]) (λ k m. rules.fixed_sum m.1 m.2) reads into out (chain_answers (addends rest) (first x) k p (const_valued i q))
+  pub sum_fixed : {e : Expr} (x : Expr) (rest : List (Operator AddOp × Expr)) → out-Expr e ≡ layer.Sum None x rest → FixedFound x → ((y : Operand) → Among y (addends rest) → FixedFound y.of) → FixedFound e
+  sum_fixed x rest h q p = const_layer (layer.Sum None x rest) (fold (step (first x)) (constants.constant g s (meanings_of g x).fixed) (addends rest)) h
+      (ap (λ (r : Result ConstantValue g.Reported). of_value r) (fold_addends (meanings_of g x).fixed.at rest (constants.constant g s (meanings_of g x).fixed) ∙ ap (λ (t : Pos). fold (step t) (constants.constant g s (meanings_of g x).fixed) (addends rest)) (at_is g x)))
+      (λ t p. elim p [ ]) (λ k m. rules.fixed_sum m.1 m.2) reads into out (chain_answers (addends rest) (first x) p (const_valued q))
     where
       reads : (y : Fixed) → R (layer.Sum None x rest) y → (k : Kind) × ((a : Kind) × F x (AConstant a) × Chained a (addends rest) k) × (y ≡ AConstant k)
       reads _ (rules.fixed_sum {a = a} {k = k} m c) = (k, (a, m, c), refl)
@@ -363,12 +363,12 @@ module _ (g : Gathers) (j : Judges g) (lawful : Lawful g j) (names : Ident → S
   abbrev SignFails : Operator Sign → Expr → Breach → Type 0
   SignFails sign x f = ConstBroken x f ⊎ ((a : Kind) × F x (AConstant a) × Misapplied (MaySign sign.op (operand a)) (SignMakes sign.op (operand a)) sign.pos rule.WrongType f)
 
-  pub signed_fixed : {e : Expr} (sign : Operator Sign) (x : Expr) (rest : List (Operator AddOp × Expr)) → out-Expr e ≡ layer.Sum (Some sign) x rest → IsPlain x → FixedFound x → ((y : Operand) → Among y (addends rest) → IsPlain y.of) → ((y : Operand) → Among y (addends rest) → FixedFound y.of) → FixedFound e
-  signed_fixed sign x rest h i q k p = const_layer (layer.Sum (Some sign) x rest) (fold (step sign.pos) (operate.with_sign g sign.op sign.pos (constants.constant g s (meanings_of g x).fixed)) (addends rest)) h
+  pub signed_fixed : {e : Expr} (sign : Operator Sign) (x : Expr) (rest : List (Operator AddOp × Expr)) → out-Expr e ≡ layer.Sum (Some sign) x rest → FixedFound x → ((y : Operand) → Among y (addends rest) → FixedFound y.of) → FixedFound e
+  signed_fixed sign x rest h q p = const_layer (layer.Sum (Some sign) x rest) (fold (step sign.pos) (operate.with_sign g sign.op sign.pos (constants.constant g s (meanings_of g x).fixed)) (addends rest)) h
       (ap (λ (r : Result ConstantValue g.Reported). of_value r) (fold_addends sign.pos rest (operate.with_sign g sign.op sign.pos (constants.constant g s (meanings_of g x).fixed))))
       (λ t p. elim p [ ]) (λ k m. rules.fixed_signed_sum m.1.1 m.1.2 m.2) reads into out
-      (chain_answers (addends rest) sign.pos k p (then_answer g j lawful O {N = λ a b. SignMakes sign.op (operand a) b} {D = λ a f. Misapplied (MaySign sign.op (operand a)) (SignMakes sign.op (operand a)) sign.pos rule.WrongType f}
-      (const_valued i q) (λ v c w. const_signed g j lawful O sign.op sign.pos w)))
+      (chain_answers (addends rest) sign.pos p (then_answer g j lawful O {N = λ a b. SignMakes sign.op (operand a) b} {D = λ a f. Misapplied (MaySign sign.op (operand a)) (SignMakes sign.op (operand a)) sign.pos rule.WrongType f}
+      (const_valued q) (λ v c w. const_signed g j lawful O sign.op sign.pos w)))
     where
       reads : (y : Fixed) → R (layer.Sum (Some sign) x rest) y → (k : Kind) × ((b : Kind) × HasSigned sign x b × Chained b (addends rest) k) × (y ≡ AConstant k)
       reads _ (rules.fixed_signed_sum {a = a} {b = b} {k = k} m t c) = (k, (b, (a, m, t), c), refl)
@@ -398,9 +398,9 @@ module _ (g : Gathers) (j : Judges g) (lawful : Lawful g j) (names : Ident → S
   abbrev NumberFails : Expr → Breach → Type 0
   NumberFails x f = ConstBroken x f ⊎ ((k : Kind) × F x (AConstant k) × NoNumber g j lawful O (first x) k f)
 
-  number_at : {x : Expr} → IsPlain x → FixedFound x → Answers g j O IsOrdinal (Number x) (NumberFails x) (constants.element_of g (meanings_of g x).fixed.at (constants.constant g s (meanings_of g x).fixed))
-  number_at {x = x} i h = subst (λ (at : Pos). Answers g j O IsOrdinal (Number x) (NumberFails x) (constants.element_of g at (constants.constant g s (meanings_of g x).fixed))) (sym (at_is g i))
-      (then_answer g j lawful O {N = NumberOf} {D = NoNumber g j lawful O (first x)} (const_valued i h) (number_answers g j lawful O (first x)))
+  number_at : {x : Expr} → FixedFound x → Answers g j O IsOrdinal (Number x) (NumberFails x) (constants.element_of g (meanings_of g x).fixed.at (constants.constant g s (meanings_of g x).fixed))
+  number_at {x = x} h = subst (λ (at : Pos). Answers g j O IsOrdinal (Number x) (NumberFails x) (constants.element_of g at (constants.constant g s (meanings_of g x).fixed))) (sym (at_is g x))
+      (then_answer g j lawful O {N = NumberOf} {D = NoNumber g j lawful O (first x)} (const_valued h) (number_answers g j lawful O (first x)))
 
   has_it : {x : Expr} (p : Option TypeNo × ℤ) → Number x p → HasNumber s.types names exports x p.0 p.1
   has_it p (k, m, (e, n)) = has_number m e n
@@ -412,12 +412,12 @@ module _ (g : Gathers) (j : Judges g) (lawful : Lawful g j) (names : Ident → S
   ItemBreaks l f = ItemFails s.types names exports l f ⊎ ((x : Expr) × IsBound x l × ConstBroken x f)
 
   -- what is refused of a bound alone
-  bound_fails : {l : L} {x : Expr} (f : Breach) → IsPlain x → FixedFound x → IsBound x l → NumberFails x f → ItemBreaks l f
-  bound_fails {x = x} f i h b (inl c) = inr (x, b, c)
-  bound_fails {l = l} {x = x} f i h b (inr (k, m, (n, e))) = inl (subst (ItemFails s.types names exports l) (sym e) (rules.no_number b m (λ sort z y. none sort z (it_has y))))
+  bound_fails : {l : L} {x : Expr} (f : Breach) → FixedFound x → IsBound x l → NumberFails x f → ItemBreaks l f
+  bound_fails {x = x} f h b (inl c) = inr (x, b, c)
+  bound_fails {l = l} {x = x} f h b (inr (k, m, (n, e))) = inl (subst (ItemFails s.types names exports l) (sym e) (rules.no_number b m (λ sort z y. none sort z (it_has y))))
     where
       none : (sort : Option TypeNo) (z : ℤ) → Number x (sort, z) → ⊥
-      none sort z (c, q, t) = n (sort, z) (subst (λ (k : Kind). NumberOf k (sort, z)) (one_meaning g j lawful O (const_valued i h) c k q m) t)
+      none sort z (c, q, t) = n (sort, z) (subst (λ (k : Kind). NumberOf k (sort, z)) (one_meaning g j lawful O (const_valued h) c k q m) t)
 
   single_is : (at : Pos) (v : Result ConstantValue g.Reported) → constants.single_of g at v ≡ (constants.element_of g at v ▷ λ a. is_element g at a ▷ λ fine. Ok (with_span 0 a.number a.number))
   single_is at (Ok v) = refl
@@ -432,10 +432,10 @@ module _ (g : Gathers) (j : Judges g) (lawful : Lawful g j) (names : Ident → S
   abbrev opened_item : L → Item-F (Meant g.Reported) (Picks g.Reported) (Meant g.Reported) (ItemAdds g.Reported)
   opened_item l = map-Item Expr Selector Designator Item (Meant g.Reported) (Picks g.Reported) (Meant g.Reported) (ItemAdds g.Reported) (meanings_of g) (picks g) (head g) (item g) l
 
-  pub single_answers : (l : L) → IsPlain l.low → FixedFound l.low → l.high ≡ None → Answers g j O IsSame (Adds s.types names exports l) (ItemBreaks l) (constants.single_of g (meanings_of g l.low).fixed.at (constants.constant g s (meanings_of g l.low).fixed))
-  single_answers l i h e = subst (Answers g j O IsSame (Adds s.types names exports l) (ItemBreaks l)) (sym (single_is (meanings_of g l.low).fixed.at (constants.constant g s (meanings_of g l.low).fixed)))
-      (subst (λ (at : Pos). Answers g j O IsSame (Adds s.types names exports l) (ItemBreaks l) (constants.element_of g (meanings_of g l.low).fixed.at (constants.constant g s (meanings_of g l.low).fixed) ▷ λ a. is_element g at a ▷ λ fine. Ok (with_span 0 a.number a.number))) (sym (at_is g i))
-      (exact g j lawful O into out fails_in fails_out (one_answers g j lawful O (first l.low) (first l.low) (number_at i h) (number_at i h))))
+  pub single_answers : (l : L) → FixedFound l.low → l.high ≡ None → Answers g j O IsSame (Adds s.types names exports l) (ItemBreaks l) (constants.single_of g (meanings_of g l.low).fixed.at (constants.constant g s (meanings_of g l.low).fixed))
+  single_answers l h e = subst (Answers g j O IsSame (Adds s.types names exports l) (ItemBreaks l)) (sym (single_is (meanings_of g l.low).fixed.at (constants.constant g s (meanings_of g l.low).fixed)))
+      (subst (λ (at : Pos). Answers g j O IsSame (Adds s.types names exports l) (ItemBreaks l) (constants.element_of g (meanings_of g l.low).fixed.at (constants.constant g s (meanings_of g l.low).fixed) ▷ λ a. is_element g at a ▷ λ fine. Ok (with_span 0 a.number a.number))) (sym (at_is g l.low))
+      (exact g j lawful O into out fails_in fails_out (one_answers g j lawful O (first l.low) (first l.low) (number_at h) (number_at h))))
     where
       into : (bits : ℕ) → (p : Option TypeNo × ℤ) × Number l.low p × (Within (pos 0) p.1 (pos 31) × (bits ≡ with_span 0 p.1 p.1)) → Adds s.types names exports l bits
       into bits (p, m, (w, q)) = subst (Adds s.types names exports l) (sym q) (rules.single e (has_it p m) w)
@@ -445,7 +445,7 @@ module _ (g : Gathers) (j : Judges g) (lawful : Lawful g j) (names : Ident → S
       out _ (rules.range q m n w v t u) = absurd (not_both e q)
 
       fails_in : (f : Breach) → NumberFails l.low f ⊎ ((p : Option TypeNo × ℤ) × Number l.low p × ((Within (pos 0) p.1 (pos 31) → ⊥) × (f ≡ first l.low ! rule.OutOfRange))) → ItemBreaks l f
-      fails_in f (inl b) = bound_fails f i h (low_bound refl) b
+      fails_in f (inl b) = bound_fails f h (low_bound refl) b
       fails_in f (inr (p, m, (n, q))) = inl (subst (ItemFails s.types names exports l) (sym q) (rules.no_element (low_bound refl) (has_it p m) n))
 
       low_only : {x : Expr} → IsBound x l → l.low ≡ x
@@ -480,10 +480,10 @@ module _ (g : Gathers) (j : Judges g) (lawful : Lawful g j) (names : Ident → S
   abbrev spanned_at : L → Expr → Pos → Pos → Result ℕ g.Reported
   spanned_at l high at at' = span_of g at (constants.element_of g (meanings_of g l.low).fixed.at (constants.constant g s (meanings_of g l.low).fixed)) at' (constants.element_of g (meanings_of g high).fixed.at (constants.constant g s (meanings_of g high).fixed))
 
-  pub range_item_answers : (l : L) (high : Expr) → IsPlain l.low → FixedFound l.low → IsPlain high → FixedFound high → l.high ≡ Some high → Answers g j O IsSame (Adds s.types names exports l) (ItemBreaks l) (spanned_at l high (meanings_of g l.low).fixed.at (meanings_of g high).fixed.at)
-  range_item_answers l high i h k q e = subst (λ (at : Pos). Answers g j O IsSame (Adds s.types names exports l) (ItemBreaks l) (spanned_at l high at (meanings_of g high).fixed.at)) (sym (at_is g i))
-      (subst (λ (at : Pos). Answers g j O IsSame (Adds s.types names exports l) (ItemBreaks l) (spanned_at l high (first l.low) at)) (sym (at_is g k))
-      (exact g j lawful O into (λ bits a. out a) fails_in (λ f b. fails_out b) (range_answers g j lawful O (first l.low) (first high) (number_at i h) (number_at k q))))
+  pub range_item_answers : (l : L) (high : Expr) → FixedFound l.low → FixedFound high → l.high ≡ Some high → Answers g j O IsSame (Adds s.types names exports l) (ItemBreaks l) (spanned_at l high (meanings_of g l.low).fixed.at (meanings_of g high).fixed.at)
+  range_item_answers l high h q e = subst (λ (at : Pos). Answers g j O IsSame (Adds s.types names exports l) (ItemBreaks l) (spanned_at l high at (meanings_of g high).fixed.at)) (sym (at_is g l.low))
+      (subst (λ (at : Pos). Answers g j O IsSame (Adds s.types names exports l) (ItemBreaks l) (spanned_at l high (first l.low) at)) (sym (at_is g high))
+      (exact g j lawful O into (λ bits a. out a) fails_in (λ f b. fails_out b) (range_answers g j lawful O (first l.low) (first high) (number_at h) (number_at q))))
     where
       into : (bits : ℕ) → RangeSo l high bits → Adds s.types names exports l bits
       into bits (p, (m, n), ((w, v), ((t, o), c))) = subst (Adds s.types names exports l) (sym c) (rules.range e (has_it p.0 m) (has_it p.1 n) w v t.1 o)
@@ -499,8 +499,8 @@ module _ (g : Gathers) (j : Judges g) (lawful : Lawful g j) (names : Ident → S
       out_of_set f b (p, m, (n, c)) = inl (subst (ItemFails s.types names exports l) (sym c) (rules.no_element b (has_it p m) n))
 
       fails_in : (f : Breach) → RangeBreaks l high f → ItemBreaks l f
-      fails_in f (inl (inl b)) = bound_fails f i h (low_bound refl) b
-      fails_in f (inl (inr b)) = bound_fails f k q (high_bound e) b
+      fails_in f (inl (inl b)) = bound_fails f h (low_bound refl) b
+      fails_in f (inl (inr b)) = bound_fails f q (high_bound e) b
       fails_in f (inr (inl (inl b))) = out_of_set f (low_bound refl) b
       fails_in f (inr (inl (inr b))) = out_of_set f (high_bound e) b
       fails_in f (inr (inr (p, (m, n), inl (t, c)))) = inl (subst (ItemFails s.types names exports l) (sym c) (rules.unlike e (has_it p.0 m) (has_it p.1 n) t))
@@ -705,8 +705,8 @@ module _ (g : Gathers) (j : Judges g) (lawful : Lawful g j) (names : Ident → S
 
   -- ---- each element
 
-  pub single_so : (i : Item) → IsPlain (out-Item i).low → FixedFound (out-Item i).low → (out-Item i).high ≡ None → ItemSo i
-  single_so i l h n = subst (Answers g j O IsSame (Adds s.types names exports (out-Item i)) (ItemBreaks (out-Item i))) (sym (item_at i None n)) (single_answers (out-Item i) l h n)
+  pub single_so : (i : Item) → FixedFound (out-Item i).low → (out-Item i).high ≡ None → ItemSo i
+  single_so i h n = subst (Answers g j O IsSame (Adds s.types names exports (out-Item i)) (ItemBreaks (out-Item i))) (sym (item_at i None n)) (single_answers (out-Item i) h n)
 
-  pub range_so : (i : Item) (high : Expr) → IsPlain (out-Item i).low → FixedFound (out-Item i).low → IsPlain high → FixedFound high → (out-Item i).high ≡ Some high → ItemSo i
-  range_so i high l h k q e = subst (Answers g j O IsSame (Adds s.types names exports (out-Item i)) (ItemBreaks (out-Item i))) (sym (item_at i (Some high) e)) (range_item_answers (out-Item i) high l h k q e)
+  pub range_so : (i : Item) (high : Expr) → FixedFound (out-Item i).low → FixedFound high → (out-Item i).high ≡ Some high → ItemSo i
+  range_so i high h q e = subst (Answers g j O IsSame (Adds s.types names exports (out-Item i)) (ItemBreaks (out-Item i))) (sym (item_at i (Some high) e)) (range_item_answers (out-Item i) high h q e)

@@ -1,5 +1,5 @@
 pub mod Order
-pub mod Parted
+pub mod Trees
 pub mod Combining
 pub mod Gathering
 pub mod Deciding

@@ -207,7 +207,7 @@ module _ (g : Gathers) (j : Judges g) (lawful : Lawful g j) (exports : ℕ → I
     added = λ names there k f. rules.an_enumeration;
     only = λ names there k f a z. enumeration_only z;
   }
-  simple_read (simple.Subrange of at low high) i = range_read of at low high (subrange g s of (part g low) (part g high)) (λ names there k. subrange_answers g j lawful names exports s k low high i.0 i.1 of)
+  simple_read (simple.Subrange of at low high) i = range_read of at low high (subrange g s of (part g low) (part g high)) (λ names there k. subrange_answers g j lawful names exports s k low high of)
 
   -- ---- all types
 
