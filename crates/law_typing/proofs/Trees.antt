@@ -1,4 +1,4 @@
--- Every expression and every statement is a tree: this is what inductions go over.
+-- Every expression, statement and type is a tree: this is what inductions go over.
 use Rattle.std.proofs.Common.{◌≡◌, ℕ, List, [], ◌∷◌, Option, Some, None, sym, ap, subst, ◌∙◌}
 use Rattle.std.specs.Prelude.{map}
 use Rattle.m2_tree.specs.declared.pos.Pos.{Pos}
@@ -17,6 +17,12 @@ use Rattle.m2_tree.specs.declared.stmt.Stmt.{Stmt, Stmt-F, out-Stmt, roll-Stmt, 
 use Rattle.m2_tree.specs.declared.stmt.Rest.{Rest, Rest-F, out-Rest, roll-Rest, out-roll-Rest, map-Rest}
 use Rattle.m2_tree.specs.declared.stmt.Rest.TheOpen as step
 use Rattle.m2_tree.specs.declared.stmt.Arm.{Arm, Arm-F, out-Arm, roll-Arm, out-roll-Arm, map-Arm}
+use Rattle.m2_tree.specs.declared.expr.Qualified.{Qualified}
+use Rattle.m2_tree.specs.declared.decl.Parameter.{Parameter}
+use Rattle.m2_tree.specs.declared.decl.Simple.{Simple}
+use Rattle.m2_tree.specs.declared.decl.TypeExpr.{TypeExpr, TypeExpr-F, out-TypeExpr, roll-TypeExpr, out-roll-TypeExpr, map-TypeExpr, ind-TypeExpr}
+use Rattle.m2_tree.specs.declared.decl.TypeExpr.TheOpen as type_layer
+use Rattle.m2_tree.specs.declared.decl.Field.{Field, Field-F, out-Field, roll-Field, out-roll-Field, map-Field}
 use Rattle.def_typing.specs.Parts.{Operand, factors, addends}
 
 -- ---- expressions
@@ -256,3 +262,50 @@ step_arm x y q = subst (λ (z : Arm-F Rest Stmt Arm). AreStmtTrees z.body) (sym 
 
 pub statement_tree : (x : Stmt) → IsStmtTree x
 statement_tree = ind-Stmt IsRestTree IsStmtTree PA step_rest step_stmt step_arm
+
+-- ---- types
+
+mutual
+  pub data IsTypeTree : TypeExpr → Type 0 where
+    tree_simple : {e : TypeExpr} {x : Simple} → out-TypeExpr e ≡ type_layer.Simple x → IsTypeTree e
+    tree_array : {e of : TypeExpr} {at : Pos} {index : Simple} → out-TypeExpr e ≡ type_layer.Array at index of → IsTypeTree of → IsTypeTree e
+    tree_record : {e : TypeExpr} {at : Pos} {fields : List Field} → out-TypeExpr e ≡ type_layer.Record at fields → AreFieldTrees fields → IsTypeTree e
+    tree_procedure : {e : TypeExpr} {at : Pos} {xs : List Parameter} {q : Option Qualified} → out-TypeExpr e ≡ type_layer.Procedure at xs q → IsTypeTree e
+
+  pub data AreFieldTrees : List Field → Type 0 where
+    no_field_tree : AreFieldTrees []
+    one_field_tree : {f : Field} {fs : List Field} → IsTypeTree (out-Field f).of → AreFieldTrees fs → AreFieldTrees (f ∷ fs)
+
+abbrev PF : Field → Type 0
+PF f = IsTypeTree (out-Field f).of
+
+abbrev TT : Type 0
+TT = (e : TypeExpr) × IsTypeTree e
+
+abbrev FT : Type 0
+FT = (f : Field) × PF f
+
+abbrev bare_type : TypeExpr-F TT FT → TypeExpr-F TypeExpr Field
+bare_type y = map-TypeExpr TT FT TypeExpr Field (λ e. e.0) (λ e. e.0) y
+
+abbrev bare_field : Field-F TT FT → Field-F TypeExpr Field
+bare_field y = map-Field TT FT TypeExpr Field (λ e. e.0) (λ e. e.0) y
+
+all_fields : (xs : List FT) → AreFieldTrees (map (λ (f : FT). f.0) xs)
+all_fields [] = no_field_tree
+all_fields (x ∷ xs) = one_field_tree x.1 (all_fields xs)
+
+tree_of_type : (e : TypeExpr) (y : TypeExpr-F TT FT) → out-TypeExpr e ≡ bare_type y → IsTypeTree e
+tree_of_type e (type_layer.Simple x) h = tree_simple h
+tree_of_type e (type_layer.Array at index of) h = tree_array h of.1
+tree_of_type e (type_layer.Record at fields) h = tree_record h (all_fields fields)
+tree_of_type e (type_layer.Procedure at xs q) h = tree_procedure h
+
+step_type : (x : TypeExpr-F TypeExpr Field) (y : TypeExpr-F TT FT) → bare_type y ≡ x → IsTypeTree (roll-TypeExpr x)
+step_type x y q = tree_of_type (roll-TypeExpr x) y (out-roll-TypeExpr x ∙ sym q)
+
+step_field : (x : Field-F TypeExpr Field) (y : Field-F TT FT) → bare_field y ≡ x → PF (roll-Field x)
+step_field x y q = subst (λ (z : Field-F TypeExpr Field). IsTypeTree z.of) (sym (out-roll-Field x ∙ sym q)) y.of.1
+
+pub type_tree : (e : TypeExpr) → IsTypeTree e
+type_tree = ind-TypeExpr IsTypeTree PF step_type step_field

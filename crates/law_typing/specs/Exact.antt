@@ -222,41 +222,6 @@ module _ (g : Gathers) (j : Judges g) where
 
 -- ---- declarations
 
--- It holds of all constants and bounds.
-abbrev pub IsCallFree : Expr → Type 0
-IsCallFree e = Unit {0}
-
-abbrev pub IsPlainSimple : Simple → Type 0
-IsPlainSimple (simple.Named q) = Unit {0}
-IsPlainSimple (simple.Enumeration at names) = Unit {0}
-IsPlainSimple (simple.Subrange of at low high) = IsCallFree low × IsCallFree high
-
-mutual
-  pub data IsPlainType : TypeExpr → Type 0 where
-    plain_simple : {e : TypeExpr} {x : Simple} → out-TypeExpr e ≡ type_layer.Simple x
-        → IsPlainSimple x → IsPlainType e
-    plain_array : {e of : TypeExpr} {at : Pos} {index : Simple}
-        → out-TypeExpr e ≡ type_layer.Array at index of → IsPlainSimple index → IsPlainType of
-        → IsPlainType e
-    plain_record : {e : TypeExpr} {at : Pos} {fields : List Field}
-        → out-TypeExpr e ≡ type_layer.Record at fields → ArePlainFields fields → IsPlainType e
-    plain_procedure : {e : TypeExpr} {at : Pos} {xs : List Parameter} {q : Option Qualified}
-        → out-TypeExpr e ≡ type_layer.Procedure at xs q → IsPlainType e
-
-  pub data ArePlainFields : List Field → Type 0 where
-    no_plain_field : ArePlainFields []
-    one_plain_field : {f : Field} {fs : List Field} → IsPlainType (out-Field f).of
-        → ArePlainFields fs → ArePlainFields (f ∷ fs)
-
-abbrev pub IsPlainLayer : Decl-F Decl Block → Type 0
-IsPlainLayer (decl_layer.Constants cs) = (c : ConstantDecl) → Among c cs → IsCallFree c.value
-IsPlainLayer (decl_layer.Types ts) = (d : TypeDecl) → Among d ts → IsPlainType d.of
-IsPlainLayer (decl_layer.Variables vs) = (v : Variables) → Among v vs → IsPlainType v.of
-IsPlainLayer (decl_layer.Procedure h b) = Unit {0}
-
-abbrev pub ArePlainDecls : List Decl → Type 0
-ArePlainDecls ds = (d : Decl) → Among d ds → IsPlainLayer (out-Decl d)
-
 -- in a procedure
 abbrev pub is_nested : {T : Type 0} → Scope T → Bool
 is_nested s = not (s.level == 0)
@@ -471,7 +436,7 @@ BlocksAreExact g j =
     (taken : List ℕ → Bool) (awaited : List ℕ → Option TypeNo)
     → Knows g j outside exports s → s.withs ≡ []
     → ((n : List ℕ) → TakenAs g j (taken n) (awaited n) (find_name n s.own))
-    → (ends : List ℕ) (first : ℕ) (ds : List Decl) → ArePlainDecls ds
+    → (ends : List ℕ) (first : ℕ) (ds : List Decl)
     → IsBlockExact g j exports outside s taken awaited ends first ds
 
 -- For each scope there are standings that it knows, and variables that are own ones.
