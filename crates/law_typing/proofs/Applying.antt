@@ -14,19 +14,14 @@ use Rattle.typed_tree.specs.declared.meaning.Value.{Value as ConstantValue}
 use Rattle.typed_tree.specs.declared.meaning.Standard.{Standard}
 use Rattle.typed_tree.specs.declared.meaning.Standard.TheVariants.{Abs, Cap, Chr, High, Max, Min, Odd, Ord, Val, Inc, Dec, Incl, Excl, Halt, Put}
 use Rattle.typed_tree.specs.declared.shape.Scalar.{Scalar as Range}
-use Rattle.typed_tree.specs.declared.shape.Shape.TheVariants as shape
 use Rattle.m2_rule.specs.declared.breach.Breach.{Breach}
-use Rattle.check_scope.specs.declared.meaningless.Meaningless.{Meaningless}
-use Rattle.check_scope.specs.declared.meaningless.Meaningless.TheVariants as meaningless
 use Rattle.check_scope.specs.declared.scope.Scope.{Scope}
 use Rattle.check_scope.specs.Elaborated.{Gathers, report, of_sort, ◌▷◌}
 use Rattle.check_const.specs.declared.denoted.Denoted.{Denoted}
 use Rattle.check_const.specs.declared.denoted.Denoted.TheVariants as denoted
 use Rattle.check_const.specs.Calls.{type_in, named_scalar, type_argument, unary, unary_of, bound, bound_by, scalar_type, conversion_call}
 use Rattle.check_const_ops.specs.Standards.{conversion_of}
-use Rattle.check_const.specs.Parts as constants
-use Rattle.check_const.specs.Parts.{Part, constant, value_at, named_type, one, type_only, conversion, by_sort, standard_call_value, call_value}
-use Rattle.check_const.specs.Denote.{of_value}
+use Rattle.check_const.specs.Parts.{Part, constant, value_at, named_type, one, type_only, conversion, standard_call_value, call_value}
 use Rattle.check_operator.specs.declared.computed.Designated.{Designated}
 use Rattle.check_operator.specs.declared.computed.Designated.TheVariants as designated
 use Rattle.check_call.specs.declared.standard.Unary.{Unary}
@@ -34,8 +29,7 @@ use Rattle.check_call.specs.Functions.{type_named}
 use Rattle.check_expr.specs.Meanings.{Meant, Picks, meanings_of, picks, head, type_of, names_by, scalar_named, expr_layer}
 use Rattle.check_expr.specs.Meanings as meanings
 use Rattle.def_typing.specs.Shapes.{shape_at}
-use Rattle.def_typing.specs.Amounts.{Constant}
-use Rattle.def_typing.specs.Operators.{◌!◌, Kind, Scalar, operand, Misapplied}
+use Rattle.def_typing.specs.Operators.{◌!◌, Kind, operand, Misapplied}
 use Rattle.def_typing.specs.Things.{Thing, AValue, AVariable, AnOpenArray, AType, AProcedure, ANested, AStandard, AModule, Headless, Standing, Known, Ahead, Undeclared, NotExported, Unknown, Picks as PicksName}
 use Rattle.def_typing.specs.Things as things
 use Rattle.def_typing.specs.Functions as functions
@@ -45,15 +39,15 @@ use Rattle.def_typing.specs.Constants as rules
 use Rattle.def_typing.specs.Constants.{Fixed, AConstant, AScope, ANamedType, AFunction, NoConstant, fixed_thing, FixedAs, IsUnfixed, FixedPicks, FixedSelected, FixedDenotes, IsFixedFunctionOf, fixed_standard, FixedScalar, fixed_scalar, Fixes, as_fixed, FixedReads, FixedCalls, FixedMiscalled, FixedFails, no_constant}
 use Rattle.def_typing.specs.Expressions as bodies
 use Rattle.def_typing.specs.Expressions.{HasComponents, has_components, Stands, as_written, Reads, Denotes, Selected, Selects, BrokenTypeArgument, in_fixed, no_scalar, in_components, no_scalar_component}
-use Rattle.law_typing.specs.Judging.{Judges, Answers, means}
-use Rattle.law_typing.specs.Exact.{IsConst, is_const, kind_of, kind_constant, Knows}
+use Rattle.law_typing.specs.Judging.{Judges, Answers}
+use Rattle.law_typing.specs.Exact.{IsConst, is_const, kind_constant, Knows}
 use Rattle.law_typing.proofs.Combining.{Lawful, declined, exact, both_answer, then_answer}
 use Rattle.law_typing.proofs.Deciding.{some_same}
 use Rattle.law_typing.proofs.Shaping.{scalar_is}
 use Rattle.law_typing.proofs.Singles.{UnaryIs, is_abs, is_cap, is_chr, is_odd, is_ord, one_answers, converted_answers}
 use Rattle.law_typing.proofs.Places.{opened, meant_is, head_is, head_at, at_is}
 use Rattle.law_typing.proofs.Finding.{IsFound}
-use Rattle.law_typing.proofs.Calling.{of_one_arity, bound_arity, applies_one, unary_one, not_bound, bound_not_one, NoScalar, IsOfRange, ScalarSo, scalar_by, NamesIt, NameFails, scalar_answers, IsBound, bound_max, bound_min, BoundedBy, bounded_by}
+use Rattle.law_typing.proofs.Calling.{applies_one, unary_one, not_bound, bound_not_one, IsOfRange, scalar_by, NamesIt, NameFails, scalar_answers, IsBound, bound_max, bound_min, BoundedBy, bounded_by}
 use Rattle.law_typing.proofs.Fixing.{IsFixed, fixed_value, fixed_type, fixed_variable, fixed_procedure, fixed_standard as fixed_procedure_of, fixed_module, const_of, E, DesignatesFixed, DesignatorFails, designator_fixes}
 use Rattle.law_typing.proofs.Constants.{FixedFound, ConstBroken, const_valued, TypeBroken, FixedAll, called_layer, part_broken}
 

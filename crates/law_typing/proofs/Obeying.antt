@@ -45,7 +45,6 @@ use Rattle.def_typing.specs.Returns.{IsExit, BrokenExit, Returns, BrokenReturn}
 use Rattle.def_typing.specs.Loops.{Runs, BrokenRun}
 use Rattle.def_typing.specs.Statements as rules
 use Rattle.def_typing.specs.Statements.{arguments, labels_of, Spot, inside_loop, Obeys, as_written, IsRight, assignment, call, choice, while_loop, repeat_loop, bare_loop, exit, return, for_loop, with_record, inside_with, AllObey, no_more, one_more, RestObeys, rest_as_written, RestIsRight, elsif, no_else, an_else, Broken, broken_as_written, Breaks, RestBroken, rest_broken, RestBreaks}
-use Rattle.law_typing.specs.Exact as exact
 use Rattle.law_typing.specs.Judging.{Judges, Answers, means, refuses}
 use Rattle.law_typing.specs.Exact.{RepeatsResult, KnowsSpot, IsThing, thing_value, thing_variable, thing_open, thing_type, thing_procedure, thing_nested, thing_standard, thing_module}
 use Rattle.law_typing.proofs.Trees.{statement_tree, IsStmtTree, tree_assignment, tree_action, tree_if, tree_case, tree_while, tree_repeat, tree_loop, tree_exit, tree_return, tree_for, tree_with, AreStmtTrees, no_statement, one_statement, IsRestTree, tree_elsif, tree_end, IsElseTree, tree_no_else, tree_else, AreArmTrees, no_arm_tree, one_arm_tree}

@@ -6,7 +6,6 @@ use Rattle.m2_rule.specs.declared.breach.Breach.{Breach}
 use Rattle.m2_rule.specs.declared.rule.Rule.TheVariants as rule
 use Rattle.m2_tree.specs.declared.pos.Pos.{Pos}
 use Rattle.m2_tree.specs.declared.name.Ident.{Ident}
-use Rattle.m2_tree.specs.declared.expr.Expr.{Expr}
 use Rattle.m2_tree.specs.declared.expr.Item.{Item, out-Item}
 use Rattle.typed_tree.specs.declared.types.TypeNo.{TypeNo}
 use Rattle.typed_tree.specs.declared.statement.Label.{Label}
@@ -17,7 +16,7 @@ use Rattle.check_stmt_parts.specs.Lists.{with_next}
 use Rattle.check_stmt_parts.specs.Labels.{Labels, with_label, with_item, labels_in, item_label}
 use Rattle.def_typing.specs.Operators.{◌!◌}
 use Rattle.def_typing.specs.Things.{Standing}
-use Rattle.def_typing.specs.Parts.{first, here, later}
+use Rattle.def_typing.specs.Parts.{first}
 use Rattle.def_typing.specs.Cases as rules
 use Rattle.def_typing.specs.Cases.{Meets, IsLabel, BrokenLabel, IsTwice, AreLabels, BrokenLabels}
 use Rattle.law_typing.specs.Judging.{Judges, Answers, means, refuses}
@@ -26,7 +25,6 @@ use Rattle.law_typing.proofs.Combining.{Lawful, Decided, holds, fails_it, decide
 use Rattle.law_typing.proofs.Meeting.{Met, met_decided, Filled, inserted, insert_parts, parts_insert, new_start}
 use Rattle.law_typing.proofs.Labelling.{IsSpan, is_span, label_answers}
 use Rattle.law_typing.proofs.Places.{at_is}
-use Rattle.def_typing.specs.Constants.{IsBound as Bounds, low_bound, high_bound}
 
 -- labels in front of others, the nearest first
 abbrev pub behind : List Item → List Item → List Item

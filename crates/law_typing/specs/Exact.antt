@@ -3,32 +3,10 @@ use Rattle.std.specs.Prelude.{◌≡◌, ◌⊎◌, ◌&&◌, ◌==◌, Bool, tr
 use Rattle.m2_rule.specs.declared.rule.Rule.TheVariants as rule
 use Rattle.m2_tree.specs.declared.pos.Pos.{Pos}
 use Rattle.m2_tree.specs.declared.name.Ident.{Ident}
-use Rattle.m2_tree.specs.declared.expr.MulOp.{MulOp}
-use Rattle.m2_tree.specs.declared.expr.AddOp.{AddOp}
-use Rattle.m2_tree.specs.declared.expr.RelOp.{RelOp}
-use Rattle.m2_tree.specs.declared.expr.Sign.{Sign}
-use Rattle.m2_tree.specs.declared.expr.Operator.{Operator}
-use Rattle.m2_tree.specs.declared.expr.Expr.{Expr, out-Expr}
-use Rattle.m2_tree.specs.declared.expr.Expr.TheOpen as layer
-use Rattle.m2_tree.specs.declared.expr.Selector.{Selector, out-Selector}
-use Rattle.m2_tree.specs.declared.expr.Designator.{Designator, out-Designator}
-use Rattle.m2_tree.specs.declared.expr.Item.{Item, out-Item}
-use Rattle.m2_tree.specs.declared.stmt.Stmt.{Stmt, out-Stmt}
-use Rattle.m2_tree.specs.declared.decl.Constant.{Constant as ConstantDecl}
-use Rattle.m2_tree.specs.declared.decl.TypeDecl.{TypeDecl}
-use Rattle.m2_tree.specs.declared.decl.Variables.{Variables}
-use Rattle.m2_tree.specs.declared.decl.Parameter.{Parameter}
-use Rattle.m2_tree.specs.declared.decl.Simple.{Simple}
-use Rattle.m2_tree.specs.declared.decl.Simple.TheVariants as simple
-use Rattle.m2_tree.specs.declared.decl.TypeExpr.{TypeExpr, out-TypeExpr}
-use Rattle.m2_tree.specs.declared.decl.TypeExpr.TheOpen as type_layer
-use Rattle.m2_tree.specs.declared.decl.Field.{Field, out-Field}
-use Rattle.m2_tree.specs.declared.decl.Decl.{Decl, Decl-F, out-Decl}
-use Rattle.m2_tree.specs.declared.decl.Decl.TheOpen as decl_layer
-use Rattle.m2_tree.specs.declared.decl.Block.{Block}
-use Rattle.m2_tree.specs.declared.stmt.Arm.{Arm, out-Arm}
-use Rattle.m2_tree.specs.declared.stmt.Rest.{Rest, out-Rest}
-use Rattle.m2_tree.specs.declared.stmt.Rest.TheOpen as step
+use Rattle.m2_tree.specs.declared.expr.Expr.{Expr}
+use Rattle.m2_tree.specs.declared.expr.Designator.{Designator}
+use Rattle.m2_tree.specs.declared.stmt.Stmt.{Stmt}
+use Rattle.m2_tree.specs.declared.decl.Decl.{Decl}
 use Rattle.typed_tree.specs.declared.types.TypeNo.{TypeNo}
 use Rattle.typed_tree.specs.declared.computed.TypedExpr.{TypedExpr}
 use Rattle.typed_tree.specs.declared.computed.LocalProcedure.{LocalProcedure}
@@ -62,7 +40,7 @@ use Rattle.check_operator.specs.Suits.{value_suited}
 use Rattle.check_call.specs.Effects.{target_at, assignment_of}
 use Rattle.typed_tree.specs.declared.statement.TypedStmt.{TypedStmt}
 use Rattle.typed_tree.specs.Types.{boolean}
-use Rattle.def_typing.specs.Constants.{IsBound, AConstant, Fixes}
+use Rattle.def_typing.specs.Constants.{AConstant, Fixes}
 use Rattle.check_expr.specs.Effects.{call_statement}
 use Rattle.def_typing.specs.Actions.{IsAction, BrokenAction}
 use Rattle.def_typing.specs.Assignments.{Assigns, BrokenAssignment, IsCondition, BrokenCondition}
@@ -92,12 +70,11 @@ use Rattle.check_block.specs.Headings.{standing_from}
 use Rattle.check_block.specs.declared.heading.Standing.TheVariants as heading
 use Rattle.def_typing.specs.Declarations.{Declared as Resolved, declarations_of, in_order, IsHeaded, types_behind, AllStand, IsOwn, AllAdded, Lacks, BrokenIn}
 use Rattle.check_stmt.specs.Statements.{stmt}
-use Rattle.def_typing.specs.Statements.{arguments, labels_of, Spot, Obeys, Broken}
+use Rattle.def_typing.specs.Statements.{Spot, Obeys, Broken}
 use Rattle.check_expr.specs.Meanings.{meanings_of, head, part, value_of}
 use Rattle.def_typing.specs.Amounts.{Constant, Value}
 use Rattle.def_typing.specs.Operators.{◌!◌, Kind, Scalar, Set, Text, Routine, Procedure, Whole, Untaken}
 use Rattle.def_typing.specs.Things.{Thing, AValue, AVariable, AnOpenArray, AType, AProcedure, ANested, AStandard, AModule, Headless, Standing, Known, Ahead, Undeclared, NotExported, Unknown}
-use Rattle.def_typing.specs.Parts.{Operand, factors, addends, Among}
 use Rattle.def_typing.specs.Expressions.{Has, BrokenAsValue, BrokenAsConstant}
 use Rattle.law_typing.specs.Judging.{Judges, Answers, Reports}
 
