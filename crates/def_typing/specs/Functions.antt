@@ -1,8 +1,9 @@
 -- Standard functions, and which arguments formals take.
-use Rattle.std.specs.Prelude.{◌≡◌, ℕ, ℤ, pos, ◌-ℤ◌, Bool, true, false, int_lt, List, length, Option, Some, None}
+use Rattle.std.specs.Prelude.{◌≡◌, ℕ, ℤ, pos, ◌-ℤ◌, Bool, true, false, int_lt, List, [], ◌∷◌, length, Option, Some, None}
 use Rattle.std.specs.Int.{int_rem_euclid}
 use Rattle.m2_rule.specs.declared.rule.Rule.TheVariants as rule
 use Rattle.m2_tree.specs.declared.pos.Pos.{Pos}
+use Rattle.m2_tree.specs.declared.expr.Expr.{Expr}
 use Rattle.typed_tree.specs.declared.types.TypeNo.{TypeNo}
 use Rattle.typed_tree.specs.declared.meaning.Standard.{Standard}
 use Rattle.typed_tree.specs.declared.meaning.Standard.TheVariants.{Abs, Cap, Chr, High, Max, Min, Odd, Ord, Val}
@@ -106,6 +107,21 @@ pub data IsOfOne : Standard → Type 0 where
   of_chr : IsOfOne Chr
   of_odd : IsOfOne Odd
   of_ord : IsOfOne Ord
+
+-- HIGH is a value of a running program: no constant calls it.
+abbrev pub fixed_arity : Standard → Option ℕ
+fixed_arity High = None
+fixed_arity other = arity other
+
+-- the argument of a standard function that is taken as a value, and the one that names a type
+pub data TakesValue : Standard → List Expr → Expr → Type 0 where
+  of_one : {f : Standard} {x : Expr} → IsOfOne f → TakesValue f (x ∷ []) x
+  to_convert : {t x : Expr} → TakesValue Val (t ∷ x ∷ []) x
+
+pub data TakesType : Standard → List Expr → Expr → Type 0 where
+  of_max : {t : Expr} → TakesType Max (t ∷ []) t
+  of_min : {t : Expr} → TakesType Min (t ∷ []) t
+  of_conversion : {t x : Expr} → TakesType Val (t ∷ x ∷ []) t
 
 -- ---- functions that are declared
 
