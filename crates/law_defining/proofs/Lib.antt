@@ -1,4 +1,11 @@
 pub mod Sections
+pub mod Bare
+pub mod Unheaded
+pub mod Stepping
+pub mod Ordinary
+pub mod Formals
+pub mod Procedures
+pub mod Running
 pub mod Finding
 pub mod Once
 pub mod Starting

@@ -59,15 +59,15 @@ module _ (g : Gathers) (j : Judges g) (lawful : Lawful g j) (exports : ℕ → I
 
   -- ---- what is broken
 
-  in_first : {p : Placed} {ps : List Placed} {B : Breach → Type 0} (f : Breach) → (B f ⊎ Breaks exports p f) ⊎ BrokenIn exports ps f → B f ⊎ BrokenIn exports (p ∷ ps) f
-  in_first f (inl (inl b)) = inl b
-  in_first {p = p} f (inl (inr k)) = inr (p, here, k)
-  in_first f (inr (q, m, k)) = inr (q, later m, k)
+  in_first : {p : Placed} {ps : List Placed} (B : Breach → Type 0) (f : Breach) → (B f ⊎ Breaks exports p f) ⊎ BrokenIn exports ps f → B f ⊎ BrokenIn exports (p ∷ ps) f
+  in_first B f (inl (inl b)) = inl b
+  in_first {p = p} B f (inl (inr k)) = inr (p, here, k)
+  in_first B f (inr (q, m, k)) = inr (q, later m, k)
 
-  first_in : {p : Placed} {ps : List Placed} {B : Breach → Type 0} (f : Breach) → B f ⊎ BrokenIn exports (p ∷ ps) f → (B f ⊎ Breaks exports p f) ⊎ BrokenIn exports ps f
-  first_in f (inl b) = inl (inl b)
-  first_in f (inr (_, here, k)) = inl (inr k)
-  first_in f (inr (q, later m, k)) = inr (q, m, k)
+  first_in : {p : Placed} {ps : List Placed} (B : Breach → Type 0) (f : Breach) → B f ⊎ BrokenIn exports (p ∷ ps) f → (B f ⊎ Breaks exports p f) ⊎ BrokenIn exports ps f
+  first_in B f (inl b) = inl (inl b)
+  first_in B f (inr (_, here, k)) = inl (inr k)
+  first_in B f (inr (q, later m, k)) = inr (q, m, k)
 
   among_left : {p : Placed} {ps : List Placed} (qs : List Placed) → Among p ps → Among p (ps ++ qs)
   among_left qs here = here
@@ -82,18 +82,18 @@ module _ (g : Gathers) (j : Judges g) (lawful : Lawful g j) (exports : ℕ → I
   among_split (x ∷ ps) here = inl here
   among_split (x ∷ ps) (later m) = elim (among_split ps m) [ inl q ↦ inl (later q) | inr q ↦ inr q ]
 
-  in_both : (ps qs : List Placed) {B : Breach → Type 0} (f : Breach) → (B f ⊎ BrokenIn exports ps f) ⊎ BrokenIn exports qs f → B f ⊎ BrokenIn exports (ps ++ qs) f
-  in_both ps qs f (inl (inl b)) = inl b
-  in_both ps qs f (inl (inr k)) = inr (k.0, among_left qs k.1, k.2)
-  in_both ps qs f (inr k) = inr (k.0, among_right ps k.1, k.2)
+  in_both : (ps qs : List Placed) (B : Breach → Type 0) (f : Breach) → (B f ⊎ BrokenIn exports ps f) ⊎ BrokenIn exports qs f → B f ⊎ BrokenIn exports (ps ++ qs) f
+  in_both ps qs B f (inl (inl b)) = inl b
+  in_both ps qs B f (inl (inr k)) = inr (k.0, among_left qs k.1, k.2)
+  in_both ps qs B f (inr k) = inr (k.0, among_right ps k.1, k.2)
 
-  both_in : (ps qs : List Placed) {B : Breach → Type 0} (f : Breach) → B f ⊎ BrokenIn exports (ps ++ qs) f → (B f ⊎ BrokenIn exports ps f) ⊎ BrokenIn exports qs f
-  both_in ps qs f (inl b) = inl (inl b)
-  both_in ps qs f (inr k) = elim (among_split ps k.1) [ inl m ↦ inl (inr (k.0, m, k.2)) | inr m ↦ inr (k.0, m, k.2) ]
+  both_in : (ps qs : List Placed) (B : Breach → Type 0) (f : Breach) → B f ⊎ BrokenIn exports (ps ++ qs) f → (B f ⊎ BrokenIn exports ps f) ⊎ BrokenIn exports qs f
+  both_in ps qs B f (inl b) = inl (inl b)
+  both_in ps qs B f (inr k) = elim (among_split ps k.1) [ inl m ↦ inl (inr (k.0, m, k.2)) | inr m ↦ inr (k.0, m, k.2) ]
 
-  none_in : {B : Breach → Type 0} (f : Breach) → B f ⊎ BrokenIn exports [] f → B f
-  none_in f (inl b) = b
-  none_in f (inr k) = elim k.1 [ ]
+  none_in : (B : Breach → Type 0) (f : Breach) → B f ⊎ BrokenIn exports [] f → B f
+  none_in B f (inl b) = b
+  none_in B f (inr k) = elim k.1 [ ]
 
   -- ---- one after another
 
@@ -107,7 +107,7 @@ module _ (g : Gathers) (j : Judges g) (lawful : Lawful g j) (exports : ℕ → I
       tables = refl;
       follow = λ ps last k. k;
       stands = stands_as (λ f b. inl b) v;
-      told = tells_as g j lawful (λ f. ⊥) (λ f b. inl b) none_in t;
+      told = tells_as g j lawful (λ f. ⊥) (λ f b. inl b) (none_in B) t;
       unheaded = u;
     }
 
@@ -119,8 +119,8 @@ module _ (g : Gathers) (j : Judges g) (lawful : Lawful g j) (exports : ℕ → I
       next_taken = z.next_taken;
       tables = z.tables ∙ q.1.tables;
       follow = λ ps last k. one_follows q.1.added q.1.follows (z.follow ps last k);
-      stands = stands_as in_first z.stands;
-      told = tells_as g j lawful (λ f. ⊥) in_first first_in z.told;
+      stands = stands_as (in_first B) z.stands;
+      told = tells_as g j lawful (λ f. ⊥) (in_first B) (first_in B) z.told;
       unheaded = z.unheaded;
     }
 
@@ -132,8 +132,8 @@ module _ (g : Gathers) (j : Judges g) (lawful : Lawful g j) (exports : ℕ → I
       next_taken = z.next_taken;
       tables = z.tables ∙ q.tables;
       follow = q.follow z.whole (context z.next z.next_names z.next_taken) z.follow;
-      stands = stands_as (in_both q.whole z.whole) z.stands;
-      told = tells_as g j lawful (λ f. ⊥) (in_both q.whole z.whole) (both_in q.whole z.whole) z.told;
+      stands = stands_as (in_both q.whole z.whole B) z.stands;
+      told = tells_as g j lawful (λ f. ⊥) (in_both q.whole z.whole B) (both_in q.whole z.whole B) z.told;
       unheaded = z.unheaded;
     }
 
@@ -146,13 +146,13 @@ module _ (g : Gathers) (j : Judges g) (lawful : Lawful g j) (exports : ℕ → I
       tables = refl;
       follow = nothing_follows;
       stands = stands_as (λ f b. inl b) v;
-      told = tells_as g j lawful (λ f. ⊥) (λ f b. inl b) none_in t;
+      told = tells_as g j lawful (λ f. ⊥) (λ f b. inl b) (none_in B) t;
       unheaded = u;
     }
 
   -- a section
   module _ {X : Type 0} (f : State (Unit {0}) g.Reported → X → State (Unit {0}) g.Reported) (of : X → Declaration) where
-    abbrev Steps : List X → Type 0
+    abbrev Steps : List X → Type 1
     Steps xs =
         (x : X) → Among x xs → (start : S) (names : Ident → Standing) (taken : List ℕ → Bool) (ds : List Declaration) (B : Breach → Type 0) (s : S) (r : R) → Tells g j lawful (λ f. ⊥) B r → AreUnheaded s.own
         → Standpoint g j exports start names taken (of x ∷ ds) B s → One g j lawful exports start names taken (of x) ds B (f (s, r) x)
