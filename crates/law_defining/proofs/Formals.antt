@@ -17,14 +17,14 @@ use Rattle.law_typing.proofs.Combining.{Lawful, fails_it, Tells, silent, tells, 
 use Rattle.law_typing.proofs.Beginning.{Adding}
 use Rattle.law_typing.proofs.Recording.{Listed, NoTwice, Entries, listed_all, told_all}
 
-twice_join : (There : List ℕ → Type 0) (xs ys : List Ident) (f : Breach) → Twice There xs f ⊎ Twice (Adding xs There) ys f → Twice There (xs ++ ys) f
+pub twice_join : (There : List ℕ → Type 0) (xs ys : List Ident) (f : Breach) → Twice There xs f ⊎ Twice (Adding xs There) ys f → Twice There (xs ++ ys) f
 twice_join There [] ys f (inl z) = absurd z
 twice_join There [] ys f (inr t) = t
 twice_join There (x ∷ xs) ys f (inl (inl h)) = inl h
 twice_join There (x ∷ xs) ys f (inl (inr t)) = inr (twice_join (λ n. (x.name ≡ n) ⊎ There n) xs ys f (inl t))
 twice_join There (x ∷ xs) ys f (inr t) = inr (twice_join (λ n. (x.name ≡ n) ⊎ There n) xs ys f (inr t))
 
-twice_split : (There : List ℕ → Type 0) (xs ys : List Ident) (f : Breach) → Twice There (xs ++ ys) f → Twice There xs f ⊎ Twice (Adding xs There) ys f
+pub twice_split : (There : List ℕ → Type 0) (xs ys : List Ident) (f : Breach) → Twice There (xs ++ ys) f → Twice There xs f ⊎ Twice (Adding xs There) ys f
 twice_split There [] ys f t = inr t
 twice_split There (x ∷ xs) ys f (inl h) = inl (inl h)
 twice_split There (x ∷ xs) ys f (inr t) = elim (twice_split (λ n. (x.name ≡ n) ⊎ There n) xs ys f t) [ inl y ↦ inl (inr y) | inr y ↦ inr y ]

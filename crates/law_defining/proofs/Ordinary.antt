@@ -32,6 +32,7 @@ use Rattle.law_typing.proofs.Combining.{Lawful, Tells, silent, tells}
 use Rattle.law_typing.proofs.Declaring.{clash, no_heads, KnownAs, outer, headed, ahead, reading, behind, a_member, Saying, KnowsBlock, Elsewhere}
 use Rattle.law_typing.proofs.Recording.{type_read}
 use Rattle.law_defining.proofs.Unheaded.{Unheaded, AreUnheaded, enters_unheaded, begin_unheaded, begun_unheaded, finish_unheaded, finished_unheaded}
+use Rattle.law_defining.proofs.Twices.{twice_as}
 use Rattle.law_defining.proofs.Bare.{bare}
 use Rattle.law_defining.proofs.Sections as sections
 use Rattle.law_defining.proofs.Stepping.{context, Standpoint, Owns, Now, kept, marked, owned, a_constant, place as placed, More, names_now, taken_now, stands_next, follows_next}
@@ -42,11 +43,6 @@ stand_as (blocks.declared t i o m) = elim i [ ]
 stand_as (blocks.enumerated t i o a m) = elim i [ ]
 stand_as (blocks.not_yet t i n) = blocks.not_yet t i n
 stand_as (blocks.from_outside c) = blocks.from_outside c
-
-pub twice_as : {P Q : List ℕ → Type 0} → ((n : List ℕ) → P n → Q n) → (xs : List Ident) (f : Breach) → Twice P xs f → Twice Q xs f
-twice_as h [] f t = absurd t
-twice_as h (x ∷ xs) f (inl (p, e)) = inl (h x.name p, e)
-twice_as h (x ∷ xs) f (inr t) = inr (twice_as (λ n z. elim z [ inl e ↦ inl e | inr p ↦ inr (h n p) ]) xs f t)
 
 brings_so : {exports : ℕ → Ident → Standing} {w : Setting} {P Q : List ℕ → Type 0} {x : Declaration} {a : Added} → in_front_of x ≡ Undeclared → Brings exports w P x a → Brings exports w Q x a
 brings_so u blocks.constant_brings = blocks.constant_brings

@@ -12,6 +12,7 @@ use Rattle.typed_tree.specs.declared.known_types.Types.{Types}
 use Rattle.typed_tree.specs.Names.{find_name}
 use Rattle.check_scope.specs.declared.known.Known.{Known}
 use Rattle.check_scope.specs.declared.known.Known.TheVariants as known
+use Rattle.check_scope.specs.declared.known.Origin.TheVariants.{Here}
 use Rattle.check_scope.specs.declared.meaningless.Meaningless.{Meaningless}
 use Rattle.check_scope.specs.declared.meaningless.Meaningless.TheVariants as meaningless
 use Rattle.check_scope.specs.declared.scope.Block.{Block}
@@ -25,14 +26,14 @@ use Rattle.def_typing.specs.Things.{Headless, Standing, Undeclared, Unknown}
 use Rattle.def_typing.specs.Parts.{here, later, Named}
 use Rattle.def_typing.specs.TypeExprs.{Member, member_stands, Added, with_types, Twice}
 use Rattle.def_typing.specs.Declarations as blocks
-use Rattle.def_typing.specs.Declarations.{Declaration, names_of, constants_of, Declares, AnyDeclares, IsFirst, Declared as Resolved, is_among, in_front_of, without, There}
+use Rattle.def_typing.specs.Declarations.{Declaration, names_of, constants_of, Declares, AnyDeclares, IsFirst, at_first, later_on, Declared as Resolved, is_among, in_front_of, without, There}
 use Rattle.def_typing.specs.Definitions.{Context, Placed, none_awaited, IsAdded, is_added, Means, says, says_nothing, Behind, its_own, its_constant, as_before, Follows, Breaks, inside, twice, formal_twice}
 use Rattle.law_typing.specs.Judging.{Judges}
-use Rattle.law_typing.specs.Exact.{Sees, sees, Exports, Knows, Repeats, of_heading, of_declaration, TakenAs, is_taken, awaits, not_taken, AreOnce}
+use Rattle.law_typing.specs.Exact.{standing, Sees, sees, Exports, Knows, Repeats, of_heading, of_declaration, TakenAs, is_taken, awaits, not_taken, AreOnce}
 use Rattle.law_typing.proofs.Combining.{Lawful, Decided, holds, fails_it, Tells, silent, tells}
 use Rattle.law_typing.proofs.Entering.{named_left, among_decided}
 use Rattle.law_typing.proofs.Enumerating.{member_known}
-use Rattle.law_typing.proofs.Declaring.{clash, mark_of, KnownAs, outer, ahead, KnowsBlock}
+use Rattle.law_typing.proofs.Declaring.{clash, any_first, one_first, mark_of, KnownAs, outer, headed, ahead, reading, behind, a_member, KnowsBlock}
 use Rattle.law_defining.proofs.Bare.{unmark, unmarked, bare, unmark_settled, found_bare, once_bare}
 
 -- what is known where a declaration stands
@@ -109,6 +110,46 @@ module _ (g : Gathers) (j : Judges g) (exports : ℕ → Ident → Standing) whe
     named_by x (marked c t i h) = (names x, as_before (λ u w. h w))
     named_by x (owned t o w) = (w.stands.0, its_own t o w.stands.1)
     named_by x (a_constant {e = e} t o h q) = (member_stands e, its_constant t o h q)
+
+    -- ---- what names mean
+
+    one_known : {k l : Known g.Reported} → ◌≡◌ {A = Option (Known g.Reported)} (Some k) (Some l) → k ≡ l
+    one_known q = cc
+
+    seen_one : {at : Pos} {t : Standing} {m : Meaning} → Sees g j at t (Ok m) → t ≡ standing m
+    seen_one (sees m) = refl
+
+    abbrev somewhere : Pos
+    somewhere = record { line = 1; col = 1 }
+
+    -- its own name means what it says
+    pub owned_means : (n : List ℕ) {k : Option (Known g.Reported)} → NowKnown n k → taken n ≡ false → Named (names_of d.what) n → (m : Meaning) → k ≡ Some (known.Declared Here (Ok m)) → Means exports place (standing m)
+    owned_means n (kept c e) t o m q = absurd (c t (d.what, here, named_left (constants_of d.what) o))
+    owned_means n (marked c u i h) t o m q = absurd (h (named_left (constants_of d.what) o))
+    owned_means n (owned {k = k} u w z) t o m q = subst (λ (t : Standing). Means exports place t) (seen_one (subst (λ (k : Known g.Reported). Sees g j somewhere z.stands.0 (means_seen g somewhere k true)) (one_known q) (z.seen z.stands.0 z.stands.1 somewhere))) z.stands.1
+    owned_means n (a_constant u w h z) t o m q = absurd (w o)
+
+    -- a constant of an enumeration is known as one
+    pub constant_is : (n : List ℕ) {k : Option (Known g.Reported)} → NowKnown n k → taken n ≡ false → (Named (names_of d.what) n → ⊥) → Declares d.what n → (e : Member) × (find_name n d.adds.brings ≡ Some e) × (k ≡ Some (member_known e))
+    constant_is n (kept c e) t o h = absurd (c t (d.what, here, h))
+    constant_is n (marked c u i w) t o h = absurd (w h)
+    constant_is n (owned u w z) t o h = absurd (o w)
+    constant_is n (a_constant {e = e} u w y z) t o h = (e, z, refl)
+
+    -- All other names, and those that are taken, are known as before.
+    pub other_kept : (n : List ℕ) {k l : Option (Known g.Reported)} → KnownAs g j exports names start taken v.awaited false (d.what ∷ ds) [] (There start.types exports names taken v.awaited false (d.what ∷ ds) []) n k → NowKnown n l → (Declares d.what n → ⊥) ⊎ (taken n ≡ true) → l ≡ k
+    other_kept n (outer c q e) (kept z y) w = y ∙ sym e
+    other_kept n (outer c q e) (marked z t i h) w = let a = any_first i in absurd (c t (a.0, later a.1, a.2))
+    other_kept n (outer c q e) (owned t o z) w = absurd (elim w [ inl h ↦ h (named_left (constants_of d.what) o) | inr y ↦ clash y t ])
+    other_kept n (outer c q e) (a_constant t o h z) w = absurd (elim w [ inl y ↦ y h | inr y ↦ clash y t ])
+    other_kept n (headed p y q e) z w = elim q.1 [ ]
+    other_kept n (ahead c t i q b) (kept z y) w = absurd (z t (any_first i))
+    other_kept n (ahead c t i q b) (marked z u y h) w = one_first (λ (x : Declaration). ◌≡◌ {A = Option (Known g.Reported)} (Some (mark_of z)) (Some (mark_of x))) i (later_on h y) refl
+    other_kept n (ahead c t i q b) (owned u o z) w = absurd (elim w [ inl h ↦ h (named_left (constants_of d.what) o) | inr y ↦ clash y t ])
+    other_kept n (ahead c t i q b) (a_constant u o h z) w = absurd (elim w [ inl y ↦ y h | inr y ↦ clash y t ])
+    other_kept n (reading c t i q b e) z w = elim b [ inl y ↦ absurd (clash y t) | inr y ↦ elim y.1 [ ] ]
+    other_kept n (behind k t i o z) y w = elim i [ ]
+    other_kept n (a_member t i o a e) y w = elim i [ ]
 
     -- ---- what is taken
 

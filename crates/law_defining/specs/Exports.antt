@@ -49,7 +49,7 @@ pub data IsEntry (home variables procedures : ℕ) : Declaration → Ident → M
       → IsEntry home variables procedures (OfConstant c) c.name (meaning.Constant v)
   a_type : {d : TypeDecl} {t : TypeNo}
       → IsEntry home variables procedures (OfType d) d.name (meaning.Type t (names_with d.of))
-  a_variable : {v : Variables} {before behind : List Ident} {x : Ident} {t : TypeNo}
+  a_variable : {v : Variables} (before behind : List Ident) {x : Ident} {t : TypeNo}
       → v.names ≡ before ++ x ∷ behind
       → IsEntry home variables procedures (OfVariables v) x
       (meaning.Variable (record { home = home; number = variables + length before; of = t }))
@@ -63,13 +63,13 @@ pub data Lists (Is : Ident → Meaning → Type 0) : List Ident → List Entry �
   a_name : {x : Ident} {xs : List Ident} {m : Meaning} {es : List Entry} → Is x m → Lists Is xs es
       → Lists Is (x ∷ xs) ((x.name, m) ∷ es)
 
-module _ (exports : ℕ → Ident → Standing) (home : ℕ) where
+module _ (exports : ℕ → Ident → Standing) where
   -- what a declaration exports
   pub data Exports (variables procedures : ℕ) (p : Placed) (x : Ident) (m : Meaning)
       : Type 0 where
     -- its own name means what it says
-    its_own : IsEntry home variables procedures p.what x m → Means exports p (standing m)
-        → Exports variables procedures p x m
+    its_own : IsEntry p.at.types.home variables procedures p.what x m
+        → Means exports p (standing m) → Exports variables procedures p x m
     -- a constant of an enumeration in its type
     its_constant : {e : Member} → Named (constants_of p.what) x.name
         → find_name x.name p.adds.brings ≡ Some e → m ≡ member_means e
