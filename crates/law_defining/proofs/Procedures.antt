@@ -45,7 +45,9 @@ use Rattle.law_defining.proofs.Unheaded.{Unheaded, AreUnheaded}
 use Rattle.law_defining.proofs.Bare.{bare}
 use Rattle.law_defining.proofs.Formals.{formals_told}
 use Rattle.law_defining.proofs.Stepping.{context, Standpoint, Owns, Now, kept, marked, owned, names_now, taken_now, stands_next, follows_next}
-use Rattle.law_defining.proofs.Ordinary.{stand_as, Stepped, One}
+use Rattle.law_defining.proofs.Taking.{Takes, procedure_takes}
+use Rattle.law_defining.proofs.Exporting.{listing_one}
+use Rattle.law_defining.proofs.Ordinary.{stand_as, Stepped, silent_of, One}
 
 module _ (g : Gathers) (j : Judges g) (lawful : Lawful g j) (exports : ℕ → Ident → Standing) (start : Scope g.Reported) (names : Ident → Standing) (taken : List ℕ → Bool) (h : Heading) (ds : List Declaration) {B : Breach → Type 0} {s : Scope g.Reported} (v : Standpoint g j exports start names taken (OfProcedure h ∷ ds) B s) where
   abbrev E : Declaration
@@ -248,10 +250,10 @@ module _ (g : Gathers) (j : Judges g) (lawful : Lawful g j) (exports : ℕ → I
     not_taken c false e = e
 
     abbrev Ends : State (Unit {0}) g.Reported → Type 0
-    Ends st = (q : Result (Unit {0}) g.Reported) → (Tells g j lawful B IsTwice st.1 → Tells g j lawful (λ f. ⊥) (M a) q) → Stepped g j lawful exports (P a) start.tables B (st.0, q)
+    Ends st = (q : Result (Unit {0}) g.Reported) → (Tells g j lawful B IsTwice st.1 → Tells g j lawful (λ f. ⊥) (M a) q) → (q ≡ Ok tt → (r ≡ Ok tt) × Takes g s E st.0) → Stepped g j lawful exports (P a) start.tables B (s, r) (st.0, q)
 
     ends : (b : Bool) → Decided (taken h.name.name ≡ true) (not b) → Ends (cond b (new, Ok tt) (t, report g h.name.pos rule.DeclaredTwice))
-    ends true (fails_it c) q w = let f = not_taken c (taken h.name.name) refl in record {
+    ends true (fails_it c) q w fine = let f = not_taken c (taken h.name.name) refl in record {
       start = bare new;
       names = names_now g j exports start names taken d ds v new withs around types tables new_once (new_now f);
       taken = taken_now g j exports start names taken d ds v;
@@ -261,8 +263,9 @@ module _ (g : Gathers) (j : Judges g) (lawful : Lawful g j) (exports : ℕ → I
       stands = stands_next g j exports start names taken d ds v new withs around types tables new_once (new_now f);
       told = w (silent (λ f z. c z.0));
       unheaded = new_unheaded;
+      listing = listing_one g j exports start names taken d ds v new (new_now f) r q fine (λ e f h. silent_of g j lawful exports (w (silent (λ f z. c z.0))) e f (inr (twice h))) (λ e f h. absurd h);
     }
-    ends false (holds y) q w = let now : (n : List ℕ) → Now g j exports start names taken (P a) (M a) n (find_name n t.own) = (λ n. other_now n (λ e. subst (λ (n : List ℕ). taken n ≡ true) e y)) in record {
+    ends false (holds y) q w fine = let now : (n : List ℕ) → Now g j exports start names taken (P a) (M a) n (find_name n t.own) = (λ n. other_now n (λ e. subst (λ (n : List ℕ). taken n ≡ true) e y)) in let twice_told : Tells g j lawful B IsTwice (report g h.name.pos rule.DeclaredTwice) = tells (g.one (h.name.pos ! rule.DeclaredTwice)) (accounts_as g j lawful B (λ f e. (y, e)) (λ f z. z.1) (accounts_one g j lawful B (h.name.pos ! rule.DeclaredTwice))) in record {
       start = bare t;
       names = names_now g j exports start names taken d ds v t withs around types tables once now;
       taken = taken_now g j exports start names taken d ds v;
@@ -270,18 +273,19 @@ module _ (g : Gathers) (j : Judges g) (lawful : Lawful g j) (exports : ℕ → I
       added = add;
       follows = follows_next g j exports start names taken d ds v t withs around types tables once now;
       stands = stands_next g j exports start names taken d ds v t withs around types tables once now;
-      told = w (tells (g.one (h.name.pos ! rule.DeclaredTwice)) (accounts_as g j lawful B (λ f e. (y, e)) (λ f z. z.1) (accounts_one g j lawful B (h.name.pos ! rule.DeclaredTwice))));
+      told = w twice_told;
       unheaded = still_unheaded;
+      listing = listing_one g j exports start names taken d ds v t now r q fine (λ e f h. silent_of g j lawful exports (w twice_told) e f (inr (twice h))) (λ e f h. absurd h);
     }
 
   name_decided : Decided (taken h.name.name ≡ true) (not (is_free (find_name h.name.name s.own)))
   name_decided = decided_as (λ z. elim z [ inl e ↦ e | inr a ↦ elim a.1 [ ] ]) (λ e. inl e) (free_decided g j lawful exports names start taken v.awaited false (E ∷ ds) v.takes [] (There start.types exports names taken v.awaited false (E ∷ ds) []) v.block.includes h.name.name (E, here, (h.name, here, refl)) (v.block.own h.name.name))
 
-  by_made : AreUnheaded s.own → {r : Result (Unit {0}) g.Reported} → Tells g j lawful (λ f. ⊥) B r → (made : Result Made g.Reported) → AllSo made → let t = with_made s made in let d = declared_procedure g t.0 h.name t.1 in One g j lawful exports start names taken E ds B (d.0, beside g r (beside g (formals_of g h) (beside g (nothing_of t.1) d.1)))
-  by_made u t (Ok m) x = (type_added m, ends u t (type_added m) (with_procedure_type (with_shape s m) (Ok (next_type s.types))) (Ok (meaning.Procedure here_made)) refl v.block.same.withs v.block.same.outer (ap (λ (types : Types). with_types types (m ∷ [])) v.block.same.types) v.block.same.tables (it_is_added m x) (its_own_known m x)
-      (is_free (find_name h.name.name s.own)) name_decided _ (λ w. all_told (type_added m) x t w))
-  by_made u t (Err e) x = (nothing_added, ends u t nothing_added s (Err e) refl v.block.same.withs v.block.same.outer (v.block.same.types ∙ sym (no_types start.types)) v.block.same.tables (nothing_is_added e x) (its_unknown e x)
-      (is_free (find_name h.name.name s.own)) name_decided _ (λ w. all_told nothing_added x t w))
+  by_made : AreUnheaded s.own → {r : Result (Unit {0}) g.Reported} → Tells g j lawful (λ f. ⊥) B r → (made : Result Made g.Reported) → AllSo made → let t = with_made s made in let d = declared_procedure g t.0 h.name t.1 in (beside g r (beside g (formals_of g h) (beside g (nothing_of t.1) d.1)) ≡ Ok tt → (r ≡ Ok tt) × Takes g s E d.0) → One g j lawful exports start names taken E ds B (s, r) (d.0, beside g r (beside g (formals_of g h) (beside g (nothing_of t.1) d.1)))
+  by_made u t (Ok m) x fine = (type_added m, ends u t (type_added m) (with_procedure_type (with_shape s m) (Ok (next_type s.types))) (Ok (meaning.Procedure here_made)) refl v.block.same.withs v.block.same.outer (ap (λ (types : Types). with_types types (m ∷ [])) v.block.same.types) v.block.same.tables (it_is_added m x) (its_own_known m x)
+      (is_free (find_name h.name.name s.own)) name_decided _ (λ w. all_told (type_added m) x t w) fine)
+  by_made u t (Err e) x fine = (nothing_added, ends u t nothing_added s (Err e) refl v.block.same.withs v.block.same.outer (v.block.same.types ∙ sym (no_types start.types)) v.block.same.tables (nothing_is_added e x) (its_unknown e x)
+      (is_free (find_name h.name.name s.own)) name_decided _ (λ w. all_told nothing_added x t w) fine)
 
-  pub procedure_stepped : AreUnheaded s.own → {r : Result (Unit {0}) g.Reported} → Tells g j lawful (λ f. ⊥) B r → One g j lawful exports start names taken (OfProcedure h) ds B (with_procedure g (s, r) h)
-  procedure_stepped u t = by_made u t (heading_of g s h) exact
+  pub procedure_stepped : AreUnheaded s.own → {r : Result (Unit {0}) g.Reported} → Tells g j lawful (λ f. ⊥) B r → One g j lawful exports start names taken (OfProcedure h) ds B (s, r) (with_procedure g (s, r) h)
+  procedure_stepped u {r = r} t = by_made u t (heading_of g s h) exact (procedure_takes g (s, r) h)

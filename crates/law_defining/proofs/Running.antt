@@ -19,6 +19,8 @@ use Rattle.law_typing.specs.Judging.{Judges}
 use Rattle.law_typing.proofs.Combining.{Lawful, Tells, tells_as}
 use Rattle.law_defining.specs.Exact.{declared_in, all_declared, IsPlainDef, ArePlainDefs}
 use Rattle.law_defining.proofs.Unheaded.{AreUnheaded}
+use Rattle.law_defining.proofs.Among.{among_left, among_right, among_split}
+use Rattle.law_defining.proofs.Listing.{Listing, listing_nothing, listing_more, listing_both}
 use Rattle.law_defining.proofs.Stepping.{context, Standpoint}
 use Rattle.law_defining.proofs.Ordinary.{Stepped, One, constant_stepped, type_stepped, variables_stepped}
 use Rattle.law_defining.proofs.Procedures.{procedure_stepped}
@@ -31,7 +33,7 @@ module _ (g : Gathers) (j : Judges g) (lawful : Lawful g j) (exports : ℕ → I
   R = Result (Unit {0}) g.Reported
 
   -- behind these declarations, in front of the rest
-  pub record Ran (start : S) (names : Ident → Standing) (taken : List ℕ → Bool) (xs rest : List Declaration) (B : Breach → Type 0) (st : State (Unit {0}) g.Reported) : Type 0 where
+  pub record Ran (start : S) (names : Ident → Standing) (taken : List ℕ → Bool) (xs rest : List Declaration) (B : Breach → Type 0) (old st : State (Unit {0}) g.Reported) : Type 0 where
     pub whole : List Placed
     pub next : S
     pub next_names : Ident → Standing
@@ -41,9 +43,10 @@ module _ (g : Gathers) (j : Judges g) (lawful : Lawful g j) (exports : ℕ → I
     pub stands : Standpoint g j exports next next_names next_taken rest (λ f. B f ⊎ BrokenIn exports whole f) st.0
     pub told : Tells g j lawful (λ f. ⊥) (λ f. B f ⊎ BrokenIn exports whole f) st.1
     pub unheaded : AreUnheaded st.0.own
+    pub listing : Listing g exports taken next_taken xs whole old st
 
   -- behind all of them
-  pub record RanAll (start : S) (names : Ident → Standing) (taken : List ℕ → Bool) (xs : List Declaration) (B : Breach → Type 0) (st : State (Unit {0}) g.Reported) : Type 0 where
+  pub record RanAll (start : S) (names : Ident → Standing) (taken : List ℕ → Bool) (xs : List Declaration) (B : Breach → Type 0) (old st : State (Unit {0}) g.Reported) : Type 0 where
     pub whole : List Placed
     pub next : S
     pub next_names : Ident → Standing
@@ -53,6 +56,7 @@ module _ (g : Gathers) (j : Judges g) (lawful : Lawful g j) (exports : ℕ → I
     pub stands : Standpoint g j exports next next_names next_taken [] (λ f. B f ⊎ BrokenIn exports whole f) st.0
     pub told : Tells g j lawful (λ f. ⊥) (λ f. B f ⊎ BrokenIn exports whole f) st.1
     pub unheaded : AreUnheaded st.0.own
+    pub listing : Listing g exports taken next_taken xs whole old st
 
   stands_as : {start : S} {names : Ident → Standing} {taken : List ℕ → Bool} {rest : List Declaration} {B C : Breach → Type 0} {s : S} → ((f : Breach) → B f → C f) → Standpoint g j exports start names taken rest B s → Standpoint g j exports start names taken rest C s
   stands_as h v = record { awaited = v.awaited; takes = v.takes; knows = v.knows; no_withs = v.no_withs; once = v.once; block = v.block; repeats = λ f q. h f (v.repeats f q) }
@@ -68,19 +72,6 @@ module _ (g : Gathers) (j : Judges g) (lawful : Lawful g j) (exports : ℕ → I
   first_in B f (inl b) = inl (inl b)
   first_in B f (inr (_, here, k)) = inl (inr k)
   first_in B f (inr (q, later m, k)) = inr (q, m, k)
-
-  among_left : {p : Placed} {ps : List Placed} (qs : List Placed) → Among p ps → Among p (ps ++ qs)
-  among_left qs here = here
-  among_left qs (later m) = later (among_left qs m)
-
-  among_right : {p : Placed} (ps : List Placed) {qs : List Placed} → Among p qs → Among p (ps ++ qs)
-  among_right [] m = m
-  among_right (x ∷ ps) m = later (among_right ps m)
-
-  among_split : {p : Placed} (ps : List Placed) {qs : List Placed} → Among p (ps ++ qs) → Among p ps ⊎ Among p qs
-  among_split [] m = inr m
-  among_split (x ∷ ps) here = inl here
-  among_split (x ∷ ps) (later m) = elim (among_split ps m) [ inl q ↦ inl (later q) | inr q ↦ inr q ]
 
   in_both : (ps qs : List Placed) (B : Breach → Type 0) (f : Breach) → (B f ⊎ BrokenIn exports ps f) ⊎ BrokenIn exports qs f → B f ⊎ BrokenIn exports (ps ++ qs) f
   in_both ps qs B f (inl (inl b)) = inl b
@@ -98,7 +89,7 @@ module _ (g : Gathers) (j : Judges g) (lawful : Lawful g j) (exports : ℕ → I
   -- ---- one after another
 
   module _ {start : S} {names : Ident → Standing} {taken : List ℕ → Bool} {B : Breach → Type 0} where
-    ran_nothing : (rest : List Declaration) (st : State (Unit {0}) g.Reported) → Standpoint g j exports start names taken rest B st.0 → Tells g j lawful (λ f. ⊥) B st.1 → AreUnheaded st.0.own → Ran start names taken [] rest B st
+    ran_nothing : (rest : List Declaration) (st : State (Unit {0}) g.Reported) → Standpoint g j exports start names taken rest B st.0 → Tells g j lawful (λ f. ⊥) B st.1 → AreUnheaded st.0.own → Ran start names taken [] rest B st st
     ran_nothing rest st v t u = record {
       whole = [];
       next = start;
@@ -109,10 +100,11 @@ module _ (g : Gathers) (j : Judges g) (lawful : Lawful g j) (exports : ℕ → I
       stands = stands_as (λ f b. inl b) v;
       told = tells_as g j lawful (λ f. ⊥) (λ f b. inl b) (none_in B) t;
       unheaded = u;
+      listing = listing_nothing g exports taken st;
     }
 
-    ran_more : (x : Declaration) (xs rest : List Declaration) {st up : State (Unit {0}) g.Reported} (q : One g j lawful exports start names taken x (xs ++ rest) B st) → Ran q.1.start q.1.names q.1.taken xs rest (λ f. B f ⊎ Breaks exports (record { at = context start names taken; what = x; adds = q.0; left = xs ++ rest }) f) up → Ran start names taken (x ∷ xs) rest B up
-    ran_more x xs rest q z = record {
+    ran_more : (x : Declaration) (xs rest : List Declaration) {old st up : State (Unit {0}) g.Reported} (q : One g j lawful exports start names taken x (xs ++ rest) B old st) → Ran q.1.start q.1.names q.1.taken xs rest (λ f. B f ⊎ Breaks exports (record { at = context start names taken; what = x; adds = q.0; left = xs ++ rest }) f) st up → Ran start names taken (x ∷ xs) rest B old up
+    ran_more x xs rest {old = old} {st = st} {up = up} q z = record {
       whole = record { at = context start names taken; what = x; adds = q.0; left = xs ++ rest } ∷ z.whole;
       next = z.next;
       next_names = z.next_names;
@@ -122,10 +114,11 @@ module _ (g : Gathers) (j : Judges g) (lawful : Lawful g j) (exports : ℕ → I
       stands = stands_as (in_first B) z.stands;
       told = tells_as g j lawful (λ f. ⊥) (in_first B) (first_in B) z.told;
       unheaded = z.unheaded;
+      listing = listing_more g exports (record { at = context start names taken; what = x; adds = q.0; left = xs ++ rest }) q.1.taken z.next_taken q.1.follows.taken xs z.whole old st up q.1.listing z.listing;
     }
 
-    ran_all : (xs ys : List Declaration) {st up : State (Unit {0}) g.Reported} (q : Ran start names taken xs ys B st) → RanAll q.next q.next_names q.next_taken ys (λ f. B f ⊎ BrokenIn exports q.whole f) up → RanAll start names taken (xs ++ ys) B up
-    ran_all xs ys q z = record {
+    ran_all : (xs ys : List Declaration) {old st up : State (Unit {0}) g.Reported} (q : Ran start names taken xs ys B old st) → RanAll q.next q.next_names q.next_taken ys (λ f. B f ⊎ BrokenIn exports q.whole f) st up → RanAll start names taken (xs ++ ys) B old up
+    ran_all xs ys {old = old} {st = st} {up = up} q z = record {
       whole = q.whole ++ z.whole;
       next = z.next;
       next_names = z.next_names;
@@ -135,9 +128,10 @@ module _ (g : Gathers) (j : Judges g) (lawful : Lawful g j) (exports : ℕ → I
       stands = stands_as (in_both q.whole z.whole B) z.stands;
       told = tells_as g j lawful (λ f. ⊥) (in_both q.whole z.whole B) (both_in q.whole z.whole B) z.told;
       unheaded = z.unheaded;
+      listing = listing_both g exports taken q.next_taken z.next_taken xs ys q.whole z.whole old st up q.listing z.listing;
     }
 
-    all_nothing : (st : State (Unit {0}) g.Reported) → Standpoint g j exports start names taken [] B st.0 → Tells g j lawful (λ f. ⊥) B st.1 → AreUnheaded st.0.own → RanAll start names taken [] B st
+    all_nothing : (st : State (Unit {0}) g.Reported) → Standpoint g j exports start names taken [] B st.0 → Tells g j lawful (λ f. ⊥) B st.1 → AreUnheaded st.0.own → RanAll start names taken [] B st st
     all_nothing st v t u = record {
       whole = [];
       next = start;
@@ -148,6 +142,7 @@ module _ (g : Gathers) (j : Judges g) (lawful : Lawful g j) (exports : ℕ → I
       stands = stands_as (λ f b. inl b) v;
       told = tells_as g j lawful (λ f. ⊥) (λ f b. inl b) (none_in B) t;
       unheaded = u;
+      listing = listing_nothing g exports taken st;
     }
 
   -- a section
@@ -155,23 +150,23 @@ module _ (g : Gathers) (j : Judges g) (lawful : Lawful g j) (exports : ℕ → I
     abbrev Steps : List X → Type 1
     Steps xs =
         (x : X) → Among x xs → (start : S) (names : Ident → Standing) (taken : List ℕ → Bool) (ds : List Declaration) (B : Breach → Type 0) (s : S) (r : R) → Tells g j lawful (λ f. ⊥) B r → AreUnheaded s.own
-        → Standpoint g j exports start names taken (of x ∷ ds) B s → One g j lawful exports start names taken (of x) ds B (f (s, r) x)
+        → Standpoint g j exports start names taken (of x ∷ ds) B s → One g j lawful exports start names taken (of x) ds B (s, r) (f (s, r) x)
 
-    section_ran : (xs : List X) → Steps xs → (start : S) (names : Ident → Standing) (taken : List ℕ → Bool) (rest : List Declaration) (B : Breach → Type 0) (s : S) (r : R) → Standpoint g j exports start names taken (map of xs ++ rest) B s → Tells g j lawful (λ f. ⊥) B r → AreUnheaded s.own → Ran start names taken (map of xs) rest B (fold f (s, r) xs)
+    section_ran : (xs : List X) → Steps xs → (start : S) (names : Ident → Standing) (taken : List ℕ → Bool) (rest : List Declaration) (B : Breach → Type 0) (s : S) (r : R) → Standpoint g j exports start names taken (map of xs ++ rest) B s → Tells g j lawful (λ f. ⊥) B r → AreUnheaded s.own → Ran start names taken (map of xs) rest B (s, r) (fold f (s, r) xs)
     section_ran [] h start names taken rest B s r v t u = ran_nothing rest (s, r) v t u
     section_ran (x ∷ xs) h start names taken rest B s r v t u = let q = h x here start names taken (map of xs ++ rest) B s r t u v in
         ran_more (of x) (map of xs) rest q (section_ran xs (λ y m. h y (later m)) q.1.start q.1.names q.1.taken rest _ (f (s, r) x).0 (f (s, r) x).1 q.1.stands q.1.told q.1.unheaded)
 
   -- ---- all of a definition
 
-  def_ran : (d : Def) → IsPlainDef d → (start : S) (names : Ident → Standing) (taken : List ℕ → Bool) (rest : List Declaration) (B : Breach → Type 0) (s : S) (r : R) → Standpoint g j exports start names taken (declared_in d ++ rest) B s → Tells g j lawful (λ f. ⊥) B r → AreUnheaded s.own → Ran start names taken (declared_in d) rest B (with_def g (s, r) d)
+  def_ran : (d : Def) → IsPlainDef d → (start : S) (names : Ident → Standing) (taken : List ℕ → Bool) (rest : List Declaration) (B : Breach → Type 0) (s : S) (r : R) → Standpoint g j exports start names taken (declared_in d ++ rest) B s → Tells g j lawful (λ f. ⊥) B r → AreUnheaded s.own → Ran start names taken (declared_in d) rest B (s, r) (with_def g (s, r) d)
   def_ran (def.Constants cs) i start names taken rest B s r v t u = section_ran (with_constant g) OfConstant cs (λ c m start names taken ds B s r t u v. constant_stepped g j lawful exports start names taken ds B s r t u c (i c m) v) start names taken rest B s r v t u
   def_ran (def.Types ts) i start names taken rest B s r v t u = section_ran (with_type g) OfType ts (λ d m start names taken ds B s r t u v. type_stepped g j lawful exports start names taken ds B s r t u d (i d m) v) start names taken rest B s r v t u
   def_ran (def.Variables vs) i start names taken rest B s r v t u = section_ran (with_variables g) OfVariables vs (λ w m start names taken ds B s r t u v. variables_stepped g j lawful exports start names taken ds B s r t u w (i w m) v) start names taken rest B s r v t u
   def_ran (def.Procedure h) i start names taken rest B s r v t u = let q = procedure_stepped g j lawful exports start names taken h rest v u t in
       ran_more (OfProcedure h) [] rest q (ran_nothing rest (with_def g (s, r) (def.Procedure h)) q.1.stands q.1.told q.1.unheaded)
 
-  pub defs_ran : (ds : List Def) → ArePlainDefs ds → (start : S) (names : Ident → Standing) (taken : List ℕ → Bool) (B : Breach → Type 0) (s : S) (r : R) → Standpoint g j exports start names taken (all_declared ds) B s → Tells g j lawful (λ f. ⊥) B r → AreUnheaded s.own → RanAll start names taken (all_declared ds) B (fold (with_def g) (s, r) ds)
+  pub defs_ran : (ds : List Def) → ArePlainDefs ds → (start : S) (names : Ident → Standing) (taken : List ℕ → Bool) (B : Breach → Type 0) (s : S) (r : R) → Standpoint g j exports start names taken (all_declared ds) B s → Tells g j lawful (λ f. ⊥) B r → AreUnheaded s.own → RanAll start names taken (all_declared ds) B (s, r) (fold (with_def g) (s, r) ds)
   defs_ran [] i start names taken B s r v t u = all_nothing (s, r) v t u
   defs_ran (d ∷ ds) i start names taken B s r v t u = let q = def_ran d (i d here) start names taken (all_declared ds) B s r v t u in
       ran_all (declared_in d) (all_declared ds) q (defs_ran ds (λ c m. i c (later m)) q.next q.next_names q.next_taken _ (with_def g (s, r) d).0 (with_def g (s, r) d).1 q.stands q.told q.unheaded)

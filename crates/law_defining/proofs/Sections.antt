@@ -274,13 +274,14 @@ module _ (g : Gathers) (j : Judges g) (lawful : Lawful g j) (exports : ℕ → I
       rules.is_added (stand_here front one ds refl refl refl k) type_brings,
     )
 
-  abbrev pub One : List Resolved → Declaration → List Declaration → State (Unit {0}) g.Reported → Type 0
-  One front x ds st = (a : Added) × Stepped front (typed_one x a) ds st
+  -- what it adds, whether its type is right, and what is known behind it
+  abbrev pub One : List Resolved → Declaration → (Added → TypeNo → Saids) → Result TypeNo g.Reported → List Declaration → State (Unit {0}) g.Reported → Type 0
+  One front x said r ds st = (a : Added) × Exactly g j lawful exports outside start taken awaited nested block (said a) front x r × Stepped front (typed_one x a) ds st
 
-  pub declare_type : (front : List Resolved) (d : TypeDecl) (ds : List Declaration) → IsPlainType d.of → {s : Scope g.Reported} {r : Result (Unit {0}) g.Reported} → KB front (OfType d ∷ ds) (Th front) s → Told front r → One front (OfType d) ds (with_type g (s, r) d)
+  pub declare_type : (front : List Resolved) (d : TypeDecl) (ds : List Declaration) → IsPlainType d.of → {s : Scope g.Reported} {r : Result (Unit {0}) g.Reported} → KB front (OfType d ∷ ds) (Th front) s → Told front r → One front (OfType d) (λ a t. said_type a t) (type_of g d.of (begin_name g s d.name).0).1 ds (with_type g (s, r) d)
   declare_type front d ds i {s = s} k t = let b = begin_one g j lawful exports outside start taken awaited nested block takes (O front) front (OfType d) ds refl (Th front) d.name (d.name, here, refl) k in
       let read = type_read g j lawful exports i (begin_name g s d.name).0 b.0.same.withs in
-      (read.adds, type_ended front d ds b.0 (type_of g d.of (begin_name g s d.name).0) read t b.1)
+      (read.adds, type_exact front d ds b.0 (type_of g d.of (begin_name g s d.name).0) read, type_ended front d ds b.0 (type_of g d.of (begin_name g s d.name).0) read t b.1)
 
   -- ---- variables
 
@@ -341,8 +342,8 @@ module _ (g : Gathers) (j : Judges g) (lawful : Lawful g j) (exports : ℕ → I
       → KB front (OfVariables v ∷ ds) (Adding v.names (Th front)) (fold (begun_name g) (s, r) v.names).0 × Tells g j lawful (O front) (λ f. BI front f ⊎ Twice (Th front) v.names f) (fold (begun_name g) (s, r) v.names).1
   begun_list front v ds k t = begin_all g j lawful exports outside start taken awaited nested block takes (O front) front (OfVariables v) ds refl v.names (Th front) (λ x m. named_left (constants_in v.of) (x, m, refl)) k (told_here t)
 
-  pub declare_variables : (front : List Resolved) (v : Variables) (ds : List Declaration) → IsPlainType v.of → {s : Scope g.Reported} {r : Result (Unit {0}) g.Reported} → KB front (OfVariables v ∷ ds) (Th front) s → Told front r → One front (OfVariables v) ds (with_variables g (s, r) v)
+  pub declare_variables : (front : List Resolved) (v : Variables) (ds : List Declaration) → IsPlainType v.of → {s : Scope g.Reported} {r : Result (Unit {0}) g.Reported} → KB front (OfVariables v ∷ ds) (Th front) s → Told front r → One front (OfVariables v) (λ a t. said_variables a t) (type_of g v.of (fold (begun_name g) (s, r) v.names).0).1 ds (with_variables g (s, r) v)
   declare_variables front v ds i {s = s} {r = r} k t = let b = begun_list front v ds k t in
       let u = (fold (begun_name g) (s, r) v.names).0 in
       let read = type_read g j lawful exports i u b.0.same.withs in
-      (read.adds, module_ended front v ds b.0 (type_of g v.of u) read b.1)
+      (read.adds, variables_exact front v ds b.0 (type_of g v.of u) read, module_ended front v ds b.0 (type_of g v.of u) read b.1)
