@@ -9,6 +9,16 @@ use Rattle.law_typing.proofs.Heading.{nil_right, append_assoc}
 use Rattle.law_typing.proofs.Combining.{Decided, holds, fails_it}
 use Rattle.law_typing.proofs.Entering.{name_decided, entered_all}
 
+key_right : {n : List ℕ} (ks : List (List ℕ)) {rest : List (List ℕ)} → Among n rest → Among n (ks ++ rest)
+key_right [] m = m
+key_right (k ∷ ks) m = later (key_right ks m)
+
+key_head : {a b : List ℕ} {xs ys : List (List ℕ)} → a ∷ xs ≡ b ∷ ys → a ≡ b
+key_head q = cc
+
+key_tail : {a b : List ℕ} {xs ys : List (List ℕ)} → a ∷ xs ≡ b ∷ ys → xs ≡ ys
+key_tail q = cc
+
 module _ {V : Type 0} where
   abbrev pub keys : List (List ℕ × V) → List (List ℕ)
   keys es = map (λ e. e.0) es
@@ -83,3 +93,20 @@ module _ {V : Type 0} where
   once_found no_names e m = elim m [ ]
   once_found (one_name {es = es} n o) e here = found_first e es
   once_found (one_name {e = f} {es = es} n o) e (later m) = once_by e f (find_name e.0 es) (name_decided e.0 f.0) (λ q. there_found e es m (subst (λ (k : List ℕ). find_name k es ≡ None) (sym q) n)) (once_found o e m)
+
+  -- ---- no name twice
+
+  key_there : {n : List ℕ} (es : List (List ℕ × V)) → Among n (keys es) → (e : List ℕ × V) × Among e es × (e.0 ≡ n)
+  key_there [] m = elim m [ ]
+  key_there (e ∷ es) here = (e, here, refl)
+  key_there (e ∷ es) (later m) = let q = key_there es m in (q.0, later q.1, q.2)
+
+  apart_by : {n : List ℕ} (e : List ℕ × V) (es : List (List ℕ × V)) → find_name e.0 es ≡ None → e.0 ≡ n → Among n (keys es) → ⊥
+  apart_by e es c q m = let w = key_there es m in there_found w.0 es w.1 (subst (λ (k : List ℕ). find_name k es ≡ None) (q ∙ sym w.2) c)
+
+  -- What comes first does not come again.
+  pub keys_apart : {es : List (List ℕ × V)} → AreOnce es → (n : List ℕ) (ks rest : List (List ℕ)) → keys es ≡ ks ++ rest → Among n ks → Among n rest → ⊥
+  keys_apart o n [] rest q m w = elim m [ ]
+  keys_apart no_names n (k ∷ ks) rest q m w = absurd cc
+  keys_apart (one_name {e = e} {es = es} c o) _ (k ∷ ks) rest q here w = apart_by e es c (key_head q) (subst (λ (xs : List (List ℕ)). Among k xs) (sym (key_tail q)) (key_right ks w))
+  keys_apart (one_name {e = e} {es = es} c o) n (k ∷ ks) rest q (later m) w = keys_apart {es = es} o n ks rest (key_tail q) m w

@@ -166,7 +166,7 @@ module _ (T : Type 0) where
 
 
   as_names : {xs ys : List Ident} {s t : Scope T} → xs ≡ ys → Marking xs s t → Marking ys s t
-  as_names e m There c n = let p = m There c (subst (λ (zs : List Ident). NoTwice There zs) (sym e) n) in subst (λ (zs : List Ident). Marked There zs _ _) e p
+  as_names {s = s} {t = t} e m There c n = let p = m There c (subst (λ (zs : List Ident). NoTwice There zs) (sym e) n) in subst (λ (zs : List Ident). Marked There zs s t) e p
 
   type_declares : (d : TypeDecl) (s : Scope T) → Marking (d.name ∷ constants_in d.of) s (marked_type s d)
   type_declares d s = let e = type_marked d.of (mark_name d.name Later s) in
@@ -177,7 +177,7 @@ module _ (T : Type 0) where
       λ There c n. subst (λ (t : Scope T). Marked There (v.names ++ constants_in v.of) s t) (sym e) (then_marked v.names (constants_in v.of) (list_marked v.names s) (list_marked (constants_in v.of) (fold marked_later s v.names)) There c n)
 
   section_declares : {X : Type 0} (f : Scope T → X → Scope T) (of : X → Declaration) (ns : X → List Ident) → ((x : X) (s : Scope T) → Marking (ns x) s (f s x)) → ((x : X) (rest : List Declaration) → names_all (of x ∷ rest) ≡ ns x ++ names_all rest) → (xs : List X) (s : Scope T) → Marking (names_all (map of xs)) s (fold f s xs)
-  section_declares f of ns h e [] s = nothing_marked s
+  section_declares f of ns h e [] s There c n = nothing_marked s There c n
   section_declares f of ns h e (x ∷ xs) s There c n = as_names (sym (e x (map of xs))) (then_marked (ns x) (names_all (map of xs)) (h x s) (section_declares f of ns h e xs (f s x))) There c n
 
   def_declares : (d : Def) (s : Scope T) → Marking (names_all (declared_in d)) s (marked_def s d)
@@ -187,5 +187,5 @@ module _ (T : Type 0) where
   def_declares (def.Procedure h) s = mark_one h.name Ahead s
 
   pub defs_declare : (ds : List Def) (s : Scope T) → Marking (names_all (all_declared ds)) s (fold marked_def s ds)
-  defs_declare [] s = nothing_marked s
+  defs_declare [] s There c n = nothing_marked s There c n
   defs_declare (d ∷ ds) s There c n = as_names (sym (names_both (declared_in d) (all_declared ds))) (then_marked (names_all (declared_in d)) (names_all (all_declared ds)) (def_declares d s) (defs_declare ds (marked_def s d))) There c n

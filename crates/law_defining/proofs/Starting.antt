@@ -1,5 +1,5 @@
 -- Where the declarations of a definition begin, its imports are known, and its own names are marked.
-use Rattle.std.proofs.Common.{◌≡◌, ℕ, Bool, true, false, List, [], ◌∷◌, ◌++◌, Option, Result, Ok, Err, ◌⊎◌, inl, inr, refl, sym, ap, subst, ◌∙◌, None, Some}
+use Rattle.std.proofs.Common.{◌≡◌, ℕ, Bool, true, false, List, [], ◌∷◌, ◌++◌, length, Option, Result, Ok, Err, ◌⊎◌, inl, inr, refl, sym, ap, subst, ◌∙◌, None, Some}
 use Rattle.std.specs.Prelude.{map}
 use Rattle.std.specs.List.{fold}
 use Rattle.m2_rule.specs.declared.breach.Breach.{Breach}
@@ -21,6 +21,7 @@ use Rattle.typed_tree.specs.declared.known_types.Types.{Types}
 use Rattle.typed_tree.specs.declared.table.Table.{Table}
 use Rattle.typed_tree.specs.Names.{find_name}
 use Rattle.check_scope.specs.declared.known.Known.{Known}
+use Rattle.check_scope.specs.declared.known.Known.TheVariants as known
 use Rattle.check_scope.specs.declared.scope.Scope.{Scope}
 use Rattle.check_scope.specs.Elaborated.{Gathers}
 use Rattle.check_scope.specs.Scopes.{State}
@@ -35,23 +36,31 @@ use Rattle.check_block.specs.Headings.{standing_from}
 use Rattle.check_block.specs.declared.heading.Standing.TheVariants as place
 use Rattle.def_typing.specs.Things as things
 use Rattle.def_typing.specs.Things.{Headless, Standing, Unknown}
-use Rattle.def_typing.specs.Parts.{here, later}
+use Rattle.def_typing.specs.Parts.{Among, here, later, Named}
 use Rattle.def_typing.specs.Declarations as rules
-use Rattle.def_typing.specs.Declarations.{Declaration, OfConstant, OfType, OfVariables, OfProcedure, declared_by, declarations_of}
+use Rattle.def_typing.specs.Declarations.{Declaration, OfConstant, OfType, OfVariables, OfProcedure, declared_by, declarations_of, AnyDeclares}
 use Rattle.def_typing.specs.Definitions as definitions
-use Rattle.def_typing.specs.Definitions.{Context, none_awaited}
+use Rattle.def_typing.specs.Definitions.{Context, Placed, none_awaited}
 use Rattle.def_typing.specs.Imports as imports
-use Rattle.def_typing.specs.Imports.{all_imported, Origin, Itself, Exported, Brings}
+use Rattle.def_typing.specs.Imports.{all_imported, Origin, Itself, Exported, Brings, Entry}
 use Rattle.law_typing.specs.Judging.{Judges, Accounts, Reports, reports_nothing, reports_broken}
-use Rattle.law_typing.specs.Exact.{no_names, standing, of_local, Knows, Repeats, of_heading, of_declaration, TakenAs, is_taken, not_taken, IsPlainLayer, ArePlainDecls}
+use Rattle.law_typing.specs.Exact.{no_names, standing, of_local, Knows, Repeats, of_heading, of_declaration, TakenAs, is_taken, not_taken, IsPlainLayer, ArePlainDecls, AreOnce}
+use Rattle.law_typing.proofs.Heading.{nil_right}
 use Rattle.law_typing.proofs.Combining.{Lawful, Tells, silent, tells}
-use Rattle.law_typing.proofs.Declaring.{headed, KnownAs, outer, ahead, reading, behind, a_member, KnowsBlock, mark_of}
+use Rattle.law_typing.proofs.Declaring.{any_first, headed, KnownAs, outer, ahead, reading, behind, a_member, KnowsBlock, mark_of}
 use Rattle.law_typing.proofs.Beginning.{clash}
 use Rattle.law_typing.proofs.Marking.{block_begins}
 use Rattle.law_importing.specs.Exact.{origin, StandsFor, imported, from_outside, imported_all, AreImportsExact}
 use Rattle.law_importing.proofs.Behind.{first_imports}
 use Rattle.law_importing.proofs.Defining.{definition_imports}
-use Rattle.law_defining.proofs.Once.{imports_once}
+use Rattle.law_defining.specs.Exports.{AreExported, nothing_exported}
+use Rattle.law_defining.proofs.Once.{imports_keep, imports_once}
+use Rattle.law_defining.proofs.Twices.{twice_as}
+use Rattle.law_defining.proofs.Keys.{Begins, begins_more, once_found, keys_apart}
+use Rattle.law_defining.proofs.Keeping.{defs_keep}
+use Rattle.law_defining.proofs.Entries.{entry_of, exported_are}
+use Rattle.law_defining.proofs.Listing.{names_all, any_named_all, AllListed}
+use Rattle.law_defining.proofs.Marks.{names as names_in, defs_declare}
 use Rattle.law_defining.specs.Exact.{declared_in, all_declared, IsPlainDef, ArePlainDefs, none, IsTaken, by_import, by_none, AreSound, IsTable, IsAnswered, is_table, is_refused, IsDefinitionExact, DefinitionsAreExact}
 use Rattle.law_defining.proofs.Unheaded.{Unheaded, AreUnheaded}
 use Rattle.law_defining.proofs.Stepping.{context, Standpoint}
@@ -305,7 +314,7 @@ module _ (g : Gathers) (j : Judges g) (lawful : Lawful g j) (found : Finds g j) 
     repeats = λ f q. absurd (no_repeats f q);
   }
 
-  all_of_it : RanAll g j lawful exports start names taken block Before (fold (with_def g) entered defs)
+  all_of_it : RanAll g j lawful exports start names taken block Before entered (fold (with_def g) entered defs)
   all_of_it = defs_ran g j lawful exports defs plain start names taken Before entered.0 entered.1 stands_first (told_by kept.reported) entered_unheaded
 
   -- a table, or what is reported
@@ -313,8 +322,8 @@ module _ (g : Gathers) (j : Judges g) (lawful : Lawful g j) (found : Finds g j) 
     a_table : (t : Table) → Is t → ((f : Breach) → B f → ⊥) → Tabled Is B (Ok t)
     a_refusal : (r : g.Reported) → Accounts g j (λ f. ⊥) B r → Tabled Is B (Err r)
 
-  table_by : {Is : Table → Type 0} {B : Breach → Type 0} (modules : List (List ℕ × ℕ)) (s : S) → Is (table_of m modules s) → {r : Result (Unit {0}) g.Reported} → Tells g j lawful (λ f. ⊥) B r → Tabled Is B (table_or m modules s r)
-  table_by modules s i (silent n) = a_table (table_of m modules s) i n
+  table_by : {Is : Table → Type 0} {B : Breach → Type 0} (modules : List (List ℕ × ℕ)) (s : S) {r : Result (Unit {0}) g.Reported} → (r ≡ Ok tt → Is (table_of m modules s)) → Tells g j lawful (λ f. ⊥) B r → Tabled Is B (table_or m modules s r)
+  table_by modules s i (silent n) = a_table (table_of m modules s) (i refl) n
   table_by modules s i (tells r a) = a_refusal r a
 
   answered_by : {Is : Table → Type 0} {B : Breach → Type 0} {r : Result Table g.Reported} → ((e : g.Reported) → r ≡ Err e → (f : Breach) × j.Among e f) → Tabled Is B r → IsAnswered g j Is B r
@@ -334,14 +343,79 @@ module _ (g : Gathers) (j : Judges g) (lawful : Lawful g j) (found : Finds g j) 
   last = context all_of_it.next all_of_it.next_names all_of_it.next_taken
 
   abbrev Is : Table → Type 0
-  Is = IsTable home m tables last
+  Is = IsTable home m tables exports all_of_it.whole last
 
-  its_table : Is (table_of m modules (fold (with_def g) entered defs).0)
-  its_table = let k = all_of_it.stands.block.same in record {
+  -- ---- what it exports
+
+  abbrev final : State (Unit {0}) g.Reported
+  final = fold (with_def g) entered defs
+
+  abbrev keys_declared : List (List ℕ)
+  keys_declared = names_in g.Reported (names_all block)
+
+  final_once : AreOnce final.0.own
+  final_once = all_of_it.stands.block.once all_of_it.stands.once
+
+  -- A name that is not declared is not exported.
+  undeclared_entry : (n : List ℕ) (k : Known g.Reported) → (AnyDeclares block n → ⊥) → find_name n entered.0.own ≡ Some k → entry_of n k ≡ []
+  undeclared_entry n k c e = elim (kept.decided n) [
+    | inl q ↦ subst (λ (k : Known g.Reported). entry_of n k ≡ []) (one_known (sym (kept.brought n q.0 q.1 q.2) ∙ e)) (foreign_entry q.0 (Ok q.1))
+    | inr w ↦ absurd (no_mark (marks_begin.own n) (sym (kept.other n w) ∙ e))
+  ]
+    where
+      one_known : {k l : Known g.Reported} → ◌≡◌ {A = Option (Known g.Reported)} (Some k) (Some l) → k ≡ l
+      one_known q = cc
+
+      foreign_entry : (o : Origin) (m : Result Meaning g.Reported) → entry_of n (known.Declared (origin o) m) ≡ []
+      foreign_entry (Itself k) m = refl
+      foreign_entry (Exported k) m = refl
+
+      no_mark : {o : Option (Known g.Reported)} → KnownAs g j exports outside first none none_awaited false block [] ThBare n o → o ≡ Some k → ⊥
+      no_mark (outer h w e) q = let z = sym e ∙ q in absurd cc
+      no_mark (headed p a b w) q = elim b.1 [ ]
+      no_mark (ahead d u i h w) q = c (any_first i)
+      no_mark (reading d u i h w z) q = c (any_first i)
+      no_mark (behind k u i o s) q = elim i [ ]
+      no_mark (a_member u i o a e) q = elim i [ ]
+
+  module _ (e : final.1 ≡ Ok tt) where
+    abbrev listed : AllListed g exports taken all_of_it.next_taken block all_of_it.whole entered.0 final.0
+    listed = (all_of_it.listing.listed e).1
+
+    marks_first : Begins keys_declared marked.own
+    marks_first = ([], (defs_declare g.Reported defs first (λ n. ⊥) (λ n q. clash q refl) (λ f h. listed.new f (twice_as (λ n z. absurd z) (names_all block) f h))).last ∙ sym (nil_right keys_declared))
+
+    keys_first : Begins keys_declared final.0.own
+    keys_first = defs_keep g (λ es. Begins keys_declared es) (λ name k es b. begins_more keys_declared name k es b) defs entered (imports_keep g (λ es. Begins keys_declared es) (λ name k es b. begins_more keys_declared name k es b) (with_own marked.own) m.imports marks_first)
+
+    key_declared : {n : List ℕ} (xs : List Ident) → Named xs n → Among n (names_in g.Reported xs)
+    key_declared [] h = elim h.1 [ ]
+    key_declared {n = n} (x ∷ xs) (_, here, q) = subst (λ (k : List ℕ). Among n (k ∷ names_in g.Reported xs)) (sym q) here
+    key_declared (x ∷ xs) (y, later i, q) = later (key_declared xs (y, i, q))
+
+    other_entry : (d : List ℕ × Known g.Reported) → Among d final.0.own → (n : List ℕ) → Among n keys_first.0 → d.0 ≡ n → entry_of d.0 d.1 ≡ []
+    other_entry d i n w q =
+        let c : AnyDeclares block d.0 → ⊥ = (λ a. keys_apart final_once d.0 keys_declared keys_first.0 keys_first.1 (key_declared (names_all block) (any_named_all block a)) (subst (λ (k : List ℕ). Among k keys_first.0) (sym q) w)) in
+        undeclared_entry d.0 d.1 c (sym (all_of_it.listing.others d.0 c) ∙ once_found final_once d i)
+
+    no_variables : length entered.0.variables ≡ 0
+    no_variables = ap (λ (s : S). length s.variables) kept.rest
+
+    no_procedures : length entered.0.procedures ≡ 0
+    no_procedures = ap (λ (s : S). length s.procedures) kept.rest
+
+    its_exports : AreExported exports 0 0 all_of_it.whole (table_of m modules final.0).exported
+    its_exports = subst (λ (es : List Entry). AreExported exports 0 0 all_of_it.whole es) (sym (exported_are final_once keys_first.0 listed.found keys_first.1 other_entry))
+        (subst (λ (ws : List Placed). AreExported exports 0 0 ws listed.entries) (nil_right all_of_it.whole) (subst (λ (es : List Entry). AreExported exports 0 0 (all_of_it.whole ++ []) es) (nil_right listed.entries)
+        (subst (λ (v : ℕ). AreExported exports v 0 (all_of_it.whole ++ []) (listed.entries ++ [])) no_variables (subst (λ (p : ℕ). AreExported exports (length entered.0.variables) p (all_of_it.whole ++ []) (listed.entries ++ [])) no_procedures (listed.lists [] [] nothing_exported)))))
+
+  its_table : final.1 ≡ Ok tt → Is (table_of m modules final.0)
+  its_table e = let k = all_of_it.stands.block.same in record {
     of_number = ap (λ (t : Types). t.home) k.types ∙ home_kept all_of_it.follow;
     of_name = refl;
     of_imports = ap (λ (ts : List Table). imported_modules modules ts m.imports) (k.tables ∙ all_of_it.tables);
     of_types = ap (λ (t : Types). reached_of t) k.types;
+    of_exports = its_exports e;
   }
 
   tabled : Tabled Is Broken (of_contents g home m tables (contents.Definition defs))

@@ -28,6 +28,7 @@ use Rattle.def_typing.specs.Imports.{Imported, all_imported, Origin, Brings}
 use Rattle.law_typing.specs.Judging.{Judges, Accounts}
 use Rattle.law_typing.specs.Exact.{Knows, IsCallFree, IsPlainType}
 use Rattle.law_importing.specs.Exact.{StandsFor}
+use Rattle.law_defining.specs.Exports.{AreExported}
 
 -- ---- declarations of a definition
 
@@ -75,14 +76,16 @@ met_types home tables = record { home = home; own = []; others = others_of table
 
 -- ---- what is answered
 
--- what its table has beside the names that it exports
-pub record IsTable (home : ℕ) (m : Module) (tables : List Table) (last : Context)
-    (t : Table) : Type 0 where
+-- what its table has
+pub record IsTable (home : ℕ) (m : Module) (tables : List Table) (exports : ℕ → Ident → Standing)
+    (whole : List Placed) (last : Context) (t : Table) : Type 0 where
   pub of_number : t.number ≡ home
   pub of_name : t.name ≡ m.name.name
   pub of_imports : t.imports ≡ imported_modules (numbered_modules tables).0 tables m.imports
   -- the types that are met through it: those of the tables, and those that its declarations make
   pub of_types : t.reached ≡ reached_of last.types
+  -- Each name that is declared is exported, with what it means, and no other is.
+  pub of_exports : AreExported exports 0 0 whole t.exported
 
 -- A table is answered exactly if no rule is broken, and else broken rules are reported.
 pub data IsAnswered (g : Gathers) (j : Judges g) (Is : Table → Type 0) (Breaks : Breach → Type 0)
@@ -107,7 +110,7 @@ pub record IsDefinitionExact (g : Gathers) (j : Judges g) (home : ℕ) (m : Modu
   -- Each adds the types and constants that the rules say, and its names stand for what they say.
   pub follow : AllFollow exports (first_context home tables names taken) (all_declared defs) whole last
   -- Exactly the rules that are broken in imports and in declarations are reported.
-  pub answered : IsAnswered g j (IsTable home m tables last)
+  pub answered : IsAnswered g j (IsTable home m tables exports whole last)
       (λ f.
       imports.BrokenIn tables none (all_imported m.imports) f
       ⊎ definitions.BrokenIn exports whole f)
