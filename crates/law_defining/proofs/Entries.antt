@@ -1,21 +1,18 @@
 -- What is exported are the names that are declared, in the order of the scope.
-use Rattle.std.proofs.Common.{◌≡◌, ℕ, List, [], ◌∷◌, ◌++◌, Option, Some, None, Result, Ok, Err, refl, sym, ap, subst, ◌∙◌}
+use Rattle.std.proofs.Common.{◌≡◌, ℕ, List, [], ◌∷◌, ◌++◌, Option, Some, None, Ok, Err, refl, sym, ap, subst, ◌∙◌}
 use Rattle.std.specs.Prelude.{map}
 use Rattle.std.specs.List.{fold}
 use Rattle.m2_tree.specs.declared.name.Ident.{Ident}
 use Rattle.typed_tree.specs.declared.meaning.Meaning.{Meaning}
-use Rattle.typed_tree.specs.Names.{find_name, enter_name}
+use Rattle.typed_tree.specs.Names.{find_name}
 use Rattle.check_scope.specs.declared.known.Known.{Known}
 use Rattle.check_scope.specs.declared.known.Known.TheVariants as known
-use Rattle.check_scope.specs.declared.known.Origin.{Origin}
 use Rattle.check_scope.specs.declared.known.Origin.TheVariants.{Here, Module, Export}
 use Rattle.check_definition.specs.Export.{with_known, with_export, exports}
 use Rattle.def_typing.specs.Parts.{Among, here, later}
 use Rattle.def_typing.specs.Imports.{Entry}
 use Rattle.law_typing.specs.Exact.{AreOnce, no_names, one_name}
 use Rattle.law_typing.proofs.Heading.{nil_right, append_assoc}
-use Rattle.law_typing.proofs.Combining.{Decided, holds, fails_it}
-use Rattle.law_typing.proofs.Entering.{name_decided, entered_all}
 use Rattle.law_defining.proofs.Keys.{keys, entered_last, entered_other, there_found, once_found}
 
 -- the names that are declared here, with what they mean

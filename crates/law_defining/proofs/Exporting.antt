@@ -1,25 +1,24 @@
 -- If nothing is reported, a declaration exports what the rules say.
-use Rattle.std.proofs.Common.{◌≡◌, ℕ, Bool, true, false, List, [], ◌∷◌, ◌++◌, length, Option, Some, None, Result, Ok, Err, ◌⊎◌, inl, inr, refl, sym, ap, subst, ◌∙◌}
+use Rattle.std.proofs.Common.{◌≡◌, ℕ, Bool, true, false, List, ◌∷◌, length, Some, Result, Ok, inl, inr, refl, subst}
 use Rattle.m2_rule.specs.declared.breach.Breach.{Breach}
 use Rattle.m2_tree.specs.declared.name.Ident.{Ident}
 use Rattle.typed_tree.specs.declared.meaning.Meaning.{Meaning}
 use Rattle.typed_tree.specs.declared.known_types.Types.{Types}
 use Rattle.typed_tree.specs.Names.{find_name}
-use Rattle.check_scope.specs.declared.known.Known.{Known}
 use Rattle.check_scope.specs.declared.known.Known.TheVariants as known
 use Rattle.check_scope.specs.declared.known.Origin.TheVariants.{Here}
 use Rattle.check_scope.specs.declared.scope.Scope.{Scope}
 use Rattle.check_scope.specs.Elaborated.{Gathers}
 use Rattle.def_typing.specs.Things.{Standing}
-use Rattle.def_typing.specs.Parts.{Among, Named}
-use Rattle.def_typing.specs.Declarations.{Declaration, Declared as Resolved, names_of, constants_of, Declares}
+use Rattle.def_typing.specs.Parts.{Among}
+use Rattle.def_typing.specs.Declarations.{Declaration, Declared as Resolved, names_of, constants_of}
 use Rattle.law_typing.specs.Judging.{Judges}
 use Rattle.law_typing.proofs.Entering.{named_right}
 use Rattle.law_typing.proofs.Beginning.{Adding, adding_name}
 use Rattle.law_typing.proofs.Recording.{NoTwice}
 use Rattle.law_defining.specs.Exports.{IsEntry, member_means, Exports, its_own, its_constant}
 use Rattle.law_defining.proofs.Formals.{twice_split}
-use Rattle.law_defining.proofs.Among.{among_left, among_right, among_split}
+use Rattle.law_defining.proofs.Among.{among_split}
 use Rattle.law_defining.proofs.Taking.{new_of, Takes}
 use Rattle.law_defining.proofs.Listing.{all_names, listed_from, OneListed, OneListing}
 use Rattle.law_defining.proofs.Stepping.{Standpoint, place, NowKnown, owned_means, constant_is, other_kept}

@@ -15,13 +15,12 @@ use Rattle.typed_tree.specs.declared.known_types.Types.{Types}
 use Rattle.typed_tree.specs.declared.meaning.Meaning.{Meaning}
 use Rattle.typed_tree.specs.declared.meaning.Meaning.TheVariants as meaning
 use Rattle.typed_tree.specs.declared.table.Table.{Table}
-use Rattle.typed_tree.specs.Names.{find_name, enter_name}
+use Rattle.typed_tree.specs.Names.{find_name}
 use Rattle.check_scope.specs.declared.known.Known.{Known}
 use Rattle.check_scope.specs.declared.known.Known.TheVariants as known
-use Rattle.check_scope.specs.declared.known.Origin.{Origin}
 use Rattle.check_scope.specs.declared.known.Origin.TheVariants.{Here, Module as Of_module, Export}
 use Rattle.check_scope.specs.declared.scope.Scope.{Scope}
-use Rattle.check_scope.specs.Elaborated.{Gathers, report, ◌▷◌}
+use Rattle.check_scope.specs.Elaborated.{Gathers, report}
 use Rattle.m2_tree.specs.Names.{same_name}
 use Rattle.check_definition.specs.Predeclared.{console, first_scope}
 use Rattle.check_definition.specs.Importing.{numbered_modules}
@@ -35,11 +34,11 @@ use Rattle.def_typing.specs.Imports.{Entry}
 use Rattle.law_typing.specs.Judging.{Judges}
 use Rattle.law_typing.specs.Exact.{is_own_variable, TakenAs, is_taken, awaits, not_taken, AreOnce, no_names, one_name}
 use Rattle.law_typing.proofs.Heading.{nil_right, append_assoc}
-use Rattle.law_typing.proofs.Combining.{Lawful, Decided, holds, fails_it}
-use Rattle.law_typing.proofs.Entering.{name_decided, once_more}
+use Rattle.law_typing.proofs.Combining.{Lawful}
+use Rattle.law_typing.proofs.Entering.{once_more}
 use Rattle.law_importing.specs.Exact.{with_declared}
-use Rattle.law_defining.specs.Exact.{first_context, all_declared, IsTable, IsAnswered, is_table, is_refused, IsDefinitionExact}
-use Rattle.law_defining.specs.Exports.{IsEntry, a_constant, a_type, a_variable, a_procedure, member_means, Lists, no_name, a_name, Exports, its_own, its_constant, AreExported, nothing_exported, one_exports}
+use Rattle.law_defining.specs.Exact.{IsTable, IsAnswered, is_table, is_refused, IsDefinitionExact}
+use Rattle.law_defining.specs.Exports.{IsEntry, a_constant, a_type, a_variable, a_procedure, Lists, no_name, a_name, Exports, its_own, its_constant, AreExported, nothing_exported, one_exports}
 use Rattle.law_defining.specs.Importers.{IsPlainModule, IsTableOf, is_answered, CanBeImported, of_console, of_definition, TablesAreForeign, awaits_heading, OwnNamesAreKnown}
 use Rattle.law_defining.proofs.Among.{among_split}
 use Rattle.law_defining.proofs.Keys.{entered_last, entered_other, there_found}

@@ -1,5 +1,5 @@
 -- Declarations keep what holds of the names of a scope, if it holds with one name more.
-use Rattle.std.proofs.Common.{◌≡◌, ℕ, Bool, true, false, cond, List, [], ◌∷◌, Option, Some, None, Result, Ok, Err, sym, ap, subst, ◌∙◌}
+use Rattle.std.proofs.Common.{◌≡◌, ℕ, Bool, true, false, cond, List, [], ◌∷◌, Result, Ok, Err, sym, ap, subst, ◌∙◌}
 use Rattle.std.specs.Prelude.{map}
 use Rattle.std.specs.List.{fold}
 use Rattle.m2_rule.specs.declared.rule.Rule.TheVariants as rule
@@ -30,7 +30,7 @@ use Rattle.check_type_expr.specs.Fields.{no_fields}
 use Rattle.check_type_expr.specs.Headings.{heading_of}
 use Rattle.check_type_expr.specs.Made.{with_made, enumerate_name, simple_type, index_type, Makes, MakesFields, then_fields, type_of, field_list}
 use Rattle.check_type_expr.specs.Made as made
-use Rattle.check_definition.specs.Declare.{with_constant, with_type, begun_name, with_variable_type, finished_variable, with_variables, with_procedure_type, declared_procedure, with_procedure, with_def}
+use Rattle.check_definition.specs.Declare.{with_constant, with_type, begun_name, with_variable_type, finished_variable, with_variables, with_procedure_type, with_procedure, with_def}
 
 module _ (g : Gathers) (P : List (List ℕ × Known g.Reported) → Type 0) (more : (name : List ℕ) (k : Known g.Reported) (es : List (List ℕ × Known g.Reported)) → P es → P (enter_name name k es)) where
   abbrev S : Type 0

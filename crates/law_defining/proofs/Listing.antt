@@ -1,7 +1,6 @@
 -- If nothing is reported, the names that are declared are exported in the order of the text.
-use Rattle.std.proofs.Common.{◌≡◌, ℕ, ◌+◌, Bool, true, false, List, [], ◌∷◌, ◌++◌, length, Option, Some, None, Result, Ok, Err, ◌⊎◌, inl, inr, refl, sym, ap, subst, ◌∙◌}
+use Rattle.std.proofs.Common.{◌≡◌, ℕ, ◌+◌, Bool, true, List, [], ◌∷◌, ◌++◌, length, Some, Ok, ◌⊎◌, inl, inr, refl, sym, ap, subst, ◌∙◌}
 use Rattle.std.specs.Prelude.{◌||◌}
-use Rattle.m2_rule.specs.declared.breach.Breach.{Breach}
 use Rattle.m2_tree.specs.declared.name.Ident.{Ident}
 use Rattle.typed_tree.specs.declared.meaning.Meaning.{Meaning}
 use Rattle.typed_tree.specs.Names.{find_name}
@@ -13,16 +12,15 @@ use Rattle.check_scope.specs.Elaborated.{Gathers}
 use Rattle.check_scope.specs.Scopes.{State}
 use Rattle.def_typing.specs.Things.{Standing}
 use Rattle.def_typing.specs.Parts.{Among, here, later, Named}
-use Rattle.def_typing.specs.TypeExprs.{Twice}
 use Rattle.def_typing.specs.Declarations.{Declaration, names_of, constants_of, Declares, AnyDeclares, is_among}
 use Rattle.def_typing.specs.Definitions.{Placed}
 use Rattle.def_typing.specs.Imports.{Entry}
 use Rattle.law_typing.proofs.Combining.{Decided, holds, fails_it}
-use Rattle.law_typing.proofs.Heading.{nil_right, append_assoc}
+use Rattle.law_typing.proofs.Heading.{append_assoc}
 use Rattle.law_typing.proofs.Entering.{named_left, named_right, named_split, among_decided}
-use Rattle.law_typing.proofs.Beginning.{Adding, added}
+use Rattle.law_typing.proofs.Beginning.{added}
 use Rattle.law_typing.proofs.Recording.{NoTwice}
-use Rattle.law_defining.specs.Exports.{Lists, no_name, a_name, Exports, AreExported, nothing_exported, one_exports, variables_of, procedures_of}
+use Rattle.law_defining.specs.Exports.{Lists, no_name, a_name, Exports, AreExported, one_exports, variables_of, procedures_of}
 use Rattle.law_defining.proofs.Formals.{twice_split}
 use Rattle.law_defining.proofs.Among.{among_left, among_right}
 use Rattle.law_defining.proofs.Twices.{twice_as, either_first, either_second}

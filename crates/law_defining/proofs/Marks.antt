@@ -1,11 +1,10 @@
 -- The names that a definition declares are marked in the order of the text.
-use Rattle.std.proofs.Common.{◌≡◌, ℕ, Bool, true, false, List, [], ◌∷◌, ◌++◌, Option, Some, None, ◌⊎◌, inl, inr, refl, sym, ap, subst, ◌∙◌}
+use Rattle.std.proofs.Common.{◌≡◌, ℕ, true, List, [], ◌∷◌, ◌++◌, Option, Some, None, ◌⊎◌, inl, inr, refl, sym, ap, subst, ◌∙◌}
 use Rattle.std.specs.Prelude.{map}
 use Rattle.std.specs.List.{fold}
 use Rattle.std.specs.Option.{is_some}
 use Rattle.m2_rule.specs.declared.rule.Rule.TheVariants as rule
 use Rattle.m2_tree.specs.declared.name.Ident.{Ident}
-use Rattle.m2_tree.specs.declared.decl.Constant.{Constant}
 use Rattle.m2_tree.specs.declared.decl.TypeDecl.{TypeDecl}
 use Rattle.m2_tree.specs.declared.decl.Variables.{Variables}
 use Rattle.m2_tree.specs.declared.decl.Def.{Def}
@@ -23,8 +22,8 @@ use Rattle.check_scope.specs.Scopes.{unless_marked, mark_name}
 use Rattle.check_definition.specs.Marking as marking
 use Rattle.check_definition.specs.Marking.{Marks, marked_later, marked_simple, then_marks, marked_in, marked_field, marked_constant, marked_type, marked_variables, marked_def}
 use Rattle.def_typing.specs.Operators.{◌!◌}
-use Rattle.def_typing.specs.TypeExprs.{Twice, constants_listed, all_listed, constants_layer, constants_of_field, constants_in, constants_in_field}
-use Rattle.def_typing.specs.Declarations.{Declaration, OfConstant, OfType, OfVariables, OfProcedure}
+use Rattle.def_typing.specs.TypeExprs.{constants_listed, all_listed, constants_layer, constants_of_field, constants_in, constants_in_field}
+use Rattle.def_typing.specs.Declarations.{Declaration, OfConstant, OfType, OfVariables}
 use Rattle.law_typing.proofs.Heading.{nil_right, append_assoc}
 use Rattle.law_typing.proofs.Entering.{entered_all}
 use Rattle.law_typing.proofs.TypeReading.{constants_at}
@@ -163,7 +162,6 @@ module _ (T : Type 0) where
   list_marked (x ∷ xs) s = then_marked (x ∷ []) xs (mark_one x Later s) (list_marked xs (marked_later s x))
 
   -- ---- declarations
-
 
   as_names : {xs ys : List Ident} {s t : Scope T} → xs ≡ ys → Marking xs s t → Marking ys s t
   as_names {s = s} {t = t} e m There c n = let p = m There c (subst (λ (zs : List Ident). NoTwice There zs) (sym e) n) in subst (λ (zs : List Ident). Marked There zs s t) e p

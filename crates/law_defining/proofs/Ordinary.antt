@@ -1,5 +1,5 @@
 -- A declaration of a definition, but a procedure, is read as the first of a block.
-use Rattle.std.proofs.Common.{◌≡◌, ℕ, Bool, true, false, List, [], ◌∷◌, cond, Option, Some, None, Result, Ok, Err, ◌⊎◌, inl, inr, refl, sym, ap, subst, ◌∙◌}
+use Rattle.std.proofs.Common.{◌≡◌, ℕ, Bool, true, false, List, [], ◌∷◌, cond, Option, Some, None, Result, Ok, ◌⊎◌, inl, inr, refl, sym, subst}
 use Rattle.std.specs.Prelude.{◌||◌}
 use Rattle.std.specs.List.{fold}
 use Rattle.m2_rule.specs.declared.breach.Breach.{Breach}
@@ -23,12 +23,12 @@ use Rattle.check_block.specs.Headings.{standing_known}
 use Rattle.check_block.specs.declared.heading.Standing.TheVariants as place
 use Rattle.def_typing.specs.Things.{Standing, Undeclared, Unknown}
 use Rattle.def_typing.specs.Parts.{here, later}
-use Rattle.def_typing.specs.TypeExprs.{Twice, Added, nothing_added, Setting, IsTypeOf}
+use Rattle.def_typing.specs.TypeExprs.{Added, nothing_added, Setting, IsTypeOf}
 use Rattle.def_typing.specs.Declarations as blocks
 use Rattle.def_typing.specs.Declarations.{Declaration, OfConstant, OfType, OfVariables, names_of, constants_of, is_among, Declares, IsFirst, at_first, later_on, nearest, farther, Declared as Resolved, in_front_of, without, Brings, There}
-use Rattle.def_typing.specs.Definitions.{Placed, none_awaited, AllStand, IsAdded, is_added, Means, says, says_nothing, Follows, Breaks, inside, twice, formal_twice}
+use Rattle.def_typing.specs.Definitions.{Placed, IsAdded, is_added, Means, says, says_nothing, Follows, Breaks, inside, twice, formal_twice}
 use Rattle.law_typing.specs.Judging.{Judges, Answers, means, refuses}
-use Rattle.law_typing.specs.Exact.{Repeats, TakenAs, is_taken, IsCallFree, IsPlainType, AreOnce}
+use Rattle.law_typing.specs.Exact.{Repeats, TakenAs, is_taken, IsCallFree, IsPlainType}
 use Rattle.law_typing.proofs.Combining.{Lawful, Decided, holds, fails_it, Tells, silent, tells}
 use Rattle.law_typing.proofs.Entering.{among_decided}
 use Rattle.law_typing.proofs.Beginning.{Adding, added}
@@ -262,10 +262,12 @@ module _ (g : Gathers) (j : Judges g) (lawful : Lawful g j) (exports : ℕ → I
         let q = sections.declare_type g j lawful exports names start taken v.awaited false (OfType d ∷ ds) v.takes v.knows v.no_withs B [] d ds i v.block (told_there (OfType d) v) in
         let b = (begin_name g s d.name).0 in
         let w = begin_withs s d.name v.block.same.withs in
-        let t = type_read g j lawful exports i b w in
-        (q.0, stepped start names taken (record { what = OfType d; adds = q.0 }) ds v refl refl q.2.0 q.2.1 q.2.2 (type_unheaded d i w) r (type_takes g (s, r) d t.adds.makes t.own t.is t.enters)
-        (λ e. let k = typed_right (q.1 (names_there (OfType d) v) (stand_there (OfType d) v)) (right_fine g (begin_name g s d.name).1 (nothing_of (type_of g d.of b).1) (right_fine g r (beside g (begin_name g s d.name).1 (nothing_of (type_of g d.of b).1)) e)) in
-        new_constants (OfType d) v (type_new exports (type_is k.1).1)))
+        let t = type_read g j lawful exports i b w in (
+          q.0,
+          stepped start names taken (record { what = OfType d; adds = q.0 }) ds v refl refl q.2.0 q.2.1 q.2.2 (type_unheaded d i w) r (type_takes g (s, r) d t.adds.makes t.own t.is t.enters)
+              (λ e. let k = typed_right (q.1 (names_there (OfType d) v) (stand_there (OfType d) v)) (right_fine g (begin_name g s d.name).1 (nothing_of (type_of g d.of b).1) (right_fine g r (beside g (begin_name g s d.name).1 (nothing_of (type_of g d.of b).1)) e)) in
+              new_constants (OfType d) v (type_new exports (type_is k.1).1)),
+        )
 
     variables_unheaded : (w : Variables) → IsPlainType w.of → (fold (begun_name g) (s, r) w.names).0.withs ≡ [] → AreUnheaded (with_variables g (s, r) w).0.own
     variables_unheaded w i e = let b = (fold (begun_name g) (s, r) w.names).0 in
@@ -278,8 +280,10 @@ module _ (g : Gathers) (j : Judges g) (lawful : Lawful g j) (exports : ℕ → I
         let c = fold (begun_name g) (s, r) w.names in
         let e = begun_withs w.names s r v.block.same.withs in
         let t = type_read g j lawful exports i c.0 e in
-        let told_now = told_so start names taken (record { what = OfVariables w; adds = q.0 }) ds v refl refl q.2.1 in
-        (q.0, stepped start names taken (record { what = OfVariables w; adds = q.0 }) ds v refl refl q.2.0 q.2.1 q.2.2 (variables_unheaded w i e) r
-        (λ z. variables_take g (s, r) w (λ n. taken n ≡ true) (λ f h. silent_of told_now z f (inr (twice h))) t.adds.makes t.own t.is t.enters z)
-        (λ z. let k = typed_right (q.1 (names_there (OfVariables w) v) (stand_there (OfVariables w) v)) (right_fine g c.1 (nothing_of (type_of g w.of c.0).1) z) in
-        new_constants (OfVariables w) v (type_new exports (variables_are k.1).1)))
+        let told_now = told_so start names taken (record { what = OfVariables w; adds = q.0 }) ds v refl refl q.2.1 in (
+          q.0,
+          stepped start names taken (record { what = OfVariables w; adds = q.0 }) ds v refl refl q.2.0 q.2.1 q.2.2 (variables_unheaded w i e) r
+              (λ z. variables_take g (s, r) w (λ n. taken n ≡ true) (λ f h. silent_of told_now z f (inr (twice h))) t.adds.makes t.own t.is t.enters z)
+              (λ z. let k = typed_right (q.1 (names_there (OfVariables w) v) (stand_there (OfVariables w) v)) (right_fine g c.1 (nothing_of (type_of g w.of c.0).1) z) in
+              new_constants (OfVariables w) v (type_new exports (variables_are k.1).1)),
+        )

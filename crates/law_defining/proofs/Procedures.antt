@@ -6,7 +6,6 @@ use Rattle.m2_rule.specs.declared.rule.Rule.TheVariants as rule
 use Rattle.m2_tree.specs.declared.pos.Pos.{Pos}
 use Rattle.m2_tree.specs.declared.name.Ident.{Ident}
 use Rattle.m2_tree.specs.declared.decl.Heading.{Heading}
-use Rattle.typed_tree.specs.declared.types.TypeNo.{TypeNo}
 use Rattle.typed_tree.specs.declared.known_types.Types.{Types}
 use Rattle.typed_tree.specs.declared.shape.Made.{Made}
 use Rattle.typed_tree.specs.declared.meaning.Meaning.{Meaning}
@@ -282,10 +281,16 @@ module _ (g : Gathers) (j : Judges g) (lawful : Lawful g j) (exports : ℕ → I
   name_decided = decided_as (λ z. elim z [ inl e ↦ e | inr a ↦ elim a.1 [ ] ]) (λ e. inl e) (free_decided g j lawful exports names start taken v.awaited false (E ∷ ds) v.takes [] (There start.types exports names taken v.awaited false (E ∷ ds) []) v.block.includes h.name.name (E, here, (h.name, here, refl)) (v.block.own h.name.name))
 
   by_made : AreUnheaded s.own → {r : Result (Unit {0}) g.Reported} → Tells g j lawful (λ f. ⊥) B r → (made : Result Made g.Reported) → AllSo made → let t = with_made s made in let d = declared_procedure g t.0 h.name t.1 in (beside g r (beside g (formals_of g h) (beside g (nothing_of t.1) d.1)) ≡ Ok tt → (r ≡ Ok tt) × Takes g s E d.0) → One g j lawful exports start names taken E ds B (s, r) (d.0, beside g r (beside g (formals_of g h) (beside g (nothing_of t.1) d.1)))
-  by_made u t (Ok m) x fine = (type_added m, ends u t (type_added m) (with_procedure_type (with_shape s m) (Ok (next_type s.types))) (Ok (meaning.Procedure here_made)) refl v.block.same.withs v.block.same.outer (ap (λ (types : Types). with_types types (m ∷ [])) v.block.same.types) v.block.same.tables (it_is_added m x) (its_own_known m x)
-      (is_free (find_name h.name.name s.own)) name_decided _ (λ w. all_told (type_added m) x t w) fine)
-  by_made u t (Err e) x fine = (nothing_added, ends u t nothing_added s (Err e) refl v.block.same.withs v.block.same.outer (v.block.same.types ∙ sym (no_types start.types)) v.block.same.tables (nothing_is_added e x) (its_unknown e x)
-      (is_free (find_name h.name.name s.own)) name_decided _ (λ w. all_told nothing_added x t w) fine)
+  by_made u t (Ok m) x fine = (
+    type_added m,
+    ends u t (type_added m) (with_procedure_type (with_shape s m) (Ok (next_type s.types))) (Ok (meaning.Procedure here_made)) refl v.block.same.withs v.block.same.outer (ap (λ (types : Types). with_types types (m ∷ [])) v.block.same.types) v.block.same.tables (it_is_added m x) (its_own_known m x)
+        (is_free (find_name h.name.name s.own)) name_decided _ (λ w. all_told (type_added m) x t w) fine,
+  )
+  by_made u t (Err e) x fine = (
+    nothing_added,
+    ends u t nothing_added s (Err e) refl v.block.same.withs v.block.same.outer (v.block.same.types ∙ sym (no_types start.types)) v.block.same.tables (nothing_is_added e x) (its_unknown e x)
+        (is_free (find_name h.name.name s.own)) name_decided _ (λ w. all_told nothing_added x t w) fine,
+  )
 
   pub procedure_stepped : AreUnheaded s.own → {r : Result (Unit {0}) g.Reported} → Tells g j lawful (λ f. ⊥) B r → One g j lawful exports start names taken (OfProcedure h) ds B (s, r) (with_procedure g (s, r) h)
   procedure_stepped u {r = r} t = by_made u t (heading_of g s h) exact (procedure_takes g (s, r) h)

@@ -1,5 +1,5 @@
 -- The declarations of a definition are read one after another.
-use Rattle.std.proofs.Common.{◌≡◌, ℕ, Bool, List, [], ◌∷◌, ◌++◌, Result, Ok, ◌⊎◌, inl, inr, refl, ap, subst, ◌∙◌}
+use Rattle.std.proofs.Common.{◌≡◌, ℕ, Bool, List, [], ◌∷◌, ◌++◌, Result, ◌⊎◌, inl, inr, refl, ap, ◌∙◌}
 use Rattle.std.specs.Prelude.{map}
 use Rattle.std.specs.List.{fold}
 use Rattle.m2_rule.specs.declared.breach.Breach.{Breach}
@@ -14,7 +14,7 @@ use Rattle.check_definition.specs.Declare.{with_constant, with_type, with_variab
 use Rattle.def_typing.specs.Things.{Standing}
 use Rattle.def_typing.specs.Parts.{Among, here, later}
 use Rattle.def_typing.specs.Declarations.{Declaration, OfConstant, OfType, OfVariables, OfProcedure}
-use Rattle.def_typing.specs.Definitions.{Context, Placed, Follows, Breaks, AllFollow, nothing_follows, one_follows, BrokenIn}
+use Rattle.def_typing.specs.Definitions.{Context, Placed, Breaks, AllFollow, nothing_follows, one_follows, BrokenIn}
 use Rattle.law_typing.specs.Judging.{Judges}
 use Rattle.law_typing.proofs.Combining.{Lawful, Tells, tells_as}
 use Rattle.law_defining.specs.Exact.{declared_in, all_declared, IsPlainDef, ArePlainDefs}
@@ -22,7 +22,7 @@ use Rattle.law_defining.proofs.Unheaded.{AreUnheaded}
 use Rattle.law_defining.proofs.Among.{among_left, among_right, among_split}
 use Rattle.law_defining.proofs.Listing.{Listing, listing_nothing, listing_more, listing_both}
 use Rattle.law_defining.proofs.Stepping.{context, Standpoint}
-use Rattle.law_defining.proofs.Ordinary.{Stepped, One, constant_stepped, type_stepped, variables_stepped}
+use Rattle.law_defining.proofs.Ordinary.{One, constant_stepped, type_stepped, variables_stepped}
 use Rattle.law_defining.proofs.Procedures.{procedure_stepped}
 
 module _ (g : Gathers) (j : Judges g) (lawful : Lawful g j) (exports : ℕ → Ident → Standing) where

@@ -1,6 +1,5 @@
 -- The declarations of a definition are read one after another, as those of a block are.
-use Rattle.std.proofs.Common.{◌≡◌, ℕ, Bool, true, List, [], ◌∷◌, ◌++◌, length, Result, Ok, Err, ◌⊎◌, inl, inr, refl, sym, ap, subst, ◌∙◌, arith, Option}
-use Rattle.std.specs.Prelude.{map}
+use Rattle.std.proofs.Common.{◌≡◌, ℕ, Bool, true, List, [], ◌∷◌, length, Result, Ok, Err, ◌⊎◌, inl, inr, refl, sym, ap, subst, ◌∙◌, arith, Option}
 use Rattle.std.specs.List.{fold}
 use Rattle.std.proofs.lemmas.Bool.Decides.{nat_tests}
 use Rattle.m2_rule.specs.declared.breach.Breach.{Breach}
@@ -34,7 +33,6 @@ use Rattle.def_typing.specs.Declarations.{Declaration, OfConstant, OfType, OfVar
 use Rattle.law_typing.specs.Judging.{Judges, Answers}
 use Rattle.law_typing.specs.Exact.{standing, is_own_variable, TakenAs, Knows, Repeats, IsCallFree, IsPlainType}
 use Rattle.law_typing.proofs.Combining.{Lawful, Decided, fails_it, Tells, silent, tells, tells_as, beside_tells}
-use Rattle.law_typing.proofs.Heading.{nil_right, append_assoc}
 use Rattle.law_typing.proofs.Entering.{named_left}
 use Rattle.law_typing.proofs.Declaring.{All, Added as Added_there, Elsewhere, Saying, KnowsBlock, knowing, repeating, standings, all_stand, home_same}
 use Rattle.law_typing.proofs.Beginning.{Adding, adding_name, added, Theres, free_now, begin_one, begin_all, KnowsMid, mid_begins, mid_as, finish_one, finish_end}
@@ -45,9 +43,6 @@ use Rattle.law_typing.proofs.TypeReading.{no_made, Read as Read_type}
 use Rattle.law_typing.proofs.Recording.{type_read}
 use Rattle.check_block.specs.declared.heading.Standing.TheVariants as place
 use Rattle.check_block.specs.Headings.{standing_of}
-use Rattle.m2_tree.specs.declared.decl.Def.{Def}
-use Rattle.m2_tree.specs.declared.decl.Def.TheVariants as def
-use Rattle.check_definition.specs.Declare.{with_def}
 
 module _ (g : Gathers) (j : Judges g) (lawful : Lawful g j) (exports : ℕ → Ident → Standing) (outside : Ident → Standing) (start : Scope g.Reported) (taken : List ℕ → Bool) (awaited : List ℕ → Option TypeNo) (nested : Bool) (block : List Declaration)
     (takes : (n : List ℕ) → TakenAs g j (taken n) (awaited n) (find_name n start.own)) (knows : Knows g j outside exports start) (no_withs : start.withs ≡ []) (Before : Breach → Type 0) where

@@ -1,14 +1,12 @@
 -- Behind one declaration of a definition, the next is read as the first of a block.
 use Rattle.std.proofs.Common.{◌≡◌, ℕ, Bool, true, false, cond, List, [], ◌∷◌, ◌++◌, Option, Some, None, Result, Ok, Err, ◌⊎◌, inl, inr, refl, sym, ap, subst, ◌∙◌}
 use Rattle.std.specs.Prelude.{◌||◌, slice_get}
-use Rattle.std.specs.List.{list_any}
 use Rattle.m2_rule.specs.declared.breach.Breach.{Breach}
 use Rattle.m2_tree.specs.declared.pos.Pos.{Pos}
 use Rattle.m2_tree.specs.declared.name.Ident.{Ident}
 use Rattle.typed_tree.specs.declared.meaning.Meaning.{Meaning}
 use Rattle.typed_tree.specs.declared.types.TypeNo.{TypeNo}
 use Rattle.typed_tree.specs.declared.table.Table.{Table}
-use Rattle.typed_tree.specs.declared.known_types.Types.{Types}
 use Rattle.typed_tree.specs.Names.{find_name}
 use Rattle.check_scope.specs.declared.known.Known.{Known}
 use Rattle.check_scope.specs.declared.known.Known.TheVariants as known
@@ -24,17 +22,17 @@ use Rattle.check_const.specs.Denote.{exported_by}
 use Rattle.def_typing.specs.Things as things
 use Rattle.def_typing.specs.Things.{Headless, Standing, Undeclared, Unknown}
 use Rattle.def_typing.specs.Parts.{here, later, Named}
-use Rattle.def_typing.specs.TypeExprs.{Member, member_stands, Added, with_types, Twice}
+use Rattle.def_typing.specs.TypeExprs.{Member, member_stands, with_types}
 use Rattle.def_typing.specs.Declarations as blocks
 use Rattle.def_typing.specs.Declarations.{Declaration, names_of, constants_of, Declares, AnyDeclares, IsFirst, at_first, later_on, Declared as Resolved, is_among, in_front_of, without, There}
-use Rattle.def_typing.specs.Definitions.{Context, Placed, none_awaited, IsAdded, is_added, Means, says, says_nothing, Behind, its_own, its_constant, as_before, Follows, Breaks, inside, twice, formal_twice}
+use Rattle.def_typing.specs.Definitions.{Context, Placed, Means, Behind, its_own, its_constant, as_before, Follows, Breaks}
 use Rattle.law_typing.specs.Judging.{Judges}
 use Rattle.law_typing.specs.Exact.{standing, Sees, sees, Exports, Knows, Repeats, of_heading, of_declaration, TakenAs, is_taken, awaits, not_taken, AreOnce}
-use Rattle.law_typing.proofs.Combining.{Lawful, Decided, holds, fails_it, Tells, silent, tells}
+use Rattle.law_typing.proofs.Combining.{Decided, holds, fails_it}
 use Rattle.law_typing.proofs.Entering.{named_left, among_decided}
 use Rattle.law_typing.proofs.Enumerating.{member_known}
 use Rattle.law_typing.proofs.Declaring.{clash, any_first, one_first, mark_of, KnownAs, outer, headed, ahead, reading, behind, a_member, KnowsBlock}
-use Rattle.law_defining.proofs.Bare.{unmark, unmarked, bare, unmark_settled, found_bare, once_bare}
+use Rattle.law_defining.proofs.Bare.{unmark, unmarked, bare, found_bare, once_bare}
 
 -- what is known where a declaration stands
 abbrev pub context : {T : Type 0} → Scope T → (Ident → Standing) → (List ℕ → Bool) → Context

@@ -21,11 +21,10 @@ use Rattle.typed_tree.specs.declared.meaning.Meaning.TheVariants as meaning
 use Rattle.typed_tree.specs.Names.{find_name}
 use Rattle.check_scope.specs.declared.known.Known.{Known}
 use Rattle.check_scope.specs.declared.known.Known.TheVariants as known
-use Rattle.check_scope.specs.declared.known.Origin.{Origin}
 use Rattle.check_scope.specs.declared.known.Origin.TheVariants.{Here}
 use Rattle.check_scope.specs.declared.scope.Scope.{Scope}
-use Rattle.check_scope.specs.Elaborated.{Gathers, report, beside, ◌▷◌}
-use Rattle.check_scope.specs.Scopes.{State, is_free, is_begun, with_known, unless_declared, begin_name, finish_name}
+use Rattle.check_scope.specs.Elaborated.{Gathers, report, beside}
+use Rattle.check_scope.specs.Scopes.{State, is_free, is_begun, with_known, begin_name, finish_name}
 use Rattle.check_const.specs.Parts.{constant}
 use Rattle.check_expr.specs.Meanings.{part}
 use Rattle.check_type_expr.specs.Headings.{heading_of, names_of as formals_of}
@@ -37,7 +36,7 @@ use Rattle.def_typing.specs.TypeExprs.{Member}
 use Rattle.def_typing.specs.Declarations.{Declaration, OfConstant, OfType, OfVariables, OfProcedure, names_of}
 use Rattle.law_typing.proofs.Combining.{Decided, holds, fails_it}
 use Rattle.law_typing.proofs.Entering.{name_decided}
-use Rattle.law_typing.proofs.Enumerating.{entered, member_known, Enters, scope_with}
+use Rattle.law_typing.proofs.Enumerating.{entered, Enters, scope_with}
 use Rattle.law_typing.proofs.Recording.{NoTwice}
 use Rattle.law_typing.proofs.Declaring.{clash}
 use Rattle.law_defining.specs.Exports.{names_in_layer, names_with, variables_of, procedures_of, IsEntry, a_constant, a_type, a_variable, a_procedure}
@@ -131,9 +130,13 @@ module _ {T : Type 0} where
 
     each_found : (xs : List Ident) (There : List ℕ → Type 0) → NoTwice There xs → (s : Scope T) → ((x : Ident) → Among x xs → find_name x.name s.own ≡ Some known.Begun) → (x : Ident) → Among x xs → Numbered s xs x
     each_found [] There n s b x m = elim m [ ]
-    each_found (y ∷ ys) There n s b _ here =
-        ([], ys, refl, each_stays ys (finished_variable (Ok t) s y) y.name (Ok (meant t s.types.home (length s.variables))) (finish_found (with_one s) y (Ok (meant t s.types.home (length s.variables))) (b y here))
-        ∙ ap (λ (k : ℕ). let o : Option (Known T) = Some (known.Declared Here (Ok (meant t s.types.home k))) in o) (no_more (length s.variables)))
+    each_found (y ∷ ys) There n s b _ here = (
+      [],
+      ys,
+      refl,
+      each_stays ys (finished_variable (Ok t) s y) y.name (Ok (meant t s.types.home (length s.variables))) (finish_found (with_one s) y (Ok (meant t s.types.home (length s.variables))) (b y here))
+          ∙ ap (λ (k : ℕ). let o : Option (Known T) = Some (known.Declared Here (Ok (meant t s.types.home k))) in o) (no_more (length s.variables)),
+    )
     each_found (y ∷ ys) There n s b x (later m) =
         let u = with_known y.name (known.Declared Here (Ok (meant t s.types.home (length s.variables)))) (with_one s) in
         let q = each_found ys (λ k. (y.name ≡ k) ⊎ There k) (λ f z. n f (inr z)) u (λ z w. entered_other y.name z.name (known.Declared Here (Ok (meant t s.types.home (length s.variables)))) s.own (λ e. new_of (λ k. (y.name ≡ k) ⊎ There k) ys (λ f z. n f (inr z)) z w (inl e)) ∙ b z (later w)) x m in
@@ -243,12 +246,15 @@ module _ (g : Gathers) where
   -- ---- constants
 
   constant_by : (st : St) (c : Constant) (v : Result Value g.Reported) → let b = begin_name g st.0 c.name in beside g st.1 (beside g b.1 (nothing_reported v)) ≡ Ok tt → (st.1 ≡ Ok tt) × Takes st.0 (OfConstant c) (finish_name b.0 c.name (constant_meaning v))
-  constant_by st c (Ok x) e = let b = begin_name g st.0 c.name in let f = right_fine st.1 (beside g b.1 (Ok tt)) e in (left_fine st.1 (beside g b.1 (Ok tt)) e, record {
-    own = one_name (λ y. (m : Meaning) × (find_name y.name (finish_name b.0 c.name (Ok (meaning.Constant x))).own ≡ Some (known.Declared Here (Ok m))) × IsEntry st.0.types.home (length st.0.variables) (length st.0.procedures) (OfConstant c) y m)
-        (meaning.Constant x, finish_found b.0 c.name (Ok (meaning.Constant x)) (unless_found (is_new st.0 c.name) st.0 c.name known.Begun (left_fine b.1 (Ok tt) f)), a_constant);
-    variables = ap (λ (ts : List TypeNo). length ts) (finish_variables b.0 c.name (Ok (meaning.Constant x)) ∙ unless_variables (is_new st.0 c.name) st.0 c.name known.Begun) ∙ no_more (length st.0.variables);
-    procedures = ap (λ (ts : List TypeNo). length ts) (finish_procedures b.0 c.name (Ok (meaning.Constant x)) ∙ unless_procedures (is_new st.0 c.name) st.0 c.name known.Begun) ∙ no_more (length st.0.procedures);
-  })
+  constant_by st c (Ok x) e = let b = begin_name g st.0 c.name in let f = right_fine st.1 (beside g b.1 (Ok tt)) e in (
+    left_fine st.1 (beside g b.1 (Ok tt)) e,
+    record {
+      own = one_name (λ y. (m : Meaning) × (find_name y.name (finish_name b.0 c.name (Ok (meaning.Constant x))).own ≡ Some (known.Declared Here (Ok m))) × IsEntry st.0.types.home (length st.0.variables) (length st.0.procedures) (OfConstant c) y m)
+          (meaning.Constant x, finish_found b.0 c.name (Ok (meaning.Constant x)) (unless_found (is_new st.0 c.name) st.0 c.name known.Begun (left_fine b.1 (Ok tt) f)), a_constant);
+      variables = ap (λ (ts : List TypeNo). length ts) (finish_variables b.0 c.name (Ok (meaning.Constant x)) ∙ unless_variables (is_new st.0 c.name) st.0 c.name known.Begun) ∙ no_more (length st.0.variables);
+      procedures = ap (λ (ts : List TypeNo). length ts) (finish_procedures b.0 c.name (Ok (meaning.Constant x)) ∙ unless_procedures (is_new st.0 c.name) st.0 c.name known.Begun) ∙ no_more (length st.0.procedures);
+    },
+  )
   constant_by st c (Err f) e = let b = begin_name g st.0 c.name in let z = right_fine b.1 (Err f) (right_fine st.1 (beside g b.1 (Err f)) e) in absurd cc
 
   pub constant_takes : (st : St) (c : Constant) → Fine st (OfConstant c) (with_constant g st c)
@@ -261,13 +267,19 @@ module _ (g : Gathers) where
     b = begin_name g st.0 d.name
 
     type_by : (r : Result TypeNo g.Reported) → beside g st.1 (beside g b.1 (nothing_of r)) ≡ Ok tt → (st.1 ≡ Ok tt) × Takes st.0 (OfType d) (finish_name t d.name (type_meaning r (brings_with d.of)))
-    type_by (Ok u) e = let f = right_fine st.1 (beside g b.1 (Ok tt)) e in (left_fine st.1 (beside g b.1 (Ok tt)) e, record {
-      own = one_name (λ y. (m : Meaning) × (find_name y.name (finish_name t d.name (Ok (meaning.Type u (brings_with d.of)))).own ≡ Some (known.Declared Here (Ok m))) × IsEntry st.0.types.home (length st.0.variables) (length st.0.procedures) (OfType d) y m)
-          (meaning.Type u (names_with d.of), finish_found t d.name (Ok (meaning.Type u (brings_with d.of))) (ap (λ (t : S). find_name d.name.name t.own) is ∙ enters_begun d.name.name enters (unless_found (is_new st.0 d.name) st.0 d.name known.Begun (left_fine b.1 (Ok tt) f)))
-          ∙ ap (λ (k : ℕ). let o : Option (Known g.Reported) = Some (known.Declared Here (Ok (meaning.Type u k))) in o) (names_same (out-TypeExpr d.of)), a_type);
-      variables = ap (λ (ts : List TypeNo). length ts) (finish_variables t d.name (Ok (meaning.Type u (brings_with d.of))) ∙ ap (λ (t : S). t.variables) is ∙ unless_variables (is_new st.0 d.name) st.0 d.name known.Begun) ∙ no_more (length st.0.variables);
-      procedures = ap (λ (ts : List TypeNo). length ts) (finish_procedures t d.name (Ok (meaning.Type u (brings_with d.of))) ∙ ap (λ (t : S). t.procedures) is ∙ unless_procedures (is_new st.0 d.name) st.0 d.name known.Begun) ∙ no_more (length st.0.procedures);
-    })
+    type_by (Ok u) e = let f = right_fine st.1 (beside g b.1 (Ok tt)) e in (
+      left_fine st.1 (beside g b.1 (Ok tt)) e,
+      record {
+        own = one_name (λ y. (m : Meaning) × (find_name y.name (finish_name t d.name (Ok (meaning.Type u (brings_with d.of)))).own ≡ Some (known.Declared Here (Ok m))) × IsEntry st.0.types.home (length st.0.variables) (length st.0.procedures) (OfType d) y m) (
+          meaning.Type u (names_with d.of),
+          finish_found t d.name (Ok (meaning.Type u (brings_with d.of))) (ap (λ (t : S). find_name d.name.name t.own) is ∙ enters_begun d.name.name enters (unless_found (is_new st.0 d.name) st.0 d.name known.Begun (left_fine b.1 (Ok tt) f)))
+              ∙ ap (λ (k : ℕ). let o : Option (Known g.Reported) = Some (known.Declared Here (Ok (meaning.Type u k))) in o) (names_same (out-TypeExpr d.of)),
+          a_type,
+        );
+        variables = ap (λ (ts : List TypeNo). length ts) (finish_variables t d.name (Ok (meaning.Type u (brings_with d.of))) ∙ ap (λ (t : S). t.variables) is ∙ unless_variables (is_new st.0 d.name) st.0 d.name known.Begun) ∙ no_more (length st.0.variables);
+        procedures = ap (λ (ts : List TypeNo). length ts) (finish_procedures t d.name (Ok (meaning.Type u (brings_with d.of))) ∙ ap (λ (t : S). t.procedures) is ∙ unless_procedures (is_new st.0 d.name) st.0 d.name known.Begun) ∙ no_more (length st.0.procedures);
+      },
+    )
     type_by (Err f) e = let z = right_fine b.1 (Err f) (right_fine st.1 (beside g b.1 (Err f)) e) in absurd cc
 
   pub type_takes : (st : St) (d : TypeDecl) {bs : List (List ℕ × Member)} (ms : List Made) (own : List (List ℕ × Known g.Reported)) → (type_of g d.of (begin_name g st.0 d.name).0).0 ≡ scope_with (begin_name g st.0 d.name).0 ms own → Enters bs (begin_name g st.0 d.name).0.own own → Fine st (OfType d) (with_type g st d)
@@ -280,15 +292,19 @@ module _ (g : Gathers) where
     c = fold (begun_name g) st v.names
 
     variables_by : (r : Result TypeNo g.Reported) → beside g c.1 (nothing_of r) ≡ Ok tt → (st.1 ≡ Ok tt) × Takes st.0 (OfVariables v) (fold (finished_variable r) t v.names)
-    variables_by (Ok u) e = let f = left_fine c.1 (Ok tt) e in (begun_fine v.names st f, record {
-      own = λ x m. let q = each_found u v.names There new t (λ x m. ap (λ (t : S). find_name x.name t.own) is ∙ enters_begun x.name enters (begun_found v.names There new st f x m)) x m in
-          (meaning.Variable (record { home = st.0.types.home; number = length st.0.variables + length q.0; of = u }),
+    variables_by (Ok u) e = let f = left_fine c.1 (Ok tt) e in (
+      begun_fine v.names st f,
+      record {
+        own = λ x m. let q = each_found u v.names There new t (λ x m. ap (λ (t : S). find_name x.name t.own) is ∙ enters_begun x.name enters (begun_found v.names There new st f x m)) x m in (
+          meaning.Variable (record { home = st.0.types.home; number = length st.0.variables + length q.0; of = u }),
           q.3 ∙ ap (λ (k : ℕ). let o : Option (Known g.Reported) = Some (known.Declared Here (Ok (meaning.Variable (record { home = k; number = length t.variables + length q.0; of = u })))) in o) (ap (λ (t : S). t.types.home) is ∙ ap (λ (ts : Types). ts.home) (begun_types v.names st))
-          ∙ ap (λ (ts : List TypeNo). let o : Option (Known g.Reported) = Some (known.Declared Here (Ok (meaning.Variable (record { home = st.0.types.home; number = length ts + length q.0; of = u })))) in o) (ap (λ (t : S). t.variables) is ∙ begun_variables v.names st),
-          a_variable q.0 q.1 q.2);
-      variables = each_variables u v.names t ∙ ap (λ (ts : List TypeNo). length ts + length v.names) (ap (λ (t : S). t.variables) is ∙ begun_variables v.names st);
-      procedures = ap (λ (ts : List TypeNo). length ts) (each_procedures u v.names t ∙ ap (λ (t : S). t.procedures) is ∙ begun_procedures v.names st) ∙ no_more (length st.0.procedures);
-    })
+              ∙ ap (λ (ts : List TypeNo). let o : Option (Known g.Reported) = Some (known.Declared Here (Ok (meaning.Variable (record { home = st.0.types.home; number = length ts + length q.0; of = u })))) in o) (ap (λ (t : S). t.variables) is ∙ begun_variables v.names st),
+          a_variable q.0 q.1 q.2,
+        );
+        variables = each_variables u v.names t ∙ ap (λ (ts : List TypeNo). length ts + length v.names) (ap (λ (t : S). t.variables) is ∙ begun_variables v.names st);
+        procedures = ap (λ (ts : List TypeNo). length ts) (each_procedures u v.names t ∙ ap (λ (t : S). t.procedures) is ∙ begun_procedures v.names st) ∙ no_more (length st.0.procedures);
+      },
+    )
     variables_by (Err f) e = let z = right_fine c.1 (Err f) e in absurd cc
 
   pub variables_take : (st : St) (v : Variables) (There : List ℕ → Type 0) → NoTwice There v.names → {bs : List (List ℕ × Member)} (ms : List Made) (own : List (List ℕ × Known g.Reported)) → (type_of g v.of (fold (begun_name g) st v.names).0).0 ≡ scope_with (fold (begun_name g) st v.names).0 ms own → Enters bs (fold (begun_name g) st v.names).0.own own → Fine st (OfVariables v) (with_variables g st v)
@@ -302,13 +318,15 @@ module _ (g : Gathers) where
       let s = with_procedure_type (with_shape st.0 m) (Ok u) in
       let p = meaning.Procedure (record { home = st.0.types.home; number = length st.0.procedures; heading = u }) in
       let d = unless (is_new s h.name) s h.name (known.Declared Here (Ok p)) in
-      let f = right_fine (formals_of g h) (beside g (Ok tt) d.1) (right_fine st.1 (beside g (formals_of g h) (beside g (Ok tt) d.1)) e) in
-      (left_fine st.1 (beside g (formals_of g h) (beside g (Ok tt) d.1)) e, record {
-        own = one_name (λ y. (m : Meaning) × (find_name y.name d.0.own ≡ Some (known.Declared Here (Ok m))) × IsEntry st.0.types.home (length st.0.variables) (length st.0.procedures) (OfProcedure h) y m)
-            (p, unless_found (is_new s h.name) s h.name (known.Declared Here (Ok p)) (right_fine (Ok tt) d.1 f), a_procedure);
-        variables = ap (λ (ts : List TypeNo). length ts) (unless_variables (is_new s h.name) s h.name (known.Declared Here (Ok p))) ∙ no_more (length st.0.variables);
-        procedures = ap (λ (ts : List TypeNo). length ts) (unless_procedures (is_new s h.name) s h.name (known.Declared Here (Ok p))) ∙ length-append st.0.procedures (u ∷ []);
-      })
+      let f = right_fine (formals_of g h) (beside g (Ok tt) d.1) (right_fine st.1 (beside g (formals_of g h) (beside g (Ok tt) d.1)) e) in (
+        left_fine st.1 (beside g (formals_of g h) (beside g (Ok tt) d.1)) e,
+        record {
+          own = one_name (λ y. (m : Meaning) × (find_name y.name d.0.own ≡ Some (known.Declared Here (Ok m))) × IsEntry st.0.types.home (length st.0.variables) (length st.0.procedures) (OfProcedure h) y m)
+              (p, unless_found (is_new s h.name) s h.name (known.Declared Here (Ok p)) (right_fine (Ok tt) d.1 f), a_procedure);
+          variables = ap (λ (ts : List TypeNo). length ts) (unless_variables (is_new s h.name) s h.name (known.Declared Here (Ok p))) ∙ no_more (length st.0.variables);
+          procedures = ap (λ (ts : List TypeNo). length ts) (unless_procedures (is_new s h.name) s h.name (known.Declared Here (Ok p))) ∙ length-append st.0.procedures (u ∷ []);
+        },
+      )
   procedure_by st h (Err f) e =
       let d = declared_procedure g st.0 h.name (Err f) in
       let z = left_fine (Err f) d.1 (right_fine (formals_of g h) (beside g (Err f) d.1) (right_fine st.1 (beside g (formals_of g h) (beside g (Err f) d.1)) e)) in absurd cc

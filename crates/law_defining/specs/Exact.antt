@@ -1,5 +1,5 @@
 -- What is answered of a definition.
-use Rattle.std.specs.Prelude.{◌≡◌, ◌⊎◌, ℕ, Bool, true, false, List, [], ◌∷◌, ◌++◌, map, Option, None, Result, Ok, Err}
+use Rattle.std.specs.Prelude.{◌≡◌, ◌⊎◌, ℕ, Bool, true, false, List, [], ◌∷◌, ◌++◌, map, Result, Ok, Err}
 use Rattle.m2_rule.specs.declared.breach.Breach.{Breach}
 use Rattle.m2_tree.specs.declared.name.Ident.{Ident}
 use Rattle.m2_tree.specs.declared.decl.Constant.{Constant as ConstantDecl}
@@ -10,7 +10,6 @@ use Rattle.m2_tree.specs.declared.decl.Def.TheVariants as def
 use Rattle.m2_tree.specs.declared.decl.Contents.TheVariants as contents
 use Rattle.m2_tree.specs.declared.decl.Module.{Module}
 use Rattle.typed_tree.specs.declared.meaning.Meaning.{Meaning}
-use Rattle.typed_tree.specs.declared.types.TypeNo.{TypeNo}
 use Rattle.typed_tree.specs.declared.known_types.Types.{Types}
 use Rattle.typed_tree.specs.declared.table.Table.{Table}
 use Rattle.check_scope.specs.Elaborated.{Gathers}
@@ -108,7 +107,8 @@ pub record IsDefinitionExact (g : Gathers) (j : Judges g) (home : ℕ) (m : Modu
   -- what is known behind them
   pub last : Context
   -- Each adds the types and constants that the rules say, and its names stand for what they say.
-  pub follow : AllFollow exports (first_context home tables names taken) (all_declared defs) whole last
+  pub follow :
+      AllFollow exports (first_context home tables names taken) (all_declared defs) whole last
   -- Exactly the rules that are broken in imports and in declarations are reported.
   pub answered : IsAnswered g j (IsTable home m tables exports whole last)
       (λ f.
