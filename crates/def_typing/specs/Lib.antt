@@ -11,6 +11,7 @@ pub mod Agreements
 pub mod Subranges
 pub mod TypeExprs
 pub mod Declarations
+pub mod Definitions
 pub mod Imports
 pub mod Expressions
 pub mod Assignments

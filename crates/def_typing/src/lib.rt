@@ -16,5 +16,6 @@
 //! - `specs/TypeNames` has names of types, `specs/Headings` headings of procedures, `specs/Subranges` subranges, and
 //!   `specs/TypeExprs` types as they are written (`IsTypeOf`, `BrokenType`), with the types that they make and the constants of
 //!   enumerations that they bring (`Adds`). `specs/Declarations` says what the names of a block stand for
-//!   (`StandsFor`), and which rules are broken in its declarations (`BrokenIn`).
+//!   (`StandsFor`), and which rules are broken in its declarations (`BrokenIn`), and `specs/Definitions` the same of a
+//!   definition (`AllFollow`, `BrokenIn`).
 #![tactic(auto)]

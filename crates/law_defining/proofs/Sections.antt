@@ -1,6 +1,5 @@
 -- The declarations of a definition are read one after another, as those of a block are.
-use Rattle.std.proofs.Common.{◌≡◌, ℕ, Bool, true, List, [], ◌∷◌, ◌++◌, length, Result, Ok, Err, ◌⊎◌, inl, inr, refl, sym, ap, subst, ◌∙◌, arith, None}
-use Rattle.std.specs.Prelude.{map}
+use Rattle.std.proofs.Common.{◌≡◌, ℕ, Bool, true, List, [], ◌∷◌, length, Result, Ok, Err, ◌⊎◌, inl, inr, refl, sym, ap, subst, ◌∙◌, arith, Option}
 use Rattle.std.specs.List.{fold}
 use Rattle.std.proofs.lemmas.Bool.Decides.{nat_tests}
 use Rattle.m2_rule.specs.declared.breach.Breach.{Breach}
@@ -32,9 +31,8 @@ use Rattle.def_typing.specs.Parts.{Among, here, later, Named}
 use Rattle.def_typing.specs.Declarations as rules
 use Rattle.def_typing.specs.Declarations.{Declaration, OfConstant, OfType, OfVariables, OfProcedure, declared_by, declarations_of, names_of, constants_of, names_in, formals_in, Declares, AnyDeclares, Declared as Resolved, in_order, IsThere, types_behind, procedure, is_variables, in_front_of, without, Says, Brings, Misdeclares, AllAdded, BrokenIn}
 use Rattle.law_typing.specs.Judging.{Judges, Answers}
-use Rattle.law_typing.specs.Exact.{standing, is_own_variable, TakenAs, Knows, Repeats, IsCallFree, IsPlainType}
+use Rattle.law_typing.specs.Exact.{standing, is_own_variable, TakenAs, Knows, Repeats}
 use Rattle.law_typing.proofs.Combining.{Lawful, Decided, fails_it, Tells, silent, tells, tells_as, beside_tells}
-use Rattle.law_typing.proofs.Heading.{nil_right, append_assoc}
 use Rattle.law_typing.proofs.Entering.{named_left}
 use Rattle.law_typing.proofs.Declaring.{All, Added as Added_there, Elsewhere, Saying, KnowsBlock, knowing, repeating, standings, all_stand, home_same}
 use Rattle.law_typing.proofs.Beginning.{Adding, adding_name, added, Theres, free_now, begin_one, begin_all, KnowsMid, mid_begins, mid_as, finish_one, finish_end}
@@ -45,43 +43,39 @@ use Rattle.law_typing.proofs.TypeReading.{no_made, Read as Read_type}
 use Rattle.law_typing.proofs.Recording.{type_read}
 use Rattle.check_block.specs.declared.heading.Standing.TheVariants as place
 use Rattle.check_block.specs.Headings.{standing_of}
-use Rattle.m2_tree.specs.declared.decl.Def.{Def}
-use Rattle.m2_tree.specs.declared.decl.Def.TheVariants as def
-use Rattle.check_definition.specs.Declare.{with_def}
-use Rattle.law_defining.specs.Exact.{none_awaited, declared_in, all_declared, IsPlainDef, ArePlainDefs}
 
-module _ (g : Gathers) (j : Judges g) (lawful : Lawful g j) (exports : ℕ → Ident → Standing) (outside : Ident → Standing) (start : Scope g.Reported) (taken : List ℕ → Bool) (nested : Bool) (block : List Declaration)
-    (takes : (n : List ℕ) → TakenAs g j (taken n) None (find_name n start.own)) (knows : Knows g j outside exports start) (no_withs : start.withs ≡ []) (Before : Breach → Type 0) where
+module _ (g : Gathers) (j : Judges g) (lawful : Lawful g j) (exports : ℕ → Ident → Standing) (outside : Ident → Standing) (start : Scope g.Reported) (taken : List ℕ → Bool) (awaited : List ℕ → Option TypeNo) (nested : Bool) (block : List Declaration)
+    (takes : (n : List ℕ) → TakenAs g j (taken n) (awaited n) (find_name n start.own)) (knows : Knows g j outside exports start) (no_withs : start.withs ≡ []) (Before : Breach → Type 0) where
   abbrev pub KB : List Resolved → List Declaration → (List ℕ → Type 0) → Scope g.Reported → Type 0
-  KB = KnowsBlock g j exports outside start taken none_awaited nested block
+  KB = KnowsBlock g j exports outside start taken awaited nested block
 
   abbrev pub Th : List Resolved → List ℕ → Type 0
-  Th = Theres g j lawful exports outside start taken none_awaited nested block takes
+  Th = Theres g j lawful exports outside start taken awaited nested block takes
 
   abbrev Stand : List Resolved → (Ident → Standing) → Type 0
-  Stand = All g j exports outside start taken none_awaited nested block
+  Stand = All g j exports outside start taken awaited nested block
 
   abbrev Rep : Breach → Type 0
   Rep f = Repeats g j outside start f
 
   abbrev Within : List Resolved → Breach → Type 0
-  Within = BrokenIn start.types exports outside taken none_awaited nested block
+  Within = BrokenIn start.types exports outside taken awaited nested block
 
   -- what is broken before them, or in them
   abbrev BI : List Resolved → Breach → Type 0
   BI front f = Before f ⊎ Within front f
 
   abbrev O : List Resolved → Breach → Type 0
-  O = Elsewhere g j exports outside start taken none_awaited nested block
+  O = Elsewhere g j exports outside start taken awaited nested block
 
   abbrev T : List Resolved → Types
   T front = types_behind start.types front
 
   abbrev SetAt : List Resolved → Declaration → (Ident → Standing) → Setting
-  SetAt = Set g j lawful exports outside start taken none_awaited nested block
+  SetAt = Set g j lawful exports outside start taken awaited nested block
 
-  abbrev Add : List Resolved → Resolved → Type 0
-  Add = Added_there g j exports outside start taken none_awaited nested block
+  abbrev pub Add : List Resolved → Resolved → Type 0
+  Add = Added_there g j exports outside start taken awaited nested block
 
   abbrev pub Told : List Resolved → Result (Unit {0}) g.Reported → Type 0
   Told front r = Tells g j lawful Rep (BI front) r
@@ -90,7 +84,7 @@ module _ (g : Gathers) (j : Judges g) (lawful : Lawful g j) (exports : ℕ → I
   Mis front d f = (i : (names : Ident → Standing) × Stand front names) × Misdeclares exports (SetAt front d i.0) d f
 
   -- behind one declaration more
-  abbrev Stepped : List Resolved → Resolved → List Declaration → State (Unit {0}) g.Reported → Type 0
+  abbrev pub Stepped : List Resolved → Resolved → List Declaration → State (Unit {0}) g.Reported → Type 0
   Stepped front d ds st = KB (d ∷ front) ds (Th (d ∷ front)) st.0 × Told (d ∷ front) st.1 × Add front d
 
   -- ---- what is reported
@@ -109,27 +103,28 @@ module _ (g : Gathers) (j : Judges g) (lawful : Lawful g j) (exports : ℕ → I
   abbrev Parts : List Resolved → Resolved → Breach → Type 0
   Parts front d f = BI front f ⊎ (Twice (Th front) (names_of d.what) f ⊎ (Twice (λ n. ⊥) (formals_in d.what) f ⊎ Mis front d.what f))
 
-  nothing_waits : {front : List Resolved} {d : Declaration} (t : TypeNo) → rules.IsAwaited start.types exports outside taken none_awaited nested block front t d → ⊥
-  nothing_waits t (rules.is_awaited v h) = absurd cc
+  -- A heading alone may be awaited.
+  no_waiting : {front : List Resolved} (d : Declaration) → in_front_of d ≡ Undeclared → (t : TypeNo) → rules.IsAwaited start.types exports outside taken awaited nested block front t d → ⊥
+  no_waiting _ e t (rules.is_awaited v h) = absurd cc
 
-  parts_broken : {front : List Resolved} {d : Resolved} (f : Breach) → Parts front d f → BI (d ∷ front) f
-  parts_broken f (inl (inl b)) = inl b
-  parts_broken f (inl (inr b)) = inr (rules.in_front b)
-  parts_broken f (inr (inl t)) = inr (rules.twice (λ u w. nothing_waits u w) t)
-  parts_broken f (inr (inr (inl t))) = inr (rules.formal_twice t)
-  parts_broken f (inr (inr (inr (i, m)))) = inr (rules.inside i.1 m)
+  parts_broken : {front : List Resolved} {d : Resolved} → in_front_of d.what ≡ Undeclared → (f : Breach) → Parts front d f → BI (d ∷ front) f
+  parts_broken u f (inl (inl b)) = inl b
+  parts_broken u f (inl (inr b)) = inr (rules.in_front b)
+  parts_broken {d = d} u f (inr (inl t)) = inr (rules.twice (no_waiting d.what u) t)
+  parts_broken u f (inr (inr (inl t))) = inr (rules.formal_twice t)
+  parts_broken u f (inr (inr (inr (i, m)))) = inr (rules.inside i.1 m)
 
-  broken_parts : {front : List Resolved} {d : Resolved} (f : Breach) → BI (d ∷ front) f → Parts front d f
-  broken_parts f (inl b) = inl (inl b)
-  broken_parts f (inr (rules.in_front b)) = inl (inr b)
-  broken_parts f (inr (rules.twice n t)) = inr (inl t)
-  broken_parts f (inr (rules.other_heading {t = t} a all m)) = absurd (nothing_waits t a)
-  broken_parts f (inr (rules.formal_twice t)) = inr (inr (inl t))
-  broken_parts f (inr (rules.inside {names = names} all m)) = inr (inr (inr ((names, all), m)))
+  broken_parts : {front : List Resolved} {d : Resolved} → in_front_of d.what ≡ Undeclared → (f : Breach) → BI (d ∷ front) f → Parts front d f
+  broken_parts u f (inl b) = inl (inl b)
+  broken_parts u f (inr (rules.in_front b)) = inl (inr b)
+  broken_parts u f (inr (rules.twice n t)) = inr (inl t)
+  broken_parts {d = d} u f (inr (rules.other_heading {t = t} a all m)) = absurd (no_waiting d.what u t a)
+  broken_parts u f (inr (rules.formal_twice t)) = inr (inr (inl t))
+  broken_parts u f (inr (rules.inside {names = names} all m)) = inr (inr (inr ((names, all), m)))
 
   -- from its parts, in whatever order
-  told_parts : {front : List Resolved} (d : Resolved) {C : Breach → Type 0} {r : Result (Unit {0}) g.Reported} → ((f : Breach) → C f → Parts front d f) → ((f : Breach) → Parts front d f → C f) → Tells g j lawful (O front) C r → Told (d ∷ front) r
-  told_parts d to from t = tells_as g j lawful Rep (λ f c. parts_broken f (to f c)) (λ f b. from f (broken_parts f b)) (closed (λ f b. from f (inl b)) t)
+  told_parts : {front : List Resolved} (d : Resolved) → in_front_of d.what ≡ Undeclared → {C : Breach → Type 0} {r : Result (Unit {0}) g.Reported} → ((f : Breach) → C f → Parts front d f) → ((f : Breach) → Parts front d f → C f) → Tells g j lawful (O front) C r → Told (d ∷ front) r
+  told_parts d u to from t = tells_as g j lawful Rep (λ f c. parts_broken u f (to f c)) (λ f b. from f (broken_parts u f b)) (closed (λ f b. from f (inl b)) t)
 
   -- ---- a declaration but a procedure
 
@@ -146,48 +141,48 @@ module _ (g : Gathers) (j : Judges g) (lawful : Lawful g j) (exports : ℕ → I
     -- the scope while its parts are read
     module _ {s : Scope g.Reported} (k : KB front (d.what ∷ ds) Begun s) where
       abbrev Read : {names : Ident → Standing} → Stand front names → Knows g j names exports s
-      Read all = knowing g j exports outside start taken none_awaited nested block knows no_withs k all
+      Read all = knowing g j exports outside start taken awaited nested block knows no_withs k all
 
       abbrev names_here : Ident → Standing
-      names_here = standings g j exports outside start taken none_awaited nested block knows no_withs k
+      names_here = standings g j exports outside start taken awaited nested block knows no_withs k
 
       stand_here : Stand front names_here
-      stand_here = all_stand g j exports outside start taken none_awaited nested block knows no_withs k
+      stand_here = all_stand g j exports outside start taken awaited nested block knows no_withs k
 
       abbrev Repeat : {names : Ident → Standing} → Stand front names → (f : Breach) → Repeats g j names s f → O front f
-      Repeat all = repeating g j exports outside start taken none_awaited nested block knows no_withs k all
+      Repeat all = repeating g j exports outside start taken awaited nested block knows no_withs k all
 
       abbrev Mid : (List ℕ → Type 0) → Scope g.Reported → Type 0
-      Mid done t = KnowsMid g j lawful exports outside start taken none_awaited nested block takes front d ds Begun done t
+      Mid done t = KnowsMid g j lawful exports outside start taken awaited nested block takes front d ds Begun done t
 
       abbrev Exact : {A : Type 0} → (A → Saids) → Result A g.Reported → Type 0
-      Exact said r = Exactly g j lawful exports outside start taken none_awaited nested block said front d.what r
+      Exact said r = Exactly g j lawful exports outside start taken awaited nested block said front d.what r
 
       -- the names that are there are not free
       frees_here : Frees s (SetAt front d.what names_here).there
-      frees_here n = free_now g j lawful exports outside start taken none_awaited nested block takes front (names_of d.what) n (k.within n) (λ h. k.in_block n (d.what, here, named_left (constants_of d.what) h)) (k.own n)
+      frees_here n = free_now g j lawful exports outside start taken awaited nested block takes front (names_of d.what) n (k.within n) (λ h. k.in_block n (d.what, here, named_left (constants_of d.what) h)) (k.own n)
 
       begun_mid : {t : Scope g.Reported} (own : List (List ℕ × Known g.Reported)) → t ≡ scope_with s d.adds.makes own → Enters d.adds.brings s.own own → ((n : List ℕ) → Decided (Named (constants_of d.what) n) (is_some (find_name n d.adds.brings))) → Brings exports (SetAt front d.what names_here) (Th front) d.what d.adds → Mid (λ n. ⊥) t
-      begun_mid own e enters constants b = subst (λ (t : Scope g.Reported). Mid (λ n. ⊥) t) (sym e) (mid_begins g j lawful exports outside start taken none_awaited nested block takes front d ds Begun k.includes
+      begun_mid own e enters constants b = subst (λ (t : Scope g.Reported). Mid (λ n. ⊥) t) (sym e) (mid_begins g j lawful exports outside start taken awaited nested block takes front d ds Begun k.includes
           (λ n h. adding_name (names_of d.what) (Th front) n h.0 h.1 h.2) (λ n h. added (names_of d.what) (Th front) n h) (λ n h. k.in_block n (d.what, here, h)) (rules.is_added stand_here b) constants undeclared k
           (record { withs = k.same.withs; outer = k.same.outer; types = ap (λ (t : Types). with_types t d.adds.makes) k.same.types; tables = k.same.tables; level = k.same.level }) enters)
 
-      one_finished : (x : Ident) → Among x (names_of d.what) → {m : Result Meaning g.Reported} → Saying g j exports outside start taken none_awaited nested block front d (known.Declared Here m) → (done : List ℕ → Type 0) {t : Scope g.Reported} → Mid done t → Mid (λ n. (x.name ≡ n) ⊎ done n) (finish_name t x m)
-      one_finished x a {m = m} say done q = finish_one g j lawful exports outside start taken none_awaited nested block takes front d ds Begun k.includes x (x, a, refl) (k.in_block x.name (d.what, here, named x a)) (adding_name (names_of d.what) (Th front) x.name x a refl) m say done q
+      one_finished : (x : Ident) → Among x (names_of d.what) → {m : Result Meaning g.Reported} → Saying g j exports outside start taken awaited nested block front d (known.Declared Here m) → (done : List ℕ → Type 0) {t : Scope g.Reported} → Mid done t → Mid (λ n. (x.name ≡ n) ⊎ done n) (finish_name t x m)
+      one_finished x a {m = m} say done q = finish_one g j lawful exports outside start taken awaited nested block takes front d ds Begun k.includes x (x, a, refl) (k.in_block x.name (d.what, here, named x a)) (adding_name (names_of d.what) (Th front) x.name x a refl) m say done q
 
       ended : {t : Scope g.Reported} → Mid (Named (names_of d.what)) t → KB (d ∷ front) ds (Th (d ∷ front)) t
-      ended q = finish_end g j lawful exports outside start taken none_awaited nested block takes front d ds Begun k.within k.in_block k.left (λ n h. adding_name (names_of d.what) (Th front) n h.0 h.1 h.2) (λ n h. added (names_of d.what) (Th front) n h) q
+      ended q = finish_end g j lawful exports outside start taken awaited nested block takes front d ds Begun k.within k.in_block k.left (λ n h. adding_name (names_of d.what) (Th front) n h.0 h.1 h.2) (λ n h. added (names_of d.what) (Th front) n h) q
 
       telling : {A : Type 0} (said : A → Saids) {r : Result A g.Reported} → Exact said r → Tells g j lawful (O front) (Mis front d.what) (r ▷ λ a. Ok tt)
-      telling said h = says_tells g j lawful exports outside start taken none_awaited nested block said front d h stand_here
+      telling said h = says_tells g j lawful exports outside start taken awaited nested block said front d h stand_here
 
       says_it : {A : Type 0} (said : A → Saids) (made : A → Meaning) → ((a : A) → (said a).1 ≡ standing (made a)) → ((a : A) → d.adds ≡ (said a).0) → ((a : A) → standing_of (made a) ≡ place.Taken) → ((a : A) → is_own_variable start (made a) ≡ is_variables d.what) → {r : Result A g.Reported} → Exact said r
-          → Saying g j exports outside start taken none_awaited nested block front d (known.Declared Here (r ▷ λ a. Ok (made a)))
-      says_it said made i e t w h = saying g j lawful exports outside start taken none_awaited nested block said front d made i h (λ a q. e a) unknown t w stand_here
+          → Saying g j exports outside start taken awaited nested block front d (known.Declared Here (r ▷ λ a. Ok (made a)))
+      says_it said made i e t w h = saying g j lawful exports outside start taken awaited nested block said front d made i h (λ a q. e a) unknown t w stand_here
 
     -- what is reported, if one name is begun
     told_one : {x : Ident} {r b v : Result (Unit {0}) g.Reported} → names_of d.what ≡ x ∷ [] → Told front r → Tells g j lawful (O front) (λ f. Th front x.name × (f ≡ x.pos ! rule.DeclaredTwice)) b → Tells g j lawful (O front) (Mis front d.what) v → Told (d ∷ front) (beside g r (beside g b v))
-    told_one {x = x} e a b c = told_parts d (λ f z. to f z) (λ f z. from f z) (beside_tells g j lawful (O front) (told_here a) (beside_tells g j lawful (O front) b c))
+    told_one {x = x} e a b c = told_parts d undeclared (λ f z. to f z) (λ f z. from f z) (beside_tells g j lawful (O front) (told_here a) (beside_tells g j lawful (O front) b c))
       where
         to : (f : Breach) → BI front f ⊎ ((Th front x.name × (f ≡ x.pos ! rule.DeclaredTwice)) ⊎ Mis front d.what f) → Parts front d f
         to f (inl z) = inl z
@@ -202,7 +197,7 @@ module _ (g : Gathers) (j : Judges g) (lawful : Lawful g j) (exports : ℕ → I
 
     -- the same of a list of names
     told_list : {b v : Result (Unit {0}) g.Reported} → Tells g j lawful (O front) (λ f. BI front f ⊎ Twice (Th front) (names_of d.what) f) b → Tells g j lawful (O front) (Mis front d.what) v → Told (d ∷ front) (beside g b v)
-    told_list b c = told_parts d (λ f z. elim z [ inl y ↦ elim y [ inl w ↦ inl w | inr t ↦ inr (inl t) ] | inr m ↦ inr (inr (inr m)) ]) (λ f z. from f z) (beside_tells g j lawful (O front) b c)
+    told_list b c = told_parts d undeclared (λ f z. elim z [ inl y ↦ elim y [ inl w ↦ inl w | inr t ↦ inr (inl t) ] | inr m ↦ inr (inr (inr m)) ]) (λ f z. from f z) (beside_tells g j lawful (O front) b c)
       where
         from : (f : Breach) → Parts front d f → (BI front f ⊎ Twice (Th front) (names_of d.what) f) ⊎ Mis front d.what f
         from f (inl z) = inl (inl z)
@@ -224,14 +219,14 @@ module _ (g : Gathers) (j : Judges g) (lawful : Lawful g j) (exports : ℕ → I
 
   -- ---- constants
 
-  module _ (front : List Resolved) (c : Constant) (ds : List Declaration) (free : IsCallFree c.value) where
-    constant_exact : {s : Scope g.Reported} (k : KB front (OfConstant c ∷ ds) (Adding (c.name ∷ []) (Th front)) s) → Exactly g j lawful exports outside start taken none_awaited nested block said_constant front (OfConstant c) (constant g s (part g c.value))
-    constant_exact {s = s} k names all = more_answers g j lawful (O front) (Repeat front (plain_one (OfConstant c)) ds refl refl refl k all) (constant_says g j lawful nested (T front) names (SetAt front (OfConstant c) names).there exports s (Read front (plain_one (OfConstant c)) ds refl refl refl k all) k.same.types c free)
+  module _ (front : List Resolved) (c : Constant) (ds : List Declaration) where
+    constant_exact : {s : Scope g.Reported} (k : KB front (OfConstant c ∷ ds) (Adding (c.name ∷ []) (Th front)) s) → Exactly g j lawful exports outside start taken awaited nested block said_constant front (OfConstant c) (constant g s (part g c.value))
+    constant_exact {s = s} k names all = more_answers g j lawful (O front) (Repeat front (plain_one (OfConstant c)) ds refl refl refl k all) (constant_says g j lawful nested (T front) names (SetAt front (OfConstant c) names).there exports s (Read front (plain_one (OfConstant c)) ds refl refl refl k all) k.same.types c)
 
-    declare_constant : {s : Scope g.Reported} {r : Result (Unit {0}) g.Reported} → KB front (OfConstant c ∷ ds) (Th front) s → Told front r → Stepped front (plain_one (OfConstant c)) ds (with_constant g (s, r) c)
-    declare_constant k t = let b = begin_one g j lawful exports outside start taken none_awaited nested block takes (O front) front (OfConstant c) ds refl (Th front) c.name (c.name, here, refl) k in
+    pub declare_constant : {s : Scope g.Reported} {r : Result (Unit {0}) g.Reported} → KB front (OfConstant c ∷ ds) (Th front) s → Told front r → Stepped front (plain_one (OfConstant c)) ds (with_constant g (s, r) c)
+    declare_constant k t = let b = begin_one g j lawful exports outside start taken awaited nested block takes (O front) front (OfConstant c) ds refl (Th front) c.name (c.name, here, refl) k in
         let h = constant_exact b.0 in (
-          ended front (plain_one (OfConstant c)) ds refl refl refl b.0 (mid_as g j lawful exports outside start taken none_awaited nested block takes front (plain_one (OfConstant c)) ds (Adding (c.name ∷ []) (Th front)) (λ n z. only_name z) (λ n z. name_only z)
+          ended front (plain_one (OfConstant c)) ds refl refl refl b.0 (mid_as g j lawful exports outside start taken awaited nested block takes front (plain_one (OfConstant c)) ds (Adding (c.name ∷ []) (Th front)) (λ n z. only_name z) (λ n z. name_only z)
               (one_finished front (plain_one (OfConstant c)) ds refl refl refl b.0 c.name here (says_it front (plain_one (OfConstant c)) ds refl refl refl b.0 said_constant (λ v. meaning.Constant v) (λ v. refl) (λ v. refl) (λ v. refl) (λ v. refl) h) (λ n. ⊥) (begun_mid front (plain_one (OfConstant c)) ds refl refl refl b.0 (begin_name g _ c.name).0.own (no_made (begin_name g _ c.name).0) (enters_nothing (begin_name g _ c.name).0.own) (λ n. fails_it (λ z. elim z.1 [ ])) rules.constant_brings))),
           told_one front (plain_one (OfConstant c)) ds refl refl refl refl t b.1 (telling front (plain_one (OfConstant c)) ds refl refl refl b.0 said_constant h),
           rules.is_added (stand_here front (plain_one (OfConstant c)) ds refl refl refl b.0) rules.constant_brings,
@@ -239,7 +234,7 @@ module _ (g : Gathers) (j : Judges g) (lawful : Lawful g j) (exports : ℕ → I
 
   -- ---- types
 
-  abbrev typed_one : Declaration → Added → Resolved
+  abbrev pub typed_one : Declaration → Added → Resolved
   typed_one d a = record { what = d; adds = a }
 
   abbrev ReadType : Scope g.Reported → TypeExpr → State TypeNo g.Reported → Type 0
@@ -260,27 +255,28 @@ module _ (g : Gathers) (j : Judges g) (lawful : Lawful g j) (exports : ℕ → I
     type_brings = rules.type_brings (subst (λ (types : Types). Adds exports (at_types types names_in_type (SetAt front (OfType d) names_in_type).there) d.of read.adds) k.same.types
         (read.added names_in_type (SetAt front (OfType d) names_in_type).there (Read front one ds refl refl refl k (stand_here front one ds refl refl refl k)) (frees_here front one ds refl refl refl k)))
 
-    type_exact : Exactly g j lawful exports outside start taken none_awaited nested block (said_type read.adds) front (OfType d) q.1
+    type_exact : Exactly g j lawful exports outside start taken awaited nested block (said_type read.adds) front (OfType d) q.1
     type_exact names all = more_answers g j lawful (O front) (Repeat front one ds refl refl refl k all) (of_type_says g j lawful nested (T front) names (SetAt front (OfType d) names).there exports s (Read front one ds refl refl refl k all) k.same.types d read.adds
         (subst (λ (types : Types). Answers g j (Repeats g j names s) (λ a k. k ≡ (read.adds, a)) (λ (k : MadeType). IsTypeOf exports (at_types types names (SetAt front (OfType d) names).there) d.of k.0 k.1) (BrokenType exports (at_types types names (SetAt front (OfType d) names).there) d.of) q.1) k.same.types (read.exact names (SetAt front (OfType d) names).there (Read front one ds refl refl refl k all) (frees_here front one ds refl refl refl k))))
 
     type_ended : {r b : Result (Unit {0}) g.Reported} → Told front r → Tells g j lawful (O front) (λ f. Th front d.name.name × (f ≡ d.name.pos ! rule.DeclaredTwice)) b
         → Stepped front one ds (finish_name q.0 d.name (type_meaning q.1 (brings_with d.of)), beside g r (beside g b (nothing_of q.1)))
     type_ended t w = let h = type_exact in (
-      ended front one ds refl refl refl k (mid_as g j lawful exports outside start taken none_awaited nested block takes front one ds (Adding (d.name ∷ []) (Th front)) (λ n z. only_name z) (λ n z. name_only z)
+      ended front one ds refl refl refl k (mid_as g j lawful exports outside start taken awaited nested block takes front one ds (Adding (d.name ∷ []) (Th front)) (λ n z. only_name z) (λ n z. name_only z)
           (one_finished front one ds refl refl refl k d.name here (says_it front one ds refl refl refl k (said_type read.adds) (λ t. meaning.Type t (brings_with d.of)) (λ t. refl) (λ t. refl) (λ t. refl) (λ t. refl) h) (λ n. ⊥)
           (begun_mid front one ds refl refl refl k read.own read.is read.enters read.constants type_brings))),
       told_one front one ds refl refl refl refl t w (telling front one ds refl refl refl k (said_type read.adds) h),
       rules.is_added (stand_here front one ds refl refl refl k) type_brings,
     )
 
-  abbrev One : List Resolved → Declaration → List Declaration → State (Unit {0}) g.Reported → Type 0
-  One front x ds st = (d : Resolved) × (d.what ≡ x) × Stepped front d ds st
+  -- what it adds, whether its type is right, and what is known behind it
+  abbrev pub One : List Resolved → Declaration → (Added → TypeNo → Saids) → Result TypeNo g.Reported → List Declaration → State (Unit {0}) g.Reported → Type 0
+  One front x said r ds st = (a : Added) × Exactly g j lawful exports outside start taken awaited nested block (said a) front x r × Stepped front (typed_one x a) ds st
 
-  declare_type : (front : List Resolved) (d : TypeDecl) (ds : List Declaration) → IsPlainType d.of → {s : Scope g.Reported} {r : Result (Unit {0}) g.Reported} → KB front (OfType d ∷ ds) (Th front) s → Told front r → One front (OfType d) ds (with_type g (s, r) d)
-  declare_type front d ds i {s = s} k t = let b = begin_one g j lawful exports outside start taken none_awaited nested block takes (O front) front (OfType d) ds refl (Th front) d.name (d.name, here, refl) k in
-      let read = type_read g j lawful exports i (begin_name g s d.name).0 b.0.same.withs in
-      (typed_one (OfType d) read.adds, refl, type_ended front d ds b.0 (type_of g d.of (begin_name g s d.name).0) read t b.1)
+  pub declare_type : (front : List Resolved) (d : TypeDecl) (ds : List Declaration) → {s : Scope g.Reported} {r : Result (Unit {0}) g.Reported} → KB front (OfType d ∷ ds) (Th front) s → Told front r → One front (OfType d) (λ a t. said_type a t) (type_of g d.of (begin_name g s d.name).0).1 ds (with_type g (s, r) d)
+  declare_type front d ds {s = s} k t = let b = begin_one g j lawful exports outside start taken awaited nested block takes (O front) front (OfType d) ds refl (Th front) d.name (d.name, here, refl) k in
+      let read = type_read g j lawful exports d.of (begin_name g s d.name).0 b.0.same.withs in
+      (read.adds, type_exact front d ds b.0 (type_of g d.of (begin_name g s d.name).0) read, type_ended front d ds b.0 (type_of g d.of (begin_name g s d.name).0) read t b.1)
 
   -- ---- variables
 
@@ -295,7 +291,7 @@ module _ (g : Gathers) (j : Judges g) (lawful : Lawful g j) (exports : ℕ → I
     variables_bring = rules.variables_bring (subst (λ (types : Types). Adds exports (at_types types names_in_list (SetAt front (OfVariables v) names_in_list).there) v.of read.adds) k.same.types
         (read.added names_in_list (SetAt front (OfVariables v) names_in_list).there (Read front many ds refl refl refl k (stand_here front many ds refl refl refl k)) (frees_here front many ds refl refl refl k)))
 
-    variables_exact : Exactly g j lawful exports outside start taken none_awaited nested block (said_variables read.adds) front (OfVariables v) q.1
+    variables_exact : Exactly g j lawful exports outside start taken awaited nested block (said_variables read.adds) front (OfVariables v) q.1
     variables_exact names all = more_answers g j lawful (O front) (Repeat front many ds refl refl refl k all) (variables_say g j lawful nested (T front) names (SetAt front (OfVariables v) names).there exports s (Read front many ds refl refl refl k all) k.same.types v read.adds
         (subst (λ (types : Types). Answers g j (Repeats g j names s) (λ a k. k ≡ (read.adds, a)) (λ (k : MadeType). IsTypeOf exports (at_types types names (SetAt front (OfVariables v) names).there) v.of k.0 k.1) (BrokenType exports (at_types types names (SetAt front (OfVariables v) names).there) v.of) q.1) k.same.types (read.exact names (SetAt front (OfVariables v) names).there (Read front many ds refl refl refl k all) (frees_here front many ds refl refl refl k))))
 
@@ -322,7 +318,7 @@ module _ (g : Gathers) (j : Judges g) (lawful : Lawful g j) (exports : ℕ → I
 
     variables_ended : (made : Scope g.Reported → TypeNo → Meaning) → ((t : Scope g.Reported) (a : TypeNo) → (said_variables read.adds a).1 ≡ standing (made t a)) → ((t : Scope g.Reported) (a : TypeNo) → standing_of (made t a) ≡ place.Taken) → OwnMade made
         → KB (many ∷ front) ds (Th (many ∷ front)) (fold (λ t x. finish_name (with_variable_type t q.1) x (q.1 ▷ λ a. Ok (made t a))) q.0 v.names)
-    variables_ended made i z w = ended front many ds refl refl refl k (mid_as g j lawful exports outside start taken none_awaited nested block takes front many ds (Adding v.names (Th front)) names_done (λ n h. adding_name v.names (λ n. ⊥) n h.0 h.1 h.2)
+    variables_ended made i z w = ended front many ds refl refl refl k (mid_as g j lawful exports outside start taken awaited nested block takes front many ds (Adding v.names (Th front)) names_done (λ n h. adding_name v.names (λ n. ⊥) n h.0 h.1 h.2)
         (finish_each made i z w v.names (λ x m. m) (λ n. ⊥) (begun_mid front many ds refl refl refl k read.own read.is read.enters read.constants variables_bring)))
 
     variables_told : {b : Result (Unit {0}) g.Reported} → Tells g j lawful (O front) (λ f. BI front f ⊎ Twice (Th front) v.names f) b → Told (many ∷ front) (beside g b (nothing_of q.1))
@@ -332,58 +328,17 @@ module _ (g : Gathers) (j : Judges g) (lawful : Lawful g j) (exports : ℕ → I
     variable_made t a = meaning.Variable (record { home = t.types.home; number = length t.variables; of = a })
 
     own_made : (t : Scope g.Reported) → t.types ≡ T (many ∷ front) → t.level ≡ start.level → (a : TypeNo) → is_own_variable start (variable_made t a) ≡ true
-    own_made t e l a = let z : t.types.home ≡ start.types.home = ap (λ (x : Types). x.home) e ∙ home_same g j exports outside start taken none_awaited nested block knows no_withs front in grind (arith, nat_tests, z)
+    own_made t e l a = let z : t.types.home ≡ start.types.home = ap (λ (x : Types). x.home) e ∙ home_same g j exports outside start taken awaited nested block knows no_withs front in grind (arith, nat_tests, z)
 
     module_ended : {b : Result (Unit {0}) g.Reported} → Tells g j lawful (O front) (λ f. BI front f ⊎ Twice (Th front) v.names f) b → Stepped front many ds (fold (finished_variable q.1) q.0 v.names, beside g b (nothing_of q.1))
     module_ended t = (variables_ended variable_made (λ t a. refl) (λ t a. refl) own_made, variables_told t, rules.is_added (stand_here front many ds refl refl refl k) variables_bring)
 
   begun_list : (front : List Resolved) (v : Variables) (ds : List Declaration) {s : Scope g.Reported} {r : Result (Unit {0}) g.Reported} → KB front (OfVariables v ∷ ds) (Th front) s → Told front r
       → KB front (OfVariables v ∷ ds) (Adding v.names (Th front)) (fold (begun_name g) (s, r) v.names).0 × Tells g j lawful (O front) (λ f. BI front f ⊎ Twice (Th front) v.names f) (fold (begun_name g) (s, r) v.names).1
-  begun_list front v ds k t = begin_all g j lawful exports outside start taken none_awaited nested block takes (O front) front (OfVariables v) ds refl v.names (Th front) (λ x m. named_left (constants_in v.of) (x, m, refl)) k (told_here t)
+  begun_list front v ds k t = begin_all g j lawful exports outside start taken awaited nested block takes (O front) front (OfVariables v) ds refl v.names (Th front) (λ x m. named_left (constants_in v.of) (x, m, refl)) k (told_here t)
 
-  declare_variables : (front : List Resolved) (v : Variables) (ds : List Declaration) → IsPlainType v.of → {s : Scope g.Reported} {r : Result (Unit {0}) g.Reported} → KB front (OfVariables v ∷ ds) (Th front) s → Told front r → One front (OfVariables v) ds (with_variables g (s, r) v)
-  declare_variables front v ds i {s = s} {r = r} k t = let b = begun_list front v ds k t in
+  pub declare_variables : (front : List Resolved) (v : Variables) (ds : List Declaration) → {s : Scope g.Reported} {r : Result (Unit {0}) g.Reported} → KB front (OfVariables v ∷ ds) (Th front) s → Told front r → One front (OfVariables v) (λ a t. said_variables a t) (type_of g v.of (fold (begun_name g) (s, r) v.names).0).1 ds (with_variables g (s, r) v)
+  declare_variables front v ds {s = s} {r = r} k t = let b = begun_list front v ds k t in
       let u = (fold (begun_name g) (s, r) v.names).0 in
-      let read = type_read g j lawful exports i u b.0.same.withs in
-      (typed_one (OfVariables v) read.adds, refl, module_ended front v ds b.0 (type_of g v.of u) read b.1)
-
-  -- ---- one declaration after another
-
-  abbrev pub AddAll : List Resolved → Type 0
-  AddAll = AllAdded start.types exports outside taken none_awaited nested block
-
-  abbrev pub Ran : List Resolved → List Declaration → List Declaration → State (Unit {0}) g.Reported → Type 0
-  Ran front xs rest st = (fs : List Resolved) × (in_order fs ≡ in_order front ++ xs) × (KB fs rest (Th fs) st.0 × Told fs st.1 × (AddAll front → AddAll fs))
-
-  ran_nothing : {front : List Resolved} {rest : List Declaration} {s : Scope g.Reported} {r : Result (Unit {0}) g.Reported} → KB front rest (Th front) s → Told front r → Ran front [] rest (s, r)
-  ran_nothing {front = front} k t = (front, sym (nil_right (in_order front)), (k, t, λ a. a))
-
-  in_order_more : (front fs : List Resolved) (d : Resolved) (xs : List Declaration) {x : Declaration} → d.what ≡ x → in_order fs ≡ in_order (d ∷ front) ++ xs → in_order fs ≡ in_order front ++ x ∷ xs
-  in_order_more front fs d xs e q = q ∙ append_assoc (in_order front) (d.what ∷ []) xs ∙ ap (λ (x : Declaration). in_order front ++ x ∷ xs) e
-
-  -- a section
-  module _ {X : Type 0} (f : State (Unit {0}) g.Reported → X → State (Unit {0}) g.Reported) (of : X → Declaration) where
-    abbrev Steps : List X → Type 0
-    Steps xs = (x : X) → Among x xs → (front : List Resolved) (ds : List Declaration) (s : Scope g.Reported) (r : Result (Unit {0}) g.Reported) → KB front (of x ∷ ds) (Th front) s → Told front r → One front (of x) ds (f (s, r) x)
-
-    section_ran : (xs : List X) → Steps xs → (front : List Resolved) (rest : List Declaration) {s : Scope g.Reported} {r : Result (Unit {0}) g.Reported} → KB front (map of xs ++ rest) (Th front) s → Told front r → Ran front (map of xs) rest (fold f (s, r) xs)
-    section_ran [] h front rest k t = ran_nothing k t
-    section_ran (x ∷ xs) h front rest {s = s} {r = r} k t = let q = h x here front (map of xs ++ rest) s r k t in
-        let z = section_ran xs (λ y m. h y (later m)) (q.0 ∷ front) rest q.2.0 q.2.1 in
-        (z.0, in_order_more front z.0 q.0 (map of xs) q.1 z.1, (z.2.0, z.2.1, λ a. z.2.2 (rules.each_added q.2.2 a)))
-
-  -- ---- all of a definition
-
-  def_ran : (d : Def) → IsPlainDef d → (front : List Resolved) (rest : List Declaration) {s : Scope g.Reported} {r : Result (Unit {0}) g.Reported} → KB front (declared_in d ++ rest) (Th front) s → Told front r
-      → Ran front (declared_in d) rest (with_def g (s, r) d)
-  def_ran (def.Constants cs) i front rest k t = section_ran (with_constant g) OfConstant cs (λ c m front ds s r k t. (plain_one (OfConstant c), refl, declare_constant front c ds (i c m) k t)) front rest k t
-  def_ran (def.Types ts) i front rest k t = section_ran (with_type g) OfType ts (λ d m front ds s r k t. declare_type front d ds (i d m) k t) front rest k t
-  def_ran (def.Variables vs) i front rest k t = section_ran (with_variables g) OfVariables vs (λ v m front ds s r k t. declare_variables front v ds (i v m) k t) front rest k t
-  def_ran (def.Procedure h) i front rest k t = absurd i
-
-  pub defs_ran : (ds : List Def) → ArePlainDefs ds → (front : List Resolved) {s : Scope g.Reported} {r : Result (Unit {0}) g.Reported} → KB front (all_declared ds) (Th front) s → Told front r
-      → Ran front (all_declared ds) [] (fold (with_def g) (s, r) ds)
-  defs_ran [] i front k t = ran_nothing k t
-  defs_ran (d ∷ ds) i front k t = let q = def_ran d (i d here) front (all_declared ds) k t in
-      let z = defs_ran ds (λ c m. i c (later m)) q.0 q.2.0 q.2.1 in
-      (z.0, z.1 ∙ ap (λ (xs : List Declaration). xs ++ all_declared ds) q.1 ∙ append_assoc (in_order front) (declared_in d) (all_declared ds), (z.2.0, z.2.1, λ a. z.2.2 (q.2.2 a)))
+      let read = type_read g j lawful exports v.of u b.0.same.withs in
+      (read.adds, variables_exact front v ds b.0 (type_of g v.of u) read, module_ended front v ds b.0 (type_of g v.of u) read b.1)

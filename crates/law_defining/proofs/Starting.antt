@@ -1,5 +1,5 @@
 -- Where the declarations of a definition begin, its imports are known, and its own names are marked.
-use Rattle.std.proofs.Common.{◌≡◌, ℕ, Bool, true, false, List, [], ◌∷◌, ◌++◌, Option, Result, Ok, Err, ◌⊎◌, inl, inr, refl, sym, ap, subst, ◌∙◌, None, Some}
+use Rattle.std.proofs.Common.{◌≡◌, ℕ, Bool, true, false, List, [], ◌∷◌, ◌++◌, length, Option, Result, Ok, Err, ◌⊎◌, inl, inr, refl, sym, ap, subst, ◌∙◌, None, Some}
 use Rattle.std.specs.Prelude.{map}
 use Rattle.std.specs.List.{fold}
 use Rattle.m2_rule.specs.declared.breach.Breach.{Breach}
@@ -8,7 +8,7 @@ use Rattle.m2_tree.specs.declared.decl.Def.{Def}
 use Rattle.m2_tree.specs.declared.decl.Def.TheVariants as def
 use Rattle.m2_tree.specs.declared.decl.Decl.{Decl, Decl-F, out-Decl, roll-Decl, out-roll-Decl}
 use Rattle.m2_tree.specs.declared.decl.Decl.TheOpen as decl
-use Rattle.m2_tree.specs.declared.decl.Block.{Block}
+use Rattle.m2_tree.specs.declared.decl.Block.{Block, roll-Block}
 use Rattle.m2_tree.specs.declared.decl.Contents.{Contents}
 use Rattle.m2_tree.specs.declared.decl.Contents.TheVariants as contents
 use Rattle.m2_tree.specs.declared.decl.Module.{Module}
@@ -21,6 +21,7 @@ use Rattle.typed_tree.specs.declared.known_types.Types.{Types}
 use Rattle.typed_tree.specs.declared.table.Table.{Table}
 use Rattle.typed_tree.specs.Names.{find_name}
 use Rattle.check_scope.specs.declared.known.Known.{Known}
+use Rattle.check_scope.specs.declared.known.Known.TheVariants as known
 use Rattle.check_scope.specs.declared.scope.Scope.{Scope}
 use Rattle.check_scope.specs.Elaborated.{Gathers}
 use Rattle.check_scope.specs.Scopes.{State}
@@ -35,23 +36,35 @@ use Rattle.check_block.specs.Headings.{standing_from}
 use Rattle.check_block.specs.declared.heading.Standing.TheVariants as place
 use Rattle.def_typing.specs.Things as things
 use Rattle.def_typing.specs.Things.{Headless, Standing, Unknown}
-use Rattle.def_typing.specs.Parts.{here, later}
+use Rattle.def_typing.specs.Parts.{Among, here, later, Named}
 use Rattle.def_typing.specs.Declarations as rules
-use Rattle.def_typing.specs.Declarations.{Declaration, declared_by, declarations_of, IsThere, types_behind}
+use Rattle.def_typing.specs.Declarations.{Declaration, OfConstant, OfType, OfVariables, OfProcedure, declared_by, declarations_of, AnyDeclares}
+use Rattle.def_typing.specs.Definitions as definitions
+use Rattle.def_typing.specs.Definitions.{Context, Placed, none_awaited}
 use Rattle.def_typing.specs.Imports as imports
-use Rattle.def_typing.specs.Imports.{all_imported, Origin, Itself, Exported, Brings}
+use Rattle.def_typing.specs.Imports.{all_imported, Origin, Itself, Exported, Brings, Entry}
 use Rattle.law_typing.specs.Judging.{Judges, Accounts, Reports, reports_nothing, reports_broken}
-use Rattle.law_typing.specs.Exact.{no_names, standing, of_local, Knows, Repeats, of_heading, of_declaration, TakenAs, is_taken, not_taken, IsPlainLayer, ArePlainDecls}
+use Rattle.law_typing.specs.Exact.{no_names, standing, of_local, Knows, Repeats, of_heading, of_declaration, TakenAs, is_taken, not_taken, AreOnce}
+use Rattle.law_typing.proofs.Heading.{nil_right}
 use Rattle.law_typing.proofs.Combining.{Lawful, Tells, silent, tells}
-use Rattle.law_typing.proofs.Declaring.{headed, KnownAs, outer, ahead, reading, behind, a_member, KnowsBlock, home_same, standings, all_stand}
+use Rattle.law_typing.proofs.Declaring.{any_first, headed, KnownAs, outer, ahead, reading, behind, a_member, KnowsBlock, mark_of}
 use Rattle.law_typing.proofs.Beginning.{clash}
 use Rattle.law_typing.proofs.Marking.{block_begins}
 use Rattle.law_importing.specs.Exact.{origin, StandsFor, imported, from_outside, imported_all, AreImportsExact}
 use Rattle.law_importing.proofs.Behind.{first_imports}
 use Rattle.law_importing.proofs.Defining.{definition_imports}
-use Rattle.law_defining.proofs.Once.{imports_once}
-use Rattle.law_defining.specs.Exact.{none_awaited, declared_in, all_declared, IsPlainDef, ArePlainDefs, none, IsTaken, by_import, by_none, AreSound, IsTable, IsAnswered, is_table, is_refused, IsDefinitionExact, DefinitionsAreExact}
-use Rattle.law_defining.proofs.Sections.{Ran, defs_ran}
+use Rattle.law_defining.specs.Exports.{AreExported, nothing_exported}
+use Rattle.law_defining.proofs.Once.{imports_keep, imports_once}
+use Rattle.law_defining.proofs.Twices.{twice_as}
+use Rattle.law_defining.proofs.Keys.{Begins, begins_more, once_found, keys_apart}
+use Rattle.law_defining.proofs.Keeping.{defs_keep}
+use Rattle.law_defining.proofs.Entries.{entry_of, exported_are}
+use Rattle.law_defining.proofs.Listing.{names_all, any_named_all, AllListed}
+use Rattle.law_defining.proofs.Marks.{names as names_in, defs_declare}
+use Rattle.law_defining.specs.Exact.{declared_in, all_declared, none, IsTaken, by_import, by_none, AreSound, IsTable, IsAnswered, is_table, is_refused, IsDefinitionExact, DefinitionsAreExact}
+use Rattle.law_defining.proofs.Unheaded.{Unheaded, AreUnheaded}
+use Rattle.law_defining.proofs.Stepping.{context, Standpoint}
+use Rattle.law_defining.proofs.Running.{RanAll, defs_ran, home_kept}
 use Rattle.law_defining.proofs.Finding.{Finds}
 
 -- ---- a definition marks its names as a block does
@@ -60,7 +73,7 @@ abbrev layer_of : Def → Decl-F Decl Block
 layer_of (def.Constants cs) = decl.Constants cs
 layer_of (def.Types ts) = decl.Types ts
 layer_of (def.Variables vs) = decl.Variables vs
-layer_of (def.Procedure h) = decl.Constants []
+layer_of (def.Procedure h) = decl.Procedure h (roll-Block (record { decls = []; body = None }))
 
 abbrev decl_of : Def → Decl
 decl_of d = roll-Decl (layer_of d)
@@ -68,37 +81,26 @@ decl_of d = roll-Decl (layer_of d)
 decl_is : (d : Def) → out-Decl (decl_of d) ≡ layer_of d
 decl_is d = out-roll-Decl (layer_of d)
 
-layer_plain : (d : Def) → IsPlainDef d → IsPlainLayer (layer_of d)
-layer_plain (def.Constants cs) i = i
-layer_plain (def.Types ts) i = i
-layer_plain (def.Variables vs) i = i
-layer_plain (def.Procedure h) i = absurd i
+layer_declares : (d : Def) → declared_by (layer_of d) ≡ declared_in d
+layer_declares (def.Constants cs) = refl
+layer_declares (def.Types ts) = refl
+layer_declares (def.Variables vs) = refl
+layer_declares (def.Procedure h) = refl
 
-layer_declares : (d : Def) → IsPlainDef d → declared_by (layer_of d) ≡ declared_in d
-layer_declares (def.Constants cs) i = refl
-layer_declares (def.Types ts) i = refl
-layer_declares (def.Variables vs) i = refl
-layer_declares (def.Procedure h) i = absurd i
+layer_marks : {T : Type 0} (s : Scope T) (d : Def) → marked_layer s (layer_of d) ≡ marked_def s d
+layer_marks s (def.Constants cs) = refl
+layer_marks s (def.Types ts) = refl
+layer_marks s (def.Variables vs) = refl
+layer_marks s (def.Procedure h) = refl
 
-layer_marks : {T : Type 0} (s : Scope T) (d : Def) → IsPlainDef d → marked_layer s (layer_of d) ≡ marked_def s d
-layer_marks s (def.Constants cs) i = refl
-layer_marks s (def.Types ts) i = refl
-layer_marks s (def.Variables vs) i = refl
-layer_marks s (def.Procedure h) i = absurd i
+decls_declare : (ds : List Def) → declarations_of (map decl_of ds) ≡ all_declared ds
+decls_declare [] = refl
+decls_declare (x ∷ xs) = ap (λ (y : Decl-F Decl Block). declared_by y ++ declarations_of (map decl_of xs)) (decl_is x) ∙ ap (λ (ys : List Declaration). ys ++ declarations_of (map decl_of xs)) (layer_declares x)
+    ∙ ap (λ (ys : List Declaration). declared_in x ++ ys) (decls_declare xs)
 
-decls_plain : (ds : List Def) → ArePlainDefs ds → ArePlainDecls (map decl_of ds)
-decls_plain [] i d m = elim m [ ]
-decls_plain (x ∷ xs) i _ here = subst (λ (y : Decl-F Decl Block). IsPlainLayer y) (sym (decl_is x)) (layer_plain x (i x here))
-decls_plain (x ∷ xs) i d (later m) = decls_plain xs (λ y n. i y (later n)) d m
-
-decls_declare : (ds : List Def) → ArePlainDefs ds → declarations_of (map decl_of ds) ≡ all_declared ds
-decls_declare [] i = refl
-decls_declare (x ∷ xs) i = ap (λ (y : Decl-F Decl Block). declared_by y ++ declarations_of (map decl_of xs)) (decl_is x) ∙ ap (λ (ys : List Declaration). ys ++ declarations_of (map decl_of xs)) (layer_declares x (i x here))
-    ∙ ap (λ (ys : List Declaration). declared_in x ++ ys) (decls_declare xs (λ y n. i y (later n)))
-
-decls_mark : {T : Type 0} (ds : List Def) → ArePlainDefs ds → (s : Scope T) (ns : List ℕ) → (fold (with_marks marked_decl) (s, ns) (map decl_of ds)).0 ≡ fold marked_def s ds
-decls_mark [] i s ns = refl
-decls_mark {T = T} (x ∷ xs) i s ns = decls_mark xs (λ y n. i y (later n)) (marked_decl s (decl_of x)) _ ∙ ap (λ (t : Scope T). fold marked_def t xs) (ap (λ (y : Decl-F Decl Block). marked_layer s y) (decl_is x) ∙ layer_marks s x (i x here))
+decls_mark : {T : Type 0} (ds : List Def) (s : Scope T) (ns : List ℕ) → (fold (with_marks marked_decl) (s, ns) (map decl_of ds)).0 ≡ fold marked_def s ds
+decls_mark [] s ns = refl
+decls_mark {T = T} (x ∷ xs) s ns = decls_mark xs (marked_decl s (decl_of x)) _ ∙ ap (λ (t : Scope T). fold marked_def t xs) (ap (λ (y : Decl-F Decl Block). marked_layer s y) (decl_is x) ∙ layer_marks s x)
 
 -- ---- no rule is broken where an imported name is declared
 
@@ -142,10 +144,16 @@ origin_taken : {T : Type 0} (u : Origin) (r : Result Meaning T) → standing_fro
 origin_taken (Itself k) r = refl
 origin_taken (Exported k) r = refl
 
+unheaded_mark : (T : Type 0) (d : Declaration) → Unheaded (Some (mark_of {T = T} d))
+unheaded_mark T (OfConstant c) = tt
+unheaded_mark T (OfType d) = tt
+unheaded_mark T (OfVariables v) = tt
+unheaded_mark T (OfProcedure h) = tt
+
 -- ---- one definition
 
 module _ (g : Gathers) (j : Judges g) (lawful : Lawful g j) (found : Finds g j) (home : ℕ) (m : Module) (tables : List Table) (exports : ℕ → Ident → Standing) (outside names : Ident → Standing) (knows : Knows g j outside exports (first_scope home tables)) (sound : AreSound outside)
-    (stands : (name : Ident) → StandsFor tables none (all_imported m.imports) outside name (names name)) (taken : List ℕ → Bool) (takes : (n : List ℕ) → IsTaken tables (all_imported m.imports) n (taken n)) (defs : List Def) (plain : ArePlainDefs defs) where
+    (stands : (name : Ident) → StandsFor tables none (all_imported m.imports) outside name (names name)) (taken : List ℕ → Bool) (takes : (n : List ℕ) → IsTaken tables (all_imported m.imports) n (taken n)) (defs : List Def) where
   abbrev S : Type 0
   S = Scope g.Reported
 
@@ -200,7 +208,7 @@ module _ (g : Gathers) (j : Judges g) (lawful : Lawful g j) (found : Finds g j) 
   ThBare = rules.There first.types exports outside none none_awaited false block []
 
   marks_begin : KnowsBlock g j exports outside first none none_awaited false block [] block ThBare marked
-  marks_begin = subst (λ (s : S). KnowsBlock g j exports outside first none none_awaited false block [] block ThBare s) (decls_mark defs plain first []) (block_begins g j exports outside first none none_awaited false block (λ n. not_taken) (map decl_of defs) (decls_plain defs plain) refl (decls_declare defs plain))
+  marks_begin = subst (λ (s : S). KnowsBlock g j exports outside first none none_awaited false block [] block ThBare s) (decls_mark defs first []) (block_begins g j exports outside first none none_awaited false block (λ n. not_taken) (map decl_of defs) refl (decls_declare defs))
 
   taken_is : {n : List ℕ} {b : Bool} → IsTaken tables (all_imported m.imports) n b → (o : Origin) (w : Meaning) → There n o w → b ≡ true
   taken_is (by_import u x i) o w h = refl
@@ -252,47 +260,67 @@ module _ (g : Gathers) (j : Judges g) (lawful : Lawful g j) (found : Finds g j) 
     once = λ o. imports_once g (with_own marked.own) m.imports (marks_begin.once no_names);
   }
 
+  entered_unheaded : AreUnheaded entered.0.own
+  entered_unheaded n = elim (kept.decided n) [
+    | inl q ↦ subst (λ (k : Option (Known g.Reported)). Unheaded k) (sym (kept.brought n q.0 q.1 q.2)) tt
+    | inr c ↦ subst (λ (k : Option (Known g.Reported)). Unheaded k) (sym (kept.other n c)) (mark_unheaded (marks_begin.own n))
+  ]
+    where
+      mark_unheaded : {k : Option (Known g.Reported)} → KnownAs g j exports outside first none none_awaited false block [] ThBare n k → Unheaded k
+      mark_unheaded (outer h w e) = subst (λ (k : Option (Known g.Reported)). Unheaded k) (sym e) tt
+      mark_unheaded (headed p a b w) = elim b.1 [ ]
+      mark_unheaded (ahead d u i h w) = unheaded_mark g.Reported d
+      mark_unheaded (reading d u i h w q) = tt
+      mark_unheaded (behind k u i o s) = elim i [ ]
+      mark_unheaded (a_member u i o a e) = elim i [ ]
+
   -- ---- what is reported
 
   abbrev Before : Breach → Type 0
   Before = imports.BrokenIn tables none (all_imported m.imports)
 
-  abbrev Within : List rules.Declared → Breach → Type 0
-  Within = rules.BrokenIn start.types exports names taken none_awaited false block
-
-  abbrev Rep : Breach → Type 0
-  Rep = Repeats g j names start
-
-  told_by : {r : Result (Unit {0}) g.Reported} → Reports g j (λ f. ⊥) Before r → Tells g j lawful Rep (λ f. Before f ⊎ Within [] f) r
-  told_by (reports_nothing n) = silent (λ f z. elim z [ inl b ↦ n f b | inr b ↦ elim b [ ] ])
-  told_by (reports_broken r a) = tells r (record { only = λ f q. elim (a.only f q) [ inl b ↦ inl (inl b) | inr z ↦ absurd z ]; each = λ f z. elim z [ inl b ↦ a.each f b | inr b ↦ elim b [ ] ] })
-
-  all_of_it : Ran g j lawful exports names start taken false block takes_start knows_start refl Before [] block [] (fold (with_def g) entered defs)
-  all_of_it = defs_ran g j lawful exports names start taken false block takes_start knows_start refl Before defs plain [] begins (told_by kept.reported)
+  told_by : {r : Result (Unit {0}) g.Reported} → Reports g j (λ f. ⊥) Before r → Tells g j lawful (λ f. ⊥) Before r
+  told_by (reports_nothing n) = silent n
+  told_by (reports_broken r a) = tells r a
 
   names_sound : (name : Ident) {s : Standing} → StandsFor tables none (all_imported m.imports) outside name s → (s ≡ Unknown → ⊥) × (s ≡ things.Known Headless → ⊥)
   names_sound name (imported o w b) = ((λ e. meaning_known w e), (λ e. meaning_headed w e))
   names_sound name (from_outside c) = sound name
 
-  no_repeats : (f : Breach) → Rep f → ⊥
+  no_repeats : (f : Breach) → Repeats g j names start f → ⊥
   no_repeats f (of_heading {name = name} e q a) = (names_sound name (stands name)).1 e
   no_repeats f (of_declaration {name = name} e q a) = (names_sound name (stands name)).0 e
+
+  -- where the declarations begin
+  stands_first : Standpoint g j exports start names taken block Before entered.0
+  stands_first = record {
+    awaited = none_awaited;
+    takes = takes_start;
+    knows = knows_start;
+    no_withs = refl;
+    once = imports_once g first m.imports no_names;
+    block = begins;
+    repeats = λ f q. absurd (no_repeats f q);
+  }
+
+  all_of_it : RanAll g j lawful exports start names taken block Before entered (fold (with_def g) entered defs)
+  all_of_it = defs_ran g j lawful exports defs start names taken Before entered.0 entered.1 stands_first (told_by kept.reported) entered_unheaded
 
   -- a table, or what is reported
   data Tabled (Is : Table → Type 0) (B : Breach → Type 0) : Result Table g.Reported → Type 0 where
     a_table : (t : Table) → Is t → ((f : Breach) → B f → ⊥) → Tabled Is B (Ok t)
     a_refusal : (r : g.Reported) → Accounts g j (λ f. ⊥) B r → Tabled Is B (Err r)
 
-  table_by : {Is : Table → Type 0} {B : Breach → Type 0} (modules : List (List ℕ × ℕ)) (s : S) → Is (table_of m modules s) → {r : Result (Unit {0}) g.Reported} → Tells g j lawful Rep B r → Tabled Is B (table_or m modules s r)
-  table_by modules s i (silent n) = a_table (table_of m modules s) i n
-  table_by modules s i (tells r a) = a_refusal r (record { only = λ f q. elim (a.only f q) [ inl b ↦ inl b | inr z ↦ absurd (no_repeats f z) ]; each = a.each })
+  table_by : {Is : Table → Type 0} {B : Breach → Type 0} (modules : List (List ℕ × ℕ)) (s : S) {r : Result (Unit {0}) g.Reported} → (r ≡ Ok tt → Is (table_of m modules s)) → Tells g j lawful (λ f. ⊥) B r → Tabled Is B (table_or m modules s r)
+  table_by modules s i (silent n) = a_table (table_of m modules s) (i refl) n
+  table_by modules s i (tells r a) = a_refusal r a
 
   answered_by : {Is : Table → Type 0} {B : Breach → Type 0} {r : Result Table g.Reported} → ((e : g.Reported) → r ≡ Err e → (f : Breach) × j.Among e f) → Tabled Is B r → IsAnswered g j Is B r
   answered_by h (a_table t i n) = is_table t i n
   answered_by h (a_refusal e a) = let x = h e refl in is_refused e a x.0 (elim (a.only x.0 x.1) [ inl b ↦ b | inr z ↦ absurd z ])
 
   abbrev Broken : Breach → Type 0
-  Broken f = Before f ⊎ Within all_of_it.0 f
+  Broken f = Before f ⊎ definitions.BrokenIn exports all_of_it.whole f
 
   abbrev modules : List (List ℕ × ℕ)
   modules = (numbered_modules tables).0
@@ -300,29 +328,96 @@ module _ (g : Gathers) (j : Judges g) (lawful : Lawful g j) (found : Finds g j) 
   abbrev from_scope : S → State (Unit {0}) g.Reported
   from_scope s = fold (with_def g) (fold (with_import g modules) (s, Ok tt) m.imports) defs
 
-  abbrev Is : Table → Type 0
-  Is = IsTable home m tables all_of_it.0
+  abbrev last : Context
+  last = context all_of_it.next all_of_it.next_names all_of_it.next_taken
 
-  its_table : Is (table_of m modules (fold (with_def g) entered defs).0)
-  its_table = let k = all_of_it.2.0.same in record {
-    of_number = ap (λ (t : Types). t.home) k.types ∙ home_same g j exports names start taken none_awaited false block knows_start refl all_of_it.0;
+  abbrev Is : Table → Type 0
+  Is = IsTable home m tables exports all_of_it.whole last
+
+  -- ---- what it exports
+
+  abbrev final : State (Unit {0}) g.Reported
+  final = fold (with_def g) entered defs
+
+  abbrev keys_declared : List (List ℕ)
+  keys_declared = names_in g.Reported (names_all block)
+
+  final_once : AreOnce final.0.own
+  final_once = all_of_it.stands.block.once all_of_it.stands.once
+
+  -- A name that is not declared is not exported.
+  undeclared_entry : (n : List ℕ) (k : Known g.Reported) → (AnyDeclares block n → ⊥) → find_name n entered.0.own ≡ Some k → entry_of n k ≡ []
+  undeclared_entry n k c e = elim (kept.decided n) [
+    | inl q ↦ subst (λ (k : Known g.Reported). entry_of n k ≡ []) (one_known (sym (kept.brought n q.0 q.1 q.2) ∙ e)) (foreign_entry q.0 (Ok q.1))
+    | inr w ↦ absurd (no_mark (marks_begin.own n) (sym (kept.other n w) ∙ e))
+  ]
+    where
+      one_known : {k l : Known g.Reported} → ◌≡◌ {A = Option (Known g.Reported)} (Some k) (Some l) → k ≡ l
+      one_known q = cc
+
+      foreign_entry : (o : Origin) (m : Result Meaning g.Reported) → entry_of n (known.Declared (origin o) m) ≡ []
+      foreign_entry (Itself k) m = refl
+      foreign_entry (Exported k) m = refl
+
+      no_mark : {o : Option (Known g.Reported)} → KnownAs g j exports outside first none none_awaited false block [] ThBare n o → o ≡ Some k → ⊥
+      no_mark (outer h w e) q = let z = sym e ∙ q in absurd cc
+      no_mark (headed p a b w) q = elim b.1 [ ]
+      no_mark (ahead d u i h w) q = c (any_first i)
+      no_mark (reading d u i h w z) q = c (any_first i)
+      no_mark (behind k u i o s) q = elim i [ ]
+      no_mark (a_member u i o a e) q = elim i [ ]
+
+  module _ (e : final.1 ≡ Ok tt) where
+    abbrev listed : AllListed g exports taken all_of_it.next_taken block all_of_it.whole entered.0 final.0
+    listed = (all_of_it.listing.listed e).1
+
+    marks_first : Begins keys_declared marked.own
+    marks_first = ([], (defs_declare g.Reported defs first (λ n. ⊥) (λ n q. clash q refl) (λ f h. listed.new f (twice_as (λ n z. absurd z) (names_all block) f h))).last ∙ sym (nil_right keys_declared))
+
+    keys_first : Begins keys_declared final.0.own
+    keys_first = defs_keep g (λ es. Begins keys_declared es) (λ name k es b. begins_more keys_declared name k es b) defs entered (imports_keep g (λ es. Begins keys_declared es) (λ name k es b. begins_more keys_declared name k es b) (with_own marked.own) m.imports marks_first)
+
+    key_declared : {n : List ℕ} (xs : List Ident) → Named xs n → Among n (names_in g.Reported xs)
+    key_declared [] h = elim h.1 [ ]
+    key_declared {n = n} (x ∷ xs) (_, here, q) = subst (λ (k : List ℕ). Among n (k ∷ names_in g.Reported xs)) (sym q) here
+    key_declared (x ∷ xs) (y, later i, q) = later (key_declared xs (y, i, q))
+
+    other_entry : (d : List ℕ × Known g.Reported) → Among d final.0.own → (n : List ℕ) → Among n keys_first.0 → d.0 ≡ n → entry_of d.0 d.1 ≡ []
+    other_entry d i n w q =
+        let c : AnyDeclares block d.0 → ⊥ = (λ a. keys_apart final_once d.0 keys_declared keys_first.0 keys_first.1 (key_declared (names_all block) (any_named_all block a)) (subst (λ (k : List ℕ). Among k keys_first.0) (sym q) w)) in
+        undeclared_entry d.0 d.1 c (sym (all_of_it.listing.others d.0 c) ∙ once_found final_once d i)
+
+    no_variables : length entered.0.variables ≡ 0
+    no_variables = ap (λ (s : S). length s.variables) kept.rest
+
+    no_procedures : length entered.0.procedures ≡ 0
+    no_procedures = ap (λ (s : S). length s.procedures) kept.rest
+
+    its_exports : AreExported exports 0 0 all_of_it.whole (table_of m modules final.0).exported
+    its_exports = subst (λ (es : List Entry). AreExported exports 0 0 all_of_it.whole es) (sym (exported_are final_once keys_first.0 listed.found keys_first.1 other_entry))
+        (subst (λ (ws : List Placed). AreExported exports 0 0 ws listed.entries) (nil_right all_of_it.whole) (subst (λ (es : List Entry). AreExported exports 0 0 (all_of_it.whole ++ []) es) (nil_right listed.entries)
+        (subst (λ (v : ℕ). AreExported exports v 0 (all_of_it.whole ++ []) (listed.entries ++ [])) no_variables (subst (λ (p : ℕ). AreExported exports (length entered.0.variables) p (all_of_it.whole ++ []) (listed.entries ++ [])) no_procedures (listed.lists [] [] nothing_exported)))))
+
+  its_table : final.1 ≡ Ok tt → Is (table_of m modules final.0)
+  its_table e = let k = all_of_it.stands.block.same in record {
+    of_number = ap (λ (t : Types). t.home) k.types ∙ home_kept all_of_it.follow;
     of_name = refl;
-    of_imports = ap (λ (ts : List Table). imported_modules modules ts m.imports) k.tables;
+    of_imports = ap (λ (ts : List Table). imported_modules modules ts m.imports) (k.tables ∙ all_of_it.tables);
     of_types = ap (λ (t : Types). reached_of t) k.types;
+    of_exports = its_exports e;
   }
 
   tabled : Tabled Is Broken (of_contents g home m tables (contents.Definition defs))
-  tabled = subst (λ (s : S). Tabled Is Broken (table_or m modules (from_scope s).0 (from_scope s).1)) (sym marks_rest) (table_by modules (from_scope (with_own marked.own)).0 its_table all_of_it.2.1)
+  tabled = subst (λ (s : S). Tabled Is Broken (table_or m modules (from_scope s).0 (from_scope s).1)) (sym marks_rest) (table_by modules (from_scope (with_own marked.own)).0 its_table all_of_it.told)
 
   pub definition_answers : (given : List Table) → tables ≡ given ++ console ∷ [] → m.contents ≡ contents.Definition defs → IsDefinitionExact g j home m given tables exports names taken defs
   definition_answers given e q = record {
-    whole = all_of_it.0;
-    in_text = all_of_it.1;
-    added = all_of_it.2.2 rules.nothing_declared;
+    whole = all_of_it.whole;
+    last = last;
+    follow = all_of_it.follow;
     answered = answered_by (λ r z. found home m given r z) (subst (λ (ts : List Table). Tabled Is Broken (of_contents g home m ts m.contents)) e (subst (λ (c : Contents). Tabled Is Broken (of_contents g home m tables c)) (sym q) tabled));
-    stand = (standings g j exports names start taken none_awaited false block knows_start refl all_of_it.2.0, all_stand g j exports names start taken none_awaited false block knows_start refl all_of_it.2.0);
   }
 
 pub definitions_answer : (g : Gathers) (j : Judges g) → Lawful g j → Finds g j → DefinitionsAreExact g j
-definitions_answer g j lawful found home m given tables e exports outside names knows sound stands taken takes defs q plain =
-    definition_answers g j lawful found home m tables exports outside names knows sound stands taken takes defs plain given e q
+definitions_answer g j lawful found home m given tables e exports outside names knows sound stands taken takes defs q =
+    definition_answers g j lawful found home m tables exports outside names knows sound stands taken takes defs given e q

@@ -1,5 +1,5 @@
 -- What is answered of a definition.
-use Rattle.std.specs.Prelude.{◌≡◌, ◌⊎◌, ℕ, Bool, true, false, List, [], ◌∷◌, ◌++◌, map, Option, None, Result, Ok, Err}
+use Rattle.std.specs.Prelude.{◌≡◌, ◌⊎◌, ℕ, Bool, true, false, List, [], ◌∷◌, ◌++◌, map, Result, Ok, Err}
 use Rattle.m2_rule.specs.declared.breach.Breach.{Breach}
 use Rattle.m2_tree.specs.declared.name.Ident.{Ident}
 use Rattle.m2_tree.specs.declared.decl.Constant.{Constant as ConstantDecl}
@@ -10,7 +10,6 @@ use Rattle.m2_tree.specs.declared.decl.Def.TheVariants as def
 use Rattle.m2_tree.specs.declared.decl.Contents.TheVariants as contents
 use Rattle.m2_tree.specs.declared.decl.Module.{Module}
 use Rattle.typed_tree.specs.declared.meaning.Meaning.{Meaning}
-use Rattle.typed_tree.specs.declared.types.TypeNo.{TypeNo}
 use Rattle.typed_tree.specs.declared.known_types.Types.{Types}
 use Rattle.typed_tree.specs.declared.table.Table.{Table}
 use Rattle.check_scope.specs.Elaborated.{Gathers}
@@ -20,17 +19,15 @@ use Rattle.check_definition.specs.Export.{reached_of, imported_modules}
 use Rattle.check_definition.specs.Compiled.{definition_table}
 use Rattle.def_typing.specs.Things.{Headless, Standing, Known, Unknown}
 use Rattle.def_typing.specs.Parts.{Among}
-use Rattle.def_typing.specs.Declarations as blocks
-use Rattle.def_typing.specs.Declarations.{Declaration, OfConstant, OfType, OfVariables, OfProcedure, Declared as Resolved, in_order, types_behind, AllAdded, AllStand}
+use Rattle.def_typing.specs.Declarations.{Declaration, OfConstant, OfType, OfVariables, OfProcedure}
+use Rattle.def_typing.specs.Definitions as definitions
+use Rattle.def_typing.specs.Definitions.{Context, Placed, AllFollow}
 use Rattle.def_typing.specs.Imports as imports
 use Rattle.def_typing.specs.Imports.{Imported, all_imported, Origin, Brings}
 use Rattle.law_typing.specs.Judging.{Judges, Accounts}
-use Rattle.law_typing.specs.Exact.{Knows, IsCallFree, IsPlainType}
+use Rattle.law_typing.specs.Exact.{Knows}
 use Rattle.law_importing.specs.Exact.{StandsFor}
-
--- A definition awaits no heading of another.
-abbrev pub none_awaited : List ℕ → Option TypeNo
-none_awaited n = None
+use Rattle.law_defining.specs.Exports.{AreExported}
 
 -- ---- declarations of a definition
 
@@ -43,16 +40,6 @@ declared_in (def.Procedure h) = OfProcedure h ∷ []
 abbrev pub all_declared : List Def → List Declaration
 all_declared [] = []
 all_declared (d ∷ ds) = declared_in d ++ all_declared ds
-
--- Constants and bounds call nothing, and no procedure is declared.
-abbrev pub IsPlainDef : Def → Type 0
-IsPlainDef (def.Constants cs) = (c : ConstantDecl) → Among c cs → IsCallFree c.value
-IsPlainDef (def.Types ts) = (d : TypeDecl) → Among d ts → IsPlainType d.of
-IsPlainDef (def.Variables vs) = (v : Variables) → Among v vs → IsPlainType v.of
-IsPlainDef (def.Procedure h) = ⊥
-
-abbrev pub ArePlainDefs : List Def → Type 0
-ArePlainDefs ds = (d : Def) → Among d ds → IsPlainDef d
 
 -- ---- where they begin
 
@@ -78,14 +65,16 @@ met_types home tables = record { home = home; own = []; others = others_of table
 
 -- ---- what is answered
 
--- what its table has beside the names that it exports
-pub record IsTable (home : ℕ) (m : Module) (tables : List Table) (whole : List Resolved)
-    (t : Table) : Type 0 where
+-- what its table has
+pub record IsTable (home : ℕ) (m : Module) (tables : List Table) (exports : ℕ → Ident → Standing)
+    (whole : List Placed) (last : Context) (t : Table) : Type 0 where
   pub of_number : t.number ≡ home
   pub of_name : t.name ≡ m.name.name
   pub of_imports : t.imports ≡ imported_modules (numbered_modules tables).0 tables m.imports
   -- the types that are met through it: those of the tables, and those that its declarations make
-  pub of_types : t.reached ≡ reached_of (types_behind (met_types home tables) whole)
+  pub of_types : t.reached ≡ reached_of last.types
+  -- Each name that is declared is exported, with what it means, and no other is.
+  pub of_exports : AreExported exports 0 0 whole t.exported
 
 -- A table is answered exactly if no rule is broken, and else broken rules are reported.
 pub data IsAnswered (g : Gathers) (j : Judges g) (Is : Table → Type 0) (Breaks : Breach → Type 0)
@@ -94,27 +83,28 @@ pub data IsAnswered (g : Gathers) (j : Judges g) (Is : Table → Type 0) (Breaks
   is_refused : (r : g.Reported) → Accounts g j (λ f. ⊥) Breaks r → (f : Breach) → Breaks f
       → IsAnswered g j Is Breaks (Err r)
 
+-- what is known where its declarations begin
+abbrev pub first_context : ℕ → List Table → (Ident → Standing) → (List ℕ → Bool) → Context
+first_context home tables names taken =
+    record { types = met_types home tables; names = names; taken = taken }
+
 -- what is known of a definition that imports from these tables
 pub record IsDefinitionExact (g : Gathers) (j : Judges g) (home : ℕ) (m : Module)
     (imported tables : List Table) (exports : ℕ → Ident → Standing) (names : Ident → Standing)
     (taken : List ℕ → Bool) (defs : List Def) : Type 0 where
-  -- the declarations, each with the types that it makes
-  pub whole : List Resolved
-  pub in_text : in_order whole ≡ all_declared defs
-  -- Each declaration adds the types and constants that the rules say.
-  pub added : AllAdded (met_types home tables) exports names taken none_awaited false
-      (all_declared defs) whole
+  -- the declarations, each with what is known where it stands, and with what it adds
+  pub whole : List Placed
+  -- what is known behind them
+  pub last : Context
+  -- Each adds the types and constants that the rules say, and its names stand for what they say.
+  pub follow :
+      AllFollow exports (first_context home tables names taken) (all_declared defs) whole last
   -- Exactly the rules that are broken in imports and in declarations are reported.
-  pub answered : IsAnswered g j (IsTable home m tables whole)
+  pub answered : IsAnswered g j (IsTable home m tables exports whole last)
       (λ f.
       imports.BrokenIn tables none (all_imported m.imports) f
-      ⊎ blocks.BrokenIn (met_types home tables) exports names taken none_awaited false
-      (all_declared defs) whole f)
+      ⊎ definitions.BrokenIn exports whole f)
       (definition_table g home m imported)
-  -- Each name stands for something behind them.
-  pub stand : (last : Ident → Standing)
-      × AllStand (met_types home tables) exports names taken none_awaited false (all_declared defs)
-      whole last
 
 -- Definitions are answered exactly, whatever they import.
 abbrev pub DefinitionsAreExact : (g : Gathers) → Judges g → Type 0
@@ -125,7 +115,7 @@ DefinitionsAreExact g j =
     → ((name : Ident) → StandsFor tables none (all_imported m.imports) outside name (names name))
     → (taken : List ℕ → Bool)
     → ((n : List ℕ) → IsTaken tables (all_imported m.imports) n (taken n))
-    → (defs : List Def) → m.contents ≡ contents.Definition defs → ArePlainDefs defs
+    → (defs : List Def) → m.contents ≡ contents.Definition defs
     → IsDefinitionExact g j home m imported tables exports names taken defs
 
 -- For each definition there is what names stand for before its declarations, and no rule is broken

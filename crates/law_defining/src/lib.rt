@@ -1,23 +1,31 @@
 //! Laws alone: the checker answers definition modules exactly as the rules of the language say.
 //!
 //! `law_importing` has imports, and `law_typing` the declarations of a block. Those of a definition are elaborated by the same
-//! definitions, but its names are marked before its imports. These laws hold of the elaboration in `check_definition`, of all
-//! that it gathers and of the least refusal alike. They are not proved of definitions that declare procedures, and constants
-//! and bounds call nothing (`ArePlainDefs`).
+//! definitions, but its names are marked before its imports, and its procedures make their types in another way. These laws hold
+//! of the elaboration in `check_definition`, of all that it gathers and of the least refusal alike.
 //!
-//! - `specs/Exact` says what is answered of a definition.
-//! - `proofs/Sections` goes from one declaration to the next, `proofs/Starting` says what is known before the first one,
-//!   `proofs/Once` that imports leave each name once, `proofs/Finding` that a refusal has a rule, and `proofs/Outside` what
-//!   names stand for outside.
+//! - `specs/Exact` says what is answered of a definition, `specs/Exports` what its table exports, and `specs/Importers` what
+//!   those who import it, and its own implementation, know of this table. The rules of its declarations stand in
+//!   `def_typing/specs/Definitions`.
+//! - `proofs/Sections` has a declaration as the first of a block, `proofs/Ordinary` the same in a definition, and
+//!   `proofs/Procedures` a procedure. `proofs/Stepping` says what is known behind one declaration, `proofs/Running` behind all
+//!   of them, and `proofs/Starting` before the first one.
+//! - `proofs/Taking` says what a declaration enters into the scope if nothing is reported, `proofs/Listing` that it is exported
+//!   in the order of the text, `proofs/Marks` and `proofs/Keeping` that names keep this order, `proofs/Constants` that the
+//!   constants of enumerations are new, and `proofs/Entries` that no other name is exported.
+//! - `proofs/Finding` says that a refusal has a rule, `proofs/Outside` what names stand for outside, and `proofs/Importing`
+//!   what importers know.
 #![tactic(auto)]
 
 ghost use Rattle.check_scope.specs.Elaborated.{every, least};
 ghost use Rattle.law_typing.specs.Judging.{all_of_them, the_least};
 ghost use Rattle.law_defining.specs.Exact.{DefinitionsAreExact, DefinitionsAreKnown};
+ghost use Rattle.law_defining.specs.Importers.{TablesAreForeign, OwnNamesAreKnown};
 
 /// A definition has a table exactly if no rule is broken in its imports and in its declarations. Else what is reported are
 /// exactly the rules that are broken there; and the least refusal is a broken rule, and no broken rule is less, by place and
-/// then by number. Its table has the types that the rules say. Of the names that it exports nothing is said here.
+/// then by number. Its table has the types that the rules say. It exports each name that is declared, in the order of the text,
+/// with what the rules say that it means and with its number, and no other name.
 pub fn definition_laws()
     ensures every_rule { DefinitionsAreExact every all_of_them }
     ensures least_rule { DefinitionsAreExact least the_least }
@@ -27,4 +35,17 @@ pub fn definition_laws()
 pub fn definition_scope_laws()
     ensures every_rule { DefinitionsAreKnown every all_of_them }
     ensures least_rule { DefinitionsAreKnown least the_least }
+{}
+
+/// No variable counts as a module's own that it imports from the table of another definition, or from Console.
+pub fn foreign_table_laws()
+    ensures every_rule { TablesAreForeign every }
+    ensures least_rule { TablesAreForeign least }
+{}
+
+/// A definition exports each name once. Where its implementation begins, these names are taken, and its procedures await their
+/// headings.
+pub fn own_name_laws()
+    ensures every_rule { OwnNamesAreKnown every all_of_them }
+    ensures least_rule { OwnNamesAreKnown least the_least }
 {}

@@ -1,0 +1,85 @@
+-- What a definition exports.
+use Rattle.std.specs.Prelude.{◌≡◌, ℕ, ◌+◌, pos, List, [], ◌∷◌, ◌++◌, length, Some}
+use Rattle.m2_tree.specs.declared.name.Ident.{Ident}
+use Rattle.m2_tree.specs.declared.decl.Constant.{Constant}
+use Rattle.m2_tree.specs.declared.decl.TypeDecl.{TypeDecl}
+use Rattle.m2_tree.specs.declared.decl.Variables.{Variables}
+use Rattle.m2_tree.specs.declared.decl.Heading.{Heading}
+use Rattle.m2_tree.specs.declared.decl.TypeExpr.{TypeExpr, TypeExpr-F, out-TypeExpr}
+use Rattle.m2_tree.specs.declared.decl.TypeExpr.TheOpen as layer
+use Rattle.m2_tree.specs.declared.decl.Field.{Field}
+use Rattle.typed_tree.specs.declared.types.TypeNo.{TypeNo}
+use Rattle.typed_tree.specs.declared.meaning.Value.{Value}
+use Rattle.typed_tree.specs.declared.meaning.Value.TheVariants as value
+use Rattle.typed_tree.specs.declared.meaning.Meaning.{Meaning}
+use Rattle.typed_tree.specs.declared.meaning.Meaning.TheVariants as meaning
+use Rattle.typed_tree.specs.Names.{find_name}
+use Rattle.def_typing.specs.Things.{Standing}
+use Rattle.def_typing.specs.Parts.{Named}
+use Rattle.def_typing.specs.TypeExprs.{constants_listed, Member}
+use Rattle.def_typing.specs.Declarations.{Declaration, OfConstant, OfType, OfVariables, OfProcedure, names_of, constants_of}
+use Rattle.def_typing.specs.Definitions.{Placed, Means}
+use Rattle.def_typing.specs.Imports.{Entry}
+use Rattle.law_typing.specs.Exact.{standing}
+
+-- How many names come with a type that is declared: its own, and the constants of an enumeration.
+abbrev pub names_in_layer : TypeExpr-F TypeExpr Field → ℕ
+names_in_layer (layer.Simple x) = length (constants_listed x) + 1
+names_in_layer other = 1
+
+abbrev pub names_with : TypeExpr → ℕ
+names_with e = names_in_layer (out-TypeExpr e)
+
+abbrev pub variables_of : Declaration → ℕ
+variables_of (OfVariables v) = length v.names
+variables_of other = 0
+
+abbrev pub procedures_of : Declaration → ℕ
+procedures_of (OfProcedure h) = 1
+procedures_of other = 0
+
+abbrev pub member_means : Member → Meaning
+member_means e =
+    meaning.Constant (value.Scalar (record { of = e.0; base = e.0; number = pos e.1 }))
+
+-- What is entered for a name of a declaration. Variables and procedures of a module are numbered in
+-- the order of the text: so many are in front.
+pub data IsEntry (home variables procedures : ℕ) : Declaration → Ident → Meaning → Type 0 where
+  a_constant : {c : Constant} {v : Value}
+      → IsEntry home variables procedures (OfConstant c) c.name (meaning.Constant v)
+  a_type : {d : TypeDecl} {t : TypeNo}
+      → IsEntry home variables procedures (OfType d) d.name (meaning.Type t (names_with d.of))
+  a_variable : {v : Variables} (before behind : List Ident) {x : Ident} {t : TypeNo}
+      → v.names ≡ before ++ x ∷ behind
+      → IsEntry home variables procedures (OfVariables v) x
+      (meaning.Variable (record { home = home; number = variables + length before; of = t }))
+  a_procedure : {h : Heading} {t : TypeNo}
+      → IsEntry home variables procedures (OfProcedure h) h.name
+      (meaning.Procedure (record { home = home; number = procedures; heading = t }))
+
+-- the names with what they mean, in this order
+pub data Lists (Is : Ident → Meaning → Type 0) : List Ident → List Entry → Type 0 where
+  no_name : Lists Is [] []
+  a_name : {x : Ident} {xs : List Ident} {m : Meaning} {es : List Entry} → Is x m → Lists Is xs es
+      → Lists Is (x ∷ xs) ((x.name, m) ∷ es)
+
+module _ (exports : ℕ → Ident → Standing) where
+  -- what a declaration exports
+  pub data Exports (variables procedures : ℕ) (p : Placed) (x : Ident) (m : Meaning)
+      : Type 0 where
+    -- its own name means what it says
+    its_own : IsEntry p.at.types.home variables procedures p.what x m
+        → Means exports p (standing m) → Exports variables procedures p x m
+    -- a constant of an enumeration in its type
+    its_constant : {e : Member} → Named (constants_of p.what) x.name
+        → find_name x.name p.adds.brings ≡ Some e → m ≡ member_means e
+        → Exports variables procedures p x m
+
+  -- What declarations export, in the order of the text: names, and behind them the constants of the
+  -- enumerations in their type.
+  pub data AreExported : (variables procedures : ℕ) → List Placed → List Entry → Type 0 where
+    nothing_exported : {v p : ℕ} → AreExported v p [] []
+    one_exports : {v p : ℕ} {d : Placed} {ds : List Placed} {es rest : List Entry}
+        → Lists (Exports v p d) (names_of d.what ++ constants_of d.what) es
+        → AreExported (v + variables_of d.what) (p + procedures_of d.what) ds rest
+        → AreExported v p (d ∷ ds) (es ++ rest)
