@@ -1,4 +1,5 @@
 mod Least
+mod Ruled
 pub mod Bodies
 pub mod Two
 pub mod EachOnce
