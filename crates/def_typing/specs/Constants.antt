@@ -27,7 +27,7 @@ use Rattle.def_typing.specs.Shapes.{IsMade}
 use Rattle.def_typing.specs.Amounts.{Constant, IsNumber, GoTogether, Within}
 use Rattle.def_typing.specs.Operators.{◌!◌, Kind, Scalar, Set, Text, operand, Makes, Misused, Misapplied, MaySign, SignMakes, Negates}
 use Rattle.def_typing.specs.Things.{Thing, AValue, AType, AStandard, AModule, Standing, Known, Ahead, Misnamed}
-use Rattle.def_typing.specs.Functions.{MayApply, Applies, BoundOf, MayConvert, Converts, IsOfOne, fixed_arity, TakesValue, TakesType}
+use Rattle.def_typing.specs.Functions.{Applies, Misapplies, BoundOf, Converts, Misconverts, IsOfOne, fixed_arity, TakesValue, TakesType}
 use Rattle.def_typing.specs.Parts.{first, Operand, factors, addends, Among, IsInner}
 
 -- what an expression stands for, if it has to be constant
@@ -244,13 +244,10 @@ module _ (types : Types) (names : Ident → Standing) (exports : ℕ → Ident �
     fixed_wrong_count : {x : Fixed} {args : List Expr} {n : ℕ} → IsFixedFunctionOf x n
         → (n ≡ length args → ⊥) → FixedMiscalled at x args (at ! rule.ArgumentCount)
     fixed_misapplied : {p : Standard} {e : Expr} {k : Kind} {f : Breach} → IsOfOne p
-        → Fixes e (AConstant k)
-        → Misapplied (MayApply p (operand k)) (Applies p (operand k)) (first e) rule.WrongArgument f
+        → Fixes e (AConstant k) → Misapplies p (first e) (operand k) f
         → FixedMiscalled at (AFunction p) (e ∷ []) f
     fixed_misconverted : {t e : Expr} {x : Fixed} {r : Range} {k : Kind} {f : Breach} → Fixes t x
-        → FixedScalar types x r → Fixes e (AConstant k)
-        → Misapplied (MayConvert (operand k)) (Converts r (operand k)) (first e) rule.WrongArgument
-        f
+        → FixedScalar types x r → Fixes e (AConstant k) → Misconverts r (first e) (operand k) f
         → FixedMiscalled at (AFunction Val) (t ∷ e ∷ []) f
 
   pub data FixedChainFails (left : Pos) : Kind → List Operand → Breach → Type 0 where

@@ -28,7 +28,7 @@ use Rattle.def_typing.specs.Constants.{Fixed, AConstant, Fixes, FixedReads, Fixe
 use Rattle.def_typing.specs.Amounts.{Constant, Value}
 use Rattle.def_typing.specs.Operators.{◌!◌, Kind, Scalar, Text, operand, Makes, Misused, Misapplied, MaySign, SignMakes, Negates}
 use Rattle.def_typing.specs.Things.{Thing, AValue, AVariable, AnOpenArray, AStandard, Headless, Standing, Known, Misnamed, Taken, Mistaken, IsAssignable, Misassigned, Picks, Indexes}
-use Rattle.def_typing.specs.Functions.{MayApply, Applies, NamesScalar, BoundOf, MayConvert, Converts, IsOfOne, TakesValue, TakesType, result_kind, HasHeading, IsFunctionOf, Mispassed, IsPassed}
+use Rattle.def_typing.specs.Functions.{Applies, Misapplies, NamesScalar, BoundOf, Converts, Misconverts, IsOfOne, TakesValue, TakesType, result_kind, HasHeading, IsFunctionOf, Mispassed, IsPassed}
 
 -- ---- parts
 
@@ -186,18 +186,13 @@ module _ (types : Types) (names : Ident → Standing) (exports : ℕ → Ident �
         → TakesValue p args e → Stands e x → Mistaken (first e) x f
         → Miscalled at (AStandard p) args f
     misapplied : {p : Standard} {e : Expr} {k : Kind} {f : Breach} → IsOfOne p → Has e k
-        → Misapplied (MayApply p (operand k)) (Applies p (operand k)) (first e) rule.WrongArgument f
-        → Miscalled at (AStandard p) (e ∷ []) f
+        → Misapplies p (first e) (operand k) f → Miscalled at (AStandard p) (e ∷ []) f
     no_type : {p : Standard} {args : List Expr} {e : Expr} {x : Thing} → TakesType p args e
         → Stands e x
         → ((r : Range) → NamesScalar types x r → ⊥)
         → Miscalled at (AStandard p) args (first e ! rule.NoType)
-    misconverted : {t e : Expr} {x : Thing} {r : Range} {k : Kind} {f : Breach}
-        → Stands t x
-        → NamesScalar types x r
-        → Has e k
-        → Misapplied (MayConvert (operand k)) (Converts r (operand k)) (first e) rule.WrongArgument
-        f
+    misconverted : {t e : Expr} {x : Thing} {r : Range} {k : Kind} {f : Breach} → Stands t x
+        → NamesScalar types x r → Has e k → Misconverts r (first e) (operand k) f
         → Miscalled at (AStandard Val) (t ∷ e ∷ []) f
     no_array : {e : Expr} {x : Thing} {f : Breach} → Stands e x → Mistaken (first e) x f
         → Miscalled at (AStandard High) (e ∷ []) f

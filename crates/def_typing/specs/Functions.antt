@@ -18,7 +18,7 @@ use Rattle.m2_rule.specs.declared.breach.Breach.{Breach}
 use Rattle.check_const_ops.specs.Standards.{upper}
 use Rattle.def_typing.specs.Shapes.{shape_at, IsMade}
 use Rattle.def_typing.specs.Amounts.{Amount, Constant, Value, sort_of, IsNumber, Within, InRange, truth}
-use Rattle.def_typing.specs.Operators.{◌!◌, Kind, Scalar, Set, Text, Routine, Whole, Untaken, operand}
+use Rattle.def_typing.specs.Operators.{◌!◌, Kind, Scalar, Set, Text, Routine, Whole, Untaken, operand, Misapplied}
 use Rattle.def_typing.specs.Things.{Thing, AValue, AVariable, AnOpenArray, AType, AProcedure, ANested, AStandard, content, Taken, Mistaken, Compatible, OutOfType}
 
 -- ---- functions of one value
@@ -65,6 +65,10 @@ pub data Applies (f : Standard) : Kind → Kind → Type 0 where
   applied : {a b : Amount} → TakesOne f (sort_of a) → Computes f a b
       → Applies f (Scalar a) (Scalar b)
 
+-- the refusals of its argument
+abbrev pub Misapplies : Standard → Pos → Kind → Breach → Type 0
+Misapplies f at k b = Misapplied (MayApply f k) (Applies f k) at rule.WrongArgument b
+
 -- ---- functions of types
 
 -- the name of a scalar type
@@ -87,6 +91,10 @@ pub data Converts (r : Range) : Kind → Kind → Type 0 where
       → Converts r (Scalar (Constant sort n)) (Scalar (Constant (Some r.base) n))
   converted_value : {t : TypeNo} → IsNumber (Some t)
       → Converts r (Scalar (Value t)) (Scalar (Value r.base))
+
+-- the refusals of what is converted
+abbrev pub Misconverts : Range → Pos → Kind → Breach → Type 0
+Misconverts r at k f = Misapplied (MayConvert k) (Converts r k) at rule.WrongArgument f
 
 -- how many arguments a standard function has; the other standard procedures are none
 abbrev pub arity : Standard → Option ℕ

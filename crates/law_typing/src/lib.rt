@@ -12,17 +12,19 @@
 //! - `proofs/Placing`, `proofs/Selecting` and `proofs/Passing` have values at places, names with components, and arguments.
 //! - `proofs/Fixing`, `proofs/Elements` and `proofs/Constants` have constant expressions, and `proofs/Applying` calls in them.
 //! - `proofs/Calling` and `proofs/Routines` have calls, `proofs/Places` and `proofs/Finding` the layers of the tree,
-//!   `proofs/Trees` what inductions go over, `proofs/Expressing` the induction over expressions of both sorts, `proofs/Assigning` conditions and assignments, `proofs/Changing` standard procedures
-//!   that are statements, `proofs/Acting` all calls that are, and `proofs/Knowing` the names of scopes.
+//!   `proofs/Trees` what inductions go over, `proofs/Expressing` the induction over expressions of both sorts,
+//!   `proofs/Assigning` conditions and assignments, `proofs/Changing` standard procedures that are statements, `proofs/Acting`
+//!   all calls that are, and `proofs/Knowing` the names of scopes.
 //! - `proofs/Returning` has RETURN and EXIT, `proofs/Looping` what stands before the statements of a FOR, `proofs/Selectors`
 //!   the selector of a CASE, `proofs/Bounds` the bounds of its labels, `proofs/Labelling` each label, `proofs/Meeting` and
 //!   `proofs/Twice` labels that are there twice, `proofs/Choosing` all of a CASE, `proofs/Opening` what a WITH opens,
 //!   `proofs/Inside` what is known inside, and `proofs/Obeying` the induction over statements.
 //! - `proofs/TypeNaming` has names of types, `proofs/Heading` headings of procedures, `proofs/Agreeing` whether one agrees with
-//!   the heading of the definition, `proofs/Subranges` subranges, `proofs/Enumerating` enumerations, `proofs/TypeReading` other types as they are written but records, and
-//!   `proofs/Recording` records and all types. `proofs/Declaring` says what a scope knows of the names of a block, and
-//!   `proofs/Marking`, `proofs/Beginning` and `proofs/Sayings` that it does before the declarations, inside them and behind
-//!   each. `proofs/Blocks` goes from one to the next, and `proofs/Lacking` finds procedures that lack a heading.
+//!   the heading of the definition, `proofs/Subranges` subranges, `proofs/Enumerating` enumerations, `proofs/TypeReading` other
+//!   types as they are written but records, and `proofs/Recording` records and all types. `proofs/Declaring` says what a scope
+//!   knows of the names of a block, and `proofs/Marking`, `proofs/Beginning` and `proofs/Sayings` that it does before the
+//!   declarations, inside them and behind each. `proofs/Blocks` goes from one to the next, and `proofs/Lacking` finds
+//!   procedures that lack a heading.
 #![tactic(auto)]
 
 ghost use Rattle.check_scope.specs.Elaborated.{every, least};
