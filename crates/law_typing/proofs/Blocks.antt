@@ -882,5 +882,6 @@ module _ (g : Gathers) (j : Judges g) (lawful : Lawful g j) (exports : ℕ → I
       of_result = r;
       of_loop = refl;
     };
+    repeated = λ names all f r. repeating g j exports outside start taken awaited (is_nested start) block knows no_withs all_of_it.2.0 all f r;
     known = λ names all. knowing g j exports outside start taken awaited (is_nested start) block knows no_withs all_of_it.2.0 all;
   }

@@ -259,6 +259,13 @@ pub record IsBlockExact (g : Gathers) (j : Judges g) (exports : ℕ → Ident �
       → AllStand s.types exports outside taken awaited (is_nested s) (declarations_of ds) whole
       names
       → Knows g j names exports (declared_block g ends (s, Ok tt) first ds).0
+  -- What the use of a name repeats behind them is broken in them, or repeated from outside.
+  pub repeated : (names : Ident → Standing)
+      → AllStand s.types exports outside taken awaited (is_nested s) (declarations_of ds) whole
+      names
+      → (f : Breach) → Repeats g j names (declared_block g ends (s, Ok tt) first ds).0 f
+      → Repeats g j outside s f
+      ⊎ BrokenIn s.types exports outside taken awaited (is_nested s) (declarations_of ds) whole f
   -- It is known which variables count as own ones.
   pub own : (outer : Ident → Bool) → KnowsOwn g j outer s
       → (own : Ident → Bool) × AllOwn outer s exports outside taken awaited ds whole own
