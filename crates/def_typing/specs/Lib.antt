@@ -20,3 +20,4 @@ pub mod Loops
 pub mod Fields
 pub mod Cases
 pub mod Statements
+pub mod Bodies

@@ -1,0 +1,4 @@
+//! Laws alone.
+#![tactic(auto)]
+
+pub fn nothing() {}
