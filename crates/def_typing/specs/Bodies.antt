@@ -1,6 +1,6 @@
 -- Procedures and their bodies: what names stand for inside them, and which rules are broken in a
 -- block and in all that stands in it.
-use Rattle.std.specs.Prelude.{◌≡◌, ◌⊎◌, ℕ, Bool, true, false, not, ◌&&◌, cond, List, [], ◌∷◌, ◌++◌, Option, Some, None}
+use Rattle.std.specs.Prelude.{◌≡◌, ◌⊎◌, ℕ, Bool, true, false, not, ◌&&◌, ◌||◌, cond, List, [], ◌∷◌, ◌++◌, Option, Some, None}
 use Rattle.std.specs.List.{list_any}
 use Rattle.std.specs.Option.{is_some}
 use Rattle.m2_rule.specs.declared.breach.Breach.{Breach}
@@ -97,7 +97,8 @@ pub record Place : Type 0 where
 -- none
 abbrev pub module_variables : Place → List Declaration → (Ident → Bool) → Ident → Bool
 module_variables p block own name =
-    cond p.nested (not (is_declared name.name block) && p.own name) (own name)
+    cond p.nested ((p.taken name.name || not (is_declared name.name block)) && p.own name)
+    (own name)
 
 -- the place of a procedure's block
 abbrev pub in_procedure : Heading → (Ident → Standing) → (Ident → Bool) → Giving → Place

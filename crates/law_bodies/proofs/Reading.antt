@@ -12,11 +12,12 @@ use Rattle.def_typing.specs.Things.{Thing, AValue, AVariable, AnOpenArray, AType
 use Rattle.def_typing.specs.Parts.{Among, here, later, Named}
 use Rattle.def_typing.specs.TypeExprs.{Member, member_stands}
 use Rattle.def_typing.specs.Declarations as rules
-use Rattle.def_typing.specs.Declarations.{Declaration, OfConstant, OfType, OfVariables, OfProcedure, names_of, constants_of, Declares, AnyDeclares, IsFirst, at_first, later_on, Declared as Resolved, in_order, IsThere, IsNamed, nearest, farther, in_front_of, without, StandsFor, Means, IsAdded, AllAdded, AllStand, BrokenIn}
+use Rattle.def_typing.specs.Declarations.{Declaration, OfConstant, OfType, OfVariables, OfProcedure, names_of, constants_of, Declares, AnyDeclares, IsFirst, at_first, later_on, Declared as Resolved, in_order, IsThere, IsNamed, nearest, farther, types_behind, in_front_of, without, StandsFor, Means, IsAdded, AllAdded, AllStand, BrokenIn}
 use Rattle.def_typing.specs.Bodies as bodies
 use Rattle.def_typing.specs.Bodies.{IsProcedure}
 use Rattle.law_typing.proofs.Combining.{Decided, holds, fails_it}
 use Rattle.law_typing.proofs.Entering.{named_split}
+use Rattle.law_bodies.proofs.Extending.{Extends, extends_then, extends_more}
 use Rattle.law_typing.proofs.Declaring.{any_named, one_named, any_first, one_first}
 
 -- ---- procedures
@@ -257,18 +258,19 @@ module _ (types : Types) (exports : ℕ → Ident → Standing) (outside : Ident
     pub order : in_order before ≡ front
     pub names : Ident → Standing
     pub all : All before names
+    pub made : Extends (types_behind types before) (types_behind types whole)
     pub named : (n : List ℕ) (d : Resolved) (older : List Resolved) → IsNamed n d older before → IsNamed n d older whole
     pub what : Resolved
     pub heads : what.what ≡ OfProcedure h
     pub broken : (f : Breach) → Breaks (what ∷ before) f → Breaks whole f
 
   heading_here : {front : List Declaration} {h : Heading} (d : Resolved) (before : List Resolved) → in_order before ≡ front → d.what ≡ OfProcedure h → Added before d → HeadingAt (d ∷ before) front h
-  heading_here d before o e (rules.is_added {names = names} all b) = record { before = before; order = o; names = names; all = all; named = λ n c older i. farther i; what = d; heads = e; broken = λ f b. b }
+  heading_here d before o e (rules.is_added {names = names} all b) = record { before = before; order = o; names = names; all = all; made = extends_more (types_behind types before) d.adds.makes; named = λ n c older i. farther i; what = d; heads = e; broken = λ f b. b }
 
   heading_by : (d : Resolved) (before : List Resolved) {front : List Declaration} {h : Heading} {rest : List Declaration} → Added before d → ((ws : List Declaration) → in_order before ≡ front ++ OfProcedure h ∷ ws → HeadingAt before front h) → Split d.what (in_order before) (OfProcedure h) front rest → HeadingAt (d ∷ before) front h
   heading_by d before a more (inl z) = heading_here d before z.1 z.2 a
   heading_by d before a more (inr z) = let q = more z.0 z.1 in
-      record { before = q.before; order = q.order; names = q.names; all = q.all; named = λ n c older i. farther (q.named n c older i); what = q.what; heads = q.heads; broken = λ f b. rules.in_front (q.broken f b) }
+      record { before = q.before; order = q.order; names = q.names; all = q.all; made = extends_then (types_behind types q.before) (types_behind types before) (types_behind types (d ∷ before)) q.made (extends_more (types_behind types before) d.adds.makes); named = λ n c older i. farther (q.named n c older i); what = q.what; heads = q.heads; broken = λ f b. rules.in_front (q.broken f b) }
 
   pub heading_at : (whole : List Resolved) → AddedAll whole → (front : List Declaration) (h : Heading) (rest : List Declaration) → in_order whole ≡ front ++ OfProcedure h ∷ rest → HeadingAt whole front h
   heading_at [] a front h rest e = absurd (none_left front (OfProcedure h) rest e)

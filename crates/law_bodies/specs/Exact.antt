@@ -1,5 +1,5 @@
 -- What is answered of a block with all that stands in it.
-use Rattle.std.specs.Prelude.{◌≡◌, ◌⊎◌, ℕ, ◌<◌, ◌==◌, ◌&&◌, Bool, true, false, List, [], length, Option, Result, Ok}
+use Rattle.std.specs.Prelude.{◌≡◌, ◌⊎◌, ℕ, ◌<◌, ◌==◌, ◌&&◌, Bool, true, false, List, [], length, Option, Some, Result, Ok}
 use Rattle.m2_rule.specs.declared.breach.Breach.{Breach}
 use Rattle.m2_tree.specs.declared.name.Ident.{Ident}
 use Rattle.m2_tree.specs.declared.stmt.Stmt.{Stmt}
@@ -9,10 +9,13 @@ use Rattle.m2_tree.specs.declared.decl.Decl.TheOpen as layer
 use Rattle.m2_tree.specs.declared.decl.Block.{Block, out-Block}
 use Rattle.typed_tree.specs.declared.meaning.LocalVariable.{LocalVariable}
 use Rattle.typed_tree.specs.declared.meaning.Meaning.TheVariants as meaning
+use Rattle.typed_tree.specs.declared.meaning.Procedure.{Procedure as ModuleProcedure}
 use Rattle.typed_tree.specs.declared.types.TypeNo.{TypeNo}
 use Rattle.typed_tree.specs.declared.typed_module.Which.{Which}
-use Rattle.typed_tree.specs.declared.known_types.Types.{Types}
 use Rattle.typed_tree.specs.Names.{find_name}
+use Rattle.check_scope.specs.declared.known.Known.{Known}
+use Rattle.check_scope.specs.declared.known.Known.TheVariants.{Declared, Headed}
+use Rattle.check_scope.specs.declared.known.Origin.TheVariants.{Here}
 use Rattle.check_scope.specs.declared.scope.Scope.{Scope}
 use Rattle.check_scope.specs.Elaborated.{Gathers, beside}
 use Rattle.check_scope.specs.Scopes.{looked_up}
@@ -24,7 +27,7 @@ use Rattle.check_body.specs.Bodies.{Checked, checks_block}
 use Rattle.check_body.specs.Checks.{elaborate_body}
 use Rattle.def_typing.specs.Things.{Standing}
 use Rattle.def_typing.specs.Parts.{Among}
-use Rattle.def_typing.specs.Declarations.{declarations_of, AllStand, BrokenIn}
+use Rattle.def_typing.specs.Declarations.{declarations_of, AnyDeclares, AllStand, BrokenIn}
 use Rattle.def_typing.specs.Bodies.{Place, statements_in, Reads, BrokenBlock}
 use Rattle.law_typing.specs.Judging.{Judges, Reports}
 use Rattle.law_typing.specs.Exact.{Knows, KnowsOwn, KnowsResult, TakenAs, Repeats, RepeatsResult, IsPlainStmt, ArePlainDecls, is_nested, IsBlockExact}
@@ -53,12 +56,23 @@ pub record KnowsPlace (g : Gathers) (j : Judges g) (exports : ℕ → Ident → 
       → (is_nested s ≡ true) × (v.level < length s.outer)
       × ((is_own v.kind && (v.level == s.level)) ≡ false)
 
--- The declarations of a block are answered exactly, and what a name repeats behind them is broken
--- in them, or repeated from outside.
+-- what is known of a name that a block does not declare, before its declarations and behind them
+pub data IsAsBefore {T : Type 0} : Option (Known T) → Option (Known T) → Type 0 where
+  as_before : {k : Option (Known T)} → IsAsBefore k k
+  -- A procedure of the definition has its heading.
+  has_heading : (p : ModuleProcedure) → IsAsBefore (Some (Declared Here (Ok (meaning.Procedure p))))
+      (Some (Headed (Ok (meaning.Procedure p))))
+
+-- The declarations of a block are answered exactly. What is known of a name that they do not declare
+-- stays, and what the use of a name repeats behind them is broken in them, or repeated from outside.
 pub record IsBlockKnown (g : Gathers) (j : Judges g) (exports : ℕ → Ident → Standing)
     (outside : Ident → Standing) (s : Scope g.Reported) (taken : List ℕ → Bool)
     (awaited : List ℕ → Option TypeNo) (ends : List ℕ) (first : ℕ) (ds : List Decl) : Type 0 where
   pub exact : IsBlockExact g j exports outside s taken awaited ends first ds
+  pub others : (n : List ℕ)
+      → (taken n ≡ false → AnyDeclares (declarations_of ds) n → ⊥)
+      → IsAsBefore (find_name n s.own)
+      (find_name n (declared_block g ends (s, Ok tt) first ds).0.own)
   pub repeated : (names : Ident → Standing)
       → AllStand s.types exports outside taken awaited (is_nested s) (declarations_of ds)
       exact.whole names
@@ -84,14 +98,11 @@ reported_of g c = beside g c.0.so_far (reported_in c.1)
 pub record IsBlockWhole (g : Gathers) (j : Judges g) (exports : ℕ → Ident → Standing) (p : Place)
     (returns : Option (Result TypeNo g.Reported)) (b : Block) (w : Walk g.Reported)
     (c : Checked g.Reported) : Type 0 where
-  -- how the rules read it
-  pub end : Types
-  pub read : Reads exports p w.scope.types b end
+  -- how the rules read it, up to the types that are known behind it
+  pub read : Reads exports p w.scope.types b c.0.scope.types
   -- Exactly the broken rules are reported.
   pub reported : Reports g j (RepeatsResult g j p.names w.scope returns) (BrokenBlock exports read)
       (reported_of g c)
-  -- The types that are known behind it are those that the rules say.
-  pub types : c.0.scope.types ≡ end
 
 -- Blocks are answered exactly, with all procedures inside.
 abbrev pub BlocksAreWhole : (g : Gathers) → Judges g → Type 0
