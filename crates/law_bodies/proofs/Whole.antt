@@ -217,35 +217,29 @@ module _ (g : Gathers) (j : Judges g) (lawful : Lawful g j) (associates : Associ
       (plain_inner : (d : Decl) (h : Heading) (c : Block) → Among d (out-Block b).decls → out-Decl d ≡ layer.Procedure h c → IsPlainBlock c)
       (plain_body : (x : Stmt) → Among x (statements_in (out-Block b).body) → IsPlainStmt x)
       (inner : (d : Decl) (h : Heading) (c : Block) → Among d (out-Block b).decls → out-Decl d ≡ layer.Procedure h c → Turn c)
-      (given : Place) (w : Walk g.Reported) (returns : Option (Result TypeNo g.Reported)) (at : KnowsPlace g j exports given w.scope returns) (ends : List ℕ) (around : Option Which) where
-    abbrev start : Scope g.Reported
-    start = w.scope
+      (given : Place) (start : Scope g.Reported) (returns : Option (Result TypeNo g.Reported)) (at : KnowsPlace g j exports given start returns) (ends : List ℕ) (around : Option Which) (first : ℕ) where
+    abbrev pub p : Place
+    p = record given { nested = is_nested start }
 
-    abbrev p : Place
-    p = record given { nested = is_nested w.scope }
-
-    abbrev ds : List Decl
+    abbrev pub ds : List Decl
     ds = (out-Block b).decls
 
-    abbrev first : ℕ
-    first = length w.bodies.locals
-
-    of_block : IsBlockKnown g j exports p.names start p.taken p.awaited ends first ds
+    pub of_block : IsBlockKnown g j exports p.names start p.taken p.awaited ends first ds
     of_block = known exports p.names start p.taken p.awaited at.names at.no_withs at.takes ends first ds plain
 
-    abbrev block : List Declaration
+    abbrev pub block : List Declaration
     block = declarations_of ds
 
-    abbrev whole : List Resolved
+    abbrev pub whole : List Resolved
     whole = of_block.exact.whole
 
-    abbrev names : Ident → Standing
+    abbrev pub names : Ident → Standing
     names = of_block.exact.stand.0
 
-    abbrev own : Ident → Bool
+    abbrev pub own : Ident → Bool
     own = (of_block.exact.own p.own at.own).0
 
-    abbrev sd : Scope g.Reported
+    abbrev pub sd : Scope g.Reported
     sd = behind_all g ends first start ds
 
     sd_keeps : Keeps start sd
@@ -254,10 +248,10 @@ module _ (g : Gathers) (j : Judges g) (lawful : Lawful g j) (associates : Associ
     sd_withs : sd.withs ≡ []
     sd_withs = sd_keeps.withs ∙ at.no_withs
 
-    abbrev Broke : Breach → Type 0
+    abbrev pub Broke : Breach → Type 0
     Broke = Breaks start.types exports p.names p.taken p.awaited (is_nested start) block whole
 
-    abbrev Else : Breach → Type 0
+    abbrev pub Else : Breach → Type 0
     Else f = RepeatsResult g j p.names start returns f ⊎ Broke f
 
     else_of : (f : Breach) → Repeats g j names sd f ⊎ Broke f → Else f
@@ -266,16 +260,16 @@ module _ (g : Gathers) (j : Judges g) (lawful : Lawful g j) (associates : Associ
 
     -- ---- the walk through the procedures
 
-    abbrev Bodies : List Declaration → Types → List Decl → Types → Type 0
+    abbrev pub Bodies : List Declaration → Types → List Decl → Types → Type 0
     Bodies front types rest end = ReadsBodies exports p block names own front types rest end
 
-    record Walked (front : List Declaration) (rest : List Decl) (v u : Walk g.Reported) : Type 0 where
-      walk : Bodies front v.scope.types rest u.scope.types
-      said : Result (Unit {0}) g.Reported
-      sum : u.so_far ≡ beside g v.so_far said
-      refused : Tells g j lawful Else (BrokenBodies exports walk) said
-      grown : Extends v.scope.types u.scope.types
-      still : Still v.scope u.scope
+    pub record Walked (front : List Declaration) (rest : List Decl) (v u : Walk g.Reported) : Type 0 where
+      pub walk : Bodies front v.scope.types rest u.scope.types
+      pub said : Result (Unit {0}) g.Reported
+      pub sum : u.so_far ≡ beside g v.so_far said
+      pub refused : Tells g j lawful Else (BrokenBodies exports walk) said
+      pub grown : Extends v.scope.types u.scope.types
+      pub still : Still v.scope u.scope
 
     -- one procedure
     module _ (pre : List Decl) (d : Decl) (rest : List Decl) (split : ds ≡ pre ++ d ∷ rest) (h : Heading) (c : Block) (is : out-Decl d ≡ layer.Procedure h c)
@@ -403,8 +397,8 @@ module _ (g : Gathers) (j : Judges g) (lawful : Lawful g j) (associates : Associ
 
     -- ---- all declarations
 
-    abbrev counted : List ℕ
-    counted = (begun_block g ends w ds).1
+    abbrev pub counted : List ℕ
+    counted = (all_marked marked_decl start ds).1
 
     abbrev Step : Walk g.Reported × ℕ → Decl → Walk g.Reported × ℕ
     Step st d = with_body (λ d. checks_decl g (elaborate_body g) ends d around) counted st d
@@ -434,70 +428,95 @@ module _ (g : Gathers) (j : Judges g) (lawful : Lawful g j) (associates : Associ
 
     -- ---- the block
 
-    abbrev begins : Walk g.Reported
-    begins = (begun_block g ends w ds).0
-
-    moved : (begins.scope ≡ sd) × (begins.so_far ≡ beside g w.so_far (declared_block g ends (start, Ok tt) first ds).1)
-    moved = block_moves g associates w.so_far ends start first ds
-
-    types_there : begins.scope.types ≡ types_behind start.types whole
-    types_there = ap (λ (s : Scope g.Reported). s.types) moved.0 ∙ of_block.exact.types
-
-    abbrev last : Walk g.Reported
-    last = bodies_checked g (elaborate_body g) ends around counted begins ds
-
-    walked : Walked [] ds begins last
-    walked = all_walked ds [] refl begins (still_same moved.0) (λ t s m. subst (λ (types : Types). IsMade types t s) (sym types_there) m)
-
-    abbrev Read : Types → Type 0
-    Read types = (z : Bodies [] types ds last.scope.types) × Tells g j lawful Else (BrokenBodies exports z) walked.said
-
-    walk_there : Read (types_behind start.types whole)
-    walk_there = subst Read types_there (walked.walk, walked.refused)
-
-    still_last : Still sd last.scope
-    still_last = still_then (still_same moved.0) walked.still
-
-    last_owns : KnowsOwn g j own last.scope
-    last_owns = owns_still g j still_last sd_withs (of_block.exact.owned p.own own at.own (of_block.exact.own p.own at.own).1)
-
-    spot_known : KnowsSpot g j exports (body_spot p names own) last.scope (record { gives = returns; in_loop = false })
-    spot_known = record {
-      of_names = knows_still g j still_last sd_withs (of_block.exact.known names of_block.exact.stand.1);
-      of_own = last_owns;
-      of_result = at.gives;
-      of_loop = refl;
-    }
-
-    abbrev Said : Result (List TypedStmt) g.Reported
-    Said = statements_of (elaborate_body g) last.scope returns (out-Block b).body
-
-    statements_refused : Tells g j lawful Else (λ f. (x : Stmt) × Among x (statements_in (out-Block b).body) × Broken last.scope.types exports (body_spot p names own) x f) (reported_in Said)
-    statements_refused = more_tells g j lawful (λ f o. to_else f o) (statements_tell g j lawful exports (body_spot p names own) last.scope returns spot_known (out-Block b).body plain_body)
-      where
-        to_else : (f : Breach) → RepeatsResult g j names last.scope returns f → Else f
-        to_else f (inl o) = else_of f (inl (repeats_still g j still_last sd_withs f o))
-        to_else f (inr r) = inl (inr r)
-
-    declared_refused : Tells g j lawful Else Broke (declared_block g ends (start, Ok tt) first ds).1
+    pub declared_refused : Tells g j lawful Else Broke (declared_block g ends (start, Ok tt) first ds).1
     declared_refused = more_tells g j lawful (λ f o. inl (inl o)) (told g j lawful of_block.exact.reported)
 
-    is_read : Reads exports p start.types b last.scope.types
-    is_read = reads whole names own of_block.exact.in_text of_block.exact.added of_block.exact.stand.1 (of_block.exact.own p.own at.own).1 walk_there.0
+    -- ---- from where its procedures begin
 
-    block_done : Done p returns b w (written g (elaborate_body g) ends around returns w b)
+    module _ (begins : Walk g.Reported) (moved : begins.scope ≡ sd) where
+      types_there : begins.scope.types ≡ types_behind start.types whole
+      types_there = ap (λ (s : Scope g.Reported). s.types) moved ∙ of_block.exact.types
+
+      abbrev pub last : Walk g.Reported
+      last = bodies_checked g (elaborate_body g) ends around counted begins ds
+
+      pub walked : Walked [] ds begins last
+      walked = all_walked ds [] refl begins (still_same moved) (λ t s m. subst (λ (types : Types). IsMade types t s) (sym types_there) m)
+
+      abbrev pub Read : Types → Type 0
+      Read types = (z : Bodies [] types ds last.scope.types) × Tells g j lawful Else (BrokenBodies exports z) walked.said
+
+      pub walk_there : Read (types_behind start.types whole)
+      walk_there = subst Read types_there (walked.walk, walked.refused)
+
+      pub still_last : Still sd last.scope
+      still_last = still_then (still_same moved) walked.still
+
+      last_owns : KnowsOwn g j own last.scope
+      last_owns = owns_still g j still_last sd_withs (of_block.exact.owned p.own own at.own (of_block.exact.own p.own at.own).1)
+
+      spot_known : KnowsSpot g j exports (body_spot p names own) last.scope (record { gives = returns; in_loop = false })
+      spot_known = record {
+        of_names = knows_still g j still_last sd_withs (of_block.exact.known names of_block.exact.stand.1);
+        of_own = last_owns;
+        of_result = at.gives;
+        of_loop = refl;
+      }
+
+      abbrev pub Said : Result (List TypedStmt) g.Reported
+      Said = statements_of (elaborate_body g) last.scope returns (out-Block b).body
+
+      pub statements_refused : Tells g j lawful Else (λ f. (x : Stmt) × Among x (statements_in (out-Block b).body) × Broken last.scope.types exports (body_spot p names own) x f) (reported_in Said)
+      statements_refused = more_tells g j lawful (λ f o. to_else f o) (statements_tell g j lawful exports (body_spot p names own) last.scope returns spot_known (out-Block b).body plain_body)
+        where
+          to_else : (f : Breach) → RepeatsResult g j names last.scope returns f → Else f
+          to_else f (inl o) = else_of f (inl (repeats_still g j still_last sd_withs f o))
+          to_else f (inr r) = inl (inr r)
+
+      pub is_read : Reads exports p start.types b last.scope.types
+      is_read = reads whole names own of_block.exact.in_text of_block.exact.added of_block.exact.stand.1 (of_block.exact.own p.own at.own).1 walk_there.0
+
+      pub is_extended : Extends start.types last.scope.types
+      is_extended = extends_then start.types (types_behind start.types whole) last.scope.types (extends_behind start.types whole)
+          (λ t s m. walked.grown t s (subst (λ (types : Types). IsMade types t s) (sym types_there) m))
+
+      pub is_kept : Keeps start last.scope
+      is_kept = keeps_still g j still_last sd_withs sd_keeps
+
+  -- ---- and from where it begins
+
+  module _ (b : Block) (plain : ArePlainDecls (out-Block b).decls)
+      (plain_inner : (d : Decl) (h : Heading) (c : Block) → Among d (out-Block b).decls → out-Decl d ≡ layer.Procedure h c → IsPlainBlock c)
+      (plain_body : (x : Stmt) → Among x (statements_in (out-Block b).body) → IsPlainStmt x)
+      (inner : (d : Decl) (h : Heading) (c : Block) → Among d (out-Block b).decls → out-Decl d ≡ layer.Procedure h c → Turn c)
+      (given : Place) (w : Walk g.Reported) (returns : Option (Result TypeNo g.Reported)) (at : KnowsPlace g j exports given w.scope returns) (ends : List ℕ) (around : Option Which) where
+    abbrev Decls : List Decl
+    Decls = (out-Block b).decls
+
+    abbrev first_numbered : ℕ
+    first_numbered = length w.bodies.locals
+
+    abbrev begun_here : Walk g.Reported
+    begun_here = (begun_block g ends w Decls).0
+
+    moves : (begun_here.scope ≡ sd b plain plain_inner plain_body inner given w.scope returns at ends around (length w.bodies.locals)) × (begun_here.so_far ≡ beside g w.so_far (declared_block g ends (w.scope, Ok tt) first_numbered Decls).1)
+    moves = block_moves g associates w.so_far ends w.scope first_numbered Decls
+
+    abbrev Saying : Result (Unit {0}) g.Reported
+    Saying = (walked b plain plain_inner plain_body inner given w.scope returns at ends around (length w.bodies.locals) begun_here moves.0).said
+
+    block_done : Done (record given { nested = is_nested w.scope }) returns b w (written g (elaborate_body g) ends around returns w b)
     unfolding walked is_read
     block_done = record {
-      read = is_read;
-      more = beside g (declared_block g ends (start, Ok tt) first ds).1 walked.said;
-      so_far = walked.sum ∙ ap (λ (r : Result (Unit {0}) g.Reported). beside g r walked.said) moved.1 ∙ beside_beside g associates w.so_far (declared_block g ends (start, Ok tt) first ds).1 walked.said;
-      refused = closed g j lawful (tells_as g j lawful Else
+      read = is_read b plain plain_inner plain_body inner given w.scope returns at ends around (length w.bodies.locals) begun_here moves.0;
+      more = beside g (declared_block g ends (w.scope, Ok tt) first_numbered Decls).1 Saying;
+      so_far = (walked b plain plain_inner plain_body inner given w.scope returns at ends around (length w.bodies.locals) begun_here moves.0).sum ∙ ap (λ (r : Result (Unit {0}) g.Reported). beside g r Saying) moves.1 ∙ beside_beside g associates w.so_far (declared_block g ends (w.scope, Ok tt) first_numbered Decls).1 Saying;
+      refused = closed g j lawful (tells_as g j lawful (Else b plain plain_inner plain_body inner given w.scope returns at ends around (length w.bodies.locals))
           (λ f z. elim z [ inl y ↦ elim y [ inl a ↦ inl a | inr a ↦ inr (inl a) ] | inr a ↦ inr (inr a) ])
           (λ f z. elim z [ inl a ↦ inl (inl a) | inr y ↦ elim y [ inl a ↦ inl (inr a) | inr a ↦ inr a ] ])
-          (beside_tells g j lawful Else (beside_tells g j lawful Else declared_refused walk_there.1) statements_refused));
-      extends = extends_then start.types (types_behind start.types whole) last.scope.types (extends_behind start.types whole)
-          (λ t s m. walked.grown t s (subst (λ (types : Types). IsMade types t s) (sym types_there) m));
-      keeps = keeps_still g j still_last sd_withs sd_keeps;
+          (beside_tells g j lawful (Else b plain plain_inner plain_body inner given w.scope returns at ends around (length w.bodies.locals)) (beside_tells g j lawful (Else b plain plain_inner plain_body inner given w.scope returns at ends around (length w.bodies.locals)) (declared_refused b plain plain_inner plain_body inner given w.scope returns at ends around (length w.bodies.locals)) (walk_there b plain plain_inner plain_body inner given w.scope returns at ends around (length w.bodies.locals) begun_here moves.0).1) (statements_refused b plain plain_inner plain_body inner given w.scope returns at ends around (length w.bodies.locals) begun_here moves.0)));
+      extends = is_extended b plain plain_inner plain_body inner given w.scope returns at ends around (length w.bodies.locals) begun_here moves.0;
+      keeps = is_kept b plain plain_inner plain_body inner given w.scope returns at ends around (length w.bodies.locals) begun_here moves.0;
     }
 
     pub block_turned : Done given returns b w (checks_block g (elaborate_body g) ends b around returns w)
