@@ -10,3 +10,6 @@ pub mod Owning
 pub mod Entering
 pub mod Stating
 pub mod Whole
+pub mod Moduling
+pub mod Outside
+pub mod Programs

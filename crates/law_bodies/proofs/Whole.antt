@@ -473,7 +473,7 @@ module _ (g : Gathers) (j : Judges g) (lawful : Lawful g j) (associates : Associ
           to_else f (inl o) = else_of f (inl (repeats_still g j still_last sd_withs f o))
           to_else f (inr r) = inl (inr r)
 
-      pub is_read : Reads exports p start.types b last.scope.types
+      abbrev pub is_read : Reads exports p start.types b last.scope.types
       is_read = reads whole names own of_block.exact.in_text of_block.exact.added of_block.exact.stand.1 (of_block.exact.own p.own at.own).1 walk_there.0
 
       pub is_extended : Extends start.types last.scope.types
@@ -506,7 +506,7 @@ module _ (g : Gathers) (j : Judges g) (lawful : Lawful g j) (associates : Associ
     Saying = (walked b plain plain_inner plain_body inner given w.scope returns at ends around (length w.bodies.locals) begun_here moves.0).said
 
     block_done : Done (record given { nested = is_nested w.scope }) returns b w (written g (elaborate_body g) ends around returns w b)
-    unfolding walked is_read
+    unfolding walked
     block_done = record {
       read = is_read b plain plain_inner plain_body inner given w.scope returns at ends around (length w.bodies.locals) begun_here moves.0;
       more = beside g (declared_block g ends (w.scope, Ok tt) first_numbered Decls).1 Saying;

@@ -8,11 +8,19 @@
 
 ghost use Rattle.check_scope.specs.Elaborated.{every, least};
 ghost use Rattle.law_typing.specs.Judging.{all_of_them, the_least};
-ghost use Rattle.law_bodies.specs.Exact.{BlocksAreKnown, BlocksAreWhole};
+ghost use Rattle.law_bodies.specs.Exact.{BlocksAreKnown, BlocksAreWhole, ProgramsAreExact};
 
 /// What is reported of a block are exactly the rules that are broken in its declarations, in the blocks of its procedures, in
 /// any depth, and in its statements. The premise says what `block_laws` does not say yet: what names of a block repeat.
 pub fn inner_block_laws()
     ensures every_rule { BlocksAreKnown every all_of_them → BlocksAreWhole every all_of_them }
     ensures least_rule { BlocksAreKnown least the_least → BlocksAreWhole least the_least }
+{}
+
+/// A program has a typed module exactly if no rule is broken in its imports and in its block, with all that stands in it. Else
+/// what is reported are exactly the rules that are broken there; and the least refusal is a broken rule, and no broken rule is
+/// less, by place and then by number.
+pub fn program_laws()
+    ensures every_rule { BlocksAreKnown every all_of_them → ProgramsAreExact every all_of_them }
+    ensures least_rule { BlocksAreKnown least the_least → ProgramsAreExact least the_least }
 {}
