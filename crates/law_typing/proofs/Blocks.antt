@@ -62,13 +62,13 @@ use Rattle.def_typing.specs.Parts.{Among, here, later, Named}
 use Rattle.def_typing.specs.Declarations as rules
 use Rattle.def_typing.specs.Declarations.{Declaration, OfConstant, OfType, OfVariables, OfProcedure, declared_by, declarations_of, names_of, constants_of, names_in, formals_in, Declares, AnyDeclares, Declared as Resolved, in_order, IsThere, IsHeaded, types_behind, procedure, is_variables, in_front_of, without, Says, Brings, Misdeclares, Differs, IsAwaited, AllAdded, Lacks, BrokenIn}
 use Rattle.law_typing.specs.Judging.{Judges, Answers, means, refuses, Reports, reports_nothing, reports_broken}
-use Rattle.law_typing.specs.Exact.{standing, is_own_variable, TakenAs, is_taken, awaits, not_taken, Knows, Repeats, is_nested, IsBlockExact, AreOnce}
+use Rattle.law_typing.specs.Exact.{standing, is_own_variable, TakenAs, is_taken, awaits, not_taken, Knows, Repeats, is_nested, IsAsBefore, as_before, has_heading, IsBlockExact, AreOnce}
 use Rattle.law_typing.proofs.Combining.{Lawful, Decided, holds, fails_it, Tells, silent, tells, tells_as, beside_tells, accounts_as, accounts_one}
 use Rattle.law_typing.proofs.Heading.{nil_right, append_assoc, heading_answers}
 use Rattle.law_typing.proofs.Agreeing.{agreement_decided}
 use Rattle.law_typing.proofs.Entering.{named_left, entered_all, once_more}
 use Rattle.law_typing.proofs.Lacking.{Awaits, AnyAwaits, lacks_decided}
-use Rattle.law_typing.proofs.Declaring.{clash, All, Added as Added_there, Elsewhere, Saying, KnownAs, outer, headed, ahead, reading, behind, a_member, Same, KnowsBlock, knowing, repeating, standings, all_stand, home_same, owning, some_own}
+use Rattle.law_typing.proofs.Declaring.{any_first, any_named, clash, All, Added as Added_there, Elsewhere, Saying, KnownAs, outer, headed, ahead, reading, behind, a_member, Same, KnowsBlock, knowing, repeating, standings, all_stand, home_same, owning, some_own}
 use Rattle.law_typing.proofs.Beginning.{Adding, adding_name, added, mark_place, unawaited, Theres, free_now, widen, begin_one, begin_all, place_is, PlaceIs, place_free, place_taken, place_awaited, MidAs, is_done, is_other, is_headed, KnowsMid, mid_begins, mid_as, finish_one, finish_end}
 use Rattle.law_typing.proofs.Sayings.{Set, Saids, said_constant, said_type, said_variables, said_procedure, Exactly, saying, saying_heading, tells_all, says_tells, more_answers, constant_says, of_type_says, variables_say, procedure_says}
 use Rattle.def_typing.specs.TypeExprs.{Twice, constants_in, with_types, next_type, Added, nothing_added, type_added, Setting, IsTypeOf, Adds, BrokenType}
@@ -864,6 +864,15 @@ module _ (g : Gathers) (j : Judges g) (lawful : Lawful g j) (exports : ℕ → I
         none : {f : Breach} → Lacked at fs f → ⊥
         none (rules.missing {n = n} v h) = c (n, still_waits fs _ n (k.own n) v h)
 
+  -- what is known of a name that these declarations do not declare stays
+  other_stays : (n : List ℕ) → (taken n ≡ false → AnyDeclares block n → ⊥) → {fs : List Resolved} {Th : List ℕ → Type 0} {o : Option (Known g.Reported)} → KnownAs g j exports outside start taken awaited (is_nested start) block fs Th n o → (IsThere fs n → AnyDeclares block n) → IsAsBefore (find_name n start.own) o
+  other_stays n u (outer c w e) i = subst (λ (o : Option (Known g.Reported)). IsAsBefore (find_name n start.own) o) (sym e) as_before
+  other_stays n u (headed p y w e) i = subst (λ (o : Option (Known g.Reported)). IsAsBefore o (Some (known.Headed (Ok (meaning.Procedure p))))) e (has_heading p)
+  other_stays n u (ahead d t f c b) i = absurd (u t (any_first f))
+  other_stays n u (reading d t f c b q) i = absurd (u t (any_first f))
+  other_stays n u (behind k t f o s) i = absurd (u t (i (any_named f)))
+  other_stays n u (a_member t f o a q) i = absurd (u t (i (any_named f)))
+
   pub block_answers : IsBlockExact g j exports outside start taken awaited ends first ds
   block_answers = record {
     whole = all_of_it.0;
@@ -882,6 +891,7 @@ module _ (g : Gathers) (j : Judges g) (lawful : Lawful g j) (exports : ℕ → I
       of_result = r;
       of_loop = refl;
     };
+    others = λ n u. other_stays n u (all_of_it.2.0.own n) (λ i. all_of_it.2.0.within n i);
     repeated = λ names all f r. repeating g j exports outside start taken awaited (is_nested start) block knows no_withs all_of_it.2.0 all f r;
     known = λ names all. knowing g j exports outside start taken awaited (is_nested start) block knows no_withs all_of_it.2.0 all;
   }

@@ -68,7 +68,7 @@ use Rattle.typed_tree.specs.Names.{find_name}
 use Rattle.check_block.specs.Declarations.{declared_block, reported_of_lack}
 use Rattle.check_block.specs.Headings.{standing_from}
 use Rattle.check_block.specs.declared.heading.Standing.TheVariants as heading
-use Rattle.def_typing.specs.Declarations.{Declared as Resolved, declarations_of, in_order, IsHeaded, types_behind, AllStand, IsOwn, AllAdded, Lacks, BrokenIn}
+use Rattle.def_typing.specs.Declarations.{AnyDeclares, Declared as Resolved, declarations_of, in_order, IsHeaded, types_behind, AllStand, IsOwn, AllAdded, Lacks, BrokenIn}
 use Rattle.check_stmt.specs.Statements.{stmt}
 use Rattle.def_typing.specs.Statements.{Spot, Obeys, Broken}
 use Rattle.check_expr.specs.Meanings.{meanings_of, head, part, value_of}
@@ -225,6 +225,14 @@ pub data AreOnce {V : Type 0} : List (List ℕ × V) → Type 0 where
   one_name : {e : List ℕ × V} {es : List (List ℕ × V)} → find_name e.0 es ≡ None → AreOnce es
       → AreOnce (e ∷ es)
 
+-- what is known of a name that a block does not declare, before its declarations and behind them
+pub data IsAsBefore {T : Type 0} : Option (KnownName T) → Option (KnownName T) → Type 0 where
+  as_before : {k : Option (KnownName T)} → IsAsBefore k k
+  -- A procedure of the definition has its heading.
+  has_heading : (p : ModuleProcedure)
+      → IsAsBefore (Some (Declared Here (Ok (meaning.Procedure p))))
+      (Some (Headed (Ok (meaning.Procedure p))))
+
 -- what is known behind the declarations of a block
 pub record IsBlockExact (g : Gathers) (j : Judges g) (exports : ℕ → Ident → Standing)
     (outside : Ident → Standing) (s : Scope g.Reported) (taken : List ℕ → Bool)
@@ -259,6 +267,10 @@ pub record IsBlockExact (g : Gathers) (j : Judges g) (exports : ℕ → Ident �
       → AllStand s.types exports outside taken awaited (is_nested s) (declarations_of ds) whole
       names
       → Knows g j names exports (declared_block g ends (s, Ok tt) first ds).0
+  -- What is known of a name that they do not declare stays.
+  pub others : (n : List ℕ) → (taken n ≡ false → AnyDeclares (declarations_of ds) n → ⊥)
+      → IsAsBefore (find_name n s.own)
+      (find_name n (declared_block g ends (s, Ok tt) first ds).0.own)
   -- What the use of a name repeats behind them is broken in them, or repeated from outside.
   pub repeated : (names : Ident → Standing)
       → AllStand s.types exports outside taken awaited (is_nested s) (declarations_of ds) whole
