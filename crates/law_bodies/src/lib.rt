@@ -8,7 +8,7 @@
 
 ghost use Rattle.check_scope.specs.Elaborated.{every, least};
 ghost use Rattle.law_typing.specs.Judging.{all_of_them, the_least};
-ghost use Rattle.law_bodies.specs.Exact.{BlocksAreKnown, BlocksAreWhole, ProgramsAreExact};
+ghost use Rattle.law_bodies.specs.Exact.{BlocksAreKnown, BlocksAreWhole, ProgramsAreExact, ImplementationsAreExact, LonelyAreRefused, ImplementationsAreKnown};
 
 /// What is reported of a block are exactly the rules that are broken in its declarations, in the blocks of its procedures, in
 /// any depth, and in its statements. The premise says what `block_laws` does not say yet: what names of a block repeat.
@@ -23,4 +23,20 @@ pub fn inner_block_laws()
 pub fn program_laws()
     ensures every_rule { BlocksAreKnown every all_of_them → ProgramsAreExact every all_of_them }
     ensures least_rule { BlocksAreKnown least the_least → ProgramsAreExact least the_least }
+{}
+
+/// The same of implementations, by the table of their own definition. A procedure of the definition that has no heading in the
+/// implementation is refused too.
+pub fn implementation_laws()
+    ensures every_rule { BlocksAreKnown every all_of_them → ImplementationsAreExact every all_of_them }
+    ensures least_rule { BlocksAreKnown least the_least → ImplementationsAreExact least the_least }
+    ensures every_lonely { LonelyAreRefused every all_of_them }
+    ensures least_lonely { LonelyAreRefused least the_least }
+{}
+
+/// No implementation lacks what names stand for before its block, so the law above speaks of each. For programs
+/// `definition_scope_laws` says it.
+pub fn implementation_scope_laws()
+    ensures every_rule { ImplementationsAreKnown every all_of_them }
+    ensures least_rule { ImplementationsAreKnown least the_least }
 {}
