@@ -32,7 +32,8 @@ use Rattle.def_typing.specs.Bodies.{formal_named, is_formal, SeenAs, InsideAs, B
 use Rattle.law_typing.specs.Judging.{Judges}
 use Rattle.law_typing.specs.Exact.{is_own_variable, Knows, KnowsOwn, Repeats, InResult, RepeatsResult, is_nested}
 use Rattle.law_typing.proofs.Combining.{Lawful}
-use Rattle.law_bodies.specs.Exact.{IsAsBefore, KnowsPlace}
+use Rattle.law_bodies.specs.Exact.{KnowsPlace}
+use Rattle.law_bodies.specs.Known.{IsAsBefore}
 use Rattle.law_bodies.proofs.Keeping.{Keeps}
 use Rattle.law_bodies.proofs.Reading.{All, AddedAll, Breaks, never_ahead, HeadingAt, heading_at}
 use Rattle.law_bodies.proofs.Seeing.{PlaceIs, In, seen_there, seen_knows, seen_repeats, known_around}

@@ -56,7 +56,8 @@ use Rattle.law_defining.proofs.Once.{imports_once}
 use Rattle.law_defining.proofs.Starting.{meaning_known, meaning_headed}
 use Rattle.law_defining.proofs.Outside.{definitions_known}
 use Rattle.law_bodies.specs.Exact as exact
-use Rattle.law_bodies.specs.Exact.{IsPlainBlock, plain_block, KnowsPlace, BlocksAreKnown, IsTyped, IsAnswered, is_refused, HasNoDefinition, an_implementation, a_definition, LonelyAreRefused, IsForeign, ExportForeign, IsTakenBy, by_definition, by_import, by_none, awaited_type, is_variable_of, declares, implementation_place, IsNoLocal, IsDefined, IsImplementationExact, ImplementationsAreExact, ImplementationsAreKnown}
+use Rattle.law_bodies.specs.Exact.{IsPlainBlock, plain_block, KnowsPlace, IsTyped, IsAnswered, is_refused, HasNoDefinition, an_implementation, a_definition, LonelyAreRefused, IsForeign, ExportForeign, IsTakenBy, by_definition, by_import, by_none, awaited_type, is_variable_of, declares, implementation_place, IsNoLocal, IsDefined, IsImplementationExact, ImplementationsAreExact, ImplementationsAreKnown}
+use Rattle.law_bodies.specs.Known.{BlocksAreKnown}
 use Rattle.law_bodies.proofs.Seeing.{looked_around}
 use Rattle.law_bodies.proofs.Moduling.{Moduled, Breaks, module_read, read_from, module_told}
 use Rattle.law_bodies.proofs.Outside.{brought_foreign, first_foreign}

@@ -36,7 +36,8 @@ use Rattle.law_typing.specs.Exact.{Repeats, InResult, RepeatsResult, ArePlainDec
 use Rattle.law_typing.proofs.Combining.{Lawful, Tells, silent, tells, tells_as, beside_tells}
 use Rattle.law_importing.specs.Exact.{imported_all, AreImportsExact}
 use Rattle.law_importing.proofs.Following.{Associates, block_moves}
-use Rattle.law_bodies.specs.Exact.{IsPlainBlock, KnowsPlace, BlocksAreKnown, IsTyped}
+use Rattle.law_bodies.specs.Exact.{IsPlainBlock, KnowsPlace, IsTyped}
+use Rattle.law_bodies.specs.Known.{BlocksAreKnown}
 use Rattle.law_bodies.proofs.Whole.{more_tells, told, blocks_done, Turn, of_block, whole, block, sd, Broke, Else, declared_refused, last, walked, walk_there, Said, statements_refused, is_read}
 
 module _ (g : Gathers) (j : Judges g) (lawful : Lawful g j) where

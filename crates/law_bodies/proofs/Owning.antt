@@ -30,7 +30,7 @@ use Rattle.law_typing.proofs.Combining.{Decided, holds, fails_it, decided_as}
 use Rattle.law_typing.proofs.Meeting.{either_decided}
 use Rattle.law_typing.proofs.Entering.{among_decided}
 use Rattle.law_typing.proofs.Declaring.{clash}
-use Rattle.law_bodies.specs.Exact.{IsAsBefore, as_before, has_heading}
+use Rattle.law_bodies.specs.Known.{IsAsBefore, as_before, has_heading}
 use Rattle.law_bodies.proofs.Keeping.{IsProc, FitsMeaning, Fits, Keeps}
 use Rattle.law_bodies.proofs.Seeing.{looked_around, around_some}
 

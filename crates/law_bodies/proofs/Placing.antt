@@ -25,7 +25,7 @@ use Rattle.law_typing.proofs.Combining.{Lawful}
 use Rattle.law_typing.proofs.Declaring.{any_first, clash, KnownAs, outer, headed, ahead, reading, behind, a_member}
 use Rattle.law_typing.proofs.Marking.{block_begins}
 use Rattle.law_typing.proofs.Naming.{index, index_less}
-use Rattle.law_bodies.specs.Exact.{IsAsBefore, as_before, has_heading}
+use Rattle.law_bodies.specs.Known.{IsAsBefore, as_before, has_heading}
 use Rattle.law_bodies.proofs.Keeping.{Grows, grows_then, Fits, Keeps, keeps_then, marks_keep, declarations_keep}
 use Rattle.law_bodies.proofs.Seeing.{PlaceIs, nowhere, stands_in_front, stands_behind}
 

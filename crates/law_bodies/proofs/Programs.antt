@@ -48,7 +48,8 @@ use Rattle.law_importing.proofs.Following.{Associates}
 use Rattle.law_defining.specs.Exact.{none, none_awaited, IsTaken, by_import, by_none, AreSound}
 use Rattle.law_defining.proofs.Once.{imports_once}
 use Rattle.law_defining.proofs.Starting.{meaning_known, meaning_headed}
-use Rattle.law_bodies.specs.Exact.{IsPlainBlock, plain_block, KnowsPlace, BlocksAreKnown, IsTyped, IsAnswered, is_module, is_refused, IsForeign, ExportForeign, program_place, IsProgramExact, ProgramsAreExact}
+use Rattle.law_bodies.specs.Exact.{IsPlainBlock, plain_block, KnowsPlace, IsTyped, IsAnswered, is_module, is_refused, IsForeign, ExportForeign, program_place, IsProgramExact, ProgramsAreExact}
+use Rattle.law_bodies.specs.Known.{BlocksAreKnown}
 use Rattle.law_bodies.proofs.Seeing.{looked_around}
 use Rattle.law_bodies.proofs.Moduling.{Moduled, a_module, a_refusal, Breaks, LacksHere, module_read, read_from, module_told}
 use Rattle.law_bodies.proofs.Outside.{brought_foreign, first_foreign}

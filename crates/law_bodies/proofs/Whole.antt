@@ -46,7 +46,8 @@ use Rattle.law_typing.specs.Judging.{Judges, Reports, reports_nothing, reports_b
 use Rattle.law_typing.specs.Exact.{Sees, Exports, Knows, KnowsOwn, Repeats, of_heading, of_declaration, InResult, RepeatsResult, KnowsSpot, ArePlainDecls, IsPlainStmt, is_own_variable, is_nested}
 use Rattle.law_typing.proofs.Combining.{Lawful, Tells, silent, tells, tells_as, beside_tells}
 use Rattle.law_importing.proofs.Following.{Associates, block_moves}
-use Rattle.law_bodies.specs.Exact.{IsPlainBlock, plain_block, KnowsPlace, IsAsBefore, IsBlockKnown, BlocksAreKnown, reported_of, IsBlockWhole, BlocksAreWhole}
+use Rattle.law_bodies.specs.Exact.{IsPlainBlock, plain_block, KnowsPlace, reported_of, IsBlockWhole, BlocksAreWhole}
+use Rattle.law_bodies.specs.Known.{IsAsBefore, IsBlockKnown, BlocksAreKnown}
 use Rattle.law_bodies.proofs.Keeping.{Grows, Fits, Keeps}
 use Rattle.law_bodies.proofs.Layers.{checks_written, checks_is, written, block_is, all_blocks}
 use Rattle.law_bodies.proofs.Extending.{Extends, extends_then, extends_behind}

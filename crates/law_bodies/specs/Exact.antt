@@ -50,8 +50,8 @@ use Rattle.law_typing.specs.Exact.{Knows, KnowsOwn, KnowsResult, TakenAs, Repeat
 use Rattle.law_importing.specs.Exact.{StandsFor}
 use Rattle.law_defining.specs.Exact.{none, none_awaited, IsTaken, AreSound, met_types}
 
--- Constants and bounds call nothing, in this block and in all blocks inside, and statements are those
--- of which statement_laws speak.
+-- Constants and bounds call nothing, in this block and in all blocks inside, and statements are
+-- those of which statement_laws speak.
 pub data IsPlainBlock : Block → Type 0 where
   plain_block : {b : Block} → ArePlainDecls (out-Block b).decls
       → ((d : Decl) (h : Heading) (c : Block) → Among d (out-Block b).decls
@@ -73,40 +73,6 @@ pub record KnowsPlace (g : Gathers) (j : Judges g) (exports : ℕ → Ident → 
   pub locals : (name : Ident) (v : LocalVariable) → looked_up g s name ≡ Ok (meaning.Local v)
       → (is_nested s ≡ true) × (v.level < length s.outer)
       × ((is_own v.kind && (v.level == s.level)) ≡ false)
-
--- what is known of a name that a block does not declare, before its declarations and behind them
-pub data IsAsBefore {T : Type 0} : Option (Known T) → Option (Known T) → Type 0 where
-  as_before : {k : Option (Known T)} → IsAsBefore k k
-  -- A procedure of the definition has its heading.
-  has_heading : (p : ModuleProcedure) → IsAsBefore (Some (Declared Here (Ok (meaning.Procedure p))))
-      (Some (Headed (Ok (meaning.Procedure p))))
-
--- The declarations of a block are answered exactly. What is known of a name that they do not declare
--- stays, and what the use of a name repeats behind them is broken in them, or repeated from outside.
-pub record IsBlockKnown (g : Gathers) (j : Judges g) (exports : ℕ → Ident → Standing)
-    (outside : Ident → Standing) (s : Scope g.Reported) (taken : List ℕ → Bool)
-    (awaited : List ℕ → Option TypeNo) (ends : List ℕ) (first : ℕ) (ds : List Decl) : Type 0 where
-  pub exact : IsBlockExact g j exports outside s taken awaited ends first ds
-  pub others : (n : List ℕ)
-      → (taken n ≡ false → AnyDeclares (declarations_of ds) n → ⊥)
-      → IsAsBefore (find_name n s.own)
-      (find_name n (declared_block g ends (s, Ok tt) first ds).0.own)
-  pub repeated : (names : Ident → Standing)
-      → AllStand s.types exports outside taken awaited (is_nested s) (declarations_of ds)
-      exact.whole names
-      → (f : Breach) → Repeats g j names (declared_block g ends (s, Ok tt) first ds).0 f
-      → Repeats g j outside s f
-      ⊎ BrokenIn s.types exports outside taken awaited (is_nested s) (declarations_of ds)
-      exact.whole f
-
-abbrev pub BlocksAreKnown : (g : Gathers) → Judges g → Type 0
-BlocksAreKnown g j =
-    (exports : ℕ → Ident → Standing) (outside : Ident → Standing) (s : Scope g.Reported)
-    (taken : List ℕ → Bool) (awaited : List ℕ → Option TypeNo)
-    → Knows g j outside exports s → s.withs ≡ []
-    → ((n : List ℕ) → TakenAs g j (taken n) (awaited n) (find_name n s.own))
-    → (ends : List ℕ) (first : ℕ) (ds : List Decl) → ArePlainDecls ds
-    → IsBlockKnown g j exports outside s taken awaited ends first ds
 
 -- what is reported of a block: of its declarations and of its procedures, and of its statements
 abbrev pub reported_of : (g : Gathers) → Checked g.Reported → Result (Unit {0}) g.Reported
@@ -180,17 +146,22 @@ pub record IsProgramExact (g : Gathers) (j : Judges g) (home : ℕ) (m : Module)
       (λ f. imports.BrokenIn tables none (all_imported m.imports) f ⊎ BrokenBlock exports read f)
       (body_module g home m None imported)
 
--- Programs are answered exactly, whatever they import. No rule is broken where the names outside are
--- declared.
+-- Programs are answered exactly, whatever they import. No rule is broken where the names outside
+-- are declared.
 abbrev pub ProgramsAreExact : (g : Gathers) → Judges g → Type 0
 ProgramsAreExact g j =
-    (home : ℕ) (m : Module) (imported tables : List Table) → tables ≡ imported ++ console ∷ []
-    → ExportForeign home tables → (exports : ℕ → Ident → Standing) (outside names : Ident → Standing)
-    → Knows g j outside exports (first_scope home tables) → AreSound outside
+    (home : ℕ) (m : Module) (imported tables : List Table)
+    → tables ≡ imported ++ console ∷ []
+    → ExportForeign home tables
+    → (exports : ℕ → Ident → Standing) (outside names : Ident → Standing)
+    → Knows g j outside exports (first_scope home tables)
+    → AreSound outside
     → ((name : Ident) → StandsFor tables none (all_imported m.imports) outside name (names name))
     → (taken : List ℕ → Bool)
     → ((n : List ℕ) → IsTaken tables (all_imported m.imports) n (taken n))
-    → (b : Block) → m.contents ≡ contents.Program b → IsPlainBlock b
+    → (b : Block)
+    → m.contents ≡ contents.Program b
+    → IsPlainBlock b
     → IsProgramExact g j home m imported tables exports names taken b
 
 -- ---- implementations
@@ -267,8 +238,8 @@ ImplementationsAreExact g j =
     → (b : Block) → m.contents ≡ contents.Implementation b → IsPlainBlock b
     → IsImplementationExact g j own m imported tables exports names taken b
 
--- For each implementation there is what names stand for before its block, so the law above speaks of
--- each.
+-- For each implementation there is what names stand for before its block, so the law above speaks
+-- of each.
 abbrev pub ImplementationsAreKnown : (g : Gathers) → Judges g → Type 0
 ImplementationsAreKnown g j =
     (own : Table) (m : Module) (tables : List Table) → IsDefined own
