@@ -4,6 +4,7 @@ use Rattle.std.specs.Prelude.{◌≡◌, ◌⊎◌, ℕ, Bool, true, false, not,
 use Rattle.std.specs.List.{list_any}
 use Rattle.std.specs.Option.{is_some}
 use Rattle.m2_rule.specs.declared.breach.Breach.{Breach}
+use Rattle.m2_tree.specs.declared.pos.Pos.{Pos}
 use Rattle.m2_tree.specs.declared.name.Ident.{Ident}
 use Rattle.m2_tree.specs.declared.stmt.Stmt.{Stmt}
 use Rattle.m2_tree.specs.declared.decl.Section.{Section}
@@ -18,7 +19,7 @@ use Rattle.def_typing.specs.Parts.{Among}
 use Rattle.def_typing.specs.TypeNames.{NamesType}
 use Rattle.def_typing.specs.Headings.{GivesBack}
 use Rattle.def_typing.specs.Returns.{Giving, Nothing, AResult, AnyResult}
-use Rattle.def_typing.specs.Declarations.{Declaration, names_of, constants_of, declared_by, declarations_of, AnyDeclares, Declared, in_order, types_behind, is_among, AllAdded, AllStand, IsOwn, BrokenIn}
+use Rattle.def_typing.specs.Declarations.{Declaration, names_of, constants_of, declared_by, declarations_of, AnyDeclares, Declared, in_order, types_behind, is_among, AllAdded, AllStand, IsOwn, Lacks, BrokenIn}
 use Rattle.def_typing.specs.Statements.{Spot, Broken}
 
 -- ---- names
@@ -184,3 +185,12 @@ module _ (exports : ℕ → Ident → Standing) where
     BrokenBodies (no_body n rest) f = BrokenBodies rest f
     BrokenBodies (a_body seen inside gives e s i r body rest) f =
         BrokenBlock body f ⊎ BrokenBodies rest f
+
+  -- A procedure of the definition has a heading in the implementation; else the refusal is at the
+  -- module's name.
+  abbrev pub LacksHeading : {p : Place} {types end : Types} {b : Block} → Reads p types b end
+      → Pos → Breach → Type 0
+  LacksHeading {p = p} {types = types} {b = b}
+      (reads whole names own order added stand owned bodies) at f =
+      Lacks types exports p.names p.taken p.awaited p.nested (declarations_of (out-Block b).decls)
+      at whole f

@@ -46,4 +46,3 @@ extends_behind a (d ∷ front) t s m = extends_more (types_behind a front) d.add
 
 pub extends_result : {a b : Types} → Extends a b → (t : TypeNo) → IsResult a t → IsResult b t
 extends_result e t (headings.is_result {s = s} m i) = headings.is_result (e t s m) i
-

@@ -13,3 +13,4 @@ pub mod Whole
 pub mod Moduling
 pub mod Outside
 pub mod Programs
+pub mod Implementing

@@ -55,7 +55,8 @@ module _ (g : Gathers) (j : Judges g) (lawful : Lawful g j) where
 module _ (g : Gathers) (j : Judges g) (lawful : Lawful g j) (associates : Associates g) (exports : ℕ → Ident → Standing) (m : Module) (s : Scope g.Reported) (mine : List ℕ → Bool) (i : AreImportsExact g j mine s m.imports)
     (p : Place) (at : KnowsPlace g j exports p (record s { own = (imported_all g s m.imports).0.own }) None) (once : AreOnce (imported_all g s m.imports).0.own)
     (sound : (f : Breach) → Repeats g j p.names (record s { own = (imported_all g s m.imports).0.own }) f → ⊥)
-    (b : Block) (own_table : Option Table) where
+    (b : Block)
+    (own_table : Option Table) where
   abbrev pub start : Scope g.Reported
   start = record s { own = (imported_all g s m.imports).0.own }
 
@@ -115,7 +116,7 @@ module _ (g : Gathers) (j : Judges g) (lawful : Lawful g j) (associates : Associ
   imports_told = more_tells g j lawful (λ f z. absurd z) (told g j lawful i.reported)
 
   lack_told : Tells g j lawful U LacksHere (reported_of_lack g m.name.pos (declared_from start).0)
-  lack_told = subst (λ (x : Scope g.Reported). Tells g j lawful U LacksHere (reported_of_lack g m.name.pos x)) (sym moved.0) (more_tells g j lawful (λ f z. absurd z) (told g j lawful ((of_block g j lawful associates exports b inner p start None at ends None 0).exact.lack once m.name.pos)))
+  lack_told = subst (λ (x : Scope g.Reported). Tells g j lawful U LacksHere (reported_of_lack g m.name.pos x)) (sym moved.0) (more_tells g j lawful (λ f z. absurd z) (told g j lawful ((of_block g j lawful associates exports b inner p start None at ends None 0).lack once m.name.pos)))
 
   abbrev Total : Result (Unit {0}) g.Reported
   Total = beside g (last g j lawful associates exports b inner p start None at ends None 0 (begun_from start) moved.0).so_far (reported_in (Said g j lawful associates exports b inner p start None at ends None 0 (begun_from start) moved.0))

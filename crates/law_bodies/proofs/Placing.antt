@@ -106,7 +106,7 @@ module _ (g : Gathers) (j : Judges g) (exports : ℕ → Ident → Standing) (ou
   marked_by block n (behind k t i o s) = elim i [ ]
   marked_by block n (a_member t i o a e) = elim i [ ]
 
-  marked_in : (ds : List Decl) → (n : List ℕ) → Marked (taken n) (AnyDeclares (declarations_of ds) n) (find_name n (fold marked_decl start ds).own)
+  marked_in : (ds : List Decl) (n : List ℕ) → Marked (taken n) (AnyDeclares (declarations_of ds) n) (find_name n (fold marked_decl start ds).own)
   marked_in ds n = subst (λ (s : Scope g.Reported). Marked (taken n) (AnyDeclares (declarations_of ds) n) (find_name n s.own)) (marks_from ds (start, []))
       (marked_by (declarations_of ds) n ((block_begins g j exports outside start taken awaited (is_nested start) (declarations_of ds) takes ds no_withs refl).own n))
 

@@ -45,7 +45,8 @@ use Rattle.law_importing.specs.Exact as importing
 use Rattle.law_importing.specs.Exact.{origin, StandsFor, AreForeign, imported_all, AreImportsExact}
 use Rattle.law_importing.proofs.Behind.{first_imports}
 use Rattle.law_importing.proofs.Following.{Associates}
-use Rattle.law_defining.specs.Exact.{none, none_awaited, IsTaken, by_import, by_none, AreSound}
+use Rattle.law_defining.specs.Exact.{none, IsTaken, by_import, by_none, AreSound}
+use Rattle.def_typing.specs.Definitions.{none_awaited}
 use Rattle.law_defining.proofs.Once.{imports_once}
 use Rattle.law_defining.proofs.Starting.{meaning_known, meaning_headed}
 use Rattle.law_bodies.specs.Exact.{KnowsPlace, IsTyped, IsAnswered, is_module, is_refused, IsForeign, ExportForeign, program_place, IsProgramExact, ProgramsAreExact}
@@ -177,5 +178,5 @@ module _ (g : Gathers) (j : Judges g) (lawful : Lawful g j) (associates : Associ
     program_answers = record { end = read_from g j lawful associates exports m first none i (program_place names taken) at once no_repeats b None; read = module_read g j lawful associates exports m first none i (program_place names taken) at once no_repeats b None; answered = answer }
 
 pub programs_answer : (g : Gathers) (j : Judges g) → Lawful g j → Associates g → Finds g j → ProgramsAreExact g j
-programs_answer g j lawful associates found known home m given tables e foreign exports outside names knows sound stands taken takes b q =
-    program_answers g j lawful associates found known home m tables foreign exports outside names knows sound stands taken takes b given e q
+programs_answer g j lawful associates found home m given tables e foreign exports outside names knows sound stands taken takes b q =
+    program_answers g j lawful associates found home m tables foreign exports outside names knows sound stands taken takes b given e q

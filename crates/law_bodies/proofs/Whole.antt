@@ -43,8 +43,8 @@ use Rattle.def_typing.specs.Statements.{Broken}
 use Rattle.def_typing.specs.Declarations.{Declaration, OfProcedure, declared_by, declarations_of, AnyDeclares, Declared as Resolved, in_order, types_behind}
 use Rattle.def_typing.specs.Bodies.{Place, statements_in, body_spot, IsNoProcedure, Reads, reads, ReadsBodies, no_more, no_body, a_body, BrokenBlock, BrokenBodies}
 use Rattle.law_typing.specs.Judging.{Judges, Reports, reports_nothing, reports_broken}
-use Rattle.law_typing.specs.Exact.{Sees, Exports, Knows, KnowsOwn, Repeats, of_heading, of_declaration, InResult, RepeatsResult, KnowsSpot, is_own_variable, is_nested, IsAsBefore, IsBlockExact}
 use Rattle.law_typing.proofs.Blocks.{block_answers}
+use Rattle.law_typing.specs.Exact.{Sees, Exports, Knows, KnowsOwn, Repeats, of_heading, of_declaration, InResult, RepeatsResult, KnowsSpot, is_own_variable, is_nested, IsAsBefore, IsBlockExact}
 use Rattle.law_typing.proofs.Combining.{Lawful, Tells, silent, tells, tells_as, beside_tells}
 use Rattle.law_importing.proofs.Following.{Associates, block_moves}
 use Rattle.law_bodies.specs.Exact.{KnowsPlace, reported_of, IsBlockWhole, BlocksAreWhole}
