@@ -53,7 +53,7 @@ home_at nothing_follows p m = elim m [ ]
 home_at (one_follows a f k) _ here = refl
 home_at (one_follows a f k) p (later m) = home_at k p m ∙ ap (λ (t : Types). t.home) f.types
 
-two_numbers : (a b : ℕ) → (a ≡ b → ⊥) → (a == b) ≡ false
+pub two_numbers : (a b : ℕ) → (a ≡ b → ⊥) → (a == b) ≡ false
 two_numbers a b c = by (a == b) refl
   where
     by : (t : Bool) → (a == b) ≡ t → t ≡ false
@@ -127,11 +127,11 @@ module _ {T : Type 0} where
 
 module _ (g : Gathers) (j : Judges g) (lawful : Lawful g j) (found : Finds g j) where
   -- what it exports, by the rules
-  record Answered (number : ℕ) (t : Table) : Type 0 where
-    exports : ℕ → Ident → Standing
-    whole : List Placed
-    homes : (p : Placed) → Among p whole → p.at.types.home ≡ number
-    exported : AreExported exports 0 0 whole t.exported
+  pub record Answered (number : ℕ) (t : Table) : Type 0 where
+    pub exports : ℕ → Ident → Standing
+    pub whole : List Placed
+    pub homes : (p : Placed) → Among p whole → p.at.types.home ≡ number
+    pub exported : AreExported exports 0 0 whole t.exported
 
   lonely : (m : Module) {t : Table} → ◌≡◌ {A = Result Table g.Reported} (report g m.name.pos rule.LonelyModule) (Ok t) → ⊥
   lonely m q = absurd cc
@@ -153,7 +153,7 @@ module _ (g : Gathers) (j : Judges g) (lawful : Lawful g j) (found : Finds g j) 
   answered_of number m given t q (contents.Implementation b) e = absurd (lonely m (sym (ap (λ (c : Contents). of_contents g number m (given ++ console ∷ []) c) e) ∙ q))
   answered_of number m given t q (contents.Program b) e = absurd (lonely m (sym (ap (λ (c : Contents). of_contents g number m (given ++ console ∷ []) c) e) ∙ q))
 
-  answered : {number : ℕ} {t : Table} → IsTableOf g number t → Answered number t
+  pub answered : {number : ℕ} {t : Table} → IsTableOf g number t → Answered number t
   answered {number = number} {t = t} (is_answered m given q) = answered_of number m given t q m.contents refl
 
   -- ---- those who import

@@ -1,5 +1,11 @@
-use Rattle.law_rules.proofs.Ruled.{definitions_ruled}
+use Rattle.law_rules.proofs.Ruled.{definitions_ruled, programs_ruled, implementations_ruled}
 use Rattle.law_rules.proofs.rule_laws.Goals as goal
 
-pub returns : goal.returns
-returns c = record { definitions = definitions_ruled }
+pub returns-clause-definitions : goal.returns-clause-definitions
+returns-clause-definitions c = definitions_ruled
+
+pub returns-clause-programs : goal.returns-clause-programs
+returns-clause-programs c = programs_ruled
+
+pub returns-clause-implementations : goal.returns-clause-implementations
+returns-clause-implementations c = implementations_ruled
