@@ -132,6 +132,7 @@ module _ (g : Gathers) (j : Judges g) (lawful : Lawful g j) (found : Finds g j) 
     pub whole : List Placed
     pub homes : (p : Placed) → Among p whole → p.at.types.home ≡ number
     pub exported : AreExported exports 0 0 whole t.exported
+    pub numbered : t.number ≡ number
 
   lonely : (m : Module) {t : Table} → ◌≡◌ {A = Result Table g.Reported} (report g m.name.pos rule.LonelyModule) (Ok t) → ⊥
   lonely m q = absurd cc
@@ -143,7 +144,7 @@ module _ (g : Gathers) (j : Judges g) (lawful : Lawful g j) (found : Finds g j) 
   answered_by {number = number} {m = m} {tables = tables} {exports = exports} {t = t} d q = by d.answered q
     where
       by : {Breaks : Breach → Type 0} {r : Result Table g.Reported} → IsAnswered g j (IsTable number m tables exports d.whole d.last) Breaks r → r ≡ Ok t → Answered number t
-      by (is_table u i n) q = record { exports = exports; whole = d.whole; homes = λ p w. home_at d.follow p w; exported = subst (λ (t : Table). AreExported exports 0 0 d.whole t.exported) (one_table q) i.of_exports }
+      by (is_table u i n) q = record { exports = exports; whole = d.whole; homes = λ p w. home_at d.follow p w; exported = subst (λ (t : Table). AreExported exports 0 0 d.whole t.exported) (one_table q) i.of_exports; numbered = subst (λ (t : Table). t.number ≡ number) (one_table q) i.of_number }
       by (is_refused r a f b) q = absurd cc
 
   answered_of : (number : ℕ) (m : Module) (given : List Table) (t : Table) → definition_table g number m given ≡ Ok t → (c : Contents) → m.contents ≡ c → Answered number t

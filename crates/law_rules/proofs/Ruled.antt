@@ -1,5 +1,6 @@
 -- The rules decide what is answered of definitions, programs and implementations.
-use Rattle.std.proofs.Common.{refl}
+use Rattle.std.proofs.Common.{refl, sym, subst}
+use Rattle.m2_tree.specs.declared.decl.Contents.{Contents}
 use Rattle.check_scope.specs.Elaborated.{least}
 use Rattle.law_typing.specs.Judging.{the_least}
 use Rattle.law_typing.proofs.Gathering.{least_lawful}
@@ -9,8 +10,9 @@ use Rattle.law_defining.proofs.Finding.{least_finds}
 use Rattle.law_defining.proofs.Starting.{definitions_answer}
 use Rattle.law_bodies.proofs.Programs as bodies
 use Rattle.law_bodies.proofs.Programs.{programs_answer}
-use Rattle.law_bodies.proofs.Implementing.{implementations_answer, implementations_known}
-use Rattle.law_rules.specs.Ruled.{with_console, DefinitionsAreRuled, ProgramsAreRuled, ImplementationsAreRuled}
+use Rattle.law_bodies.specs.Exact.{HasNoDefinition, an_implementation}
+use Rattle.law_bodies.proofs.Implementing.{implementations_answer, implementations_known, lonely_refused}
+use Rattle.law_rules.specs.Ruled.{with_console, DefinitionsAreRuled, ProgramsAreRuled, ImplementationsAreRuled, LonelyAreRefused}
 use Rattle.law_rules.proofs.Tables.{tables_foreign, own_defined}
 
 pub definitions_ruled : DefinitionsAreRuled
@@ -58,3 +60,6 @@ implementations_ruled own m imported w others b is =
       takes = k.7;
       exact = implementations_answer least the_least least_lawful least_associates bodies.least_finds own m imported (with_console imported) refl d (tables_foreign own.number imported others) k.0 k.1 k.2 k.4 k.5 k.6 k.3 k.7 b is;
     }
+
+pub lonely_ruled : LonelyAreRefused
+lonely_ruled home m imported b is = lonely_refused least the_least least_lawful home m imported (subst HasNoDefinition (sym is) an_implementation)

@@ -81,6 +81,9 @@ tables_foreign home imported i t m e n = elim (among_either imported m) [
     only here = refl
     only (later m) = elim m [ ]
 
+pub number_is : (number : ℕ) (t : Table) → IsTableOf least number t → t.number ≡ number
+number_is number t w = (answered least the_least least_lawful least_finds w).numbered
+
 pub own_defined : (number : ℕ) (own : Table) → IsTableOf least number own → IsDefined own
 own_defined number own w =
     let a = answered least the_least least_lawful least_finds w in

@@ -1,5 +1,6 @@
 -- That the rules of the language decide what is answered of a module.
-use Rattle.std.specs.Prelude.{◌≡◌, ℕ, Bool, List, [], ◌∷◌, ◌++◌}
+use Rattle.std.specs.Prelude.{◌≡◌, ℕ, Bool, List, [], ◌∷◌, ◌++◌, None}
+use Rattle.m2_rule.specs.declared.rule.Rule.TheVariants as rule
 use Rattle.m2_tree.specs.declared.name.Ident.{Ident}
 use Rattle.m2_tree.specs.declared.decl.Block.{Block}
 use Rattle.m2_tree.specs.declared.decl.Def.{Def}
@@ -9,6 +10,8 @@ use Rattle.typed_tree.specs.declared.table.Table.{Table}
 use Rattle.check_scope.specs.Elaborated.{least}
 use Rattle.check_definition.specs.Predeclared.{console, first_scope}
 use Rattle.check_body.specs.Own.{implementation_scope}
+use Rattle.check_body.specs.Checks.{body_module}
+use Rattle.def_typing.specs.Operators.{◌!◌}
 use Rattle.def_typing.specs.Things.{Standing}
 use Rattle.def_typing.specs.Parts.{Among}
 use Rattle.def_typing.specs.Imports.{all_imported}
@@ -17,7 +20,7 @@ use Rattle.law_typing.specs.Exact.{Knows}
 use Rattle.law_importing.specs.Exact.{StandsFor}
 use Rattle.law_defining.specs.Exact.{none, IsTaken, AreSound, IsDefinitionExact}
 use Rattle.law_defining.specs.Importers.{IsTableOf, CanBeImported}
-use Rattle.law_bodies.specs.Exact.{declares, IsTakenBy, IsProgramExact, IsImplementationExact}
+use Rattle.law_bodies.specs.Exact.{declares, IsTakenBy, IsAnswered, IsProgramExact, IsImplementationExact}
 
 -- the tables that a module is checked with: the table of Console is always there
 abbrev pub with_console : List Table → List Table
@@ -77,6 +80,12 @@ pub record IsImplementationRuled (own : Table) (m : Module) (imported : List Tab
   pub exact : IsImplementationExact least the_least own m imported (with_console imported) exports
       names taken b
 
+-- An implementation without a definition is refused.
+abbrev pub IsLonely : (home : ℕ) → Module → List Table → Type 0
+IsLonely home m imported =
+    IsAnswered least the_least (λ t. ⊥) (λ f. f ≡ m.name.pos ! rule.LonelyModule)
+    (body_module least home m None imported)
+
 abbrev pub DefinitionsAreRuled : Type 0
 DefinitionsAreRuled =
     (home : ℕ) (m : Module) (imported : List Table) (defs : List Def)
@@ -92,3 +101,8 @@ ImplementationsAreRuled =
     (own : Table) (m : Module) (imported : List Table) → IsTableOf least own.number own
     → AreImported own.number imported → (b : Block) → m.contents ≡ contents.Implementation b
     → IsImplementationRuled own m imported b
+
+abbrev pub LonelyAreRefused : Type 0
+LonelyAreRefused =
+    (home : ℕ) (m : Module) (imported : List Table) (b : Block)
+    → m.contents ≡ contents.Implementation b → IsLonely home m imported
