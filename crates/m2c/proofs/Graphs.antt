@@ -174,7 +174,7 @@ module _ (files : List SourceFile) (fs : List (List ℕ × Module)) (numbers : L
         starts = starts;
         graph = have;
         least = all_least fs;
-        ruled = all_ruled fs;
+        ruled = all_ruled fs numbers jobs starts have.is_graph;
         none = none;
         program = p;
         typed = its.typed;
@@ -203,7 +203,7 @@ module _ (files : List SourceFile) (fs : List (List ℕ × Module)) (numbers : L
     starts = starts;
     graph = have;
     least = all_least fs;
-    ruled = all_ruled fs;
+    ruled = all_ruled fs numbers jobs starts have.is_graph;
     none = none;
     program = its.program;
     typed = its.typed;

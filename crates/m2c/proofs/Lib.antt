@@ -1,9 +1,9 @@
 mod Least
-mod Ruled
 pub mod Bodies
 pub mod Two
 pub mod EachOnce
 pub mod Unrefused
+mod Ruled
 pub mod Programs
 pub mod Linked
 pub mod Valid

@@ -34,7 +34,7 @@ use Rattle.build_jobs.specs.declared.reading.Read.TheVariants as read
 use Rattle.build_jobs.specs.declared.outcome.Compiled.{Compiled}
 use Rattle.build_jobs.specs.declared.outcome.Compiled.TheVariants as jobs
 use Rattle.m2c.specs.Least.{IsLeastReported}
-use Rattle.m2c.specs.Ruled.{IsRuled}
+use Rattle.m2c.specs.Ruled.{AreRuled}
 use Rattle.m2c.specs.Order.{AreInOrder}
 use Rattle.build_jobs.specs.Reading.{AreRead}
 use Rattle.build_jobs.specs.Jobs.{all_compiled}
@@ -191,7 +191,7 @@ pub record AreUncompiled (files : List SourceFile) (refusals : List Refusal) : T
   pub starts : List ℕ
   pub graph : HaveGraph files trees numbers all_jobs starts
   pub least : All (λ f. IsLeastReported f.1) trees
-  pub ruled : All (λ f. IsRuled f.1) trees
+  pub ruled : AreRuled (modules trees) numbers all_jobs
   pub some : refused_by trees numbers all_jobs ≢ []
   pub reported : AreReported (refused_by trees numbers all_jobs) refusals
 
@@ -217,7 +217,7 @@ pub record IsTooLarge (files : List SourceFile) (pages : ℕ) (refusals : List R
   pub starts : List ℕ
   pub graph : HaveGraph files trees numbers all_jobs starts
   pub least : All (λ f. IsLeastReported f.1) trees
-  pub ruled : All (λ f. IsRuled f.1) trees
+  pub ruled : AreRuled (modules trees) numbers all_jobs
   pub none : refused_by trees numbers all_jobs ≡ []
   pub program : Modules
   pub typed : AreTyped (modules trees) numbers all_jobs starts program
@@ -238,7 +238,7 @@ pub record IsProgram (files : List SourceFile) (pages : ℕ) (link : List ℕ)
   pub starts : List ℕ
   pub graph : HaveGraph files trees numbers all_jobs starts
   pub least : All (λ f. IsLeastReported f.1) trees
-  pub ruled : All (λ f. IsRuled f.1) trees
+  pub ruled : AreRuled (modules trees) numbers all_jobs
   pub none : refused_by trees numbers all_jobs ≡ []
   pub program : Modules
   pub typed : AreTyped (modules trees) numbers all_jobs starts program

@@ -33,7 +33,7 @@ returns-then-not-is_empty c =
       starts = g.starts.items;
       graph = c.requires.graph;
       least = all_least (borrow_trees c.args.trees.now);
-      ruled = all_ruled (borrow_trees c.args.trees.now);
+      ruled = all_ruled (borrow_trees c.args.trees.now) g.files.items (map items_of g.jobs.items) g.starts.items c.requires.graph.is_graph;
       some = λ e. let none : rs.items ≡ [] = none_reported rs.items (all ∙ e) in
           let zero : vec_len rs ≡ 0 = omega (arith, rs.ok.0, ap (λ (xs : List Refusal). length xs) none) in
           let empty : c.is_empty.result ≡ true = c.is_empty.ensures ∙ eq-eqb (vec_len rs) 0 zero in
