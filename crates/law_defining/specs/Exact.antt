@@ -1,5 +1,5 @@
 -- What is answered of a definition.
-use Rattle.std.specs.Prelude.{◌≡◌, ◌⊎◌, ℕ, Bool, true, false, List, [], ◌∷◌, ◌++◌, map, Result, Ok, Err}
+use Rattle.std.specs.Prelude.{◌≡◌, ◌⊎◌, ℕ, Bool, true, false, List, [], ◌∷◌, ◌++◌, map, Some, Result, Ok, Err}
 use Rattle.m2_rule.specs.declared.breach.Breach.{Breach}
 use Rattle.m2_tree.specs.declared.name.Ident.{Ident}
 use Rattle.m2_tree.specs.declared.decl.Constant.{Constant as ConstantDecl}
@@ -12,6 +12,7 @@ use Rattle.m2_tree.specs.declared.decl.Module.{Module}
 use Rattle.typed_tree.specs.declared.meaning.Meaning.{Meaning}
 use Rattle.typed_tree.specs.declared.known_types.Types.{Types}
 use Rattle.typed_tree.specs.declared.table.Table.{Table}
+use Rattle.typed_tree.specs.Names.{find_name}
 use Rattle.check_scope.specs.Elaborated.{Gathers}
 use Rattle.check_definition.specs.Predeclared.{console, others_of, first_scope}
 use Rattle.check_definition.specs.Importing.{numbered_modules}
@@ -25,7 +26,7 @@ use Rattle.def_typing.specs.Definitions.{Context, Placed, AllFollow}
 use Rattle.def_typing.specs.Imports as imports
 use Rattle.def_typing.specs.Imports.{Imported, all_imported, Origin, Brings}
 use Rattle.law_typing.specs.Judging.{Judges, Accounts}
-use Rattle.law_typing.specs.Exact.{Knows, IsCallFree, IsPlainType}
+use Rattle.law_typing.specs.Exact.{standing, Knows, IsCallFree, IsPlainType}
 use Rattle.law_importing.specs.Exact.{StandsFor}
 use Rattle.law_defining.specs.Exports.{AreExported}
 
@@ -85,6 +86,9 @@ pub record IsTable (home : ℕ) (m : Module) (tables : List Table) (exports : �
   pub of_types : t.reached ≡ reached_of last.types
   -- Each name that is declared is exported, with what it means, and no other is.
   pub of_exports : AreExported exports 0 0 whole t.exported
+  -- Its meaning is what the name stands for behind all declarations.
+  pub of_meanings : (x : Ident) (n : Meaning) → find_name x.name t.exported ≡ Some n
+      → last.names x ≡ standing n
 
 -- A table is answered exactly if no rule is broken, and else broken rules are reported.
 pub data IsAnswered (g : Gathers) (j : Judges g) (Is : Table → Type 0) (Breaks : Breach → Type 0)

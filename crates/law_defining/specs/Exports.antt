@@ -42,8 +42,8 @@ abbrev pub member_means : Member → Meaning
 member_means e =
     meaning.Constant (value.Scalar (record { of = e.0; base = e.0; number = pos e.1 }))
 
--- What is entered for a name of a declaration. Variables and procedures of a module are numbered in
--- the order of the text: so many are in front.
+-- What a declaration enters for a name. The variables of a module are numbered in the order of the
+-- text, and so are its procedures: the two numbers are the next ones.
 pub data IsEntry (home variables procedures : ℕ) : Declaration → Ident → Meaning → Type 0 where
   a_constant : {c : Constant} {v : Value}
       → IsEntry home variables procedures (OfConstant c) c.name (meaning.Constant v)
@@ -75,8 +75,8 @@ module _ (exports : ℕ → Ident → Standing) where
         → find_name x.name p.adds.brings ≡ Some e → m ≡ member_means e
         → Exports variables procedures p x m
 
-  -- What declarations export, in the order of the text: names, and behind them the constants of the
-  -- enumerations in their type.
+  -- What declarations export, in the order of the text: the names of each, and behind them the
+  -- constants of the enumerations in its type.
   pub data AreExported : (variables procedures : ℕ) → List Placed → List Entry → Type 0 where
     nothing_exported : {v p : ℕ} → AreExported v p [] []
     one_exports : {v p : ℕ} {d : Placed} {ds : List Placed} {es rest : List Entry}
