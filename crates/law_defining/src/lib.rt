@@ -21,7 +21,7 @@
 ghost use Rattle.check_scope.specs.Elaborated.{every, least};
 ghost use Rattle.law_typing.specs.Judging.{all_of_them, the_least};
 ghost use Rattle.law_defining.specs.Exact.{DefinitionsAreExact, DefinitionsAreKnown};
-ghost use Rattle.law_defining.specs.Importers.{TablesAreForeign, OwnNamesAreKnown};
+ghost use Rattle.law_defining.specs.Importers.{TablesAreForeign, OwnNamesAreKnown, NamesAgree};
 
 /// A definition has a table exactly if no rule is broken in its imports and in its declarations. Else what is reported are
 /// exactly the rules that are broken there; and the least refusal is a broken rule, and no broken rule is less, by place and
@@ -49,4 +49,11 @@ pub fn foreign_table_laws()
 pub fn own_name_laws()
     ensures every_rule { OwnNamesAreKnown every all_of_them }
     ensures least_rule { OwnNamesAreKnown least the_least }
+{}
+
+/// A name that a definition exports stands for the same behind its declarations, in its own implementation, and in those who
+/// import it.
+pub fn agreeing_name_laws()
+    ensures every_rule { NamesAgree every all_of_them }
+    ensures least_rule { NamesAgree least the_least }
 {}
