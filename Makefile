@@ -36,7 +36,8 @@ browser:
 	tools/try_hosts
 
 # The gate: no source makes up want of memory or has a number without a name, definitions are laid out, the pages of m2 are those
-# of docs/ and so are the numbers of definitions, each edit still fits its file, and a sample of requests for memory is refused.
+# of docs/ and so are the numbers of definitions and the index of rules, each edit still fits its file, and a sample of requests
+# for memory is refused.
 # Then every proof from nothing, the tests, the programs and the edits of must-fail/, which the prover must refuse.
 test:
 	tools/check_sources
@@ -44,6 +45,7 @@ test:
 	tools/write_explanations --check
 	tools/try_explanations --rows --check
 	tools/believed_definitions --check
+	tools/rule_index --check
 	tools/try_edits --applies
 	tools/hostile --sample
 	rt ci

@@ -131,15 +131,15 @@ element_known g at (Some a) =
     reported_where g (not (is_between (pos 0) a.number (pos 31))) at rule.OutOfRange
     (Ok (expr.Constant (type_of_number a.number a.sort) a.number))
 
-abbrev pub element : (g : Gathers) → Pos → Computed → Result TypedExpr g.Reported
-element g at (value.Constant v) = element_known g at (whole_number v)
-element g at (value.Scalar t b e) =
+abbrev pub set_element : (g : Gathers) → Pos → Computed → Result TypedExpr g.Reported
+set_element g at (value.Constant v) = element_known g at (whole_number v)
+set_element g at (value.Scalar t b e) =
     reported_where g (not (is_numeric b)) at rule.WrongArgument (Ok e)
-element g at (value.Set e) = report g at rule.WrongArgument
-element g at (value.Routine t e) = report g at rule.WrongArgument
-element g at (value.Procedure p) = report g at rule.WrongArgument
-element g at (value.Whole t d) = report g at rule.WrongArgument
-element g at value.Untaken = report g at rule.WrongArgument
+set_element g at (value.Set e) = report g at rule.WrongArgument
+set_element g at (value.Routine t e) = report g at rule.WrongArgument
+set_element g at (value.Procedure p) = report g at rule.WrongArgument
+set_element g at (value.Whole t d) = report g at rule.WrongArgument
+set_element g at value.Untaken = report g at rule.WrongArgument
 
 abbrev pub membership_of : (g : Gathers) → Membership → Result Place g.Reported
     → Result TypedExpr g.Reported → Result TypedStmt g.Reported

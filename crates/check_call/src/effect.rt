@@ -2,7 +2,7 @@
 
 ghost use Rattle.std.specs.Prelude.{◌≡◌};
 ghost use Rattle.check_scope.specs.Elaborated.{least};
-ghost use Rattle.check_call.specs.Effects.{target_of, target_at, store_statement, assignment_to, assignment_of, change_target_as, change_target, set_as, set_variable, type_of_number, known_amount, amount, element_known, element, change_by, membership_of, put};
+ghost use Rattle.check_call.specs.Effects.{target_of, target_at, store_statement, assignment_to, assignment_of, change_target_as, change_target, set_as, set_variable, type_of_number, known_amount, amount, element_known, set_element, change_by, membership_of, put};
 
 use check_const_ops::{Ordinal, whole_number};
 use check_operator::{
@@ -209,8 +209,8 @@ fn element_known(at: Pos, a: Option<Ordinal>) -> Elaborated<TypedExpr>
 }
 
 /// The element of INCL or EXCL at a place: 43 if it is no number, and 52 if a constant is not from 0 to 31.
-pub fn element(at: Pos, value: Computed) -> Elaborated<TypedExpr>
-    ensures { result ≡ element least at value }
+pub fn set_element(at: Pos, value: Computed) -> Elaborated<TypedExpr>
+    ensures { result ≡ set_element least at value }
 {
     match value {
         Computed::Constant(value) => element_known(at, whole_number(&value)),

@@ -9,7 +9,7 @@ mod standard;
 pub use argument::{actual, next_formal, with_argument};
 pub use callee::{Called, Callee, call_by, callee_of, function_of, proper_of};
 pub use effect::{
-    Target, amount, assignment_of, change_by, change_target, element, membership_of, put,
+    Target, amount, assignment_of, change_by, change_target, membership_of, put, set_element,
     set_variable, target_at, type_of_number,
 };
 pub use standard::{Form, Unary, bound_at, conversion_at, form_of, high_of, type_named, unary_at};

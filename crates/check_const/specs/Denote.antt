@@ -82,5 +82,5 @@ abbrev pub export_of : (g : Gathers) → Pos → Option Meaning → Result Meani
 export_of g at None = report g at rule.NotExported
 export_of g at (Some m) = Ok m
 
-abbrev pub member : (g : Gathers) → List Table → ℕ → Ident → Result Meaning g.Reported
-member g tables k name = export_of g name.pos (exported_by name.name (slice_get tables k))
+abbrev pub exported_meaning : (g : Gathers) → List Table → ℕ → Ident → Result Meaning g.Reported
+exported_meaning g tables k name = export_of g name.pos (exported_by name.name (slice_get tables k))

@@ -27,12 +27,12 @@ use Rattle.check_const_ops.specs.declared.operator.BinaryOp.TheVariants as op
 use Rattle.check_const_ops.specs.Operators.{mul_op, add_op}
 use Rattle.check_const_ops.specs.Operands.{number_value}
 use Rattle.check_const_ops.specs.Operate.{constant_operation, with_sign, negation}
-use Rattle.check_const_ops.specs.Sets.{element, single, span_of}
+use Rattle.check_const_ops.specs.Sets.{set_element, single, span_of}
 use Rattle.check_const.specs.declared.denoted.Denoted.{Denoted}
 use Rattle.check_const.specs.declared.denoted.Denoted.TheVariants as denoted
 use Rattle.check_const.specs.declared.call.Sort.{Sort}
 use Rattle.check_const.specs.declared.call.Sort.TheVariants.{Unary, Bound, Conversion, Never}
-use Rattle.check_const.specs.Denote.{denoted_by, denoted_of, constant_by, of_value, is_bitset, component, member}
+use Rattle.check_const.specs.Denote.{denoted_by, denoted_of, constant_by, of_value, is_bitset, component, exported_meaning}
 use Rattle.check_const.specs.Calls.{sort_of, type_in, type_argument, unary, bound, conversion_call}
 
 -- an expression or a designator: the place of its first token, what it stands for in a scope, and
@@ -76,7 +76,7 @@ abbrev pub single_of : (g : Gathers) → Pos → Result Value g.Reported → Res
 single_of g at v = v ▷ single g at
 
 abbrev pub element_of : (g : Gathers) → Pos → Result Value g.Reported → Result Ordinal g.Reported
-element_of g at v = v ▷ element g at
+element_of g at v = v ▷ set_element g at
 
 abbrev pub joined_bits : (g : Gathers) → Result ℕ g.Reported → Result ℕ g.Reported
     → Result ℕ g.Reported
@@ -105,12 +105,12 @@ relation_value g o at a at' b = of_value (constant_operation g (op.Relation o.op
 abbrev pub first_name : (g : Gathers) → Scope g.Reported → Ident → Result Denoted g.Reported
 first_name g s name = denoted_of (looked_up g s name)
 
-abbrev pub member_of : (g : Gathers) → Scope g.Reported → ℕ → Ident → Result Denoted g.Reported
-member_of g s k name = member g s.tables k name ▷ λ m. Ok (denoted_by m)
+abbrev pub name_in_module : (g : Gathers) → Scope g.Reported → ℕ → Ident → Result Denoted g.Reported
+name_in_module g s k name = exported_meaning g s.tables k name ▷ λ m. Ok (denoted_by m)
 
 abbrev pub field_of : (g : Gathers) → Scope g.Reported → Pos → Ident → Denoted
     → Result Denoted g.Reported
-field_of g s at name (denoted.Module k) = member_of g s k name
+field_of g s at name (denoted.Module k) = name_in_module g s k name
 field_of g s at name denoted.Variable = component g at denoted.Variable
 field_of g s at name (denoted.Value v) = component g at (denoted.Value v)
 field_of g s at name (denoted.Type t) = component g at (denoted.Type t)

@@ -4,12 +4,12 @@ ghost use Rattle.std.specs.Prelude.{◌≡◌, IfOk};
 ghost use Rattle.check_scope.specs.Elaborated.{least, ◌▷◌};
 ghost use Rattle.typed_tree.specs.declared.meaning.Value.TheVariants as value;
 ghost use Rattle.check_const.specs.Denote.{component};
-ghost use Rattle.check_const.specs.Parts.{relation_value, sign_place, signed_first, field_of, set_place, set_type, set_of, joined_bits, value_at, first_name, named_type, member_of, single_of, element_of};
+ghost use Rattle.check_const.specs.Parts.{relation_value, sign_place, signed_first, field_of, set_place, set_type, set_of, joined_bits, value_at, first_name, named_type, name_in_module, single_of, element_of};
 
 use crate::call::type_in;
 use crate::denoted::{Denoted, component, denoted_by, denoted_of, is_bitset, of_value};
-use crate::qualified::member;
-use check_const_ops::{BinaryOp, Ordinal, constant_operation, element, single, with_sign};
+use crate::qualified::exported_meaning;
+use check_const_ops::{BinaryOp, Ordinal, constant_operation, set_element, single, with_sign};
 use check_scope::{Elaborated, Scope, both, looked_up, of_sort};
 use m2_rule::{Breach, Rule};
 use m2_tree::{Ident, Operator, Pos, Quoted, RelOp, Sign};
@@ -109,14 +109,14 @@ pub fn first_name(scope: &Scope<Breach>, name: &Ident) -> Result<Elaborated<Deno
     Ok(denoted_of(looked_up(scope, name)?))
 }
 
-fn member_of(
+fn name_in_module(
     scope: &Scope<Breach>,
     place: usize,
     name: &Ident,
 ) -> Result<Elaborated<Denoted>, AllocError>
-    ensures { IfOk result (λ d. d ≡ member_of least scope.now place name.now) }
+    ensures { IfOk result (λ d. d ≡ name_in_module least scope.now place name.now) }
 {
-    match member(scope, place, name)? {
+    match exported_meaning(scope, place, name)? {
         Err(breach) => Ok(Err(breach)),
         Ok(meaning) => Ok(Ok(denoted_by(meaning))),
     }
@@ -131,7 +131,7 @@ fn field_of(
     ensures { IfOk result (λ d. d ≡ field_of least scope.now at name.now denoted) }
 {
     match denoted {
-        Denoted::Module(place) => member_of(scope, place, name),
+        Denoted::Module(place) => name_in_module(scope, place, name),
         Denoted::Variable => Ok(component(at, Denoted::Variable)),
         Denoted::Value(value) => Ok(component(at, Denoted::Value(value))),
         Denoted::Type(t) => Ok(component(at, Denoted::Type(t))),
@@ -191,7 +191,7 @@ pub fn element_of(at: Pos, value: Elaborated<Value>) -> Elaborated<Ordinal>
 {
     match value {
         Err(breach) => Err(breach),
-        Ok(value) => element(at, &value),
+        Ok(value) => set_element(at, &value),
     }
 }
 

@@ -15,4 +15,4 @@ pub use expr::{
     component_in, element_of, field_in, first_name, joined_bits, named_type, relation_value,
     set_of, set_place, set_type, sign_place, signed_first, single_of, text_of, value_at,
 };
-pub use qualified::member;
+pub use qualified::exported_meaning;

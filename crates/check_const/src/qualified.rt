@@ -3,7 +3,7 @@
 ghost use Rattle.std.specs.Prelude.{◌≡◌, IfOk};
 ghost use Rattle.std.specs.Option.{option_copied};
 ghost use Rattle.check_scope.specs.Elaborated.{least};
-ghost use Rattle.check_const.specs.Denote.{exported_by, export_of, member};
+ghost use Rattle.check_const.specs.Denote.{exported_by, export_of, exported_meaning};
 
 use check_scope::{Elaborated, Scope, report};
 use m2_rule::{Breach, Rule};
@@ -31,12 +31,12 @@ fn export_of(at: Pos, meaning: Option<&Meaning>) -> Result<Elaborated<Meaning>, 
 }
 
 /// What a name of a module means. The module is known by the place of its table.
-pub fn member(
+pub fn exported_meaning(
     scope: &Scope<Breach>,
     place: usize,
     name: &Ident,
 ) -> Result<Elaborated<Meaning>, AllocError>
-    ensures { IfOk result (λ m. m ≡ member least scope.now.tables place name.now) }
+    ensures { IfOk result (λ m. m ≡ exported_meaning least scope.now.tables place name.now) }
 {
     export_of(
         name.pos,

@@ -52,8 +52,8 @@ place (negsuc n) = 0
 abbrev pub has : ℕ → ℤ → Bool
 has bits n = bits / 2 ^ place n % 2 == 1
 
-abbrev pub member_of : (g : Gathers) → Pos → Pos → Ordinal → ℕ → Result Value g.Reported
-member_of g spot at x bits =
+abbrev pub membership_value : (g : Gathers) → Pos → Pos → Ordinal → ℕ → Result Value g.Reported
+membership_value g spot at x bits =
     reported_where g (not (is_number x.sort)) spot rule.WrongType
     (reported_where g (not (is_between (pos 0) x.number (pos 31))) at rule.OutOfRange
     (Ok (truth (has bits x.number))))
@@ -73,7 +73,7 @@ member g (Relation rel.Less) spot at x bits = report g spot rule.WrongType
 member g (Relation rel.AtMost) spot at x bits = report g spot rule.WrongType
 member g (Relation rel.Greater) spot at x bits = report g spot rule.WrongType
 member g (Relation rel.AtLeast) spot at x bits = report g spot rule.WrongType
-member g (Relation rel.In) spot at x bits = member_of g spot at x bits
+member g (Relation rel.In) spot at x bits = membership_value g spot at x bits
 
 -- ---- elements in braces
 
@@ -89,15 +89,16 @@ abbrev pub ordinal_or_refusal : (g : Gathers) → Pos → Option Ordinal → Res
 ordinal_or_refusal g at None = report g at rule.WrongType
 ordinal_or_refusal g at (Some a) = Ok a
 
-abbrev pub element : (g : Gathers) → Pos → Value → Result Ordinal g.Reported
-element g at v = ordinal_or_refusal g at (whole_number v)
+abbrev pub set_element : (g : Gathers) → Pos → Value → Result Ordinal g.Reported
+set_element g at v = ordinal_or_refusal g at (whole_number v)
 
 abbrev pub is_element : (g : Gathers) → Pos → Ordinal → Result (Unit {0}) g.Reported
 is_element g at a =
     reported_where g (not (is_between (pos 0) a.number (pos 31))) at rule.OutOfRange (Ok tt)
 
 abbrev pub single : (g : Gathers) → Pos → Value → Result ℕ g.Reported
-single g at v = element g at v ▷ λ a. is_element g at a ▷ λ fine. Ok (with_span 0 a.number a.number)
+single g at v =
+    set_element g at v ▷ λ a. is_element g at a ▷ λ fine. Ok (with_span 0 a.number a.number)
 
 abbrev pub has_none : Option (Option TypeNo) → Bool
 has_none None = true

@@ -2,7 +2,7 @@
 
 ghost use Rattle.std.specs.Prelude.{◌≡◌};
 ghost use Rattle.check_scope.specs.Elaborated.{least};
-ghost use Rattle.check_const_ops.specs.Sets.{ordinal_or_refusal, element, is_element, single, is_unlike, in_set, alike_in_order, related_bounds, span_of};
+ghost use Rattle.check_const_ops.specs.Sets.{ordinal_or_refusal, set_element, is_element, single, is_unlike, in_set, alike_in_order, related_bounds, span_of};
 
 use crate::bounds::bounds_in_order;
 use crate::operand::Ordinal;
@@ -24,8 +24,8 @@ fn ordinal_or_refusal(at: Pos, x: Option<Ordinal>) -> Elaborated<Ordinal>
 }
 
 /// The number of an element, which is an INTEGER, a CARDINAL or a number without a type.
-pub fn element(at: Pos, value: &Value) -> Elaborated<Ordinal>
-    ensures { result ≡ element least at value.now }
+pub fn set_element(at: Pos, value: &Value) -> Elaborated<Ordinal>
+    ensures { result ≡ set_element least at value.now }
 {
     ordinal_or_refusal(at, whole_number(value))
 }
@@ -43,7 +43,7 @@ fn is_element(at: Pos, a: Ordinal) -> Elaborated<()>
 pub fn single(at: Pos, value: &Value) -> Elaborated<u32>
     ensures { result ≡ single least at value.now }
 {
-    match element(at, value) {
+    match set_element(at, value) {
         Err(breach) => Err(breach),
         Ok(a) => match is_element(at, a) {
             Err(breach) => Err(breach),

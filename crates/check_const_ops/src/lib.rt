@@ -11,7 +11,7 @@ mod sets;
 mod standard;
 
 pub use bounds::{are_ordered, bounds_in_order, fits_base, is_of_base, ordinal_in};
-pub use elements::{element, single, span_of};
+pub use elements::{set_element, single, span_of};
 pub use number::fits;
 pub use operand::{Operand, Ordinal, is_number, is_truth, number_value, operand_of};
 pub use operate::{

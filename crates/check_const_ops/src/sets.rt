@@ -2,7 +2,7 @@
 
 ghost use Rattle.std.specs.Prelude.{◌≡◌, ◌<◌};
 ghost use Rattle.check_scope.specs.Elaborated.{least};
-ghost use Rattle.check_const_ops.specs.Sets.{without, set_related, on_sets, place, has, up_to, with_span, member, member_of};
+ghost use Rattle.check_const_ops.specs.Sets.{without, set_related, on_sets, place, has, up_to, with_span, member, membership_value};
 
 use crate::operand::{Ordinal, is_number, truth};
 use crate::operator::BinaryOp;
@@ -84,7 +84,7 @@ pub fn member(op: BinaryOp, spot: Pos, at: Pos, x: Ordinal, bits: u32) -> Elabor
     ensures { result ≡ member least op spot at x bits }
 {
     match op {
-        BinaryOp::Relation(RelOp::In) => member_of(spot, at, x, bits),
+        BinaryOp::Relation(RelOp::In) => membership_value(spot, at, x, bits),
         BinaryOp::Relation(_)
         | BinaryOp::Plus
         | BinaryOp::Minus
@@ -97,8 +97,8 @@ pub fn member(op: BinaryOp, spot: Pos, at: Pos, x: Ordinal, bits: u32) -> Elabor
     }
 }
 
-fn member_of(spot: Pos, at: Pos, x: Ordinal, bits: u32) -> Elaborated<Value>
-    ensures { result ≡ member_of least spot at x bits }
+fn membership_value(spot: Pos, at: Pos, x: Ordinal, bits: u32) -> Elaborated<Value>
+    ensures { result ≡ membership_value least spot at x bits }
 {
     if !is_number(x.sort) {
         return report(spot, Rule::WrongType);

@@ -23,7 +23,7 @@ use Rattle.check_call.specs.declared.callee.Callee.{Callee}
 use Rattle.check_call.specs.declared.callee.Called.{Called}
 use Rattle.check_call.specs.declared.callee.Called.TheVariants as called
 use Rattle.check_call.specs.Callees.{callee_of, proper_of, call_by}
-use Rattle.check_call.specs.Effects.{change_target, amount, change_by, set_variable, element, membership_of, put}
+use Rattle.check_call.specs.Effects.{change_target, amount, change_by, set_variable, set_element, membership_of, put}
 use Rattle.check_expr.specs.Meanings.{Meant, value_of, breaches_in_all, wrong_count, actuals, formals_of}
 
 abbrev pub call_done : {T : Type 0} → Callee → Result (List Argument) T → Result TypedStmt T
@@ -61,7 +61,7 @@ module _ (g : Gathers) where
   member_by s at o [] = wrong_count g s at []
   member_by s at o (v ∷ []) = wrong_count g s at (v ∷ [])
   member_by s at o (v ∷ n ∷ []) =
-      membership_of g o (set_in s v) (value_of g s n ▷ element g n.fixed.at)
+      membership_of g o (set_in s v) (value_of g s n ▷ set_element g n.fixed.at)
   member_by s at o (v ∷ n ∷ x ∷ xs) = wrong_count g s at (v ∷ n ∷ x ∷ xs)
 
   abbrev pub halt_statement : Scope g.Reported → Pos → List (Meant g.Reported)

@@ -30,7 +30,7 @@ use Rattle.check_scope.specs.Scopes.{looked_up}
 use Rattle.check_const_ops.specs.declared.operator.BinaryOp.TheVariants as op
 use Rattle.check_const_ops.specs.Operators.{mul_op, add_op}
 use Rattle.check_const.specs.declared.denoted.Denoted.{Denoted}
-use Rattle.check_const.specs.Denote.{member}
+use Rattle.check_const.specs.Denote.{exported_meaning}
 use Rattle.check_const.specs.Parts.{Part, Pick, Adds, constant, named_type, sign_place}
 use Rattle.check_const.specs.Parts as constants
 use Rattle.check_operator.specs.declared.computed.Computed.{Computed}
@@ -87,13 +87,14 @@ abbrev pub first_name : (g : Gathers) → Scope g.Reported → Ident
     → Result Designated (Meaningless g.Reported)
 first_name g s name = looked_up g s name ▷ λ m. plain (designated_by g s.level name.pos m)
 
-abbrev pub member_of : (g : Gathers) → Scope g.Reported → ℕ → Ident → Result Designated g.Reported
-member_of g s k name = member g s.tables k name ▷ designated_by g s.level name.pos
+abbrev pub name_in_module : (g : Gathers) → Scope g.Reported → ℕ → Ident
+    → Result Designated g.Reported
+name_in_module g s k name = exported_meaning g s.tables k name ▷ designated_by g s.level name.pos
 
 -- a name of a module, or a field of a record
 abbrev pub field_of : (g : Gathers) → Scope g.Reported → Pos → Ident → Designated
     → Result Designated g.Reported
-field_of g s at name (designated.Module k) = member_of g s k name
+field_of g s at name (designated.Module k) = name_in_module g s k name
 field_of g s at name (designated.Value x) = field g s.types at name (designated.Value x)
 field_of g s at name (designated.Variable t d) = field g s.types at name (designated.Variable t d)
 field_of g s at name (designated.Open t slot) = field g s.types at name (designated.Open t slot)

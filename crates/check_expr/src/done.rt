@@ -2,15 +2,15 @@
 
 ghost use Rattle.std.specs.Prelude.{◌≡◌, IfOk, map};
 ghost use Rattle.check_scope.specs.Elaborated.{least, ◌▷◌};
-ghost use Rattle.check_call.specs.Effects.{amount, change_by, element, membership_of};
+ghost use Rattle.check_call.specs.Effects.{amount, change_by, set_element, membership_of};
 ghost use Rattle.check_expr.specs.Meanings.{meanings_of, head, value_of, wrong_count};
 ghost use Rattle.check_expr.specs.Effects.{call_done, routine_done, change_target_in, change_statement, set_in, member_by, halt_statement, put_by, function_done, standard_done, callee_statement, call_statement};
 
 use crate::body::{actuals, breaches_in_all, designation, stands_for, value_of};
 use crate::pieces::{first_of, formals_of, place_of};
 use check_call::{
-    Called, Callee, amount, call_by, callee_of, change_by, change_target, element, membership_of,
-    proper_of, put, set_variable,
+    Called, Callee, amount, call_by, callee_of, change_by, change_target, membership_of, proper_of,
+    put, set_element, set_variable,
 };
 use check_operator::signature_of;
 use check_scope::{Elaborated, Scope, of_heading, of_sort, refusal_beside, reported_beside};
@@ -164,11 +164,11 @@ fn element_at(
 ) -> Result<Elaborated<TypedExpr>, AllocError>
     ensures { IfOk result
         (λ j. j ≡ (value_of least scope.now (meanings_of least arg.now)
-        ▷ element least (meanings_of least arg.now).fixed.at)) }
+        ▷ set_element least (meanings_of least arg.now).fixed.at)) }
 {
     match value_of(alloc, scope, arg)? {
         Err(breach) => Ok(Err(breach)),
-        Ok(value) => Ok(element(place_of(arg), value)),
+        Ok(value) => Ok(set_element(place_of(arg), value)),
     }
 }
 
@@ -184,7 +184,7 @@ fn member_of(
         j
         ≡ membership_of least membership (set_in least scope.now (meanings_of least set.now))
         (value_of least scope.now (meanings_of least arg.now)
-        ▷ element least (meanings_of least arg.now).fixed.at)) }
+        ▷ set_element least (meanings_of least arg.now).fixed.at)) }
 {
     let place = set_at(alloc, scope, set)?;
     let element = element_at(alloc, scope, arg)?;

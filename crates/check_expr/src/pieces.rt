@@ -5,11 +5,11 @@ ghost use Rattle.std.specs.Option.{option_copied};
 ghost use Rattle.check_scope.specs.Elaborated.{least, of_sort, of_heading, ◌▷◌};
 ghost use Rattle.check_const.specs.Parts as constants;
 ghost use Rattle.check_call.specs.Functions.{type_named, high_of, unary_at};
-ghost use Rattle.check_expr.specs.Meanings.{part, meanings_of, head, of_computed, signed_first, relation_value, first_name, member_of, field_of, field_at, index_at, formals_of, passed_for, argument_by, call_given, type_in, type_of};
+ghost use Rattle.check_expr.specs.Meanings.{part, meanings_of, head, of_computed, signed_first, relation_value, first_name, name_in_module, field_of, field_at, index_at, formals_of, passed_for, argument_by, call_given, type_in, type_of};
 ghost use Rattle.m2_rule.specs.declared.rule.Rule.TheVariants as rule;
 
 use check_call::{Callee, Unary, actual, call_by, high_of, type_named, unary_at};
-use check_const::{Denoted, member, set_place, sign_place};
+use check_const::{Denoted, exported_meaning, set_place, sign_place};
 use check_const_ops::BinaryOp;
 use check_operator::{
     Computed, Designated, designated_by, element_at_index, field, function_result, indices,
@@ -120,15 +120,15 @@ pub fn first_name(
     }
 }
 
-fn member_of(
+fn name_in_module(
     alloc: Global,
     scope: &Scope<Breach>,
     place: usize,
     name: &Ident,
 ) -> Result<Elaborated<Designated>, AllocError>
-    ensures { IfOk result (λ d. d ≡ member_of least scope.now place name.now) }
+    ensures { IfOk result (λ d. d ≡ name_in_module least scope.now place name.now) }
 {
-    match member(scope, place, name)? {
+    match exported_meaning(scope, place, name)? {
         Err(breach) => Ok(Err(breach)),
         Ok(meaning) => designated_by(alloc, scope.level, name.pos, meaning),
     }
@@ -145,7 +145,7 @@ pub fn field_of(
     ensures { IfOk result (λ d. d ≡ field_of least scope.now at name.now from) }
 {
     match from {
-        Designated::Module(place) => member_of(alloc, scope, place, name),
+        Designated::Module(place) => name_in_module(alloc, scope, place, name),
         Designated::Value(value) => { field(&scope.types, at, name, Designated::Value(value)) }
         Designated::Variable(t, place) => {
             field(&scope.types, at, name, Designated::Variable(t, place))

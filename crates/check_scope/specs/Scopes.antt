@@ -107,12 +107,13 @@ field_numbered r fs (Some n) =
 abbrev pub field_at : OpenedRecord → List ℕ → List (List ℕ × TypeNo) → Option OpenedField
 field_at r name fs = field_numbered r fs (place_of name fs)
 
-abbrev pub field_of : OpenedRecord → List ℕ → Option (List (List ℕ × TypeNo)) → Option OpenedField
-field_of r name None = None
-field_of r name (Some fs) = field_at r name fs
+abbrev pub field_among : OpenedRecord → List ℕ → Option (List (List ℕ × TypeNo))
+    → Option OpenedField
+field_among r name None = None
+field_among r name (Some fs) = field_at r name fs
 
 abbrev pub field_in : Types → List ℕ → OpenedRecord → Option OpenedField
-field_in types name r = field_of r name (fields_at types r.of)
+field_in types name r = field_among r name (fields_at types r.of)
 
 abbrev pub open_field : Types → List ℕ → List OpenedRecord → Option OpenedField
 open_field types name [] = None

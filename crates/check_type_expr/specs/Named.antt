@@ -10,7 +10,7 @@ use Rattle.typed_tree.specs.declared.meaning.Meaning.TheVariants as meaning
 use Rattle.check_scope.specs.Elaborated.{Gathers, report, of_sort, ◌▷◌}
 use Rattle.check_scope.specs.declared.scope.Scope.{Scope}
 use Rattle.check_scope.specs.Scopes.{looked_up}
-use Rattle.check_const.specs.Denote.{member}
+use Rattle.check_const.specs.Denote.{exported_meaning}
 
 -- the place of a name's first token
 abbrev pub first_place : Option Ident → Ident → Pos
@@ -35,7 +35,7 @@ type_meant g at (meaning.Module k) = report g at rule.NoType
 -- M.x, if M means a module
 abbrev pub in_module : (g : Gathers) → Scope g.Reported → Pos → Ident → Meaning
     → Result TypeNo g.Reported
-in_module g s at name (meaning.Module k) = member g s.tables k name ▷ type_meant g at
+in_module g s at name (meaning.Module k) = exported_meaning g s.tables k name ▷ type_meant g at
 in_module g s at name (meaning.Type t n) = report g at rule.NoType
 in_module g s at name (meaning.Constant v) = report g at rule.NoType
 in_module g s at name (meaning.Variable v) = report g at rule.NoType

@@ -4,7 +4,7 @@ ghost use Rattle.std.specs.Prelude.{◌≡◌, IfOk};
 ghost use Rattle.check_scope.specs.Elaborated.{least, ◌▷◌};
 ghost use Rattle.check_type_expr.specs.Named.{first_of, type_meant, in_module, of_module, named_type};
 
-use check_const::member;
+use check_const::exported_meaning;
 use check_scope::{Elaborated, Scope, looked_up, of_sort, report};
 use m2_rule::{Breach, Rule};
 use m2_tree::{Ident, Pos, Qualified};
@@ -56,7 +56,7 @@ fn in_module(
     ensures { IfOk result (λ t. t ≡ in_module least scope.now at name.now meaning) }
 {
     match meaning {
-        Meaning::Module(place) => Ok(type_by(at, member(scope, place, name)?)),
+        Meaning::Module(place) => Ok(type_by(at, exported_meaning(scope, place, name)?)),
         Meaning::Type(_, _) => Ok(report(at, Rule::NoType)),
         Meaning::Constant(_) => Ok(report(at, Rule::NoType)),
         Meaning::Variable(_) => Ok(report(at, Rule::NoType)),

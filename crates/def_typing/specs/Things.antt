@@ -121,9 +121,9 @@ pub data Misassigned (types : Types) (t : TypeNo) (at : Pos) (broken : Rule) (k 
 
 -- ---- components
 
-abbrev pub field_of : Option TypeNo → Standing
-field_of None = Undeclared
-field_of (Some t) = Known (AVariable t)
+abbrev pub field_standing : Option TypeNo → Standing
+field_standing None = Undeclared
+field_standing (Some t) = Known (AVariable t)
 
 -- what a name behind a point stands for
 pub data Picks (types : Types) (exports : ℕ → Ident → Standing) (name : Ident)
@@ -131,7 +131,7 @@ pub data Picks (types : Types) (exports : ℕ → Ident → Standing) (name : Id
   of_module : {k : ℕ} → Picks types exports name (AModule k) (exports k name)
   of_record : {t : TypeNo} {fields : List (List ℕ × TypeNo)}
       → IsMade types t (shape.Record fields)
-      → Picks types exports name (AVariable t) (field_of (find_name name.name fields))
+      → Picks types exports name (AVariable t) (field_standing (find_name name.name fields))
 
 -- what has elements, with the types of its index and its elements
 pub data Indexes (types : Types) : Thing → TypeNo → TypeNo → Type 0 where

@@ -18,7 +18,7 @@ use crate::amounts::exact;
 use crate::frame::Framed;
 use emit_tables::{Signatures, is_own};
 use indexmap::IndexMap;
-use layout_storage::{Kind, Layout, Row, element_of, field_of, scalar_in, size_of, start_of};
+use layout_storage::{Kind, Layout, Row, element_of, field_offset, scalar_in, size_of, start_of};
 use std::alloc::{AllocError, Global};
 use std::marker::Model;
 use typed_tree::{Imported, Routine, TypeNo, TypedModule, Types, Variable, Which};
@@ -205,7 +205,7 @@ impl<'a> Home<'a> {
     pub fn offset(&self, t: TypeNo, number: usize) -> Result<u32, EncodeError>
         ensures { IfOk result (λ n. n ≡ offset (tree self.now.types t) (number ∷ [])) }
     {
-        exact(field_of(&self.module_body.types, &self.layout.extents, t, number))
+        exact(field_offset(&self.module_body.types, &self.layout.extents, t, number))
     }
 
     /// What is kept of the variables of a module.

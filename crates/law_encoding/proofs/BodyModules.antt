@@ -13,7 +13,7 @@ use Rattle.wasm_tree.specs.declared.module.Data.{Data}
 use Rattle.wasm_code.specs.Number.{unsigned}
 use Rattle.wasm_code.specs.Parts.{vector, with_size, bytes_left, section}
 use Rattle.wasm_code.specs.Instructions.{code}
-use Rattle.wasm_binary.specs.Binary.{element, data_segment, types_of, module_fits}
+use Rattle.wasm_binary.specs.Binary.{element_segment, data_segment, types_of, module_fits}
 use Rattle.typed_tree.specs.declared.typed_module.TypedModule.{TypedModule}
 use Rattle.def_scheme.specs.Coded.{body_index}
 use Rattle.def_scheme.specs.Modules.{functions, slots, data_of, typed_module}
@@ -109,15 +109,15 @@ within_bytes n h = omega (arith, h)
 slots_vector : (n : ℕ) → n ≤ few_entries → (vector unsigned).fits (range_with_len body_index n) ≡ true
 slots_vector n h = both_true _ _ (lt-ltb _ _ (few_slots n _ (length-range_with_len body_index n) h)) (slots_fit body_index n (within_bytes n h))
 
-element_fits : (n : ℕ) → n ≤ few_entries → element.fits (slots_of n) ≡ true
-unfolding element
+element_fits : (n : ℕ) → n ≤ few_entries → element_segment.fits (slots_of n) ≡ true
+unfolding element_segment
 element_fits n h = both_true _ _ refl (both_true _ _ (offset_fits 3 refl) (slots_vector n h))
 
 element_sum : (m a r o v c f n k : ℕ) → m ≡ a + r → a ≤ 5 → r ≡ o + v → o ≤ 7 → v ≡ c + f → c ≤ 5 → f ≤ 5 * k → k ≡ n → m ≤ 17 + 5 * n
 element_sum m a r o v c f n k e h g l i j p q = omega (arith, e, h, g, l, i, j, p, q)
 
-element_short : (n : ℕ) → n ≤ few_entries → length (element.encoding (slots_of n)) ≤ 17 + 5 * n
-unfolding element
+element_short : (n : ℕ) → n ≤ few_entries → length (element_segment.encoding (slots_of n)) ≤ 17 + 5 * n
+unfolding element_segment
 element_short n h =
     let ns = range_with_len body_index n in
     let count = length-range_with_len body_index n in
@@ -134,11 +134,11 @@ alone_sum m u b x e f h l = omega (arith, e, f, h, l)
 element_room : (m n : ℕ) → m ≤ 17 + 5 * n → n ≤ few_entries → m < 2 ^ 31
 element_room m n h l = omega (arith, h, l)
 
-elements_fit : (n : ℕ) → n ≤ few_entries → (section 9 element).fits (slots_of n ∷ []) ≡ true
+elements_fit : (n : ℕ) → n ≤ few_entries → (section 9 element_segment).fits (slots_of n ∷ []) ≡ true
 elements_fit n h =
     both_true _ _ (both_true true _ refl (both_true true _ refl (both_true _ _ (element_fits n h) refl)))
-    (lt-ltb _ _ (alone_sum _ (length (unsigned.encoding 1)) (length (element.encoding (slots_of n) ++ [])) (length (element.encoding (slots_of n))) (length-append (unsigned.encoding 1) (element.encoding (slots_of n) ++ []))
-    (length-append (element.encoding (slots_of n)) []) (unsigned_short 1 refl) (element_room _ n (element_short n h) h)))
+    (lt-ltb _ _ (alone_sum _ (length (unsigned.encoding 1)) (length (element_segment.encoding (slots_of n) ++ [])) (length (element_segment.encoding (slots_of n))) (length-append (unsigned.encoding 1) (element_segment.encoding (slots_of n) ++ []))
+    (length-append (element_segment.encoding (slots_of n)) []) (unsigned_short 1 refl) (element_room _ n (element_short n h) h)))
 
 -- ---- the texts
 

@@ -33,7 +33,7 @@ use Rattle.check_operator.specs.declared.computed.Designated.TheVariants as desi
 use Rattle.check_operator.specs.declared.places.Accepted.{Accepted}
 use Rattle.check_operator.specs.declared.places.Accepted.TheVariants as accepted
 use Rattle.check_call.specs.Callees.{proper_of, call_by}
-use Rattle.check_call.specs.Effects.{target_of, target_at, store_statement, assignment_to, assignment_of, change_target_as, change_target, type_of_number, known_amount, amount, change_by, set_as, set_variable, element_known, element, membership_of}
+use Rattle.check_call.specs.Effects.{target_of, target_at, store_statement, assignment_to, assignment_of, change_target_as, change_target, type_of_number, known_amount, amount, change_by, set_as, set_variable, element_known, set_element, membership_of}
 use Rattle.check_call.specs.declared.callee.Callee.{Callee}
 use Rattle.check_call.specs.declared.callee.Called.{Called}
 use Rattle.check_call.specs.declared.callee.Called.TheVariants as called
@@ -227,7 +227,7 @@ module _ (g : Gathers) (s : Scope g.Reported) where
   element_known_most n at None l = reported_most g at rule.WrongArgument
   element_known_most n at (Some a) l = where_most g _ at rule.OutOfRange (fine (expr.Constant (type_of_number a.number a.sort) a.number) (le_trans _ 0 n (le_of _ 0 (expr_constant (type_of_number a.number a.sort) a.number)) l))
 
-  element_most : (n : ℕ) (at : Pos) (x : Computed) → outward_value x ≤ n → Expr_ n (element g at x)
+  element_most : (n : ℕ) (at : Pos) (x : Computed) → outward_value x ≤ n → Expr_ n (set_element g at x)
   element_most n at (value.Constant v) p = element_known_most n at (whole_number v) p
   element_most n at (value.Scalar t b e) p = where_most g _ at rule.WrongArgument (fine e p)
   element_most n at (value.Set e) p = reported_most g at rule.WrongArgument

@@ -19,7 +19,7 @@ use Rattle.wasm_tree.specs.declared.module.WModule.{WModule}
 use Rattle.wasm_code.specs.Number.{unsigned}
 use Rattle.wasm_code.specs.Parts.{section}
 use Rattle.wasm_code.specs.Instructions.{code_within, instr_encoding}
-use Rattle.wasm_binary.specs.Binary.{func_type, import, table_type, memory_type, global, export, element, data_segment, local_count, types_of, body, bodies_encoding, module_fits}
+use Rattle.wasm_binary.specs.Binary.{func_type, import, table_type, memory_type, global, export, element_segment, data_segment, local_count, types_of, body, bodies_encoding, module_fits}
 use Rattle.law_encoding.specs.Sizes.{sum_of}
 use Rattle.law_encoding.specs.Nesting.{deepest_of}
 use Rattle.law_encoding.specs.CodeNesting.{levels, function_levels}
@@ -75,7 +75,7 @@ pub record HasRoom (m : WModule) : Type 0 where
   pub memories : (section 5 memory_type).fits m.memories ≡ true
   pub globals : (section 6 global).fits m.globals ≡ true
   pub exports : (section 7 export).fits m.exports ≡ true
-  pub elements : (section 9 element).fits m.elements ≡ true
+  pub elements : (section 9 element_segment).fits m.elements ≡ true
   pub functions : FunctionsFit m.functions
   pub segments : (section 11 data_segment).fits m.data ≡ true
 

@@ -7,7 +7,7 @@ use Rattle.wasm_tree.specs.declared.module.Body.{Body}
 use Rattle.wasm_tree.specs.Format.{Format}
 use Rattle.wasm_code.specs.Number.{unsigned}
 use Rattle.wasm_code.specs.Parts.{entries}
-use Rattle.wasm_binary.specs.Binary.{header, func_type, table_type, memory_type, import, global, export, element, data_segment}
+use Rattle.wasm_binary.specs.Binary.{header, func_type, table_type, memory_type, import, global, export, element_segment, data_segment}
 use Rattle.wasm_code.proofs.Laws.{IsBytes}
 use Rattle.law_format.specs.Places.{Cell, bytes_of, others, plain, vector_cells, func_type_cells, import_cells, global_cells, element_cells, data_cells}
 use Rattle.law_format.specs.Layouts.{Part, Mark, Byte, Opens, Closes, Last, byte_marks, flat, within, part_marks, section_marks, entry_marks, body_cells, bodies_marks, Layout, layout_marks, Fits, part_fits, body_content, body_fits}
@@ -122,7 +122,7 @@ layout_bytes l f =
     let b10 : IsBytes (flat from10) = both_flat s10 from11 (code_bytes l.bodies.size l.bodies.content f.bodies) b11 in
     let s9 : List Mark = section_marks 9 (entry_marks element_cells) l.elements in
     let from9 : List Mark = s9 ++ from10 in
-    let b9 : IsBytes (flat from9) = both_flat s9 from10 (section_bytes 9 element element_cells element_spelling (omega arith) l.elements.size l.elements.content f.elements) b10 in
+    let b9 : IsBytes (flat from9) = both_flat s9 from10 (section_bytes 9 element_segment element_cells element_spelling (omega arith) l.elements.size l.elements.content f.elements) b10 in
     let s7 : List Mark = section_marks 7 (entry_marks (plain export)) l.exports in
     let from7 : List Mark = s7 ++ from9 in
     let b7 : IsBytes (flat from7) = both_flat s7 from9 (section_bytes 7 export (plain export) export_spelling (omega arith) l.exports.size l.exports.content f.exports) b9 in

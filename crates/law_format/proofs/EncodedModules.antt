@@ -9,7 +9,7 @@ use Rattle.wasm_tree.specs.declared.module.WModule.{WModule}
 use Rattle.wasm_tree.specs.Format.{Format}
 use Rattle.wasm_code.specs.Number.{unsigned}
 use Rattle.wasm_code.specs.Parts.{entries, section}
-use Rattle.wasm_binary.specs.Binary.{header, func_type, table_type, memory_type, import, global, export, element, body, data_segment, body_encoding, bodies_encoding, code_encoding, types_of, first_sections, middle_sections, last_sections, module_encoding, module_fits}
+use Rattle.wasm_binary.specs.Binary.{header, func_type, table_type, memory_type, import, global, export, element_segment, body, data_segment, body_encoding, bodies_encoding, code_encoding, types_of, first_sections, middle_sections, last_sections, module_encoding, module_fits}
 use Rattle.law_format.specs.Places.{OtherByte, Cell, others, plain, vector_cells, func_type_cells, import_cells, global_cells, element_cells, data_cells}
 use Rattle.law_format.specs.Layouts.{Part, Mark, Opens, Closes, Last, byte_marks, flat, room, part_marks, section_marks, entry_marks, body_cells, bodies_marks, Layout, layout_marks, Fits, part_fits, section_fits, body_content, body_fits}
 use Rattle.law_format.proofs.Stops.{bytes-all}
@@ -207,7 +207,7 @@ module _ (m : WModule) where
   flat_then xs ys s t e f = flat-append xs ys ∙ ap (λ (a : List ℕ). a ++ flat ys) e ∙ ap (λ (b : List ℕ). s ++ b) f
 
   abbrev e9 : List ℕ
-  e9 = (section 9 element).encoding m.elements ++ (code_encoding m.functions ++ (section 11 data_segment).encoding m.«data»)
+  e9 = (section 9 element_segment).encoding m.elements ++ (code_encoding m.functions ++ (section 11 data_segment).encoding m.«data»)
 
   abbrev e4 : List ℕ
   e4 = (section 4 table_type).encoding m.tables ++ ((section 5 memory_type).encoding m.memories ++ ((section 6 global).encoding m.globals ++ ((section 7 export).encoding m.exports ++ e9)))
@@ -217,7 +217,7 @@ module _ (m : WModule) where
 
   flat9 : flat l9 ≡ e9
   flat9 =
-      flat_then s9 (s10 ++ (s11 ++ Last ∷ [])) _ _ (section_flat 9 element element_cells element_spelling m.elements)
+      flat_then s9 (s10 ++ (s11 ++ Last ∷ [])) _ _ (section_flat 9 element_segment element_cells element_spelling m.elements)
       (flat_then s10 (s11 ++ Last ∷ []) _ _ (code_flat m.functions) (flat-append s11 (Last ∷ []) ∙ append-nil (flat s11) ∙ section_flat 11 data_segment data_cells data_spelling m.«data»))
 
   flat4 : flat l4 ≡ e4
@@ -234,7 +234,7 @@ module _ (m : WModule) where
   encoding_is : module_encoding m ≡ header ++ e1
   unfolding module_encoding first_sections middle_sections last_sections
   encoding_is = regroup header ((section 1 func_type).encoding m.types) ((section 2 import).encoding m.imports) ((section 3 unsigned).encoding (types_of m.functions)) ((section 4 table_type).encoding m.tables) ((section 5 memory_type).encoding m.memories)
-      ((section 6 global).encoding m.globals) ((section 7 export).encoding m.exports) ((section 9 element).encoding m.elements) (code_encoding m.functions) ((section 11 data_segment).encoding m.«data»)
+      ((section 6 global).encoding m.globals) ((section 7 export).encoding m.exports) ((section 9 element_segment).encoding m.elements) (code_encoding m.functions) ((section 11 data_segment).encoding m.«data»)
     where
       regroup : (h a b c d e f g i j k : List ℕ) → (h ++ a ++ b ++ c) ++ (d ++ e ++ f ++ g) ++ (i ++ j ++ k) ≡ h ++ (a ++ (b ++ (c ++ (d ++ (e ++ (f ++ (g ++ (i ++ (j ++ k)))))))))
       regroup h a b c d e f g i j k = simp append_assoc
@@ -249,7 +249,7 @@ module _ (m : WModule) where
       let f10 = and_parts _ ((section 11 data_segment).fits m.«data») h in
       let f9 = and_parts _ (ltb (length (bodies_encoding m.functions)) (2 ^ 32)) f10.0 in
       let f8 = and_parts _ (list_all (λ (f : Function). body.fits f.body) m.functions) f9.0 in
-      let f7 = and_parts _ ((section 9 element).fits m.elements) f8.0 in
+      let f7 = and_parts _ ((section 9 element_segment).fits m.elements) f8.0 in
       let f6 = and_parts _ ((section 7 export).fits m.exports) f7.0 in
       let f5 = and_parts _ ((section 6 global).fits m.globals) f6.0 in
       let f4 = and_parts _ ((section 5 memory_type).fits m.memories) f5.0 in
@@ -264,7 +264,7 @@ module _ (m : WModule) where
         memories = section_fit 5 memory_type (plain memory_type) memory_type_spelling m.memories f4.1;
         globals = section_fit 6 global global_cells global_spelling m.globals f5.1;
         exports = section_fit 7 export (plain export) export_spelling m.exports f6.1;
-        elements = section_fit 9 element element_cells element_spelling m.elements f7.1;
+        elements = section_fit 9 element_segment element_cells element_spelling m.elements f7.1;
         bodies = code_fit m.functions f8.1 f9.1;
         as_many = length-map m.functions body_part ∙ sym (length-map m.functions (λ (f : Function). f.type_index));
         segments = section_fit 11 data_segment data_cells data_spelling m.«data» f10.1;

@@ -6,7 +6,7 @@ use Rattle.wasm_tree.specs.declared.module.Body.{Body}
 use Rattle.wasm_tree.specs.Format.{Format}
 use Rattle.wasm_code.specs.Number.{unsigned}
 use Rattle.wasm_code.specs.Parts.{vector, entries}
-use Rattle.wasm_binary.specs.Binary.{header, func_type, table_type, memory_type, import, global, export, element, data_segment}
+use Rattle.wasm_binary.specs.Binary.{header, func_type, table_type, memory_type, import, global, export, element_segment, data_segment}
 use Rattle.wasm_code.proofs.LawsNumber.{unsigned_law}
 use Rattle.wasm_binary.proofs.LawsKinds.{table_type_law, memory_type_law}
 use Rattle.wasm_binary.proofs.LawsBinary.{export_law}
@@ -238,7 +238,7 @@ module _ (l r : Layout) (f : Fits l) (g : Fits r) where
       (later11 l) (later11 r) join11
 
   join9 : Join (from9 l) (from9 r)
-  join9 = entries_join 9 element element_cells element_meets l.elements r.elements (from10 l) (from10 r) f.elements g.elements (later10 l) (later10 r) join10
+  join9 = entries_join 9 element_segment element_cells element_meets l.elements r.elements (from10 l) (from10 r) f.elements g.elements (later10 l) (later10 r) join10
 
   join7 : Join (from7 l) (from7 r)
   join7 = entries_join 7 export (plain export) (plain_meets export export_law) l.exports r.exports (from9 l) (from9 r) f.exports g.exports (later9 l) (later9 r) join9

@@ -11,7 +11,7 @@ use Rattle.wasm_tree.specs.Format.{Format, Reading, ◌>>=◌}
 use Rattle.wasm_code.specs.Number.{unsigned}
 use Rattle.wasm_code.specs.Parts.{◌◂◌, ◌·◌, vector, with_size, bytes_left}
 use Rattle.wasm_code.specs.Instructions.{value_type, code}
-use Rattle.wasm_binary.specs.Binary.{global, element, data_segment, locals_at, locals_encoding, local_count, locals}
+use Rattle.wasm_binary.specs.Binary.{global, element_segment, data_segment, locals_at, locals_encoding, local_count, locals}
 use Rattle.wasm_code.proofs.Laws.{read_is}
 use Rattle.wasm_code.proofs.LawsTagged.{value_type_fits}
 use Rattle.law_format.specs.Places.{OtherByte, Cell, plain, value_type_cells, code_cells, global_cells, element_cells, data_cells, group_cells, locals_cells}
@@ -174,8 +174,8 @@ global_stops =
     value_stops (λ p. record { value_type = p.0; value = p.1 }) (λ g. (g.value_type, g.value)) ((value_type ◂ 0x00) · code) (λ x. refl) (λ x. (value_type_cells x.0 ++ (OtherByte, 0x00) ∷ []) ++ code_cells x.1)
     (then_stops (value_type ◂ 0x00) code (λ t. value_type_cells t ++ (OtherByte, 0x00) ∷ []) code_cells (behind_stops 0x00 value_type value_type_cells value_type_stops) code_stops)
 
-pub element_stops : Stopping element element_cells
-unfolding element
+pub element_stops : Stopping element_segment element_cells
+unfolding element_segment
 element_stops =
     value_stops (λ p. record { table = p.0; offset = p.1.0; functions = p.1.1 }) (λ e. (e.table, (e.offset, e.functions))) (unsigned · (code · vector unsigned)) (λ x. refl) (λ x. plain unsigned x.0 ++ (code_cells x.1.0 ++ plain (vector unsigned) x.1.1))
     (then_stops unsigned (code · vector unsigned) (plain unsigned) (λ x. code_cells x.0 ++ plain (vector unsigned) x.1) unsigned_stops (then_stops code (vector unsigned) code_cells (plain (vector unsigned)) code_stops plain_vector))

@@ -9,7 +9,7 @@ use Rattle.wasm_tree.specs.Format.{Format}
 use Rattle.wasm_code.specs.Number.{unsigned}
 use Rattle.wasm_code.specs.Parts.{◌◂◌, ◌·◌, as_value, vector, with_size, bytes_left, name}
 use Rattle.wasm_code.specs.Instructions.{value_type, code}
-use Rattle.wasm_binary.specs.Binary.{func_type, import_kind, import, global, element, local_count, locals, data_segment}
+use Rattle.wasm_binary.specs.Binary.{func_type, import_kind, import, global, element_segment, local_count, locals, data_segment}
 use Rattle.wasm_code.proofs.LawsNumber.{unsigned_law}
 use Rattle.wasm_code.proofs.LawsParts.{vector_law, sized_law, bytes_left_law, name_law}
 use Rattle.wasm_code.proofs.LawsTagged.{value_type_law, value_type_fits}
@@ -66,8 +66,8 @@ global_meets =
     seen_meets (λ p. record { value_type = p.0; value = p.1 }) (λ g. (g.value_type, g.value)) ((value_type ◂ 0x00) · code) (λ x. (value_type_cells x.0 ++ (OtherByte, 0x00) ∷ []) ++ code_cells x.1)
     (then_meets (value_type ◂ 0x00) code (λ t. value_type_cells t ++ (OtherByte, 0x00) ∷ []) code_cells immutable_meets code_meets)
 
-pub element_meets : Meets element element_cells
-unfolding element
+pub element_meets : Meets element_segment element_cells
+unfolding element_segment
 element_meets =
     seen_meets (λ p. record { table = p.0; offset = p.1.0; functions = p.1.1 }) (λ e. (e.table, (e.offset, e.functions))) (unsigned · (code · vector unsigned)) (λ x. plain unsigned x.0 ++ (code_cells x.1.0 ++ plain (vector unsigned) x.1.1))
     (then_meets unsigned (code · vector unsigned) (plain unsigned) (λ x. code_cells x.0 ++ plain (vector unsigned) x.1) (plain_meets unsigned unsigned_law)

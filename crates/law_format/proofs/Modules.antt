@@ -16,7 +16,7 @@ use Rattle.wasm_tree.specs.declared.module.WModule.{WModule}
 use Rattle.wasm_tree.specs.Format.{Reading, ◌>>=◌, skip}
 use Rattle.wasm_code.specs.Number.{unsigned}
 use Rattle.wasm_code.specs.Parts.{section}
-use Rattle.wasm_binary.specs.Binary.{header, skip_all, func_type, table_type, memory_type, import, global, export, element, data_segment, code_section, at_end, module_at}
+use Rattle.wasm_binary.specs.Binary.{header, skip_all, func_type, table_type, memory_type, import, global, export, element_segment, data_segment, code_section, at_end, module_at}
 use Rattle.wasm_code.proofs.Laws.{IsBytes}
 use Rattle.wasm_code.proofs.LawsNumber.{unsigned_law}
 use Rattle.wasm_code.proofs.LawsParts.{Past}
@@ -89,24 +89,24 @@ abbrev pub Y9 : Type 0
 Y9 = Part (List Element) × Y10
 
 pub real9 : List ℕ → List ℕ → Ends
-real9 types = real_section 9 element (λ xs. real10 types)
+real9 types = real_section 9 element_segment (λ xs. real10 types)
 
 free9 : List ℕ → List ℕ → Ends
-free9 types = free_section 9 element (λ xs. free10 types)
+free9 types = free_section 9 element_segment (λ xs. free10 types)
 
 unfoldable pub m9 : Y9 → List Mark
 m9 y = section_marks 9 (entry_marks element_cells) y.0 ++ m10 y.1
 
 unfoldable pub ok9 : List ℕ → Y9 → Type 0
-ok9 types y = section_fits element y.0 × ok10 types y.1
+ok9 types y = section_fits element_segment y.0 × ok10 types y.1
 
 chain9 : (types : List ℕ) → length types < 2 ^ 32 → Chain (real9 types) (free9 types) m9 (ok9 types)
 unfolding real9 free9 m9 ok9
-chain9 types few = section_chain 9 element element_cells (entries_stops element element_cells element_stops) (entries_whole element element_cells element_spelling element_law) (λ xs. real10 types) (λ xs. free10 types) m10 (λ xs. ok10 types) (λ xs g. chain10 types few) (λ xs. (chain10 types few).some) (λ xs g. (chain10 types few).some_fits) (λ y h. past10 types y h)
+chain9 types few = section_chain 9 element_segment element_cells (entries_stops element_segment element_cells element_stops) (entries_whole element_segment element_cells element_spelling element_law) (λ xs. real10 types) (λ xs. free10 types) m10 (λ xs. ok10 types) (λ xs g. chain10 types few) (λ xs. (chain10 types few).some) (λ xs g. (chain10 types few).some_fits) (λ y h. past10 types y h)
 
 past9 : (types : List ℕ) → length types < 2 ^ 32 → (y : Y9) → ok9 types y → Past 7 (flat (m9 y))
 unfolding m9 ok9
-past9 types few = section_is_past 9 element element_cells (entries_stops element element_cells element_stops) (entries_whole element element_cells element_spelling element_law) (λ xs. real10 types) (λ xs. free10 types) m10 (λ xs. ok10 types) (λ xs g. chain10 types few) (λ xs. (chain10 types few).some) (λ xs g. (chain10 types few).some_fits) (λ y h. past10 types y h) 7 (omega arith)
+past9 types few = section_is_past 9 element_segment element_cells (entries_stops element_segment element_cells element_stops) (entries_whole element_segment element_cells element_spelling element_law) (λ xs. real10 types) (λ xs. free10 types) m10 (λ xs. ok10 types) (λ xs g. chain10 types few) (λ xs. (chain10 types few).some) (λ xs g. (chain10 types few).some_fits) (λ y h. past10 types y h) 7 (omega arith)
 
 -- ---- exports
 
@@ -360,7 +360,7 @@ module_fails bytes fault e =
     bind_fails ((section 5 memory_type).reading tables.1) _ _ fault e4 (λ memories e5.
     bind_fails ((section 6 global).reading memories.1) _ _ fault e5 (λ globals e6.
     bind_fails ((section 7 export).reading globals.1) _ _ fault e6 (λ exports e7.
-    bind_fails ((section 9 element).reading exports.1) _ _ fault e7 (λ elements e9.
+    bind_fails ((section 9 element_segment).reading exports.1) _ _ fault e7 (λ elements e9.
     bind_fails (code_section uses.0 elements.1) _ _ fault e9 (λ functions e10.
     bind_fails ((section 11 data_segment).reading functions.1) _ _ fault e10 (λ segments e11.
     end_fails (at_end segments.1) _ fault e11)))))))))))

@@ -16,7 +16,7 @@ use Rattle.wasm_tree.specs.Format.{Format}
 use Rattle.wasm_code.specs.Number.{unsigned}
 use Rattle.wasm_code.specs.Parts.{◌▸◌, ◌◂◌, ◌·◌, as_value, vector, entries, with_size, bytes_left, name}
 use Rattle.wasm_code.specs.Instructions.{value_type, code}
-use Rattle.wasm_binary.specs.Binary.{func_type, limits, table_type, memory_type, import_kind, import, global, export_kind, export, element, locals_encoding, locals, data_segment}
+use Rattle.wasm_binary.specs.Binary.{func_type, limits, table_type, memory_type, import_kind, import, global, export_kind, export, element_segment, locals_encoding, locals, data_segment}
 use Rattle.wasm_code.proofs.Laws.{IsBytes, Law}
 use Rattle.wasm_code.proofs.LawsParts.{then_law, seen_law, entries_law}
 use Rattle.wasm_code.proofs.LawsCode.{code_law}
@@ -186,8 +186,8 @@ global_spelling =
 vector_unsigned : Spelling (vector unsigned) (plain (vector unsigned))
 vector_unsigned = plain_spelling (vector unsigned) (λ xs h. both_bytes (unsigned.encoding (length xs)) (flat_map unsigned.encoding xs) (unsigned_bytes (length xs)) (numbers_bytes xs))
 
-pub element_spelling : Spelling element element_cells
-unfolding element
+pub element_spelling : Spelling element_segment element_cells
+unfolding element_segment
 element_spelling =
     value_spelling (λ p. record { table = p.0; offset = p.1.0; functions = p.1.1 }) (λ e. (e.table, (e.offset, e.functions))) (unsigned · (code · vector unsigned)) (λ x. plain unsigned x.0 ++ (code_cells x.1.0 ++ plain (vector unsigned) x.1.1))
     (then_spelling unsigned (code · vector unsigned) (plain unsigned) (λ x. code_cells x.0 ++ plain (vector unsigned) x.1) unsigned_spelling (then_spelling code (vector unsigned) code_cells (plain (vector unsigned)) code_spelling vector_unsigned))

@@ -15,7 +15,7 @@ use Rattle.wasm_tree.specs.Format.{Format}
 use Rattle.wasm_code.specs.Number.{unsigned}
 use Rattle.wasm_code.specs.Parts.{◌·◌, as_value, entries}
 use Rattle.wasm_code.specs.Instructions.{code}
-use Rattle.wasm_binary.specs.Binary.{header, func_type, table_type, memory_type, import, global, export, element, locals, data_segment}
+use Rattle.wasm_binary.specs.Binary.{header, func_type, table_type, memory_type, import, global, export, element_segment, locals, data_segment}
 use Rattle.law_format.specs.Places.{SectionNumber, Cell, others, plain, vector_cells, func_type_cells, import_cells, global_cells, element_cells, data_cells, locals_cells, code_cells}
 
 -- a part, and how many bytes are stated of it
@@ -127,7 +127,7 @@ pub record Fits (l : Layout) : Type 0 where
   pub memories : section_fits memory_type l.memories
   pub globals : section_fits global l.globals
   pub exports : section_fits export l.exports
-  pub elements : section_fits element l.elements
+  pub elements : section_fits element_segment l.elements
   pub bodies : part_fits (list_all body_fits) l.bodies.size l.bodies.content ≡ true
   -- as many bodies as functions
   pub as_many : length l.bodies.content ≡ length l.functions.content

@@ -31,7 +31,7 @@ use Rattle.check_const.specs.declared.denoted.Denoted.{Denoted}
 use Rattle.check_const.specs.declared.denoted.Denoted.TheVariants as denoted
 use Rattle.check_const.specs.declared.call.Sort.{Sort}
 use Rattle.check_const.specs.declared.call.Sort.TheVariants.{Unary, Bound, Conversion, Never}
-use Rattle.check_const.specs.Denote.{denoted_by, denoted_of, as_constant, constant_by, of_value, is_bitset, component, exported_by, export_of, member}
+use Rattle.check_const.specs.Denote.{denoted_by, denoted_of, as_constant, constant_by, of_value, is_bitset, component, exported_by, export_of, exported_meaning}
 use Rattle.check_const.specs.Calls.{sort_of, scalar_type, named_scalar, type_argument, unary_of, unary, bound, conversion_call}
 use Rattle.check_const.specs.Parts.{Part, Pick, Adds, standing, sign_place, set_place, signed_first, set_type, first_name, field_of, constant, one, type_only, conversion, by_sort, standard_call_value, used_with, factor, term, element_or_range, with_item, selection, expr_layer}
 use Rattle.law_least_definition.specs.Least.{Reports, fine, is_refused}
@@ -85,7 +85,7 @@ exported_reports : (at : Pos) (m : Option Meaning) → Reports (export_of least 
 exported_reports at None = reported_reports at rule.NotExported
 exported_reports at (Some m) = fine m
 
-pub member_reports : (tables : List Table) (k : ℕ) (name : Ident) → Reports (member least tables k name) (member every tables k name)
+pub member_reports : (tables : List Table) (k : ℕ) (name : Ident) → Reports (exported_meaning least tables k name) (exported_meaning every tables k name)
 member_reports tables k name = exported_reports name.pos (exported_by name.name (slice_get tables k))
 
 -- ---- standard procedures

@@ -26,7 +26,7 @@ use Rattle.check_scope.specs.declared.meaningless.Meaningless.{Meaningless}
 use Rattle.check_scope.specs.Elaborated.{every, least}
 use Rattle.law_least_definition.specs.Least.{Reports, fine}
 use Rattle.law_least_definition.specs.Beside.{SoughtBeside}
-use Rattle.check_call.specs.Effects.{target_of, target_at, assignment_to, assignment_of, change_target_as, change_target, known_amount, amount, change_by, set_as, set_variable, element_known, element, membership_of, put}
+use Rattle.check_call.specs.Effects.{target_of, target_at, assignment_to, assignment_of, change_target_as, change_target, known_amount, amount, change_by, set_as, set_variable, element_known, set_element, membership_of, put}
 use Rattle.law_least_definition.proofs.Forms.{both_reports, then_reports, reported_reports, where_reports, of_sort_reports}
 use Rattle.law_least_definition.proofs.Suits.{suited_reports, value_suited_reports}
 
@@ -102,7 +102,7 @@ pub element_known_reports : (at : Pos) → (p1 : Option Ordinal) → Reports (el
 element_known_reports at None = reported_reports at rule.WrongArgument
 element_known_reports at (Some a) = where_reports (not (is_between (pos 0) a.number (pos 31))) at rule.OutOfRange (fine _)
 
-pub element_reports : (at : Pos) → (p1 : Computed) → Reports (element least at p1) (element every at p1)
+pub element_reports : (at : Pos) → (p1 : Computed) → Reports (set_element least at p1) (set_element every at p1)
 element_reports at (value.Constant v) = element_known_reports at (whole_number v)
 element_reports at (value.Scalar t b e) = where_reports (not (is_numeric b)) at rule.WrongArgument (fine e)
 element_reports at (value.Set e) = reported_reports at rule.WrongArgument

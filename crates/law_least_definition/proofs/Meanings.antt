@@ -34,7 +34,7 @@ use Rattle.check_call.specs.Functions.{form_of}
 use Rattle.m2_rule.specs.declared.breach.Breach.{Breach}
 use Rattle.check_scope.specs.Elaborated.{every, least}
 use Rattle.law_least_definition.specs.Least.{Reports, fine}
-use Rattle.check_expr.specs.Meanings.{of_computed, value_standing, signed_first, relation_value, first_name, member_of, field_of, field_at, index_at, type_of, formals_of, passed_for, argument_by, call_given, as_constant, value_of, with_look, breaches_in_all, wrong_count, with_actual, actuals, routine_called, unary, scalar_named, bound, conversion, high, by_form, callee_value, call_in_expression, used_with, factor, term, relation, Meant}
+use Rattle.check_expr.specs.Meanings.{of_computed, value_standing, signed_first, relation_value, first_name, name_in_module, field_of, field_at, index_at, type_of, formals_of, passed_for, argument_by, call_given, as_constant, value_of, with_look, breaches_in_all, wrong_count, with_actual, actuals, routine_called, unary, scalar_named, bound, conversion, high, by_form, callee_value, call_in_expression, used_with, factor, term, relation, Meant}
 use Rattle.law_least_definition.proofs.Actuals.{actual_reports, with_argument_reports}
 use Rattle.law_least_definition.proofs.Functions.{bound_at_reports, conversion_at_reports, high_of_reports, type_named_reports, unary_at_reports}
 use Rattle.law_least_definition.proofs.Callees.{callee_of_reports, function_of_reports}
@@ -67,7 +67,7 @@ related_reports types o at x at' y = combined_reports types (op.Relation o.op) o
 pub named_sought : {s : Scope Breach} {s' : Scope (List Breach)} → ScopeBeside s s' → (name : Ident) → SoughtBeside (first_name least s name) (first_name every s' name)
 named_sought (scopes tables types vars procs {level = level} {withs = withs} own outer) name = then_sought (looked_up_sought name (scopes tables types vars procs {level = level} {withs = withs} own outer)) (λ v. plain_sought (designated_by_reports level name.pos v))
 
-pub member_of_reports : {s : Scope Breach} {s' : Scope (List Breach)} → ScopeBeside s s' → (k : ℕ) → (name : Ident) → Reports (member_of least s k name) (member_of every s' k name)
+pub member_of_reports : {s : Scope Breach} {s' : Scope (List Breach)} → ScopeBeside s s' → (k : ℕ) → (name : Ident) → Reports (name_in_module least s k name) (name_in_module every s' k name)
 member_of_reports (scopes tables types vars procs {level = level} {withs = withs} own outer) k name = then_reports (member_reports tables k name) (λ v. designated_by_reports level name.pos v)
 
 pub field_of_reports : {s : Scope Breach} {s' : Scope (List Breach)} → ScopeBeside s s' → (at : Pos) → (name : Ident) → (p3 : Designated) → Reports (field_of least s at name p3) (field_of every s' at name p3)

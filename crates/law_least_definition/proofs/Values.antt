@@ -23,7 +23,7 @@ use Rattle.check_const_ops.specs.Operands.{operand_of, is_number, is_truth}
 use Rattle.check_const_ops.specs.Numbers.{fits, is_between, number_at, whole_arithmetic, evaluated_at, quotient, remainder}
 use Rattle.check_const_ops.specs.Common.{common}
 use Rattle.check_const_ops.specs.Standards.{scalar_part, whole_number, absolute_part, absolute, is_char, capital_part, capital, character_part, character, odd_part, is_odd, ordinal_part, ordinal_of, converted_part, conversion_of}
-use Rattle.check_const_ops.specs.Sets.{set_related, on_sets, member_of, member, ordinal_or_refusal, element, is_element, single, is_unlike, alike_in_order, span_of}
+use Rattle.check_const_ops.specs.Sets.{set_related, on_sets, membership_value, member, ordinal_or_refusal, set_element, is_element, single, is_unlike, alike_in_order, span_of}
 use Rattle.check_const_ops.specs.Operate.{takes, ordinal_result, divisor, is_misfit, fitting, ordinal_operation, on_scalars, binary, constant_operation, is_signed, signed_scalar, signed_value, with_sign, negated_value, negation}
 use Rattle.check_const_ops.specs.Bounds.{bounds_in_order}
 use Rattle.law_least_definition.specs.Least.{Reports, fine}
@@ -103,7 +103,7 @@ on_sets_reports Mod at a b = reported_reports at rule.WrongType
 on_sets_reports And at a b = reported_reports at rule.WrongType
 on_sets_reports Or at a b = reported_reports at rule.WrongType
 
-member_of_reports : (spot at : Pos) (x : Ordinal) (bits : ℕ) → Reports (member_of least spot at x bits) (member_of every spot at x bits)
+member_of_reports : (spot at : Pos) (x : Ordinal) (bits : ℕ) → Reports (membership_value least spot at x bits) (membership_value every spot at x bits)
 member_of_reports spot at x bits = where_reports (not (is_number x.sort)) spot rule.WrongType (where_reports (not (is_between (pos 0) x.number (pos 31))) at rule.OutOfRange (fine _))
 
 member_reports : (op : BinaryOp) (spot at : Pos) (x : Ordinal) (bits : ℕ) → Reports (member least op spot at x bits) (member every op spot at x bits)
@@ -127,7 +127,7 @@ numbered_reports : (at : Pos) (a : Option Ordinal) → Reports (ordinal_or_refus
 numbered_reports at None = reported_reports at rule.WrongType
 numbered_reports at (Some a) = fine a
 
-pub element_reports : (at : Pos) (v : Value) → Reports (element least at v) (element every at v)
+pub element_reports : (at : Pos) (v : Value) → Reports (set_element least at v) (set_element every at v)
 element_reports at v = numbered_reports at (whole_number v)
 
 is_element_reports : (at : Pos) (a : Ordinal) → Reports (is_element least at a) (is_element every at a)

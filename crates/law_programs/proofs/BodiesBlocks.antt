@@ -18,7 +18,7 @@ use Rattle.check_scope.specs.declared.known.Known.{Known}
 use Rattle.check_scope.specs.declared.known.Known.TheVariants.{Headed}
 use Rattle.check_scope.specs.declared.scope.Block.{Block}
 use Rattle.check_scope.specs.declared.scope.Scope.{Scope}
-use Rattle.check_const.specs.Denote.{member}
+use Rattle.check_const.specs.Denote.{exported_meaning}
 use Rattle.check_block.specs.Naming.{with_marks}
 use Rattle.check_block.specs.Declarations.{Course}
 use Rattle.law_modules.specs.WellFormed.{IsRoutine}
@@ -254,7 +254,7 @@ module _ (g : Gathers) (elaborates : Elaborates g.Reported) (base : Types) (ends
             home = k.home ∙ s.home;
             types = s.types;
             locals = λ n e f. s.locals n (omega (arith, e, grows)) f;
-            members = λ i name e. subst (λ (ts : List Table). Holds (MeaningThere (stands z []) z.opens 0) (member g ts i name)) (sym k.tables) (s.members i name e);
+            members = λ i name e. subst (λ (ts : List Table). Holds (MeaningThere (stands z []) z.opens 0) (exported_meaning g ts i name)) (sym k.tables) (s.members i name e);
             outer = subst (λ (l : ℕ). BlocksThere (stands_in z l around) z.opens l v.scope.outer) (sym k.level)
                 (subst (λ (bs : List (Block g.Reported)). BlocksThere (stands_in z u.scope.level around) z.opens u.scope.level bs) (sym k.outer) s.outer);
             withs = k.withs ∙ s.withs;

@@ -46,7 +46,7 @@ use Rattle.check_operator.specs.declared.computed.Designated.TheVariants as desi
 use Rattle.check_operator.specs.declared.places.Accepted.{Accepted}
 use Rattle.check_operator.specs.declared.places.Accepted.TheVariants as accepted
 use Rattle.check_call.specs.Callees.{proper_with, proper_of, call_by}
-use Rattle.check_call.specs.Effects.{target_of, target_at, store_statement, assignment_to, assignment_of, change_target_as, change_target, type_of_number, known_amount, amount, change_by, set_as, set_variable, element_known, element, membership_of}
+use Rattle.check_call.specs.Effects.{target_of, target_at, store_statement, assignment_to, assignment_of, change_target_as, change_target, type_of_number, known_amount, amount, change_by, set_as, set_variable, element_known, set_element, membership_of}
 use Rattle.check_call.specs.declared.callee.Callee.{Callee}
 use Rattle.check_call.specs.declared.callee.Called.{Called}
 use Rattle.check_call.specs.declared.callee.Called.TheVariants as called
@@ -299,7 +299,7 @@ module _ (g : Gathers) (x : Context) (ws : List Ty) (opens : ℕ → Bool) (s : 
   element_part at (Some (operand.Set bits)) p = reported_holds g at rule.WrongArgument
   element_part at (Some (operand.Scalar a)) p = element_if at a (is_number a.sort) p
 
-  element_typed : (at : Pos) (v : Computed) → ValueTyped x ws v → Holds Some_ (element g at v)
+  element_typed : (at : Pos) (v : Computed) → ValueTyped x ws v → Holds Some_ (set_element g at v)
   element_typed at (value.Constant v) p = element_part at (operand_of v) (operand_ranged types v p.0)
   element_typed at (value.Scalar t b e) p = where_not g (is_numeric b) at rule.WrongArgument (λ k. fine e (record { of = t; typed = p.typed }))
   element_typed at (value.Set e) p = reported_holds g at rule.WrongArgument

@@ -21,7 +21,7 @@ use Rattle.check_scope.specs.Scopes.{State}
 use Rattle.check_scope.specs.declared.known.Known.{Known}
 use Rattle.check_scope.specs.declared.scope.Block.{Block as Around}
 use Rattle.check_scope.specs.declared.scope.Scope.{Scope}
-use Rattle.check_const.specs.Denote.{member}
+use Rattle.check_const.specs.Denote.{exported_meaning}
 use Rattle.check_block.specs.Naming.{marked_layer, marked_decl, with_marks}
 use Rattle.check_block.specs.Nesting as nesting
 use Rattle.check_block.specs.Nesting.{append_names, within_decl, within}
@@ -200,7 +200,7 @@ module _ (g : Gathers) (elaborates : Elaborates g.Reported) (forms : FormsStatem
             (subst (λ (bs : List (Around g.Reported)). BlocksThere (stands_in z course.0.level around) z.opens course.0.level bs) (sym end_keeps.outer) start_serves.outer))
             (end_keeps.withs ∙ start_serves.withs)
             (λ k name e. holds_weaker (λ m q. meaning_anywhere z _ z.opens end.scope.level m q)
-            (subst (λ (ts : List Table). Holds (MeaningThere (stands z []) z.opens 0) (member g ts k name)) (sym end_keeps.tables) (start_serves.members k name e)))
+            (subst (λ (ts : List Table). Holds (MeaningThere (stands z []) z.opens 0) (exported_meaning g ts k name)) (sym end_keeps.tables) (start_serves.members k name e)))
 
         block_typed : AddsTyped g z w end × Holds (StmtsTyped (stands_in z w.scope.level around) result [] false) (statements_of elaborates end.scope returns body)
         block_typed = (

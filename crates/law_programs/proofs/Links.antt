@@ -8,7 +8,7 @@ use Rattle.wasm_tree.specs.declared.module.WModule.{WModule}
 use Rattle.wasm_tree.specs.Validity.{IsValid, AreDistinct}
 use Rattle.wasm_code.specs.Parts.{section_fits, vector, entries}
 use Rattle.wasm_code.specs.Number.{unsigned}
-use Rattle.wasm_binary.specs.Binary.{func_type, import, limits, table_type, memory_type, global, export, element, body, data_segment, types_of, bodies_encoding, module_fits}
+use Rattle.wasm_binary.specs.Binary.{func_type, import, limits, table_type, memory_type, global, export, element_segment, body, data_segment, types_of, bodies_encoding, module_fits}
 use Rattle.typed_tree.specs.declared.typed_module.TypedModule.{TypedModule}
 use Rattle.def_scheme.specs.Modules.{typed_link, part_of, all_slots}
 use Rattle.law_modules.proofs.LinkModule.{typed_link_valid}
@@ -29,7 +29,7 @@ tables_fit : (m : WModule) → module_fits m ≡ true → section_fits table_typ
 unfolding module_fits
 tables_fit m h =
     fourth (section_fits func_type m.types) (section_fits import m.imports) (section_fits unsigned (types_of m.functions)) (section_fits table_type m.tables) (section_fits memory_type m.memories) (section_fits global m.globals)
-    (section_fits export m.exports) (section_fits element m.elements) (list_all (λ f. body.fits f.body) m.functions) (nat_lt (length (bodies_encoding m.functions)) (2 ^ 32)) (section_fits data_segment m.data) h
+    (section_fits export m.exports) (section_fits element_segment m.elements) (list_all (λ f. body.fits f.body) m.functions) (nat_lt (length (bodies_encoding m.functions)) (2 ^ 32)) (section_fits data_segment m.data) h
 
 table_few : (t : TableType) → section_fits table_type (t ∷ []) ≡ true → t.limits.min < 2 ^ 32
 unfolding table_type limits

@@ -23,7 +23,7 @@ use Rattle.check_scope.specs.Scopes.{State}
 use Rattle.check_scope.specs.declared.known.Known.{Known}
 use Rattle.check_scope.specs.declared.scope.Block.{Block as Around}
 use Rattle.check_scope.specs.declared.scope.Scope.{Scope}
-use Rattle.check_const.specs.Denote.{member}
+use Rattle.check_const.specs.Denote.{exported_meaning}
 use Rattle.law_simulation.specs.Frames.{kinds_of}
 use Rattle.law_simulation.specs.Passing.{result_of}
 use Rattle.law_simulation.specs.Linked.{environment_of}
@@ -304,7 +304,7 @@ module _ (g : Gathers) (elaborates : Elaborates g.Reported) (forms : FormsStatem
           (subst (λ (bs : List (Around g.Reported)). BlocksThere (stands z []) z.opens 0 bs) (sym end_keeps.outer) has.outer))
           (end_keeps.withs ∙ withs)
           (λ k name e. holds_weaker (λ m q. meaning_anywhere z [] z.opens end.scope.level m q)
-          (subst (λ (ts : List _). Holds (MeaningThere (stands z []) z.opens 0) (member g ts k name)) (sym end_keeps.tables) (has.members k name e)))
+          (subst (λ (ts : List _). Holds (MeaningThere (stands z []) z.opens 0) (exported_meaning g ts k name)) (sym end_keeps.tables) (has.members k name e)))
 
       body_holds : Holds (StmtsTyped (stands z []) None [] false) (statements_of elaborates end.scope None body)
       body_holds = body_typed g elaborates forms writes base words ends (stands z []) z.opens end.scope end_typed end_known.ranged (end_keeps.withs ∙ withs) None None refl body fits

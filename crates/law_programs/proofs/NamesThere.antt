@@ -31,7 +31,7 @@ use Rattle.check_scope.specs.declared.known.Origin.TheVariants.{Here, Module, Ex
 use Rattle.check_scope.specs.declared.scope.Block.{Block as Around}
 use Rattle.check_scope.specs.declared.scope.Scope.{Scope}
 use Rattle.check_scope.specs.Elaborated.{least}
-use Rattle.check_const.specs.Denote.{exported_by, export_of, member}
+use Rattle.check_const.specs.Denote.{exported_by, export_of, exported_meaning}
 use Rattle.layout_storage.specs.Types.{Hidden}
 use Rattle.layout_storage.specs.Texts.{characters, module_texts}
 use Rattle.check_definition.specs.Predeclared.{console, first_scope}
@@ -216,7 +216,7 @@ module _ (fs : List (List ℕ × Tree)) (files : List ℕ) (jobs : List (List �
   member_by name None k = reported_holds least name.pos rule.NotExported
   member_by name (Some u) k = found_there name.pos name.name u.exported k
 
-  member_there : (k : ℕ) (name : Ident) → opens k ≡ true → Holds (MeaningThere x opens 0) (member least ts k name)
+  member_there : (k : ℕ) (name : Ident) → opens k ≡ true → Holds (MeaningThere x opens 0) (exported_meaning least ts k name)
   member_there k name h = member_by name (slice_get ts k) (exports_at k h)
 
   -- ---- the names of the module
@@ -235,7 +235,7 @@ module _ (fs : List (List ℕ × Tree)) (files : List ℕ) (jobs : List (List �
       record {
         others = names_else (declared_of s b.tree body).own formed all.names;
         outer = subst (λ (bs : List (Around Breach)). BlocksThere x opens 0 bs) (sym h.outer) (around_there x opens Breach);
-        members = λ k name g. subst (λ (us : List Table). Holds (MeaningThere x opens 0) (member least us k name)) (sym all.tables_are) (member_there k name g);
+        members = λ k name g. subst (λ (us : List Table). Holds (MeaningThere x opens 0) (exported_meaning least us k name)) (sym all.tables_are) (member_there k name g);
       }
 
   all_there : (es : List (List ℕ × Meaning)) → AllStand es → AllByRecursion (λ e. MeaningThere x opens 0 e.1) es

@@ -28,7 +28,7 @@ use Rattle.check_scope.specs.declared.known.Known.TheVariants.{Later, Ahead, Beg
 use Rattle.check_scope.specs.declared.scope.Block.{Block}
 use Rattle.check_scope.specs.declared.scope.OpenedRecord.{OpenedRecord}
 use Rattle.check_scope.specs.declared.scope.Scope.{Scope}
-use Rattle.check_const.specs.Denote.{member}
+use Rattle.check_const.specs.Denote.{exported_meaning}
 use Rattle.check_operator.specs.Classes.{signature_shape, signature_made, signature_at}
 use Rattle.law_simulation.specs.TreesTyped.{Context}
 use Rattle.law_well_formed.specs.Formed.{Holds, fine}
@@ -130,7 +130,7 @@ module _ (x : Context) (opens : ℕ → Bool) (g : Gathers) where
   -- types that are the module's, names that are there, and modules that are open
   pub scope_typed : (s : Scope g.Reported) → TypesTyped x.home.types → length x.characters ≤ 2 ^ 32 → ((t : TypeNo) (y : Made) → made_at s.types t ≡ Some y → made_at x.home.types t ≡ Some y) → AreOrdered s.types
       → NamesThere x opens s.level s.own → BlocksThere x opens s.level s.outer → s.withs ≡ []
-      → ((k : ℕ) (name : Ident) → opens k ≡ true → Holds (MeaningThere x opens s.level) (member g s.tables k name)) → IsTyped g x [] opens s
+      → ((k : ℕ) (name : Ident) → opens k ≡ true → Holds (MeaningThere x opens s.level) (exported_meaning g s.tables k name)) → IsTyped g x [] opens s
   scope_typed s all room types order own outer withs members = record {
     all = all;
     room = room;

@@ -10,7 +10,7 @@ use Rattle.typed_tree.specs.declared.meaning.OpenedField.{OpenedField}
 use Rattle.typed_tree.specs.declared.types.TypeNo.{TypeNo}
 use Rattle.typed_tree.specs.Names.{place_of}
 use Rattle.check_scope.specs.Elaborated.{Gathers}
-use Rattle.check_scope.specs.Scopes.{or_outside, fields_at, field_of, field_numbered, field_in, open_field as opened_fields, means_or, means_as, sight_of}
+use Rattle.check_scope.specs.Scopes.{or_outside, fields_at, field_among, field_numbered, field_in, open_field as opened_fields, means_or, means_as, sight_of}
 use Rattle.check_scope.specs.declared.scope.OpenedRecord.{OpenedRecord}
 use Rattle.check_scope.specs.declared.scope.Scope.{Scope}
 use Rattle.layout_storage.specs.Types.{Ty, row, component}
@@ -98,7 +98,7 @@ module _ (g : Gathers) (x : Context) (ws : List Ty) (opens : ℕ → Bool) (s : 
   field_at fs None e = tt
   field_at fs (Some n) e = field_by fs n (slice_get fs n) e refl
 
-  fields_typed : (name : List ℕ) (o : Option (List (List ℕ × TypeNo))) → fields_at s.types t ≡ o → IfTyped (field_of r name o)
+  fields_typed : (name : List ℕ) (o : Option (List (List ℕ × TypeNo))) → fields_at s.types t ≡ o → IfTyped (field_among r name o)
   fields_typed name None e = tt
   fields_typed name (Some fs) e = field_at fs (place_of name fs) e
 

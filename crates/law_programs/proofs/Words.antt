@@ -26,7 +26,7 @@ use Rattle.check_const_ops.specs.declared.operator.BinaryOp.TheVariants.{Plus, M
 use Rattle.check_const_ops.specs.Operands.{operand_of, letter, letter_operand, number_value, truth}
 use Rattle.check_const_ops.specs.Numbers.{number_at, whole_arithmetic, quotient, remainder}
 use Rattle.check_const_ops.specs.Common.{common}
-use Rattle.check_const_ops.specs.Sets.{without, set_related, on_sets, member, place, up_to, with_span, element, single}
+use Rattle.check_const_ops.specs.Sets.{without, set_related, on_sets, member, place, up_to, with_span, set_element, single}
 use Rattle.check_const_ops.specs.Operate.{ordinal_result, ordinal_operation, on_scalars, binary, signed_scalar, signed_value, negated_value}
 use Rattle.check_const_ops.specs.Standards.{scalar_part, whole_number, absolute_part, capital_part, character_part, odd_part, ordinal_part}
 use Rattle.check_const.specs.Calls.{unary_of, bound_by}
@@ -235,7 +235,7 @@ module _ (g : Gathers) where
   B_ r = Holds Small r
 
   single_small : (at : Pos) (v : Value) → B_ (single g at v)
-  single_small at v = then_holds (any_holds (element g at v)) (λ a k. then_holds (any_holds _) (λ f j. fine (with_span 0 a.number a.number) (span_small a.number a.number)))
+  single_small at v = then_holds (any_holds (set_element g at v)) (λ a k. then_holds (any_holds _) (λ f j. fine (with_span 0 a.number a.number) (span_small a.number a.number)))
 
   pub added_small : (s : Scope g.Reported) (low : Part g.Reported) (high : Option (Part g.Reported)) → B_ (element_or_range g s low high)
   added_small s low None = then_holds (any_holds (constant g s low)) (λ v k. single_small low.at v)

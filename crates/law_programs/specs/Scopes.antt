@@ -18,7 +18,7 @@ use Rattle.check_scope.specs.declared.known.Known.{Known}
 use Rattle.check_scope.specs.declared.known.Known.TheVariants.{Later, Ahead, Begun, Headed, Declared}
 use Rattle.check_scope.specs.declared.scope.Block.{Block}
 use Rattle.check_scope.specs.declared.scope.Scope.{Scope}
-use Rattle.check_const.specs.Denote.{member}
+use Rattle.check_const.specs.Denote.{exported_meaning}
 use Rattle.check_operator.specs.Classes.{signature_at}
 use Rattle.layout_storage.specs.Frames.{formals_of}
 use Rattle.layout_storage.specs.Shapes.{tree}
@@ -91,7 +91,7 @@ module _ (x : Context) (opens : ℕ → Bool) where
     pub own : NamesIn s.level x.kinds s.own
     pub outer : BlocksIn s.level 0 s.outer
     pub members : (k : ℕ) (name : Ident) → opens k ≡ true
-        → Holds (MeaningTyped x [] opens s.level) (member g s.tables k name)
+        → Holds (MeaningTyped x [] opens s.level) (exported_meaning g s.tables k name)
 
 -- ---- the laws
 

@@ -30,7 +30,7 @@ use Rattle.typed_tree.specs.Known.{made_in, made_at, scalar_at}
 use Rattle.check_scope.specs.Elaborated.{Gathers}
 use Rattle.check_scope.specs.Scopes.{looked_up}
 use Rattle.check_scope.specs.declared.scope.Scope.{Scope}
-use Rattle.check_const.specs.Denote.{member}
+use Rattle.check_const.specs.Denote.{exported_meaning}
 use Rattle.check_operator.specs.Classes.{signature_at, array_at}
 use Rattle.check_operator.specs.Values.{slot_of, nested_by}
 use Rattle.check_operator.specs.declared.computed.Computed.{Computed}
@@ -234,7 +234,7 @@ pub record IsTyped (g : Gathers) (x : Context) (ws : List Ty) (opens : ℕ → B
       → FormalsKnown s.types h.formals
   pub names : (name : Ident) → Holds (MeaningTyped x ws opens s.level) (looked_up g s name)
   pub members : (k : ℕ) (name : Ident) → opens k ≡ true
-      → Holds (MeaningTyped x ws opens s.level) (member g s.tables k name)
+      → Holds (MeaningTyped x ws opens s.level) (exported_meaning g s.tables k name)
 
 -- ---- the laws, if broken rules are gathered so
 

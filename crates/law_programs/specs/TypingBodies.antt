@@ -30,7 +30,7 @@ use Rattle.check_scope.specs.declared.known.Known.{Known}
 use Rattle.check_scope.specs.declared.known.Known.TheVariants.{Later, Ahead, Begun, Headed, Declared}
 use Rattle.check_scope.specs.declared.scope.Block.{Block as Around}
 use Rattle.check_scope.specs.declared.scope.Scope.{Scope}
-use Rattle.check_const.specs.Denote.{member}
+use Rattle.check_const.specs.Denote.{exported_meaning}
 use Rattle.layout_storage.specs.Types.{Ty}
 use Rattle.layout_storage.specs.Frames.{formals_of}
 use Rattle.layout_storage.specs.Shapes.{tree}
@@ -267,7 +267,7 @@ module _ (g : Gathers) (z : Stage) where
     pub locals : (n : ℕ) → length w.bodies.locals ≤ n → n < length w'.bodies.locals
         → slice_get z.home.locals n ≡ slice_get w'.bodies.locals n
     pub members : (k : ℕ) (name : Ident) → z.opens k ≡ true
-        → Holds (MeaningThere (stands z []) z.opens 0) (member g w.scope.tables k name)
+        → Holds (MeaningThere (stands z []) z.opens 0) (exported_meaning g w.scope.tables k name)
     pub outer : BlocksThere (stands_in z w.scope.level around) z.opens w.scope.level w.scope.outer
     pub withs : w.scope.withs ≡ []
 
@@ -385,7 +385,7 @@ pub record HasModule (g : Gathers) (base : Types) (z : Stage) (d : Scope g.Repor
   pub names : NamesThere (stands z []) z.opens 0 d.own
   pub outer : BlocksThere (stands z []) z.opens 0 d.outer
   pub members : (k : ℕ) (name : Ident) → z.opens k ≡ true
-      → Holds (MeaningThere (stands z []) z.opens 0) (member g d.tables k name)
+      → Holds (MeaningThere (stands z []) z.opens 0) (exported_meaning g d.tables k name)
 
 -- the bodies of all procedures of a module, and its own, with the types of its variables
 pub record AreBodiesTyped (z : Stage) (ss : List TypedStmt) : Type 0 where

@@ -15,7 +15,7 @@ use Rattle.m2_tree.specs.Names.{same_name}
 use Rattle.m2_rule.specs.declared.breach.Breach.{Breach}
 use Rattle.check_scope.specs.declared.scope.Scope.{Scope}
 use Rattle.check_scope.specs.Elaborated.{least}
-use Rattle.check_const.specs.Denote.{member}
+use Rattle.check_const.specs.Denote.{exported_meaning}
 use Rattle.check_definition.specs.Predeclared.{console, first_scope}
 use Rattle.check_definition.specs.Importing.{numbered_modules}
 use Rattle.check_block.specs.Nesting.{procedure_ends}
@@ -58,7 +58,7 @@ module _ (x : Context) (opens : ℕ → Bool) where
     pub others : NamesElse x opens 0 [] (declared_of s m b).own
     pub outer : BlocksThere x opens 0 (declared_of s m b).outer
     pub members : (k : ℕ) (name : Ident) → opens k ≡ true
-        → Holds (MeaningThere x opens 0) (member least (declared_of s m b).tables k name)
+        → Holds (MeaningThere x opens 0) (exported_meaning least (declared_of s m b).tables k name)
 
 -- ---- bodies
 

@@ -34,7 +34,7 @@ use Rattle.check_const_ops.specs.Standards.{scalar_part, if_number}
 use Rattle.check_operator.specs.declared.class.Class.{Class}
 use Rattle.check_operator.specs.declared.computed.Computed.{Computed}
 use Rattle.check_operator.specs.declared.computed.Designated.{Designated}
-use Rattle.check_call.specs.Effects.{change_target_as, change_target, known_amount, amount, change_by, set_as, set_variable, element_known, element, put}
+use Rattle.check_call.specs.Effects.{change_target_as, change_target, known_amount, amount, change_by, set_as, set_variable, element_known, set_element, put}
 use Rattle.check_expr.specs.Meanings.{meanings_of, value_of, breaches_in_all, wrong_count}
 use Rattle.check_expr.specs.Effects.{change_target_in, change_statement, set_in, member_by, halt_statement, put_by, function_done, standard_done}
 use Rattle.def_typing.specs.Shapes.{shape_at, IsMade}
@@ -243,7 +243,7 @@ module _ (g : Gathers) (j : Judges g) (lawful : Lawful g j) (O : Breach → Type
   element_run b e _ i (holds m) = fit e m (an_element i m some_element) (λ c. some_element)
   element_run b e _ i (fails_it n) = no_amount n
 
-  pub element_checks : {x : Computed} {k : Kind} → IsSetting p → IsKind x k → AmountSo (operand k) (element g at x)
+  pub element_checks : {x : Computed} {k : Kind} → IsSetting p → IsKind x k → AmountSo (operand k) (set_element g at x)
   element_checks i (kind_constant v) = known_element i (constant_is v)
   element_checks i (kind_scalar t b e) = element_run b e (is_numeric b) i (number_decided (Some b))
   element_checks i (kind_set e) = no_amount (λ m. m)
@@ -359,8 +359,8 @@ module _ (g : Gathers) (j : Judges g) (lawful : Lawful g j) (names : Ident → S
   amount_of {p = p} {e = e} c i h = subst (λ (at : Pos). Checks g j lawful E {A = TypedExpr} (Amount p e) (AmountFails p e) (value_of g s (meanings_of g e) ▷ amount g at)) (sym (at_is g i))
       (then_check g j lawful E {P = λ k. IsAmount p (operand k)} {D = λ k f. Misamounts p (first e) (operand k) f} (valued g j lawful names exports s i h) (λ v k q. amount_checks g j lawful E s.types p (first e) c q))
 
-  element_of : {p : Standard} {e : Expr} → IsSetting p → IsPlain e → Found e → Checks g j lawful E {A = TypedExpr} (Amount p e) (AmountFails p e) (value_of g s (meanings_of g e) ▷ element g (meanings_of g e).fixed.at)
-  element_of {p = p} {e = e} c i h = subst (λ (at : Pos). Checks g j lawful E {A = TypedExpr} (Amount p e) (AmountFails p e) (value_of g s (meanings_of g e) ▷ element g at)) (sym (at_is g i))
+  element_of : {p : Standard} {e : Expr} → IsSetting p → IsPlain e → Found e → Checks g j lawful E {A = TypedExpr} (Amount p e) (AmountFails p e) (value_of g s (meanings_of g e) ▷ set_element g (meanings_of g e).fixed.at)
+  element_of {p = p} {e = e} c i h = subst (λ (at : Pos). Checks g j lawful E {A = TypedExpr} (Amount p e) (AmountFails p e) (value_of g s (meanings_of g e) ▷ set_element g at)) (sym (at_is g i))
       (then_check g j lawful E {P = λ k. IsAmount p (operand k)} {D = λ k f. Misamounts p (first e) (operand k) f} (valued g j lawful names exports s i h) (λ v k q. element_checks g j lawful E s.types p (first e) c q))
 
   -- ---- INC and DEC by 1

@@ -13,7 +13,7 @@ use Rattle.check_const_ops.specs.Operands.{is_number}
 use Rattle.check_const_ops.specs.Numbers.{is_between}
 use Rattle.check_const_ops.specs.Common.{common}
 use Rattle.check_const_ops.specs.Standards.{scalar_part, if_number}
-use Rattle.check_const_ops.specs.Sets.{ordinal_or_refusal, element, is_element, has_none, in_set, alike_in_order, related_bounds, span_of, with_span}
+use Rattle.check_const_ops.specs.Sets.{ordinal_or_refusal, set_element, is_element, has_none, in_set, alike_in_order, related_bounds, span_of, with_span}
 use Rattle.def_typing.specs.Amounts.{Constant, IsNumber, GoTogether, Within}
 use Rattle.def_typing.specs.Operators.{◌!◌, Kind, Scalar, operand}
 use Rattle.law_typing.specs.Exact.{IsConst, is_const}
@@ -54,7 +54,7 @@ module _ (g : Gathers) (j : Judges g) (lawful : Lawful g j) (O : Breach → Type
   numbers_known at (constant_set bits) = declined g j lawful O at rule.WrongType (λ p m. let e = m.0 in absurd cc) ((λ p m. let e = m.0 in absurd cc), refl) (λ f z. z.1)
   numbers_known at (constant_text text) = declined g j lawful O at rule.WrongType (λ p m. let e = m.0 in absurd cc) ((λ p m. let e = m.0 in absurd cc), refl) (λ f z. z.1)
 
-  pub number_answers : (at : Pos) (v : ConstantValue) (k : Kind) → IsConst v k → Answers g j O IsOrdinal (NumberOf k) (NoNumber at k) (element g at v)
+  pub number_answers : (at : Pos) (v : ConstantValue) (k : Kind) → IsConst v k → Answers g j O IsOrdinal (NumberOf k) (NoNumber at k) (set_element g at v)
   number_answers at _ _ (is_const v) = numbers_known at (constant_is v)
 
   -- one meaning at most

@@ -14,7 +14,7 @@ use Rattle.check_scope.specs.declared.meaningless.Meaningless.{Meaningless}
 use Rattle.check_scope.specs.declared.meaningless.Meaningless.TheVariants as meaningless
 use Rattle.check_scope.specs.declared.scope.OpenedRecord.{OpenedRecord}
 use Rattle.check_scope.specs.declared.scope.Scope.{Scope}
-use Rattle.check_scope.specs.Scopes.{or_outside, fields_at, field_numbered, field_in, field_of, means_as, means_or, sight_of, looked_up}
+use Rattle.check_scope.specs.Scopes.{or_outside, fields_at, field_numbered, field_in, field_among, means_as, means_or, sight_of, looked_up}
 use Rattle.check_scope.specs.Scopes.{open_field as opened_field}
 use Rattle.check_scope.specs.Elaborated.{Gathers}
 use Rattle.check_stmt_parts.specs.declared.around.Around.{Around}
@@ -69,13 +69,13 @@ module _ (g : Gathers) (j : Judges g) (s : Scope g.Reported) (t : TypeNo) (field
   there_means : (name : Ident) (u : TypeNo) (o w : Option OpenedField) → FieldThere u o → InsideIs name (Some u) (means_or (or_outside o w) (rest name))
   there_means name u _ w (field_there f e) = is_field f e
 
-  inside_by : (name : Ident) (o : Option TypeNo) → find_name name.name fields ≡ o → InsideIs name o (means_or (or_outside (field_of r name.name (Some fields)) (opened_field s.types name.name s.withs)) (rest name))
+  inside_by : (name : Ident) (o : Option TypeNo) → find_name name.name fields ≡ o → InsideIs name o (means_or (or_outside (field_among r name.name (Some fields)) (opened_field s.types name.name s.withs)) (rest name))
   inside_by name None e = subst (λ (p : Option ℕ). InsideIs name None (means_or (or_outside (field_numbered r fields p) (opened_field s.types name.name s.withs)) (rest name))) (sym (place_none name.name fields e)) is_other
   inside_by name (Some u) e = there_means name u _ (opened_field s.types name.name s.withs) (there_by r name.name fields u e)
 
   inside_is : (name : Ident) → InsideIs name (find_name name.name fields) (looked_up g (into_record s t) name)
   inside_is name = subst (λ (o : Option OpenedField). InsideIs name (find_name name.name fields) (means_or o (rest name))) (sym (last_opened s.types name.name s.withs r))
-      (subst (λ (fs : Option (List (List ℕ × TypeNo))). InsideIs name (find_name name.name fields) (means_or (or_outside (field_of r name.name fs) (opened_field s.types name.name s.withs)) (rest name))) (sym fields_there) (inside_by name (find_name name.name fields) refl))
+      (subst (λ (fs : Option (List (List ℕ × TypeNo))). InsideIs name (find_name name.name fields) (means_or (or_outside (field_among r name.name fs) (opened_field s.types name.name s.withs)) (rest name))) (sym fields_there) (inside_by name (find_name name.name fields) refl))
 
   -- ---- what is known
 

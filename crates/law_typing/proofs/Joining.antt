@@ -418,7 +418,7 @@ module _ (g : Gathers) (j : Judges g) (lawful : Lawful g j) (O : Breach → Type
       not_in : (IsMembership op → ⊥) → Joins (Scalar (Constant a.sort a.number)) (Set (Some bits)) (report g spot rule.WrongType)
       not_in n = no_joining (λ o. n (members_only types op o).0)
 
-      is_member : IsMembership op → Joins (Scalar (Constant a.sort a.number)) (Set (Some bits)) (of_value (sets.member_of g spot left a bits))
+      is_member : IsMembership op → Joins (Scalar (Constant a.sort a.number)) (Set (Some bits)) (of_value (sets.membership_value g spot left a bits))
       is_member i = subst (Joins (Scalar (Constant a.sort a.number)) (Set (Some bits))) (tests_first (is_number a.sort) (is_between (pos 0) a.number (pos 31)) (constant_truth (sets.has bits a.number)))
           (member_by (is_number a.sort) (decided_as (λ n. (i, n)) (λ x. x.1) (number_decided a.sort)) (element_tests (Known a)) (kind_constant (constant_truth (sets.has bits a.number))) (λ i q e. rules.constant_member i q e) (λ d. constant_member_makes types op))
 

@@ -135,22 +135,22 @@ module _ (g : Gathers) (j : Judges g) (lawful : Lawful g j) (names : Ident → S
     fields_in fs (shape.Record hs) = hs
     fields_in fs other = fs
 
-    record_one : {t : TypeNo} {fs : List (List ℕ × TypeNo)} → IsMade s.types t (shape.Record fs) → (u : Standing) → Picks s.types exports name (AVariable t) u → u ≡ things.field_of (find_name name.name fs)
-    record_one {t = t} {fs = fs} m _ (of_record q) = ap (λ (hs : List (List ℕ × TypeNo)). things.field_of (find_name name.name hs)) (ap (fields_in fs) (one_made s.types t q m))
+    record_one : {t : TypeNo} {fs : List (List ℕ × TypeNo)} → IsMade s.types t (shape.Record fs) → (u : Standing) → Picks s.types exports name (AVariable t) u → u ≡ things.field_standing (find_name name.name fs)
+    record_one {t = t} {fs = fs} m _ (of_record q) = ap (λ (hs : List (List ℕ × TypeNo)). things.field_standing (find_name name.name hs)) (ap (fields_in fs) (one_made s.types t q m))
 
     not_record : {t : TypeNo} (z : Option Shape) → shape_at s.types t ≡ z → ((fs : List (List ℕ × TypeNo)) → z ≡ Some (shape.Record fs) → ⊥) → (st : Standing) → Picks s.types exports name (AVariable t) st → ⊥
     not_record z e n _ (of_record m) = n _ (sym e ∙ m)
 
     field_by : (t : TypeNo) (d : Place) (fs : List (List ℕ × TypeNo)) (o : Option (ℕ × TypeNo)) → FieldIs name.name fs o
-        → Answers g j R IsThing (λ y. things.field_of (find_name name.name fs) ≡ Known y) (Misnamed name.pos (things.field_of (find_name name.name fs))) (field_named g name.pos o ▷ λ f. Ok (designated.Variable f.1 (behind d (part.Field t f.0))))
-    field_by t d fs _ (field_there n u e) = subst (λ (o : Option TypeNo). Answers g j R IsThing (λ y. things.field_of o ≡ Known y) (Misnamed name.pos (things.field_of o)) (Ok (designated.Variable u (behind d (part.Field t n))))) (sym e)
+        → Answers g j R IsThing (λ y. things.field_standing (find_name name.name fs) ≡ Known y) (Misnamed name.pos (things.field_standing (find_name name.name fs))) (field_named g name.pos o ▷ λ f. Ok (designated.Variable f.1 (behind d (part.Field t f.0))))
+    field_by t d fs _ (field_there n u e) = subst (λ (o : Option TypeNo). Answers g j R IsThing (λ y. things.field_standing o ≡ Known y) (Misnamed name.pos (things.field_standing o)) (Ok (designated.Variable u (behind d (part.Field t n))))) (sym e)
         (names_it g j lawful R s.level name.pos (thing_variable u _))
-    field_by t d fs _ (field_nowhere e) = subst (λ (o : Option TypeNo). Answers g j R IsThing (λ y. things.field_of o ≡ Known y) (Misnamed name.pos (things.field_of o)) (report g name.pos rule.Undeclared)) (sym e)
+    field_by t d fs _ (field_nowhere e) = subst (λ (o : Option TypeNo). Answers g j R IsThing (λ y. things.field_standing o ≡ Known y) (Misnamed name.pos (things.field_standing o)) (report g name.pos rule.Undeclared)) (sym e)
         (declined g j lawful R name.pos rule.Undeclared (λ x q. absurd cc) undeclared (only_undeclared g j lawful R s.level name.pos))
 
     component_by : (t : TypeNo) (d : Place) (z : Option Shape) → shape_at s.types t ≡ z → PicksSo (AVariable t) (record_field g at name (fields_of z) ▷ λ f. Ok (designated.Variable f.1 (behind d (part.Field t f.0))))
     component_by t d None e = no_field (not_record None e (λ fs q. absurd cc))
-    component_by t d (Some (shape.Record fs)) e = picks_one (things.field_of (find_name name.name fs)) (of_record e) (record_one e) (field_by t d fs (numbered_field name.name fs) (field_is name.name fs))
+    component_by t d (Some (shape.Record fs)) e = picks_one (things.field_standing (find_name name.name fs)) (of_record e) (record_one e) (field_by t d fs (numbered_field name.name fs) (field_is name.name fs))
     component_by t d (Some (shape.Scalar r)) e = no_field (not_record _ e (λ fs q. absurd cc))
     component_by t d (Some shape.Set) e = no_field (not_record _ e (λ fs q. absurd cc))
     component_by t d (Some (shape.Array i u)) e = no_field (not_record _ e (λ fs q. absurd cc))

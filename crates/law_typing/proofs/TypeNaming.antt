@@ -16,7 +16,7 @@ use Rattle.check_scope.specs.declared.meaningless.Meaningless.TheVariants as mea
 use Rattle.check_scope.specs.declared.scope.Scope.{Scope}
 use Rattle.check_scope.specs.Elaborated.{Gathers, report, of_sort, ◌▷◌}
 use Rattle.check_scope.specs.Scopes.{looked_up}
-use Rattle.check_const.specs.Denote.{exported_by, export_of, member}
+use Rattle.check_const.specs.Denote.{exported_by, export_of, exported_meaning}
 use Rattle.check_type_expr.specs.Named.{type_meant, in_module, of_module, named_type}
 use Rattle.def_typing.specs.Operators.{◌!◌}
 use Rattle.def_typing.specs.Things.{Thing, AValue, AVariable, AnOpenArray, AType, AProcedure, ANested, AStandard, AModule, Headless, Standing, Known, Ahead, Undeclared, NotExported, Unknown, Misnamed, undeclared, not_exported}
@@ -159,7 +159,7 @@ module _ (g : Gathers) (j : Judges g) (lawful : Lawful g j) (names : Ident → S
     local_module t local.Alias = other_module (AVariable t) (λ q. let e = q.1 in absurd cc)
     local_module t local.Open = other_module (AnOpenArray t) (λ q. let e = q.1 in absurd cc)
 
-    in_that : (k : ℕ) → MemberSo (Known (AModule k)) (member g s.tables k name ▷ type_meant g home.pos)
+    in_that : (k : ℕ) → MemberSo (Known (AModule k)) (exported_meaning g s.tables k name ▷ type_meant g home.pos)
     in_that k = exact g j lawful R {M = λ t. exports k name ≡ Known (AType t)} {B = Misses IsType home.pos name.pos (exports k name)} (λ t e. (k, refl, e)) (λ t z. subst (λ (n : ℕ). exports n name ≡ Known (AType t)) (one_module z.1) z.2) (λ f m. inr (k, refl, m)) (λ f z. out z)
         (type_exported g j lawful R home.pos name.pos (exports k name) (exported_by name.name (slice_get s.tables k)) (knows.of_modules k name))
       where

@@ -19,7 +19,7 @@ use Rattle.check_scope.specs.Elaborated.{Gathers}
 use Rattle.check_scope.specs.declared.known.Known.{Known}
 use Rattle.check_scope.specs.declared.known.Known.TheVariants.{Headed}
 use Rattle.check_scope.specs.declared.scope.Block.{Block}
-use Rattle.check_const.specs.Denote.{member}
+use Rattle.check_const.specs.Denote.{exported_meaning}
 use Rattle.law_modules.specs.WellFormed.{IsRoutine, IsBody}
 use Rattle.law_well_formed.specs.Formed.{Holds, FormedMeaning}
 use Rattle.law_well_formed.specs.FormedScopes.{AreFormedNames, AreFormedBlocks}
@@ -237,7 +237,7 @@ module _ (g : Gathers) (elaborates : Elaborates g.Reported) (ends : List ℕ) (a
           home = k.home ∙ u.home;
           types = u.types;
           locals = λ n e f. u.locals n (omega (arith, e, grows)) f;
-          members = λ i name e. subst (λ (ts : List Table). Holds (FormedMeaning m opens 0) (member g ts i name)) (sym k.tables) (u.members i name e);
+          members = λ i name e. subst (λ (ts : List Table). Holds (FormedMeaning m opens 0) (exported_meaning g ts i name)) (sym k.tables) (u.members i name e);
           outer = subst (λ (bs : List (Block g.Reported)). AreFormedBlocks m opens bs) (sym k.outer) u.outer;
           withs = k.withs ∙ u.withs;
         }

@@ -45,7 +45,7 @@ use Rattle.check_const.specs.declared.denoted.Denoted.{Denoted}
 use Rattle.check_const.specs.declared.denoted.Denoted.TheVariants as denoted
 use Rattle.check_const.specs.declared.call.Sort.{Sort}
 use Rattle.check_const.specs.declared.call.Sort.TheVariants.{Unary, Bound, Conversion, Never}
-use Rattle.check_const.specs.Denote.{denoted_by, denoted_of, as_constant, of_value, component, exported_by, export_of, member}
+use Rattle.check_const.specs.Denote.{denoted_by, denoted_of, as_constant, of_value, component, exported_by, export_of, exported_meaning}
 use Rattle.check_const.specs.Calls.{sort_of, scalar_type, named_scalar, type_argument}
 use Rattle.check_const.specs.Parts.{Part, Pick, Adds, sign_place, signed_first, first_name, field_of, constant, one, type_only, conversion, by_sort, standard_call_value, call_value, factor, term}
 use Rattle.check_expr.specs.Meanings.{Meant, Picks, expr_layer, selector_layer, designator_layer, item_layer, meanings_of, picks, head, item, part}
@@ -148,7 +148,7 @@ module _ (g : Gathers) (s : Scope g.Reported) (h : ScopeRanged s) where
       field_or g s.types (open_field s.types name.name s.withs) (means_as g name.pos (sight_of name.name s))
       (means_ranged g s.types name.pos (sight_of name.name s) (around_ranged s.types (find_name name.name s.own) (known_outside name.name s.outer) (found_ranged s.types name.name s.own h.names) (outside_ranged s.types name.name s.outer None tt h.outer)))
 
-  member_means : (k : ℕ) (name : Ident) → Means_ g s.types (member g s.tables k name)
+  member_means : (k : ℕ) (name : Ident) → Means_ g s.types (exported_meaning g s.tables k name)
   member_means k name = exported_means g s.types name.pos (exported_by name.name (slice_get s.tables k)) (export_at g s.types name.name s.tables k h.tables)
 
   -- ---- what designators and expressions stand for

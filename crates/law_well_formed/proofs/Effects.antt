@@ -38,7 +38,7 @@ use Rattle.check_operator.specs.declared.computed.Designated.TheVariants as desi
 use Rattle.check_operator.specs.declared.places.Accepted.{Accepted}
 use Rattle.check_operator.specs.declared.places.Accepted.TheVariants as accepted
 use Rattle.check_call.specs.Callees.{proper_with, proper_of, call_by}
-use Rattle.check_call.specs.Effects.{target_of, target_at, store_statement, assignment_to, assignment_of, change_target_as, change_target, type_of_number, known_amount, amount, change_by, set_as, set_variable, element_known, element, membership_of}
+use Rattle.check_call.specs.Effects.{target_of, target_at, store_statement, assignment_to, assignment_of, change_target_as, change_target, type_of_number, known_amount, amount, change_by, set_as, set_variable, element_known, set_element, membership_of}
 use Rattle.check_call.specs.declared.callee.Callee.{Callee}
 use Rattle.check_call.specs.declared.callee.Called.{Called}
 use Rattle.check_call.specs.declared.callee.Called.TheVariants as called
@@ -193,7 +193,7 @@ module _ (g : Gathers) (m : TypedModule) (opens : ℕ → Bool) (w : ℕ) (s : S
   element_known_formed at None = reported_holds g at rule.WrongArgument
   element_known_formed at (Some a) = where_holds g _ at rule.OutOfRange (fine (expr.Constant (type_of_number a.number a.sort) a.number) (Constant (type_of_number a.number a.sort) a.number))
 
-  element_formed : (at : Pos) (x : Computed) → FormedValue m w x → Expr_ (element g at x)
+  element_formed : (at : Pos) (x : Computed) → FormedValue m w x → Expr_ (set_element g at x)
   element_formed at (value.Constant v) p = element_known_formed at (whole_number v)
   element_formed at (value.Scalar t b e) p = where_holds g _ at rule.WrongArgument (fine e p)
   element_formed at (value.Set e) p = reported_holds g at rule.WrongArgument

@@ -15,7 +15,7 @@ use Rattle.check_scope.specs.Elaborated.{Gathers}
 use Rattle.check_scope.specs.declared.known.Known.{Known}
 use Rattle.check_scope.specs.declared.scope.Block.{Block as Around}
 use Rattle.check_scope.specs.declared.scope.Scope.{Scope}
-use Rattle.check_const.specs.Denote.{member}
+use Rattle.check_const.specs.Denote.{exported_meaning}
 use Rattle.def_scheme.specs.Exprs.{is_there}
 use Rattle.check_block.specs.Naming.{with_marks}
 use Rattle.check_block.specs.Nesting as nesting
@@ -133,7 +133,7 @@ module _ (g : Gathers) (elaborates : Elaborates g.Reported) (forms : FormsStatem
             (subst (λ (es : List (List ℕ × Known g.Reported)). AreFormedNames m opens es) (sym (all_own g elaborates ends around marks.1 ps (start, 0))) start_formed)
             (subst (λ (bs : List (Around g.Reported)). AreFormedBlocks m opens bs) (sym end_keeps.outer) start_suits.outer)
             (end_keeps.withs ∙ start_suits.withs)
-            (λ k name e. subst (λ (ts : List Table). Holds (FormedMeaning m opens 0) (member g ts k name)) (sym end_keeps.tables) (start_suits.members k name e))
+            (λ k name e. subst (λ (ts : List Table). Holds (FormedMeaning m opens 0) (exported_meaning g ts k name)) (sym end_keeps.tables) (start_suits.members k name e))
 
         block_formed : AddsFormed g m opens w end × Holds (AreStmts m (is_there returns) 0 false) (statements_of elaborates end.scope returns body)
         block_formed = (

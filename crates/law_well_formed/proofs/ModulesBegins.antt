@@ -19,7 +19,7 @@ use Rattle.check_scope.specs.Elaborated.{Gathers}
 use Rattle.check_scope.specs.declared.known.Known.{Known}
 use Rattle.check_scope.specs.declared.known.Known.TheVariants.{Declared}
 use Rattle.check_scope.specs.declared.known.Origin.TheVariants.{Here}
-use Rattle.check_const.specs.Denote.{exported_by, export_of, member}
+use Rattle.check_const.specs.Denote.{exported_by, export_of, exported_meaning}
 use Rattle.check_definition.specs.Predeclared.{predeclared_as, with_types, with_truth, with_functions, with_bounds, with_procedures, predeclared_names, predeclared_block, console}
 use Rattle.check_definition.specs.Importing.{exports_of}
 use Rattle.check_block.specs.declared.heading.Standing.TheVariants.{Awaited}
@@ -192,7 +192,7 @@ module _ (m : TypedModule) (opens : ℕ → Bool) where
     member_formed name None k = reported_holds g name.pos rule.NotExported
     member_formed name (Some t) k = found_formed name.pos name.name t.exported k
 
-    pub members_formed : (tables : List Table) → OpenTables m opens g tables → (k : ℕ) (name : Ident) → opens k ≡ true → Holds (FormedMeaning m opens 0) (member g tables k name)
+    pub members_formed : (tables : List Table) → OpenTables m opens g tables → (k : ℕ) (name : Ident) → opens k ≡ true → Holds (FormedMeaning m opens 0) (exported_meaning g tables k name)
     members_formed tables all k name h = member_formed name (slice_get tables k) (all k h)
 
 pub open_tables : (m : TypedModule) (g : Gathers) (home : ℕ) → home ≡ m.types.home → (ts tables : List Table) → tables ≡ ts ++ console ∷ [] → AreTables home ts → OpenTables m (open_in tables m.imports) g tables

@@ -25,7 +25,7 @@ use Rattle.check_block.specs.Inner.{inwards}
 use Rattle.check_body.specs.declared.routine.Bodies.{Bodies}
 use Rattle.check_body.specs.declared.routine.Numbered.{Numbered}
 use Rattle.check_body.specs.Routines.{numbered_known, put_routine, routine}
-use Rattle.check_const.specs.Denote.{member}
+use Rattle.check_const.specs.Denote.{exported_meaning}
 use Rattle.def_scheme.specs.Exprs.{is_there}
 use Rattle.law_modules.specs.WellFormed.{IsRoutine, AreStmts, IsBody}
 use Rattle.law_well_formed.specs.Formed.{Holds, FormedMeaning}
@@ -343,7 +343,7 @@ module _ (g : Gathers) (elaborates : Elaborates g.Reported) (ends : List ℕ) (a
           home = k.home ∙ u.home;
           types = u.types;
           locals = λ n e f. u.locals n (omega (arith, e, grows)) f;
-          members = λ i name e. subst (λ (ts : List Table). Holds (FormedMeaning m opens 0) (member g ts i name)) (sym k.tables) (u.members i name e);
+          members = λ i name e. subst (λ (ts : List Table). Holds (FormedMeaning m opens 0) (exported_meaning g ts i name)) (sym k.tables) (u.members i name e);
           outer = subst (λ (bs : List (Block g.Reported)). AreFormedBlocks m opens bs) (sym k.outer) u.outer;
           withs = k.withs ∙ u.withs;
         }

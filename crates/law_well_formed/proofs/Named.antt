@@ -21,7 +21,7 @@ use Rattle.check_scope.specs.declared.scope.Block.{Block}
 use Rattle.check_scope.specs.declared.scope.Scope.{Scope}
 use Rattle.check_scope.specs.Scopes.{State, Sight, or_outside, seen_at, in_block, nearer, known_outside, or_around, sight_of, means_seen, means_as, open_field, means_or, looked_up, is_free, with_known, unless_declared, is_begun, finish_name, unless_marked, mark_name}
 use Rattle.check_scope.specs.Elaborated.{Gathers, report}
-use Rattle.check_const.specs.Denote.{exported_by, export_of, member}
+use Rattle.check_const.specs.Denote.{exported_by, export_of, exported_meaning}
 use Rattle.check_type_expr.specs.Named.{type_meant, in_module, of_module, named_type}
 use Rattle.law_well_formed.specs.Formed.{Holds, fine}
 use Rattle.law_well_formed.proofs.Basics.{then_holds, reported_holds, sort_holds, plain_holds, heading_means_holds}
@@ -90,7 +90,7 @@ module _ (g : Gathers) where
   exported_ordered types at None p = reported_holds g at rule.NotExported
   exported_ordered types at (Some m) p = fine m p
 
-  pub member_ordered : (types : Types) (ts : List Table) (k : ℕ) (name : Ident) → TablesOrdered types ts → Holds (MeaningOrdered types) (member g ts k name)
+  pub member_ordered : (types : Types) (ts : List Table) (k : ℕ) (name : Ident) → TablesOrdered types ts → Holds (MeaningOrdered types) (exported_meaning g ts k name)
   member_ordered types ts k name h = exported_ordered types name.pos (exported_by name.name (slice_get ts k)) (table_found types name.name ts k h)
 
   means_by : (types : Types) (at : Pos) (b : Bool) (r : Result Meaning g.Reported) → Holds (MeaningOrdered types) r → Holds (MeaningOrdered types) (cond b r (report g at rule.Undeclared))

@@ -25,7 +25,7 @@ use Rattle.check_scope.specs.declared.known.Origin.TheVariants.{Here, Module, Ex
 use Rattle.check_scope.specs.declared.scope.Block.{Block}
 use Rattle.check_scope.specs.declared.scope.OpenedRecord.{OpenedRecord}
 use Rattle.check_scope.specs.declared.scope.Scope.{Scope}
-use Rattle.check_const.specs.Denote.{member}
+use Rattle.check_const.specs.Denote.{exported_meaning}
 use Rattle.check_type_expr.specs.Named.{type_meant, in_module, of_module, named_type}
 use Rattle.check_block.specs.Declarations.{Course, with_decl}
 use Rattle.check_block.specs.Inner.{inwards}
@@ -233,7 +233,7 @@ module _ (g : Gathers) (ends : List ℕ) (a : Scope g.Reported) (first : ℕ) (b
     module_by home name t (Err (Headless e)) l f = absurd cc
     module_by home name t (Ok (meaning.Module k)) l f =
         ap (λ (r : Result Meaning (Meaningless g.Reported)). of_sort g home.pos rule.NoType r ▷ in_module g inner home.pos name) (name_stays home (meaning.Module k) l refl)
-        ∙ (ap (λ (ts : List Table). member g ts k name ▷ type_meant g home.pos) same_tables ∙ f)
+        ∙ (ap (λ (ts : List Table). exported_meaning g ts k name ▷ type_meant g home.pos) same_tables ∙ f)
     module_by home name t (Ok (meaning.Type y n)) l f = absurd cc
     module_by home name t (Ok (meaning.Constant v)) l f = absurd cc
     module_by home name t (Ok (meaning.Variable v)) l f = absurd cc

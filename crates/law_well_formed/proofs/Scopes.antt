@@ -25,7 +25,7 @@ use Rattle.check_scope.specs.declared.known.Origin.TheVariants.{Here, Module, Ex
 use Rattle.check_scope.specs.declared.scope.Block.{Block}
 use Rattle.check_scope.specs.declared.scope.OpenedRecord.{OpenedRecord}
 use Rattle.check_scope.specs.declared.scope.Scope.{Scope}
-use Rattle.check_const.specs.Denote.{member}
+use Rattle.check_const.specs.Denote.{exported_meaning}
 use Rattle.check_type_expr.specs.Headings.{formal_of}
 use Rattle.check_block.specs.Inner.{formal_kind, formal_meaning, Formals, with_formal, with_section, formals_in}
 use Rattle.law_well_formed.specs.Formed.{Holds, fine, FormedMeaning, IsFormed}
@@ -104,7 +104,7 @@ module _ (m : TypedModule) (opens : ℕ → Bool) (g : Gathers) where
 
   -- types that are the module's, names that are formed, and modules that are open
   pub scope_formed : (s : Scope g.Reported) → ((t : TypeNo) (x : Made) → made_at s.types t ≡ Some x → made_at m.types t ≡ Some x) → AreFormedNames m opens s.own → AreFormedBlocks m opens s.outer → s.withs ≡ []
-      → ((k : ℕ) (name : Ident) → opens k ≡ true → Holds (FormedMeaning m opens 0) (member g s.tables k name)) → IsFormed g m opens 0 s
+      → ((k : ℕ) (name : Ident) → opens k ≡ true → Holds (FormedMeaning m opens 0) (exported_meaning g s.tables k name)) → IsFormed g m opens 0 s
   scope_formed s types own outer withs members = record {
     types = types;
     names = λ name.

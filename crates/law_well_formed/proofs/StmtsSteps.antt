@@ -22,7 +22,7 @@ use Rattle.typed_tree.specs.Names.{place_of}
 use Rattle.typed_tree.specs.Types.{boolean}
 use Rattle.check_scope.specs.declared.meaningless.Meaningless.{Meaningless}
 use Rattle.check_scope.specs.Elaborated.{Gathers, reported_where}
-use Rattle.check_scope.specs.Scopes.{or_outside, fields_at, field_of, field_numbered, field_in, open_field as opened_fields, means_or, means_as, sight_of}
+use Rattle.check_scope.specs.Scopes.{or_outside, fields_at, field_among, field_numbered, field_in, open_field as opened_fields, means_or, means_as, sight_of}
 use Rattle.check_scope.specs.declared.scope.OpenedRecord.{OpenedRecord}
 use Rattle.check_scope.specs.declared.scope.Scope.{Scope}
 use Rattle.check_operator.specs.Classes.{class_at}
@@ -93,7 +93,7 @@ numbered_with : (r : OpenedRecord) (fs : List (List ℕ × TypeNo)) (o : Option 
 numbered_with r fs None f e = absurd cc
 numbered_with r fs (Some n) f e = mapped_with r n (slice_get fs n) f e
 
-of_fields : (r : OpenedRecord) (name : List ℕ) (o : Option (List (List ℕ × TypeNo))) (f : OpenedField) → field_of r name o ≡ Some f → f.with ≡ r.number
+of_fields : (r : OpenedRecord) (name : List ℕ) (o : Option (List (List ℕ × TypeNo))) (f : OpenedField) → field_among r name o ≡ Some f → f.with ≡ r.number
 of_fields r name None f e = absurd cc
 of_fields r name (Some fs) f e = numbered_with r fs (place_of name fs) f e
 

@@ -23,7 +23,7 @@ use Rattle.check_scope.specs.Scopes.{State}
 use Rattle.check_scope.specs.declared.known.Known.{Known}
 use Rattle.check_scope.specs.declared.scope.Block.{Block as Around}
 use Rattle.check_scope.specs.declared.scope.Scope.{Scope}
-use Rattle.check_const.specs.Denote.{member}
+use Rattle.check_const.specs.Denote.{exported_meaning}
 use Rattle.check_definition.specs.Predeclared.{predeclared_block, console, first_scope}
 use Rattle.check_definition.specs.Importing.{numbered_modules, with_import}
 use Rattle.check_block.specs.Nesting.{procedure_ends}
@@ -223,8 +223,8 @@ module _ (g : Gathers) (elaborates : Elaborates g.Reported) (forms : FormsStatem
     names_formed : AreFormedNames made opens course.0.own
     names_formed = headed_leads.formed (marked_leads.home ∙ end_home) (marked_leads.formed end_home begun_formed)
 
-    members : (us : List Table) → us ≡ s.tables → (k : ℕ) (name : Ident) → opens k ≡ true → Holds (FormedMeaning made opens 0) (member g us k name)
-    members us e k name h = subst (λ (us : List Table). Holds (FormedMeaning made opens 0) (member g us k name)) (sym e) (members_formed made opens g s.tables tables_open k name h)
+    members : (us : List Table) → us ≡ s.tables → (k : ℕ) (name : Ident) → opens k ≡ true → Holds (FormedMeaning made opens 0) (exported_meaning g us k name)
+    members us e k name h = subst (λ (us : List Table). Holds (FormedMeaning made opens 0) (exported_meaning g us k name)) (sym e) (members_formed made opens g s.tables tables_open k name h)
 
     blocks : (bs : List (Around g.Reported)) → bs ≡ predeclared_block ∷ [] → AreFormedBlocks made opens bs
     blocks bs e = subst (λ (bs : List (Around g.Reported)). AreFormedBlocks made opens bs) (sym e) (around_formed made opens g.Reported)

@@ -11,7 +11,7 @@ use Rattle.typed_tree.specs.Known.{made_at}
 use Rattle.check_scope.specs.Elaborated.{Gathers}
 use Rattle.check_scope.specs.Scopes.{looked_up}
 use Rattle.check_scope.specs.declared.scope.Scope.{Scope}
-use Rattle.check_const.specs.Denote.{member}
+use Rattle.check_const.specs.Denote.{exported_meaning}
 use Rattle.check_operator.specs.declared.computed.Computed.{Computed}
 use Rattle.check_operator.specs.declared.computed.Computed.TheVariants as value
 use Rattle.check_operator.specs.declared.computed.Designated.{Designated}
@@ -66,7 +66,7 @@ pub record IsFormed (g : Gathers) (m : TypedModule) (opens : ℕ → Bool) (with
   pub types : (t : TypeNo) (x : Made) → made_at s.types t ≡ Some x → made_at m.types t ≡ Some x
   pub names : (name : Ident) → Holds (FormedMeaning m opens withs) (looked_up g s name)
   pub members : (k : ℕ) (name : Ident) → opens k ≡ true
-      → Holds (FormedMeaning m opens withs) (member g s.tables k name)
+      → Holds (FormedMeaning m opens withs) (exported_meaning g s.tables k name)
 
 -- what the checker makes of an expression, if broken rules are gathered so
 abbrev pub ExpressionsAreFormed : Gathers → Type 0

@@ -12,7 +12,7 @@ use Rattle.typed_tree.specs.Known.{made_at}
 use Rattle.typed_tree.specs.Names.{find_name}
 use Rattle.check_scope.specs.Elaborated.{Gathers}
 use Rattle.check_scope.specs.declared.scope.Scope.{Scope}
-use Rattle.check_const.specs.Denote.{member}
+use Rattle.check_const.specs.Denote.{exported_meaning}
 use Rattle.def_scheme.specs.Exprs.{is_there}
 use Rattle.check_block.specs.Nesting.{within}
 use Rattle.law_modules.specs.WellFormed.{AreStmts, IsBody}
@@ -62,7 +62,7 @@ module _ (g : Gathers) (m : TypedModule) (opens : ℕ → Bool) where
     pub locals : (n : ℕ) → length w.bodies.locals ≤ n → n < length w'.bodies.locals
         → slice_get m.locals n ≡ slice_get w'.bodies.locals n
     pub members : (k : ℕ) (name : Ident) → opens k ≡ true
-        → Holds (FormedMeaning m opens 0) (member g w.scope.tables k name)
+        → Holds (FormedMeaning m opens 0) (exported_meaning g w.scope.tables k name)
     pub outer : AreFormedBlocks m opens w.scope.outer
     pub withs : w.scope.withs ≡ []
 

@@ -177,7 +177,7 @@ pub fn element_of(types: &Types, extents: &Extents, t: TypeNo) -> u32
 }
 
 /// The offset of a component of a type, by its number from 0.
-pub fn field_of(types: &Types, extents: &Extents, t: TypeNo, number: usize) -> u32
+pub fn field_offset(types: &Types, extents: &Extents, t: TypeNo, number: usize) -> u32
     requires { AreExtents types.now extents.now }
     ensures capped { result ≡ cap_size (offset (tree types.now t) (number ∷ [])) }
     ensures exact { types_fit types.now ≡ true → (u : Ty)

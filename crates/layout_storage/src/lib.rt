@@ -20,7 +20,7 @@ mod places;
 mod row;
 
 pub use extent::Extent;
-pub use extents::{Extents, element_of, field_of, scalar_in, size_of};
+pub use extents::{Extents, element_of, field_offset, scalar_in, size_of};
 pub use frame::{frame_row, variables_row};
 pub use kind::{Kind, Width, bytes_of, width_of};
 pub use layout::Layout;

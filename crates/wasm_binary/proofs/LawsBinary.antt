@@ -14,7 +14,7 @@ use Rattle.wasm_tree.specs.Format.{◌>>=◌}
 use Rattle.wasm_code.specs.Number.{unsigned}
 use Rattle.wasm_code.specs.Parts.{◌◂◌, ◌·◌, as_value, vector, with_size, bytes_left, name}
 use Rattle.wasm_code.specs.Instructions.{value_type, code}
-use Rattle.wasm_binary.specs.Binary.{table_type, memory_type, import_kind, import, global, export_kind, export, element, locals_at, locals_encoding, local_count, locals, body, data_segment}
+use Rattle.wasm_binary.specs.Binary.{table_type, memory_type, import_kind, import, global, export_kind, export, element_segment, locals_at, locals_encoding, local_count, locals, body, data_segment}
 use Rattle.wasm_code.proofs.Laws.{IsBytes, IsBytes-tail, bind_ok, guard_ok, read_is, Taken, Law, whole}
 use Rattle.wasm_code.proofs.LawsTagged.{if_tag, bind_behind, tagged, value_type_law, value_type_fits}
 use Rattle.wasm_binary.proofs.LawsKinds.{table_type_law, memory_type_law}
@@ -104,8 +104,8 @@ pub export_law : Law export
 unfolding export
 export_law = seen_law (λ p. record { name = p.0; kind = p.1 }) (λ e. (e.name, e.kind)) (name · export_kind) (then_law name export_kind name_law export_kind_law) (λ y. refl) (λ x. refl)
 
-pub element_law : Law element
-unfolding element
+pub element_law : Law element_segment
+unfolding element_segment
 element_law =
     seen_law (λ p. record { table = p.0; offset = p.1.0; functions = p.1.1 }) (λ e. (e.table, (e.offset, e.functions))) (unsigned · (code · vector unsigned))
     (then_law unsigned (code · vector unsigned) unsigned_law (then_law code (vector unsigned) code_law (vector_law unsigned unsigned_law))) (λ y. refl) (λ x. refl)

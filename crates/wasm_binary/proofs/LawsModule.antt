@@ -13,7 +13,7 @@ use Rattle.wasm_tree.specs.declared.module.WModule.{WModule}
 use Rattle.wasm_tree.specs.Format.{Format, Reading, ◌>>=◌, Gives, skip}
 use Rattle.wasm_code.specs.Number.{groups, unsigned}
 use Rattle.wasm_code.specs.Parts.{with_size, section}
-use Rattle.wasm_binary.specs.Binary.{func_type, import, table_type, memory_type, global, export, element, body, data_segment, header, skip_all, bodies, code_entries, code_content, code_section, at_end, module_at, body_encoding, bodies_encoding, code_encoding, types_of, first_sections, middle_sections, last_sections, module_encoding, module_fits, binary, Encodes, IsOnlyEncoding}
+use Rattle.wasm_binary.specs.Binary.{func_type, import, table_type, memory_type, global, export, element_segment, body, data_segment, header, skip_all, bodies, code_entries, code_content, code_section, at_end, module_at, body_encoding, bodies_encoding, code_encoding, types_of, first_sections, middle_sections, last_sections, module_encoding, module_fits, binary, Encodes, IsOnlyEncoding}
 use Rattle.wasm_code.proofs.Laws.{IsBytes, IsBytes-tail, IsBytes-after, bind_ok, guard_ok, ok_is, read_is, Taken, Law, WholeLaw}
 use Rattle.wasm_code.proofs.LawsNumber.{unsigned_law}
 use Rattle.wasm_code.proofs.LawsParts.{skip_ok, skip_same, sized_takes, sized_inner, sized_again, Past, Past-section, Past-less, section_law}
@@ -184,7 +184,7 @@ record Steps (bytes : List ℕ) (m : WModule) (rest : List ℕ) : Type 0 where
   memories : (section 5 memory_type).reading r4 ≡ Ok (m.memories, r5)
   globals : (section 6 global).reading r5 ≡ Ok (m.globals, r6)
   exports : (section 7 export).reading r6 ≡ Ok (m.exports, r7)
-  elements : (section 9 element).reading r7 ≡ Ok (m.elements, r9)
+  elements : (section 9 element_segment).reading r7 ≡ Ok (m.elements, r9)
   functions : code_section uses r9 ≡ Ok (m.functions, r10)
   segments : (section 11 data_segment).reading r10 ≡ Ok (m.«data», r11)
   ends : at_end r11 ≡ Ok tt
@@ -205,7 +205,7 @@ steps bytes m rest e =
     bind_into ((section 5 memory_type).reading tables.1) _ (m, rest) (Steps bytes m rest) e4 (λ memories is5 e5.
     bind_into ((section 6 global).reading memories.1) _ (m, rest) (Steps bytes m rest) e5 (λ globals is6 e6.
     bind_into ((section 7 export).reading globals.1) _ (m, rest) (Steps bytes m rest) e6 (λ exports is7 e7.
-    bind_into ((section 9 element).reading exports.1) _ (m, rest) (Steps bytes m rest) e7 (λ elements is9 e9.
+    bind_into ((section 9 element_segment).reading exports.1) _ (m, rest) (Steps bytes m rest) e7 (λ elements is9 e9.
     bind_into (code_section uses.0 elements.1) _ (m, rest) (Steps bytes m rest) e9 (λ functions is10 e10.
     bind_into ((section 11 data_segment).reading functions.1) _ (m, rest) (Steps bytes m rest) e10 (λ segments is11 e11.
     bind_into (at_end segments.1) _ (m, rest) (Steps bytes m rest) e11 (λ end is12 e12.
@@ -244,7 +244,7 @@ abbrev laid_out : WModule → List ℕ
 laid_out m =
     header ++ ((section 1 func_type).encoding m.types ++ ((section 2 import).encoding m.imports ++ ((section 3 unsigned).encoding (types_of m.functions)
     ++ ((section 4 table_type).encoding m.tables ++ ((section 5 memory_type).encoding m.memories ++ ((section 6 global).encoding m.globals
-    ++ ((section 7 export).encoding m.exports ++ ((section 9 element).encoding m.elements ++ (code_encoding m.functions
+    ++ ((section 7 export).encoding m.exports ++ ((section 9 element_segment).encoding m.elements ++ (code_encoding m.functions
     ++ (section 11 data_segment).encoding m.«data»)))))))))
 
 regroup : (h a b c d e f g i j k : List ℕ) → (h ++ a ++ b ++ c) ++ (d ++ e ++ f ++ g) ++ (i ++ j ++ k) ≡ h ++ (a ++ (b ++ (c ++ (d ++ (e ++ (f ++ (g ++ (i ++ (j ++ k)))))))))
@@ -254,7 +254,7 @@ encoding_is : (m : WModule) → module_encoding m ≡ laid_out m
 unfolding module_encoding first_sections middle_sections last_sections
 encoding_is m =
     regroup header ((section 1 func_type).encoding m.types) ((section 2 import).encoding m.imports) ((section 3 unsigned).encoding (types_of m.functions)) ((section 4 table_type).encoding m.tables)
-    ((section 5 memory_type).encoding m.memories) ((section 6 global).encoding m.globals) ((section 7 export).encoding m.exports) ((section 9 element).encoding m.elements) (code_encoding m.functions)
+    ((section 5 memory_type).encoding m.memories) ((section 6 global).encoding m.globals) ((section 7 export).encoding m.exports) ((section 9 element_segment).encoding m.elements) (code_encoding m.functions)
     ((section 11 data_segment).encoding m.«data»)
 
 -- one part before others
@@ -278,14 +278,14 @@ encoded bytes m rest fits s =
     let t5 = (section_law 5 memory_type memory_type_law).takes s.r4 m.memories s.r5 t4.rest_fits s.memories in
     let t6 = (section_law 6 global global_law).takes s.r5 m.globals s.r6 t5.rest_fits s.globals in
     let t7 = (section_law 7 export export_law).takes s.r6 m.exports s.r7 t6.rest_fits s.exports in
-    let t9 = (section_law 9 element element_law).takes s.r7 m.elements s.r9 t7.rest_fits s.elements in
+    let t9 = (section_law 9 element_segment element_law).takes s.r7 m.elements s.r9 t7.rest_fits s.elements in
     let t10 = code_section_takes s.uses s.r9 m.functions s.r10 t9.rest_fits s.functions in
     let t11 = (section_law 11 data_segment data_segment_law).takes s.r10 m.«data» s.r11 t10.rest_fits s.segments in
     let types_are : s.uses ≡ types_of m.functions = sym t10.types_are in
     let nothing : s.r11 ≡ [] = at_end_ok s.r11 tt s.ends in
     let end : s.r10 ≡ (section 11 data_segment).encoding m.«data» = joins s.r10 _ s.r11 [] t11.parts nothing ∙ append-nil ((section 11 data_segment).encoding m.«data») in
     let p10 = joins s.r9 (code_encoding m.functions) s.r10 _ t10.parts end in
-    let p9 = joins s.r7 ((section 9 element).encoding m.elements) s.r9 _ t9.parts p10 in
+    let p9 = joins s.r7 ((section 9 element_segment).encoding m.elements) s.r9 _ t9.parts p10 in
     let p7 = joins s.r6 ((section 7 export).encoding m.exports) s.r7 _ t7.parts p9 in
     let p6 = joins s.r5 ((section 6 global).encoding m.globals) s.r6 _ t6.parts p7 in
     let p5 = joins s.r4 ((section 5 memory_type).encoding m.memories) s.r5 _ t5.parts p6 in
@@ -351,7 +351,7 @@ record Layout (m : WModule) (s0 s1 s2 s3 s4 s5 s6 s7 s9 s10 : List ℕ) : Type 0
   is4 : s4 ≡ (section 5 memory_type).encoding m.memories ++ s5
   is5 : s5 ≡ (section 6 global).encoding m.globals ++ s6
   is6 : s6 ≡ (section 7 export).encoding m.exports ++ s7
-  is7 : s7 ≡ (section 9 element).encoding m.elements ++ s9
+  is7 : s7 ≡ (section 9 element_segment).encoding m.elements ++ s9
   is9 : s9 ≡ code_encoding m.functions ++ s10
   is10 : s10 ≡ (section 11 data_segment).encoding m.«data»
 
@@ -375,7 +375,7 @@ read_again : (m : WModule) (bytes s0 s1 s2 s3 s4 s5 s6 s7 s9 s10 : List ℕ)
     → (section 5 memory_type).reading s4 ≡ Ok (m.memories, s5)
     → (section 6 global).reading s5 ≡ Ok (m.globals, s6)
     → (section 7 export).reading s6 ≡ Ok (m.exports, s7)
-    → (section 9 element).reading s7 ≡ Ok (m.elements, s9)
+    → (section 9 element_segment).reading s7 ≡ Ok (m.elements, s9)
     → code_section (types_of m.functions) s9 ≡ Ok (m.functions, s10)
     → (section 11 data_segment).reading s10 ≡ Ok (m.«data», [])
     → module_at bytes ≡ Ok (m, [])
@@ -389,14 +389,14 @@ read_again m bytes s0 s1 s2 s3 s4 s5 s6 s7 s9 s10 e0 e1 e2 e3 e4 e5 e6 e7 e9 e10
     (bind_is ((section 5 memory_type).reading s4) (m.memories, s5) _ (Ok (m, [])) e5
     (bind_is ((section 6 global).reading s5) (m.globals, s6) _ (Ok (m, [])) e6
     (bind_is ((section 7 export).reading s6) (m.exports, s7) _ (Ok (m, [])) e7
-    (bind_is ((section 9 element).reading s7) (m.elements, s9) _ (Ok (m, [])) e9
+    (bind_is ((section 9 element_segment).reading s7) (m.elements, s9) _ (Ok (m, [])) e9
     (bind_is (code_section (types_of m.functions) s9) (m.functions, s10) _ (Ok (m, [])) e10
     (bind_is ((section 11 data_segment).reading s10) (m.«data», []) _ (Ok (m, [])) e11 refl))))))))))
 
 abbrev FitsEach : WModule → Type 0
 FitsEach m =
     AllTrue ((section 1 func_type).fits m.types) ((section 2 import).fits m.imports) ((section 3 unsigned).fits (types_of m.functions)) ((section 4 table_type).fits m.tables) ((section 5 memory_type).fits m.memories)
-    ((section 6 global).fits m.globals) ((section 7 export).fits m.exports) ((section 9 element).fits m.elements) (bodies_fit m.functions) (ltb (length (bodies_encoding m.functions)) (2 ^ 32)) ((section 11 data_segment).fits m.«data»)
+    ((section 6 global).fits m.globals) ((section 7 export).fits m.exports) ((section 9 element_segment).fits m.elements) (bodies_fit m.functions) (ltb (length (bodies_encoding m.functions)) (2 ^ 32)) ((section 11 data_segment).fits m.«data»)
 
 fits_each : (m : WModule) → module_fits m ≡ true → FitsEach m
 unfolding module_fits
@@ -407,7 +407,7 @@ layout_again m s0 s1 s2 s3 s4 s5 s6 s7 s9 s10 fits l =
     let f : FitsEach m = fits_each m fits in
     let past10 : Past 9 s10 = subst (Past 9) (sym l.is10) (last_past 9 m.«data» (omega arith)) in
     let past9 : Past 9 s9 = subst (Past 9) (sym l.is9) (Past-code 9 m.functions s10 (omega arith) past10) in
-    let a7 = again_is 9 7 element element_law m.elements s7 s9 (omega arith) f.nine l.is7 past9 in
+    let a7 = again_is 9 7 element_segment element_law m.elements s7 s9 (omega arith) f.nine l.is7 past9 in
     let a6 = again_is 7 6 export export_law m.exports s6 s7 (omega arith) f.seven l.is6 a7.past in
     let a5 = again_is 6 5 global global_law m.globals s5 s6 (omega arith) f.six l.is5 a6.past in
     let a4 = again_is 5 4 memory_type memory_type_law m.memories s4 s5 (omega arith) f.five l.is4 a5.past in

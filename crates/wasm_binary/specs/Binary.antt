@@ -134,8 +134,8 @@ unfoldable pub export : Format Export
 export =
     as_value (λ p. record { name = p.0; kind = p.1 }) (λ e. (e.name, e.kind)) (name · export_kind)
 
-unfoldable pub element : Format Element
-element =
+unfoldable pub element_segment : Format Element
+element_segment =
     as_value (λ p. record { table = p.0; offset = p.1.0; functions = p.1.1 })
     (λ e. (e.table, (e.offset, e.functions))) (unsigned · (code · vector unsigned))
 
@@ -225,7 +225,7 @@ module_at bytes = do
   memories ← (section 5 memory_type).reading tables.1
   globals ← (section 6 global).reading memories.1
   exports ← (section 7 export).reading globals.1
-  elements ← (section 9 element).reading exports.1
+  elements ← (section 9 element_segment).reading exports.1
   functions ← code_section uses.0 elements.1
   segments ← (section 11 data_segment).reading functions.1
   end ← at_end segments.1
@@ -271,7 +271,7 @@ middle_sections m =
 
 unfoldable pub last_sections : WModule → List ℕ
 last_sections m =
-    (section 9 element).encoding m.elements ++ code_encoding m.functions
+    (section 9 element_segment).encoding m.elements ++ code_encoding m.functions
     ++ (section 11 data_segment).encoding m.data
 
 unfoldable pub module_encoding : WModule → List ℕ
@@ -288,7 +288,7 @@ module_fits m =
     && (section 5 memory_type).fits m.memories
     && (section 6 global).fits m.globals
     && (section 7 export).fits m.exports
-    && (section 9 element).fits m.elements
+    && (section 9 element_segment).fits m.elements
     && list_all (λ f. body.fits f.body) m.functions
     && nat_lt (length (bodies_encoding m.functions)) (2 ^ 32)
     && (section 11 data_segment).fits m.data

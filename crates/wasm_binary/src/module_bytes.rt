@@ -5,7 +5,7 @@ ghost use Rattle.std.specs.List.{list_all};
 ghost use Rattle.wasm_code.specs.Number.{unsigned};
 ghost use Rattle.wasm_code.specs.Parts.{section};
 ghost use Rattle.wasm_tree.specs.Format.{Format, Gives};
-ghost use Rattle.wasm_binary.specs.Binary.{body, data_segment, element, export, func_type, global, import, memory_type, table_type, header, skip_all, bodies, code_entries, code_content, code_section, at_end, module_at, types_of, bodies_encoding, code_encoding, first_sections, middle_sections, last_sections, module_encoding, module_fits, Encodes, IsOnlyEncoding};
+ghost use Rattle.wasm_binary.specs.Binary.{body, data_segment, element_segment, export, func_type, global, import, memory_type, table_type, header, skip_all, bodies, code_entries, code_content, code_section, at_end, module_at, types_of, bodies_encoding, code_encoding, first_sections, middle_sections, last_sections, module_encoding, module_fits, Encodes, IsOnlyEncoding};
 ghost use Rattle.wasm_tree.specs.declared.fault.WFault.TheVariants.{NoMemory};
 ghost use Rattle.wasm_tree.specs.declared.module.WModule.{WModule};
 
@@ -234,7 +234,7 @@ fn write_middle(out: &mut Writer, tree: &WModule) -> Result<(), EncodeError>
 #[tactic(auto, using(crate::proofs::Whole::unfit_elements, crate::proofs::Whole::unfit_code, crate::proofs::Whole::unfit_contents), unfolding(crate::specs::Binary::last_sections))]
 fn write_last(out: &mut Writer, tree: &WModule) -> Result<(), EncodeError>
     ensures written { OnOk result (out.new ≡ out.old ++ last_sections tree.now) }
-    ensures elements { OnOk result ((section 9 element).fits tree.now.elements ≡ true) }
+    ensures elements { OnOk result ((section 9 element_segment).fits tree.now.elements ≡ true) }
     ensures bodies { OnOk result (list_all (λ f. body.fits f.body) tree.now.functions ≡ true) }
     ensures size { OnOk result
         (nat_lt (length (bodies_encoding tree.now.functions)) (2 ^ 32) ≡ true) }

@@ -2,7 +2,7 @@
 
 ghost use Rattle.std.specs.Prelude.{◌≡◌, ◌≢◌, ◌≤◌, IfOk, length, Err, ◌++◌, OnOk};
 ghost use Rattle.wasm_tree.specs.Format.{Format, Gives};
-ghost use Rattle.wasm_binary.specs.Binary.{import_kind, import, global, export_kind, export, element, data_segment};
+ghost use Rattle.wasm_binary.specs.Binary.{import_kind, import, global, export_kind, export, element_segment, data_segment};
 
 use crate::binary::{Binary, vector, write_vector};
 use std::alloc::Global;
@@ -183,9 +183,9 @@ impl Binary for Export {
     }
 }
 
-#[tactic(auto, unfolding(crate::specs::Binary::element))]
+#[tactic(auto, unfolding(crate::specs::Binary::element_segment))]
 impl Binary for Element {
-    ghost format = { element };
+    ghost format = { element_segment };
 
     fn read(alloc: Global, bytes: &[u8]) -> Result<(Element, &[u8]), WFault> {
         let (table, rest) = unsigned_at(bytes)?;

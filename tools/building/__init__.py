@@ -1,0 +1,1 @@
+"""How tools/build_program proves and builds programs."""
