@@ -44,7 +44,7 @@ use Rattle.law_typing.proofs.Combining.{Lawful}
 use Rattle.law_typing.proofs.Entering.{once_more}
 use Rattle.law_importing.specs.Exact.{with_declared}
 use Rattle.law_defining.specs.Exact.{IsTable, IsAnswered, is_table, is_refused, IsDefinitionExact}
-use Rattle.law_defining.specs.Exports.{IsEntry, a_constant, a_type, a_variable, a_procedure, Lists, no_name, a_name, Exports, its_own, its_constant, AreExported, nothing_exported, one_exports}
+use Rattle.law_defining.specs.Exports.{IsEntry, a_constant, a_type, a_variable, a_procedure, Lists, no_name, a_name, AreExported, nothing_exported, one_exports}
 use Rattle.law_defining.specs.Importers.{IsPlainModule, IsTableOf, is_answered, CanBeImported, of_console, of_definition, TablesAreForeign, awaits_heading, OwnNamesAreKnown, NamesAgree}
 use Rattle.law_defining.proofs.Among.{among_split}
 use Rattle.law_defining.proofs.Keys.{entered_last, entered_other, there_found}
@@ -73,10 +73,6 @@ module _ {T : Type 0} (s : Scope T) where
   foreign_entry {home = home} (a_variable before behind q) c = two_numbers home s.types.home c
   foreign_entry a_procedure c = refl
 
-  foreign_export : {exports : ℕ → Ident → Standing} {v p : ℕ} {d : Placed} {x : Ident} {m : Meaning} → Exports exports v p d x m → (d.at.types.home ≡ s.types.home → ⊥) → is_own_variable s m ≡ false
-  foreign_export (its_own i w) c = foreign_entry i c
-  foreign_export (its_constant {e = e} h f q) c = subst (λ (m : Meaning). is_own_variable s m ≡ false) (sym q) refl
-
   foreign_list : {Is : Ident → Meaning → Type 0} {xs : List Ident} {es : List Entry} → ((x : Ident) (m : Meaning) → Is x m → is_own_variable s m ≡ false) → Lists Is xs es → (e : Entry) → Among e es → is_own_variable s e.1 ≡ false
   foreign_list h no_name e m = elim m [ ]
   foreign_list h (a_name {x = x} {m = w} i l) _ here = h x w i
@@ -84,9 +80,12 @@ module _ {T : Type 0} (s : Scope T) where
 
   foreign_exports : {exports : ℕ → Ident → Standing} {v p : ℕ} {ds : List Placed} {es : List Entry} → AreExported exports v p ds es → ((d : Placed) → Among d ds → d.at.types.home ≡ s.types.home → ⊥) → (e : Entry) → Among e es → is_own_variable s e.1 ≡ false
   foreign_exports nothing_exported h e m = elim m [ ]
-  foreign_exports (one_exports {d = d} {es = es} l k) h e m = elim (among_split es m) [
-    | inl y ↦ foreign_list (λ x w i. foreign_export i (h d here)) l e y
-    | inr y ↦ foreign_exports k (λ d n. h d (later n)) e y
+  foreign_exports (one_exports {d = d} {own = own} {constants = constants} l c k) h e m = elim (among_split own m) [
+    | inl y ↦ foreign_list (λ x w i. foreign_entry i.entry (h d here)) l e y
+    | inr z ↦ elim (among_split constants z) [
+      | inl y ↦ foreign_list (λ x w i. subst (λ (m : Meaning). is_own_variable s m ≡ false) (sym i.2) refl) c e y
+      | inr y ↦ foreign_exports k (λ d n. h d (later n)) e y
+    ]
   ]
 
 -- ---- names that are exported once

@@ -15,7 +15,6 @@ use Rattle.typed_tree.specs.declared.meaning.Meaning.{Meaning}
 use Rattle.typed_tree.specs.declared.meaning.Meaning.TheVariants as meaning
 use Rattle.typed_tree.specs.Names.{find_name}
 use Rattle.def_typing.specs.Things.{Standing}
-use Rattle.def_typing.specs.Parts.{Named}
 use Rattle.def_typing.specs.TypeExprs.{constants_listed, Member}
 use Rattle.def_typing.specs.Declarations.{Declaration, OfConstant, OfType, OfVariables, OfProcedure, names_of, constants_of}
 use Rattle.def_typing.specs.Definitions.{Placed, Means}
@@ -38,8 +37,8 @@ abbrev pub procedures_of : Declaration → ℕ
 procedures_of (OfProcedure h) = 1
 procedures_of other = 0
 
-abbrev pub member_means : Member → Meaning
-member_means e =
+abbrev pub constant_means : Member → Meaning
+constant_means e =
     meaning.Constant (value.Scalar (record { of = e.0; base = e.0; number = pos e.1 }))
 
 -- What a declaration enters for a name. The variables of a module are numbered in the order of the
@@ -64,22 +63,23 @@ pub data Lists (Is : Ident → Meaning → Type 0) : List Ident → List Entry �
       → Lists Is (x ∷ xs) ((x.name, m) ∷ es)
 
 module _ (exports : ℕ → Ident → Standing) where
-  -- what a declaration exports
-  pub data Exports (variables procedures : ℕ) (p : Placed) (x : Ident) (m : Meaning)
+  -- A declaration's own name means what it says.
+  pub record OwnMeans (variables procedures : ℕ) (p : Placed) (x : Ident) (m : Meaning)
       : Type 0 where
-    -- its own name means what it says
-    its_own : IsEntry p.at.types.home variables procedures p.what x m
-        → Means exports p (standing m) → Exports variables procedures p x m
-    -- a constant of an enumeration in its type
-    its_constant : {e : Member} → Named (constants_of p.what) x.name
-        → find_name x.name p.adds.brings ≡ Some e → m ≡ member_means e
-        → Exports variables procedures p x m
+    pub entry : IsEntry p.at.types.home variables procedures p.what x m
+    pub meaning : Means exports p (standing m)
+
+  -- what a constant of an enumeration in its type means
+  abbrev pub ConstantMeans : Placed → Ident → Meaning → Type 0
+  ConstantMeans p x m =
+      (e : Member) × (find_name x.name p.adds.brings ≡ Some e) × (m ≡ constant_means e)
 
   -- What declarations export, in the order of the text: the names of each, and behind them the
   -- constants of the enumerations in its type.
   pub data AreExported : (variables procedures : ℕ) → List Placed → List Entry → Type 0 where
     nothing_exported : {v p : ℕ} → AreExported v p [] []
-    one_exports : {v p : ℕ} {d : Placed} {ds : List Placed} {es rest : List Entry}
-        → Lists (Exports v p d) (names_of d.what ++ constants_of d.what) es
+    one_exports : {v p : ℕ} {d : Placed} {ds : List Placed} {own constants rest : List Entry}
+        → Lists (OwnMeans v p d) (names_of d.what) own
+        → Lists (ConstantMeans d) (constants_of d.what) constants
         → AreExported (v + variables_of d.what) (p + procedures_of d.what) ds rest
-        → AreExported v p (d ∷ ds) (es ++ rest)
+        → AreExported v p (d ∷ ds) (own ++ (constants ++ rest))
