@@ -15,6 +15,7 @@ pub mod Listing
 pub mod Exporting
 pub mod Ordinary
 pub mod Procedures
+pub mod Only
 pub mod Running
 pub mod Marks
 pub mod Finding

@@ -457,6 +457,7 @@ module _ (g : Gathers) (j : Judges g) (lawful : Lawful g j) (found : Finds g j) 
     whole = all_of_it.whole;
     last = last;
     follow = all_of_it.follow;
+    only = all_of_it.only;
     answered = answered_by (λ r z. found home m given r z) (subst (λ (ts : List Table). Tabled Is Broken (of_contents g home m ts m.contents)) e (subst (λ (c : Contents). Tabled Is Broken (of_contents g home m tables c)) (sym q) tabled));
   }
 

@@ -113,6 +113,10 @@ pub record IsDefinitionExact (g : Gathers) (j : Judges g) (home : ℕ) (m : Modu
   -- Each adds the types and constants that the rules say, and its names stand for what they say.
   pub follow :
       AllFollow exports (first_context home tables names taken) (all_declared defs) whole last
+  -- There is no other reading of the declarations.
+  pub only : (others : List Placed) (end : Context)
+      → AllFollow exports (first_context home tables names taken) (all_declared defs) others end
+      → (others ≡ whole) × (end ≡ last)
   -- Exactly the rules that are broken in imports and in declarations are reported.
   pub answered : IsAnswered g j (IsTable home m tables exports whole last)
       (λ f.
