@@ -14,8 +14,8 @@
 //! - `proofs/Taking` says what a declaration enters into the scope if nothing is reported, `proofs/Listing` that it is exported
 //!   in the order of the text, `proofs/Marks` and `proofs/Keeping` that names keep this order, `proofs/Constants` that the
 //!   constants of enumerations are new, and `proofs/Entries` that no other name is exported.
-//! - `proofs/Only` says that the rules read a definition in one way, `proofs/Finding` that a refusal has a rule, `proofs/Outside` what names stand for outside, and `proofs/Importing`
-//!   what importers know.
+//! - `proofs/Only` says that the rules read a definition in one way, `proofs/Finding` that a refusal has a rule,
+//!   `proofs/Outside` what names stand for outside, and `proofs/Importing` what importers know.
 #![tactic(auto)]
 
 ghost use Rattle.check_scope.specs.Elaborated.{every, least};
