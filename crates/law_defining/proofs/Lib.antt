@@ -18,6 +18,7 @@ pub mod Procedures
 pub mod Only
 pub mod Running
 pub mod Marks
+pub mod Modules
 pub mod Finding
 pub mod Starting
 pub mod Outside

@@ -57,7 +57,8 @@ use Rattle.law_typing.proofs.Marking.{block_begins}
 use Rattle.law_importing.specs.Exact.{origin, StandsFor, imported, from_outside, imported_all, AreImportsExact}
 use Rattle.law_importing.proofs.Behind.{first_imports}
 use Rattle.law_importing.proofs.Defining.{definition_imports}
-use Rattle.law_defining.specs.Exports.{AreExported, nothing_exported}
+use Rattle.law_defining.specs.Exports.{AreExported, AreModules, nothing_exported}
+use Rattle.law_defining.proofs.Modules.{modules_are}
 use Rattle.law_defining.proofs.Once.{imports_keep, imports_once}
 use Rattle.law_defining.proofs.Twices.{twice_as}
 use Rattle.law_defining.proofs.Keys.{Begins, begins_more, once_found, keys_apart}
@@ -443,7 +444,7 @@ module _ (g : Gathers) (j : Judges g) (lawful : Lawful g j) (found : Finds g j) 
   its_table e = let k = all_of_it.stands.block.same in record {
     of_number = ap (λ (t : Types). t.home) k.types ∙ home_kept all_of_it.follow;
     of_name = refl;
-    of_imports = ap (λ (ts : List Table). imported_modules modules ts m.imports) (k.tables ∙ all_of_it.tables);
+    of_imports = subst (λ (ts : List Table). AreModules tables (all_imported m.imports) (imported_modules modules ts m.imports)) (sym (k.tables ∙ all_of_it.tables)) (modules_are tables m.imports);
     of_types = ap (λ (t : Types). reached_of t) k.types;
     of_exports = its_exports e;
     of_meanings = its_meanings e;

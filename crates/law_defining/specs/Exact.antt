@@ -15,8 +15,7 @@ use Rattle.typed_tree.specs.declared.table.Table.{Table}
 use Rattle.typed_tree.specs.Names.{find_name}
 use Rattle.check_scope.specs.Elaborated.{Gathers}
 use Rattle.check_definition.specs.Predeclared.{console, others_of, first_scope}
-use Rattle.check_definition.specs.Importing.{numbered_modules}
-use Rattle.check_definition.specs.Export.{reached_of, imported_modules}
+use Rattle.check_definition.specs.Export.{reached_of}
 use Rattle.check_definition.specs.Compiled.{definition_table}
 use Rattle.def_typing.specs.Things.{Headless, Standing, Known, Unknown}
 use Rattle.def_typing.specs.Parts.{Among}
@@ -28,7 +27,7 @@ use Rattle.def_typing.specs.Imports.{Imported, all_imported, Origin, Brings}
 use Rattle.law_typing.specs.Judging.{Judges, Accounts}
 use Rattle.law_typing.specs.Exact.{standing, Knows, IsCallFree, IsPlainType}
 use Rattle.law_importing.specs.Exact.{StandsFor}
-use Rattle.law_defining.specs.Exports.{AreExported}
+use Rattle.law_defining.specs.Exports.{AreExported, AreModules}
 
 -- ---- declarations of a definition
 
@@ -81,7 +80,8 @@ pub record IsTable (home : ℕ) (m : Module) (tables : List Table) (exports : �
     (whole : List Placed) (last : Context) (t : Table) : Type 0 where
   pub of_number : t.number ≡ home
   pub of_name : t.name ≡ m.name.name
-  pub of_imports : t.imports ≡ imported_modules (numbered_modules tables).0 tables m.imports
+  -- It lists the modules that it imports.
+  pub of_imports : AreModules tables (all_imported m.imports) t.imports
   -- the types that are met through it: those of the tables, and those that its declarations make
   pub of_types : t.reached ≡ reached_of last.types
   -- Each name that is declared is exported, with what it means, and no other is.

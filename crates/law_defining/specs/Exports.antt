@@ -1,5 +1,5 @@
 -- What a definition exports.
-use Rattle.std.specs.Prelude.{◌≡◌, ℕ, ◌+◌, pos, List, [], ◌∷◌, ◌++◌, length, Some}
+use Rattle.std.specs.Prelude.{◌≡◌, ℕ, ◌+◌, pos, List, [], ◌∷◌, ◌++◌, length, None, Some}
 use Rattle.m2_tree.specs.declared.name.Ident.{Ident}
 use Rattle.m2_tree.specs.declared.decl.Constant.{Constant}
 use Rattle.m2_tree.specs.declared.decl.TypeDecl.{TypeDecl}
@@ -13,12 +13,13 @@ use Rattle.typed_tree.specs.declared.meaning.Value.{Value}
 use Rattle.typed_tree.specs.declared.meaning.Value.TheVariants as value
 use Rattle.typed_tree.specs.declared.meaning.Meaning.{Meaning}
 use Rattle.typed_tree.specs.declared.meaning.Meaning.TheVariants as meaning
+use Rattle.typed_tree.specs.declared.table.Table.{Table}
 use Rattle.typed_tree.specs.Names.{find_name}
 use Rattle.def_typing.specs.Things.{Standing}
 use Rattle.def_typing.specs.TypeExprs.{constants_listed, Member}
 use Rattle.def_typing.specs.Declarations.{Declaration, OfConstant, OfType, OfVariables, OfProcedure, names_of, constants_of}
 use Rattle.def_typing.specs.Definitions.{Placed, Means}
-use Rattle.def_typing.specs.Imports.{Entry}
+use Rattle.def_typing.specs.Imports.{Entry, Imported, OfModule, FromModule, OfName, IsFoundAt}
 use Rattle.law_typing.specs.Exact.{standing}
 
 -- How many names come with a type that is declared: its own, and the constants of an enumeration.
@@ -83,3 +84,29 @@ module _ (exports : ℕ → Ident → Standing) where
         → Lists (ConstantMeans d) (constants_of d.what) constants
         → AreExported (v + variables_of d.what) (p + procedures_of d.what) ds rest
         → AreExported v p (d ∷ ds) (own ++ (constants ++ rest))
+
+-- ---- the modules that it imports
+
+-- a module that an import names
+pub data NamesModule (name : Ident) : Imported → Type 0 where
+  by_import : NamesModule name (OfModule name)
+  by_from : NamesModule name (FromModule name)
+
+-- The modules that imports name, each once, in the order of the text, with their numbers. As the
+-- imports stand here, the last one comes first.
+pub data AreModules (tables : List Table) : List Imported → List (List ℕ × ℕ) → Type 0 where
+  no_import : AreModules tables [] []
+  a_module : {x : Imported} {front : List Imported} {ms : List (List ℕ × ℕ)} {name : Ident}
+      {t : Table} {k : ℕ} → AreModules tables front ms → NamesModule name x
+      → IsFoundAt (λ t. t.name ≡ name.name) t tables k → find_name name.name ms ≡ None
+      → AreModules tables (x ∷ front) (ms ++ (name.name, t.number) ∷ [])
+  again : {x : Imported} {front : List Imported} {ms : List (List ℕ × ℕ)} {name : Ident}
+      → AreModules tables front ms → NamesModule name x → (find_name name.name ms ≡ None → ⊥)
+      → AreModules tables (x ∷ front) ms
+  -- A module without a definition is refused.
+  without_definition : {x : Imported} {front : List Imported} {ms : List (List ℕ × ℕ)}
+      {name : Ident} → AreModules tables front ms → NamesModule name x
+      → ((t : Table) (k : ℕ) → IsFoundAt (λ t. t.name ≡ name.name) t tables k → ⊥)
+      → AreModules tables (x ∷ front) ms
+  a_name_of_it : {from name : Ident} {front : List Imported} {ms : List (List ℕ × ℕ)}
+      → AreModules tables front ms → AreModules tables (OfName from name ∷ front) ms
