@@ -19,6 +19,7 @@ pub mod Only
 pub mod Running
 pub mod Marks
 pub mod Modules
+pub mod Meeting
 pub mod Finding
 pub mod Starting
 pub mod Outside

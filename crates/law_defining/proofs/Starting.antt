@@ -57,8 +57,9 @@ use Rattle.law_typing.proofs.Marking.{block_begins}
 use Rattle.law_importing.specs.Exact.{origin, StandsFor, imported, from_outside, imported_all, AreImportsExact}
 use Rattle.law_importing.proofs.Behind.{first_imports}
 use Rattle.law_importing.proofs.Defining.{definition_imports}
-use Rattle.law_defining.specs.Exports.{AreExported, AreModules, nothing_exported}
+use Rattle.law_defining.specs.Exports.{AreExported, AreModules, own_met, nothing_exported}
 use Rattle.law_defining.proofs.Modules.{modules_are}
+use Rattle.law_defining.proofs.Meeting.{others_kept, types_are}
 use Rattle.law_defining.proofs.Once.{imports_keep, imports_once}
 use Rattle.law_defining.proofs.Twices.{twice_as}
 use Rattle.law_defining.proofs.Keys.{Begins, begins_more, once_found, keys_apart}
@@ -445,7 +446,8 @@ module _ (g : Gathers) (j : Judges g) (lawful : Lawful g j) (found : Finds g j) 
     of_number = ap (λ (t : Types). t.home) k.types ∙ home_kept all_of_it.follow;
     of_name = refl;
     of_imports = subst (λ (ts : List Table). AreModules tables (all_imported m.imports) (imported_modules modules ts m.imports)) (sym (k.tables ∙ all_of_it.tables)) (modules_are tables m.imports);
-    of_types = ap (λ (t : Types). reached_of t) k.types;
+    of_types = let w = types_are tables last.types (others_kept all_of_it.follow) in
+        (w.0, w.1, ap (λ (t : Types). reached_of t) k.types ∙ w.2 ∙ ap (λ (n : ℕ). w.0 ++ own_met n last.types.own) (home_kept all_of_it.follow));
     of_exports = its_exports e;
     of_meanings = its_meanings e;
   }

@@ -13,7 +13,10 @@ use Rattle.typed_tree.specs.declared.meaning.Value.{Value}
 use Rattle.typed_tree.specs.declared.meaning.Value.TheVariants as value
 use Rattle.typed_tree.specs.declared.meaning.Meaning.{Meaning}
 use Rattle.typed_tree.specs.declared.meaning.Meaning.TheVariants as meaning
+use Rattle.typed_tree.specs.declared.shape.Made.{Made}
+use Rattle.typed_tree.specs.declared.table.ModuleTypes.{ModuleTypes}
 use Rattle.typed_tree.specs.declared.table.Table.{Table}
+use Rattle.def_typing.specs.Parts.{Among}
 use Rattle.typed_tree.specs.Names.{find_name}
 use Rattle.def_typing.specs.Things.{Standing}
 use Rattle.def_typing.specs.TypeExprs.{constants_listed, Member}
@@ -110,3 +113,24 @@ pub data AreModules (tables : List Table) : List Imported → List (List ℕ × 
       → AreModules tables (x ∷ front) ms
   a_name_of_it : {from name : Ident} {front : List Imported} {ms : List (List ℕ × ℕ)}
       → AreModules tables front ms → AreModules tables (OfName from name ∷ front) ms
+
+-- ---- the types that are met through it
+
+abbrev pub all_reached : List Table → List ModuleTypes
+all_reached [] = []
+all_reached (t ∷ ts) = t.reached ++ all_reached ts
+
+-- The types of each module, once: those that come first. As they stand here, the last ones come
+-- first.
+pub data AreMet : List ModuleTypes → List ModuleTypes → Type 0 where
+  nothing_met : AreMet [] []
+  first_met : {m : ModuleTypes} {front ms : List ModuleTypes} → AreMet front ms
+      → ((x : ModuleTypes) → Among x ms → x.number ≡ m.number → ⊥)
+      → AreMet (m ∷ front) (ms ++ m ∷ [])
+  met_again : {m x : ModuleTypes} {front ms : List ModuleTypes} → AreMet front ms → Among x ms
+      → x.number ≡ m.number → AreMet (m ∷ front) ms
+
+-- its own types, if it makes some
+abbrev pub own_met : ℕ → List Made → List ModuleTypes
+own_met home [] = []
+own_met home (m ∷ ms) = record { number = home; made = m ∷ ms } ∷ []

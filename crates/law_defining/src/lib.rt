@@ -15,8 +15,8 @@
 //!   in the order of the text, `proofs/Marks` and `proofs/Keeping` that names keep this order, `proofs/Constants` that the
 //!   constants of enumerations are new, and `proofs/Entries` that no other name is exported.
 //! - `proofs/Only` says that the rules read a definition in one way, `proofs/Finding` that a refusal has a rule,
-//!   `proofs/Outside` what names stand for outside, `proofs/Modules` which modules stand in its table, and
-//!   `proofs/Importing` what importers know.
+//!   `proofs/Outside` what names stand for outside, `proofs/Modules` which modules stand in its table, `proofs/Meeting` which
+//!   types are met through it, and `proofs/Importing` what importers know.
 #![tactic(auto)]
 
 ghost use Rattle.check_scope.specs.Elaborated.{every, least};
@@ -26,9 +26,9 @@ ghost use Rattle.law_defining.specs.Importers.{TablesAreForeign, OwnNamesAreKnow
 
 /// A definition has a table exactly if no rule is broken in its imports and in its declarations. Else what is reported are
 /// exactly the rules that are broken there; and the least refusal is a broken rule, and no broken rule is less, by place and
-/// then by number. Its table has the types that the rules say. It exports each name that is declared, in the order of the text,
+/// then by number. Its table exports each name that is declared, in the order of the text,
 /// with what the rules say that it means and with its number, and no other name. It lists the modules that the definition
-/// imports.
+/// imports, and the types that are met through it.
 pub fn definition_laws()
     ensures every_rule { DefinitionsAreExact every all_of_them }
     ensures least_rule { DefinitionsAreExact least the_least }
