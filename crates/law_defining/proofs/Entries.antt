@@ -1,5 +1,5 @@
 -- What is exported are the names that are declared, in the order of the scope.
-use Rattle.std.proofs.Common.{◌≡◌, ℕ, List, [], ◌∷◌, ◌++◌, Option, Some, None, Ok, Err, refl, sym, ap, subst, ◌∙◌}
+use Rattle.std.proofs.Common.{◌≡◌, ℕ, Bool, cond, List, [], ◌∷◌, ◌++◌, Option, Some, None, Ok, Err, refl, sym, ap, subst, ◌∙◌}
 use Rattle.std.specs.Prelude.{map}
 use Rattle.std.specs.List.{fold}
 use Rattle.m2_tree.specs.declared.name.Ident.{Ident}
@@ -13,6 +13,8 @@ use Rattle.def_typing.specs.Parts.{Among, here, later}
 use Rattle.def_typing.specs.Imports.{Entry}
 use Rattle.law_typing.specs.Exact.{AreOnce, no_names, one_name}
 use Rattle.law_typing.proofs.Heading.{nil_right, append_assoc}
+use Rattle.law_typing.proofs.Combining.{Decided, holds, fails_it}
+use Rattle.law_typing.proofs.Entering.{name_decided}
 use Rattle.law_defining.proofs.Keys.{keys, entered_last, entered_other, there_found, once_found}
 
 -- the names that are declared here, with what they mean
@@ -20,7 +22,19 @@ pub data Found {T : Type 0} (own : List (List ℕ × Known T)) : List Ident → 
   no_more : Found own [] []
   one_more : {x : Ident} {xs : List Ident} {m : Meaning} {es : List Entry} → find_name x.name own ≡ Some (known.Declared Here (Ok m)) → Found own xs es → Found own (x ∷ xs) ((x.name, m) ∷ es)
 
+one_meaning : {a b : Meaning} → ◌≡◌ {A = Option Meaning} (Some a) (Some b) → a ≡ b
+one_meaning q = cc
+
 module _ {T : Type 0} where
+  named_by : (own : List (List ℕ × Known T)) (n : List ℕ) (m : Meaning) (x : Ident) (w : Meaning) (o : Option Meaning) {b : Bool} → Decided (n ≡ x.name) b → find_name x.name own ≡ Some (known.Declared Here (Ok w)) → (o ≡ Some m → find_name n own ≡ Some (known.Declared Here (Ok m))) → cond b (Some w) o ≡ Some m → find_name n own ≡ Some (known.Declared Here (Ok m))
+  named_by own n m x w o (holds q) e h z = subst (λ (k : List ℕ). find_name k own ≡ Some (known.Declared Here (Ok m))) (sym q) (e ∙ ap (λ (w : Meaning). let k : Option (Known T) = Some (known.Declared Here (Ok w)) in k) (one_meaning z))
+  named_by own n m x w o (fails_it c) e h z = h z
+
+  -- What is listed is declared.
+  pub found_named : {own : List (List ℕ × Known T)} {xs : List Ident} {es : List Entry} → Found own xs es → (n : List ℕ) (m : Meaning) → find_name n es ≡ Some m → find_name n own ≡ Some (known.Declared Here (Ok m))
+  found_named no_more n m z = absurd cc
+  found_named {own = own} (one_more {x = x} {m = w} {es = es} e f) n m z = named_by own n m x w (find_name n es) (name_decided n x.name) e (λ q. found_named f n m q) z
+
   -- what one name exports
   abbrev pub entry_of : List ℕ → Known T → List Entry
   entry_of n (known.Declared Here (Ok m)) = (n, m) ∷ []

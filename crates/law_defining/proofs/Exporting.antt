@@ -12,15 +12,16 @@ use Rattle.check_scope.specs.Elaborated.{Gathers}
 use Rattle.def_typing.specs.Things.{Standing}
 use Rattle.def_typing.specs.Parts.{Among}
 use Rattle.def_typing.specs.Declarations.{Declaration, Declared as Resolved, names_of, constants_of}
+use Rattle.def_typing.specs.Definitions.{Placed}
 use Rattle.law_typing.specs.Judging.{Judges}
 use Rattle.law_typing.proofs.Entering.{named_right}
 use Rattle.law_typing.proofs.Beginning.{Adding, adding_name}
 use Rattle.law_typing.proofs.Recording.{NoTwice}
-use Rattle.law_defining.specs.Exports.{IsEntry, member_means, Exports, its_own, its_constant}
+use Rattle.law_defining.specs.Exports.{IsEntry, constant_means, OwnMeans, ConstantMeans}
 use Rattle.law_defining.proofs.Formals.{twice_split}
-use Rattle.law_defining.proofs.Among.{among_split}
+use Rattle.law_defining.proofs.Among.{among_left, among_right}
 use Rattle.law_defining.proofs.Taking.{new_of, Takes}
-use Rattle.law_defining.proofs.Listing.{all_names, listed_from, OneListed, OneListing}
+use Rattle.law_defining.proofs.Listing.{all_names, found_both, listed_from, OneListed, OneListing}
 use Rattle.law_defining.proofs.Stepping.{Standpoint, place, NowKnown, owned_means, constant_is, other_kept}
 
 not_true : (b : Bool) → (b ≡ true → ⊥) → b ≡ false
@@ -38,24 +39,31 @@ module _ (g : Gathers) (j : Judges g) (exports : ℕ → Ident → Standing) (st
     all_new : NoTwice Taken (all_names d.what)
     all_new f h = elim (twice_split Taken (names_of d.what) (constants_of d.what) f h) [ inl y ↦ own_new f y | inr y ↦ constants_new f y ]
 
-    abbrev IsExported : Ident → Meaning → Type 0
-    IsExported x m = Exports exports (length s.variables) (length s.procedures) (place g j exports start names taken d ds v) x m
+    abbrev P : Placed
+    P = place g j exports start names taken d ds v
+
+    abbrev Own : Ident → Meaning → Type 0
+    Own = OwnMeans exports (length s.variables) (length s.procedures) P
 
     free_name : (x : Ident) → Among x (all_names d.what) → taken x.name ≡ false
     free_name x m = not_true (taken x.name) (new_of Taken (all_names d.what) all_new x m)
 
-    each_exported : (x : Ident) → Among x (all_names d.what) → (m : Meaning) × (find_name x.name t.own ≡ Some (known.Declared Here (Ok m))) × IsExported x m
-    each_exported x w = elim (among_split (names_of d.what) w) [
-      | inl y ↦ (let q = takes.own x y in (q.0, q.1, its_own (subst (λ (types : Types). IsEntry types.home (length s.variables) (length s.procedures) d.what x q.0) v.block.same.types q.2) (owned_means g j exports start names taken d ds v x.name (now x.name) (free_name x w) (x, y, refl) q.0 q.1)))
-      | inr y ↦ (let q = constant_is g j exports start names taken d ds v x.name (now x.name) (free_name x w) (λ h. new_of (Adding (names_of d.what) Taken) (constants_of d.what) constants_new x y (adding_name (names_of d.what) Taken x.name h.0 h.1 h.2)) (named_right (names_of d.what) (x, y, refl)) in (member_means q.0, q.2, its_constant (x, y, refl) q.1 refl))
-    ]
+    each_own : (x : Ident) → Among x (names_of d.what) → (m : Meaning) × (find_name x.name t.own ≡ Some (known.Declared Here (Ok m))) × Own x m
+    each_own x y = let q = takes.own x y in
+        (q.0, q.1, record { entry = subst (λ (types : Types). IsEntry types.home (length s.variables) (length s.procedures) d.what x q.0) v.block.same.types q.2; meaning = owned_means g j exports start names taken d ds v x.name (now x.name) (free_name x (among_left (constants_of d.what) y)) (x, y, refl) q.0 q.1 })
 
-    one_listed : OneListed g exports (place g j exports start names taken d ds v) s t
-    one_listed = let q = listed_from (all_names d.what) each_exported in record {
+    each_constant : (x : Ident) → Among x (constants_of d.what) → (m : Meaning) × (find_name x.name t.own ≡ Some (known.Declared Here (Ok m))) × ConstantMeans exports P x m
+    each_constant x y = let q = constant_is g j exports start names taken d ds v x.name (now x.name) (free_name x (among_right (names_of d.what) y)) (λ h. new_of (Adding (names_of d.what) Taken) (constants_of d.what) constants_new x y (adding_name (names_of d.what) Taken x.name h.0 h.1 h.2)) (named_right (names_of d.what) (x, y, refl)) in
+        (constant_means q.0, q.2, (q.0, q.1, refl))
+
+    one_listed : OneListed g exports P s t
+    one_listed = let q = listed_from (names_of d.what) each_own in let z = listed_from (constants_of d.what) each_constant in record {
       new = all_new;
-      entries = q.0;
-      found = q.1;
-      lists = q.2;
+      own = q.0;
+      constants = z.0;
+      found = found_both q.1 z.1;
+      owns = q.2;
+      brings = z.2;
       variables = takes.variables;
       procedures = takes.procedures;
     }

@@ -1,11 +1,12 @@
 -- What those who import a definition, and its own implementation, know of its table.
 use Rattle.std.proofs.Common.{◌≡◌, ℕ, ◌==◌, Bool, true, false, cond, List, [], ◌∷◌, ◌++◌, Option, Some, None, Result, Ok, Err, inl, inr, refl, sym, ap, subst, ◌∙◌, arith}
-use Rattle.std.specs.Prelude.{map}
+use Rattle.std.specs.Prelude.{map, slice_get}
 use Rattle.std.specs.List.{fold}
 use Rattle.std.specs.Option.{is_some, option_map}
 use Rattle.std.proofs.lemmas.Bool.Decides.{nat_tests}
 use Rattle.m2_rule.specs.declared.rule.Rule.TheVariants as rule
 use Rattle.m2_rule.specs.declared.breach.Breach.{Breach}
+use Rattle.m2_tree.specs.declared.pos.Pos.{Pos}
 use Rattle.m2_tree.specs.declared.name.Ident.{Ident}
 use Rattle.m2_tree.specs.declared.decl.Def.{Def}
 use Rattle.m2_tree.specs.declared.decl.Contents.{Contents}
@@ -20,6 +21,10 @@ use Rattle.check_scope.specs.declared.known.Known.{Known}
 use Rattle.check_scope.specs.declared.known.Known.TheVariants as known
 use Rattle.check_scope.specs.declared.known.Origin.TheVariants.{Here, Module as Of_module, Export}
 use Rattle.check_scope.specs.declared.scope.Scope.{Scope}
+use Rattle.check_scope.specs.declared.meaningless.Meaningless.{Meaningless}
+use Rattle.check_scope.specs.declared.scope.OpenedRecord.{OpenedRecord}
+use Rattle.check_scope.specs.Scopes.{looked_up, known_outside, or_around, means_as, means_or, open_field}
+use Rattle.check_const.specs.Denote.{exported_by}
 use Rattle.check_scope.specs.Elaborated.{Gathers, report}
 use Rattle.m2_tree.specs.Names.{same_name}
 use Rattle.check_definition.specs.Predeclared.{console, first_scope}
@@ -32,14 +37,15 @@ use Rattle.def_typing.specs.Declarations.{Declaration}
 use Rattle.def_typing.specs.Definitions.{Context, Placed, AllFollow, nothing_follows, one_follows}
 use Rattle.def_typing.specs.Imports.{Entry}
 use Rattle.law_typing.specs.Judging.{Judges}
-use Rattle.law_typing.specs.Exact.{is_own_variable, TakenAs, is_taken, awaits, not_taken, AreOnce, no_names, one_name}
+use Rattle.law_typing.specs.Exact.{standing, Sees, sees, Exports as Exports_as, has_exported, Knows, is_own_variable, TakenAs, is_taken, awaits, not_taken, AreOnce, no_names, one_name}
 use Rattle.law_typing.proofs.Heading.{nil_right, append_assoc}
+use Rattle.law_typing.proofs.Declaring.{clash}
 use Rattle.law_typing.proofs.Combining.{Lawful}
 use Rattle.law_typing.proofs.Entering.{once_more}
 use Rattle.law_importing.specs.Exact.{with_declared}
 use Rattle.law_defining.specs.Exact.{IsTable, IsAnswered, is_table, is_refused, IsDefinitionExact}
-use Rattle.law_defining.specs.Exports.{IsEntry, a_constant, a_type, a_variable, a_procedure, Lists, no_name, a_name, Exports, its_own, its_constant, AreExported, nothing_exported, one_exports}
-use Rattle.law_defining.specs.Importers.{IsTableOf, is_answered, CanBeImported, of_console, of_definition, TablesAreForeign, awaits_heading, OwnNamesAreKnown}
+use Rattle.law_defining.specs.Exports.{IsEntry, a_constant, a_type, a_variable, a_procedure, Lists, no_name, a_name, AreExported, nothing_exported, one_exports}
+use Rattle.law_defining.specs.Importers.{IsTableOf, is_answered, CanBeImported, of_console, of_definition, TablesAreForeign, awaits_heading, OwnNamesAreKnown, NamesAgree}
 use Rattle.law_defining.proofs.Among.{among_split}
 use Rattle.law_defining.proofs.Keys.{entered_last, entered_other, there_found}
 use Rattle.law_defining.proofs.Finding.{Finds}
@@ -67,10 +73,6 @@ module _ {T : Type 0} (s : Scope T) where
   foreign_entry {home = home} (a_variable before behind q) c = two_numbers home s.types.home c
   foreign_entry a_procedure c = refl
 
-  foreign_export : {exports : ℕ → Ident → Standing} {v p : ℕ} {d : Placed} {x : Ident} {m : Meaning} → Exports exports v p d x m → (d.at.types.home ≡ s.types.home → ⊥) → is_own_variable s m ≡ false
-  foreign_export (its_own i w) c = foreign_entry i c
-  foreign_export (its_constant {e = e} h f q) c = subst (λ (m : Meaning). is_own_variable s m ≡ false) (sym q) refl
-
   foreign_list : {Is : Ident → Meaning → Type 0} {xs : List Ident} {es : List Entry} → ((x : Ident) (m : Meaning) → Is x m → is_own_variable s m ≡ false) → Lists Is xs es → (e : Entry) → Among e es → is_own_variable s e.1 ≡ false
   foreign_list h no_name e m = elim m [ ]
   foreign_list h (a_name {x = x} {m = w} i l) _ here = h x w i
@@ -78,9 +80,12 @@ module _ {T : Type 0} (s : Scope T) where
 
   foreign_exports : {exports : ℕ → Ident → Standing} {v p : ℕ} {ds : List Placed} {es : List Entry} → AreExported exports v p ds es → ((d : Placed) → Among d ds → d.at.types.home ≡ s.types.home → ⊥) → (e : Entry) → Among e es → is_own_variable s e.1 ≡ false
   foreign_exports nothing_exported h e m = elim m [ ]
-  foreign_exports (one_exports {d = d} {es = es} l k) h e m = elim (among_split es m) [
-    | inl y ↦ foreign_list (λ x w i. foreign_export i (h d here)) l e y
-    | inr y ↦ foreign_exports k (λ d n. h d (later n)) e y
+  foreign_exports (one_exports {d = d} {own = own} {constants = constants} l c k) h e m = elim (among_split own m) [
+    | inl y ↦ foreign_list (λ x w i. foreign_entry i.entry (h d here)) l e y
+    | inr z ↦ elim (among_split constants z) [
+      | inl y ↦ foreign_list (λ x w i. subst (λ (m : Meaning). is_own_variable s m ≡ false) (sym i.2) refl) c e y
+      | inr y ↦ foreign_exports k (λ d n. h d (later n)) e y
+    ]
   ]
 
 -- ---- names that are exported once
@@ -203,3 +208,36 @@ module _ (g : Gathers) (j : Judges g) (lawful : Lawful g j) (found : Finds g j) 
 
   pub own_names : OwnNamesAreKnown g j
   own_names number t (is_answered m given q) = let o = contents_once number m (given ++ console ∷ []) m.contents q in (o, λ s e n. own_taken t.exported o s e n)
+
+  -- ---- names stand for the same
+
+  meanings_of : {number : ℕ} {m : Module} {given tables : List Table} {exports : ℕ → Ident → Standing} {names : Ident → Standing} {taken : List ℕ → Bool} {defs : List Def} {t : Table} (d : IsDefinitionExact g j number m given tables exports names taken defs) → definition_table g number m given ≡ Ok t → (x : Ident) (n : Meaning) → find_name x.name t.exported ≡ Some n → d.last.names x ≡ standing n
+  meanings_of {number = number} {m = m} {tables = tables} {exports = exports} {t = t} d q x n e = by d.answered q
+    where
+      by : {Breaks : Breach → Type 0} {r : Result Table g.Reported} → IsAnswered g j (IsTable number m tables exports d.whole d.last) Breaks r → r ≡ Ok t → d.last.names x ≡ standing n
+      by (is_table u i c) q = i.of_meanings x n (ap (λ (t : Table). find_name x.name t.exported) (one_table q) ∙ e)
+      by (is_refused r a f b) q = absurd cc
+
+  seen_as : {at : Pos} {t : Standing} {n : Meaning} → Sees g j at t (Ok n) → t ≡ standing n
+  seen_as (sees n) = refl
+
+  exported_as : {t : Standing} {n : Meaning} → Exports_as g j t (Some n) → t ≡ standing n
+  exported_as (has_exported n) = refl
+
+  abbrev looked_with : Scope g.Reported → Ident → Option (Known g.Reported) → Result Meaning (Meaningless g.Reported)
+  looked_with s x k = means_as g x.pos (or_around k (known_outside x.name s.outer))
+
+  looked_own : (s : Scope g.Reported) (x : Ident) (n : Meaning) → s.withs ≡ [] → find_name x.name s.own ≡ Some (known.Declared Here (Ok n)) → looked_up g s x ≡ Ok n
+  looked_own s x n w q = ap (λ (ws : List OpenedRecord). means_or (open_field s.types x.name ws) (looked_with s x (find_name x.name s.own))) w ∙ ap (λ (k : Option (Known g.Reported)). looked_with s x k) q
+
+  agrees_by : (es : List Entry) → AreOnce es → (x : Ident) (last : Standing) → ((n : Meaning) → find_name x.name es ≡ Some n → last ≡ standing n) → (s : Scope g.Reported) (inside : Ident → Standing) (others : ℕ → Ident → Standing) → Knows g j inside others s → (o : Option Meaning) → find_name x.name es ≡ o → is_some o ≡ true
+      → (s.withs ≡ [] → s.own ≡ fold with_declared [] es → inside x ≡ last) × ((t : Table) → t.exported ≡ es → (k : ℕ) → slice_get s.tables k ≡ Some t → others k x ≡ last)
+  agrees_by es o x last h s inside others k None e b = absurd (clash b refl)
+  agrees_by es o x last h s inside others k (Some n) e b = (
+    (λ w q. seen_as (subst (λ (r : Result Meaning (Meaningless g.Reported)). Sees g j x.pos (inside x) r) (looked_own s x n w (ap (λ (own : List (List ℕ × Known g.Reported)). find_name x.name own) (q ∙ own_list o [] (λ e m. refl)) ∙ found_own x.name es ∙ ap (λ (o : Option Meaning). own_known o) e)) (k.of_names x)) ∙ sym (h n e)),
+    (λ t q i z. exported_as (subst (λ (m : Option Meaning). Exports_as g j (others i x) m) (ap (λ (t : Option Table). exported_by x.name t) z ∙ ap (λ (es : List Entry). find_name x.name es) q ∙ e) (k.of_modules i x)) ∙ sym (h n e)),
+  )
+
+  pub names_agree : NamesAgree g j
+  names_agree home m imported tables exports names taken defs d t q x e s inside others k =
+      let z = agrees_by t.exported (contents_once home m (imported ++ console ∷ []) m.contents q) x (d.last.names x) (λ n w. meanings_of d q x n w) s inside others k (find_name x.name t.exported) refl e in (z.0, z.1 t refl)

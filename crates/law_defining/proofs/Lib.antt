@@ -15,8 +15,11 @@ pub mod Listing
 pub mod Exporting
 pub mod Ordinary
 pub mod Procedures
+pub mod Only
 pub mod Running
 pub mod Marks
+pub mod Modules
+pub mod Meeting
 pub mod Finding
 pub mod Starting
 pub mod Outside

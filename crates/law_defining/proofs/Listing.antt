@@ -20,7 +20,7 @@ use Rattle.law_typing.proofs.Heading.{append_assoc}
 use Rattle.law_typing.proofs.Entering.{named_left, named_right, named_split, among_decided}
 use Rattle.law_typing.proofs.Beginning.{added}
 use Rattle.law_typing.proofs.Recording.{NoTwice}
-use Rattle.law_defining.specs.Exports.{Lists, no_name, a_name, Exports, AreExported, one_exports, variables_of, procedures_of}
+use Rattle.law_defining.specs.Exports.{Lists, no_name, a_name, OwnMeans, ConstantMeans, AreExported, one_exports, variables_of, procedures_of}
 use Rattle.law_defining.proofs.Formals.{twice_split}
 use Rattle.law_defining.proofs.Among.{among_left, among_right}
 use Rattle.law_defining.proofs.Twices.{twice_as, either_first, either_second}
@@ -68,9 +68,11 @@ module _ (g : Gathers) (exports : ℕ → Ident → Standing) where
   -- one declaration
   pub record OneListed (p : Placed) (s t : S) : Type 0 where
     pub new : NoTwice (λ n. p.at.taken n ≡ true) (all_names p.what)
-    pub entries : List Entry
-    pub found : Found t.own (all_names p.what) entries
-    pub lists : Lists (Exports exports (length s.variables) (length s.procedures) p) (all_names p.what) entries
+    pub own : List Entry
+    pub constants : List Entry
+    pub found : Found t.own (all_names p.what) (own ++ constants)
+    pub owns : Lists (OwnMeans exports (length s.variables) (length s.procedures) p) (names_of p.what) own
+    pub brings : Lists (ConstantMeans exports p) (constants_of p.what) constants
     pub variables : length t.variables ≡ length s.variables + variables_of p.what
     pub procedures : length t.procedures ≡ length s.procedures + procedures_of p.what
 
@@ -119,10 +121,10 @@ module _ (g : Gathers) (exports : ℕ → Ident → Standing) where
         | inr y ↦ b.new f (twice_as (λ n w. elim (added (all_names p.what) (λ n. p.at.taken n ≡ true) n w) [ inl u ↦ mid_named n u | inr u ↦ mid_taken n u ]) (names_all xs) f y)
       ];
       reached = λ n h. elim (named_split (all_names p.what) h) [ inl y ↦ (z.kept n (mid_named n y)).0 | inr y ↦ b.reached n y ];
-      entries = a.entries ++ b.entries;
+      entries = (a.own ++ a.constants) ++ b.entries;
       found = found_both (found_moves (λ x m. (z.kept x.name (mid_named x.name (x, m, refl))).1) a.found) b.found;
-      lists = λ ws es k. subst (λ (fs : List Entry). AreExported exports (length old.0.variables) (length old.0.procedures) (p ∷ (whole ++ ws)) fs) (sym (append_assoc a.entries b.entries es))
-          (one_exports a.lists (subst (λ (v : ℕ). AreExported exports v (length old.0.procedures + procedures_of p.what) (whole ++ ws) (b.entries ++ es)) a.variables (subst (λ (v : ℕ). AreExported exports (length st.0.variables) v (whole ++ ws) (b.entries ++ es)) a.procedures (b.lists ws es k))));
+      lists = λ ws es k. subst (λ (fs : List Entry). AreExported exports (length old.0.variables) (length old.0.procedures) (p ∷ (whole ++ ws)) fs) (sym (append_assoc (a.own ++ a.constants) b.entries es ∙ append_assoc a.own a.constants (b.entries ++ es)))
+          (one_exports a.owns a.brings (subst (λ (v : ℕ). AreExported exports v (length old.0.procedures + procedures_of p.what) (whole ++ ws) (b.entries ++ es)) a.variables (subst (λ (v : ℕ). AreExported exports (length st.0.variables) v (whole ++ ws) (b.entries ++ es)) a.procedures (b.lists ws es k))));
     }
 
     pub listing_more : Listing p.at.taken next (p.what ∷ xs) (p ∷ whole) old up

@@ -1,5 +1,5 @@
 -- A declaration of a definition, but a procedure, is read as the first of a block.
-use Rattle.std.proofs.Common.{◌≡◌, ℕ, Bool, true, false, List, [], ◌∷◌, cond, Option, Some, None, Result, Ok, ◌⊎◌, inl, inr, refl, sym, subst}
+use Rattle.std.proofs.Common.{◌≡◌, ℕ, Bool, true, false, List, [], ◌∷◌, cond, Option, Some, None, Result, Ok, ◌⊎◌, inl, inr, refl, sym, subst, Err, ap, ◌∙◌}
 use Rattle.std.specs.Prelude.{◌||◌}
 use Rattle.std.specs.List.{fold}
 use Rattle.m2_rule.specs.declared.breach.Breach.{Breach}
@@ -23,7 +23,7 @@ use Rattle.check_block.specs.Headings.{standing_known}
 use Rattle.check_block.specs.declared.heading.Standing.TheVariants as place
 use Rattle.def_typing.specs.Things.{Standing, Undeclared, Unknown}
 use Rattle.def_typing.specs.Parts.{here, later}
-use Rattle.def_typing.specs.TypeExprs.{Added, nothing_added, Setting, IsTypeOf}
+use Rattle.def_typing.specs.TypeExprs.{Added, nothing_added, Setting, IsTypeOf, Adds}
 use Rattle.def_typing.specs.Declarations as blocks
 use Rattle.def_typing.specs.Declarations.{Declaration, OfConstant, OfType, OfVariables, names_of, constants_of, is_among, Declares, IsFirst, at_first, later_on, nearest, farther, Declared as Resolved, in_front_of, without, Brings, There}
 use Rattle.def_typing.specs.Definitions.{Placed, IsAdded, is_added, Means, says, says_nothing, Follows, Breaks, inside, twice, formal_twice}
@@ -33,7 +33,7 @@ use Rattle.law_typing.proofs.Combining.{Lawful, Decided, holds, fails_it, Tells,
 use Rattle.law_typing.proofs.Entering.{among_decided}
 use Rattle.law_typing.proofs.Beginning.{Adding, added}
 use Rattle.law_typing.proofs.Recording.{NoTwice}
-use Rattle.law_typing.proofs.Sayings.{Saids}
+use Rattle.law_typing.proofs.Sayings.{Saids, said_constant, said_type, said_variables, Exactly}
 use Rattle.law_typing.proofs.Declaring.{clash, no_heads, KnownAs, outer, headed, ahead, reading, behind, a_member, Saying, KnowsBlock, Elsewhere, standings, all_stand}
 use Rattle.law_typing.proofs.Recording.{type_read}
 use Rattle.law_defining.proofs.Unheaded.{Unheaded, AreUnheaded, enters_unheaded, begin_unheaded, begun_unheaded, finish_unheaded, finished_unheaded}
@@ -61,6 +61,21 @@ brings_so u (blocks.procedure_brings n i) = absurd cc
 brings_so u (blocks.name_there t) = absurd cc
 brings_so u (blocks.no_heading n) = absurd cc
 
+one_answer : {A R : Type 0} {a b : A} → ◌≡◌ {A = Result A R} (Ok a) (Ok b) → a ≡ b
+one_answer e = cc
+
+no_answer : {A R : Type 0} {a : A} {r : R} → ◌≡◌ {A = Result A R} (Ok a) (Err r) → ⊥
+no_answer e = absurd cc
+
+constant_brings_nothing : {exports : ℕ → Ident → Standing} {w : Setting} {Q : List ℕ → Type 0} {c : Constant} {a : Added} → Brings exports w Q (OfConstant c) a → a ≡ nothing_added
+constant_brings_nothing blocks.constant_brings = refl
+
+type_adds : {exports : ℕ → Ident → Standing} {w : Setting} {Q : List ℕ → Type 0} {d : TypeDecl} {a : Added} → Brings exports w Q (OfType d) a → Adds exports w d.of a
+type_adds (blocks.type_brings b) = b
+
+variables_add : {exports : ℕ → Ident → Standing} {w : Setting} {Q : List ℕ → Type 0} {v : Variables} {a : Added} → Brings exports w Q (OfVariables v) a → Adds exports w v.of a
+variables_add (blocks.variables_bring b) = b
+
 module _ (g : Gathers) (j : Judges g) (lawful : Lawful g j) (exports : ℕ → Ident → Standing) where
   -- behind one declaration
   pub record Stepped (p : Placed) (ts : List Table) (B : Breach → Type 0) (old st : State (Unit {0}) g.Reported) : Type 0 where
@@ -74,6 +89,22 @@ module _ (g : Gathers) (j : Judges g) (lawful : Lawful g j) (exports : ℕ → I
     pub told : Tells g j lawful (λ f. ⊥) (λ f. B f ⊎ Breaks exports p f) st.1
     pub unheaded : AreUnheaded st.0.own
     pub listing : OneListing g exports p old st
+    -- It adds nothing else, and its names stand for nothing else.
+    pub only : (a : Added) → IsAdded exports (record { at = p.at; what = p.what; adds = a; left = p.left }) → a ≡ p.adds
+    pub one : (t u : Standing) → Means exports p t → Means exports p u → t ≡ u
+
+  -- What a declaration says is what its elaboration gives.
+  module _ {O : Breach → Type 0} {A : Type 0} (said : A → Saids) where
+    says_so : {M : Saids → Type 0} {C : Breach → Type 0} {q : Result A g.Reported} (k : Saids) → Answers g j O (λ a k. k ≡ said a) M C q → M k → (a : A) × (q ≡ Ok a) × (k ≡ said a)
+    says_so k (means a l i m u n) z = (a, refl, u k z ∙ i)
+    says_so k (refuses r c n) z = absurd (n k z)
+
+    pub says_one : {M N : Saids → Type 0} {C D : Breach → Type 0} {q : Result A g.Reported} (k l : Saids) → Answers g j O (λ a k. k ≡ said a) M C q → M k → Answers g j O (λ a k. k ≡ said a) N D q → N l → k.1 ≡ l.1
+    says_one k l a m b n = let x = says_so k a m in let y = says_so l b n in ap (λ (z : Saids). z.1) (x.2 ∙ ap said (one_answer (sym x.1 ∙ y.1)) ∙ sym y.2)
+
+    pub says_never : {M N : Saids → Type 0} {C D : Breach → Type 0} {q : Result A g.Reported} (k : Saids) → Answers g j O (λ a k. k ≡ said a) M C q → M k → Answers g j O (λ a k. k ≡ said a) N D q → ((l : Saids) → N l → ⊥) → ⊥
+    says_never k a m (means b l i n u c) h = h l n
+    says_never k a m (refuses r c h) n = no_answer (sym (says_so k a m).1)
 
   -- If nothing is reported, no rule is broken.
   pub silent_of : {O B : Breach → Type 0} {r : Result (Unit {0}) g.Reported} → Tells g j lawful O B r → r ≡ Ok tt → (f : Breach) → B f → ⊥
@@ -172,8 +203,26 @@ module _ (g : Gathers) (j : Judges g) (lawful : Lawful g j) (exports : ℕ → I
     told_so (silent n) = silent (λ f m. n f (elim m [ inl b ↦ inl b | inr w ↦ inr (so_breaks w) ]))
     told_so (tells r a) = tells r (record { only = λ f m. inl (elim (a.only f m) [ inl z ↦ elim z [ inl b ↦ inl b | inr w ↦ inr (breaks_so w) ] | inr q ↦ inl (v.repeats f q) ]); each = λ f m. a.each f (elim m [ inl b ↦ inl b | inr w ↦ inr (so_breaks w) ]) })
 
-    pub stepped : {t : Scope g.Reported} {r : Result (Unit {0}) g.Reported} → KnowsBlock g j exports names start taken v.awaited false block (d ∷ []) ds Th t → Told_there r → blocks.IsAdded start.types exports names taken v.awaited false block [] d → AreUnheaded t.own → (q : Result (Unit {0}) g.Reported) → (r ≡ Ok tt → (q ≡ Ok tt) × Takes g s d.what t) → (r ≡ Ok tt → NoTwice (Adding (names_of d.what) (λ n. taken n ≡ true)) (constants_of d.what)) → Stepped P start.tables B (s, q) (t, r)
-    stepped {t = t} {r = r} k w a u q fine new = record {
+    -- ---- it means one thing, and adds one thing
+
+    abbrev StandsAll : (Ident → Standing) → Type 0
+    StandsAll ns = blocks.AllStand start.types exports names taken v.awaited false block [] ns
+
+    abbrev setting_at : (Ident → Standing) → Setting
+    setting_at ns = blocks.setting start.types exports names taken v.awaited false block [] d.what ns
+
+    means_one : {A : Type 0} (said : A → Saids) {result : Result A g.Reported} → Exactly g j lawful exports names start taken v.awaited false block said [] d.what result → {t u : Standing} → Means exports P t → Means exports P u → t ≡ u
+    means_one said h (says {names = ns} {s = t} all m) (says {names = ms} {s = u} other n) = says_one said (d.adds, t) (d.adds, u) (h ns (λ x. stand_as (all x))) m (h ms (λ x. stand_as (other x))) n
+    means_one said h (says {names = ns} {s = t} all m) (says_nothing {names = ms} other n) = absurd (says_never said (d.adds, t) (h ns (λ x. stand_as (all x))) m (h ms (λ x. stand_as (other x))) (λ k z. n k.0 k.1 z))
+    means_one said h (says_nothing {names = ns} all n) (says {names = ms} {s = u} other m) = absurd (says_never said (d.adds, u) (h ms (λ x. stand_as (other x))) m (h ns (λ x. stand_as (all x))) (λ k z. n k.0 k.1 z))
+    means_one said h (says_nothing all n) (says_nothing other m) = refl
+
+    adds_one : ((ns : Ident → Standing) → StandsAll ns → (a : Added) → Brings exports (setting_at ns) (λ n. ⊥) d.what a → a ≡ d.adds) → (a : Added) → IsAdded exports (record { at = P.at; what = d.what; adds = a; left = ds }) → a ≡ d.adds
+    adds_one h a (is_added {names = ns} all b) = h ns (λ x. stand_as (all x)) a b
+
+    pub stepped : {t : Scope g.Reported} {r : Result (Unit {0}) g.Reported} → KnowsBlock g j exports names start taken v.awaited false block (d ∷ []) ds Th t → Told_there r → blocks.IsAdded start.types exports names taken v.awaited false block [] d → AreUnheaded t.own → (q : Result (Unit {0}) g.Reported) → (r ≡ Ok tt → (q ≡ Ok tt) × Takes g s d.what t) → (r ≡ Ok tt → NoTwice (Adding (names_of d.what) (λ n. taken n ≡ true)) (constants_of d.what)) → {A : Type 0} (said : A → Saids) {result : Result A g.Reported} → Exactly g j lawful exports names start taken v.awaited false block said [] d.what result
+        → ((ns : Ident → Standing) → StandsAll ns → (a : Added) → Brings exports (setting_at ns) (λ n. ⊥) d.what a → a ≡ d.adds) → Stepped P start.tables B (s, q) (t, r)
+    stepped {t = t} {r = r} k w a u q fine new said exact only = record {
       start = bare t;
       names = names_now g j exports start names taken d ds v t k.same.withs k.same.outer k.same.types k.same.tables (k.once v.once) (λ n. now_so (u n) (k.own n));
       taken = taken_now g j exports start names taken d ds v;
@@ -184,6 +233,8 @@ module _ (g : Gathers) (j : Judges g) (lawful : Lawful g j) (exports : ℕ → I
       told = told_so w;
       unheaded = u;
       listing = listing_one g j exports start names taken d ds v t (λ n. now_so (u n) (k.own n)) q r fine (λ e f h. silent_of (told_so w) e f (inr (twice h))) new;
+      only = adds_one only;
+      one = λ t u m n. means_one said exact m n;
     }
 
   -- ---- each of them
@@ -216,7 +267,7 @@ module _ (g : Gathers) (j : Judges g) (lawful : Lawful g j) (exports : ℕ → I
     pub constant_stepped : (c : Constant) → Stands (OfConstant c) → One start names taken (OfConstant c) ds B (s, r) (with_constant g (s, r) c)
     constant_stepped c v =
         let q = sections.declare_constant g j lawful exports names start taken v.awaited false (OfConstant c ∷ ds) v.takes v.knows v.no_withs B [] c ds v.block (told_there (OfConstant c) v) in
-        (nothing_added, stepped start names taken (record { what = OfConstant c; adds = nothing_added }) ds v refl refl q.0 q.1 q.2 (finish_unheaded (begin_name g s c.name).0 c.name (constant_meaning _) (begin_unheaded g s c.name unheaded)) r (constant_takes g (s, r) c) (λ e f h. absurd h))
+        (nothing_added, stepped start names taken (record { what = OfConstant c; adds = nothing_added }) ds v refl refl q.1.0 q.1.1 q.1.2 (finish_unheaded (begin_name g s c.name).0 c.name (constant_meaning _) (begin_unheaded g s c.name unheaded)) r (constant_takes g (s, r) c) (λ e f h. absurd h) said_constant q.0 (λ ns all a b. constant_brings_nothing b))
 
     type_unheaded : (d : TypeDecl) → (begin_name g s d.name).0.withs ≡ [] → AreUnheaded (with_type g (s, r) d).0.own
     type_unheaded d w = let b = (begin_name g s d.name).0 in
@@ -266,7 +317,7 @@ module _ (g : Gathers) (j : Judges g) (lawful : Lawful g j) (exports : ℕ → I
           q.0,
           stepped start names taken (record { what = OfType d; adds = q.0 }) ds v refl refl q.2.0 q.2.1 q.2.2 (type_unheaded d w) r (type_takes g (s, r) d t.adds.makes t.own t.is t.enters)
               (λ e. let k = typed_right (q.1 (names_there (OfType d) v) (stand_there (OfType d) v)) (right_fine g (begin_name g s d.name).1 (nothing_of (type_of g d.of b).1) (right_fine g r (beside g (begin_name g s d.name).1 (nothing_of (type_of g d.of b).1)) e)) in
-              new_constants (OfType d) v (type_new exports (type_is k.1).1)),
+              new_constants (OfType d) v (type_new exports (type_is k.1).1)) (said_type q.0) q.1 (λ ns all a b. q.3 ns all a (type_adds b)),
         )
 
     variables_unheaded : (w : Variables) → (fold (begun_name g) (s, r) w.names).0.withs ≡ [] → AreUnheaded (with_variables g (s, r) w).0.own
@@ -285,5 +336,5 @@ module _ (g : Gathers) (j : Judges g) (lawful : Lawful g j) (exports : ℕ → I
           stepped start names taken (record { what = OfVariables w; adds = q.0 }) ds v refl refl q.2.0 q.2.1 q.2.2 (variables_unheaded w e) r
               (λ z. variables_take g (s, r) w (λ n. taken n ≡ true) (λ f h. silent_of told_now z f (inr (twice h))) t.adds.makes t.own t.is t.enters z)
               (λ z. let k = typed_right (q.1 (names_there (OfVariables w) v) (stand_there (OfVariables w) v)) (right_fine g c.1 (nothing_of (type_of g w.of c.0).1) z) in
-              new_constants (OfVariables w) v (type_new exports (variables_are k.1).1)),
+              new_constants (OfVariables w) v (type_new exports (variables_are k.1).1)) (said_variables q.0) q.1 (λ ns all a b. q.3 ns all a (variables_add b)),
         )

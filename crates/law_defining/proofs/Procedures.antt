@@ -24,7 +24,8 @@ use Rattle.check_type_expr.specs.Headings.{heading_of, names_of as formals_of}
 use Rattle.check_type_expr.specs.Made.{with_shape, with_made, nothing_of}
 use Rattle.check_definition.specs.Declare.{with_procedure_type, declared_procedure, with_procedure}
 use Rattle.def_typing.specs.Operators.{◌!◌}
-use Rattle.def_typing.specs.Headings.{procedure_made}
+use Rattle.typed_tree.specs.declared.shape.Signature.{Signature}
+use Rattle.def_typing.specs.Headings.{procedure_made, IsHeading}
 use Rattle.def_typing.specs.Things as things
 use Rattle.def_typing.specs.Things.{AProcedure, Standing, Unknown}
 use Rattle.def_typing.specs.Parts.{here, later}
@@ -46,7 +47,7 @@ use Rattle.law_defining.proofs.Formals.{formals_told}
 use Rattle.law_defining.proofs.Stepping.{context, Standpoint, Owns, Now, kept, marked, owned, names_now, taken_now, stands_next, follows_next}
 use Rattle.law_defining.proofs.Taking.{Takes, procedure_takes}
 use Rattle.law_defining.proofs.Exporting.{listing_one}
-use Rattle.law_defining.proofs.Ordinary.{stand_as, Stepped, silent_of, One}
+use Rattle.law_defining.proofs.Ordinary.{stand_as, Stepped, says_one, says_never, silent_of, One}
 
 module _ (g : Gathers) (j : Judges g) (lawful : Lawful g j) (exports : ℕ → Ident → Standing) (start : Scope g.Reported) (names : Ident → Standing) (taken : List ℕ → Bool) (h : Heading) (ds : List Declaration) {B : Breach → Type 0} {s : Scope g.Reported} (v : Standpoint g j exports start names taken (OfProcedure h ∷ ds) B s) where
   abbrev E : Declaration
@@ -156,6 +157,33 @@ module _ (g : Gathers) (j : Judges g) (lawful : Lawful g j) (exports : ℕ → I
     nothing_is_added : AllSo (Err e) → IsAdded exports (P nothing_added)
     nothing_is_added x = is_added (all_there nothing_added) (blocks.no_heading (λ y i. it_says_nothing (x nothing_added names_there (all_there nothing_added)) (type_added (procedure_made y)) its_standing (blocks.a_procedure i)))
 
+  -- ---- it means one thing, and adds one thing
+
+  its_meaning : (made : Result Made g.Reported) → AllSo made → {a : Added} {t u : Standing} → Means exports (P a) t → Means exports (P a) u → t ≡ u
+  its_meaning made x {a = a} (says {names = ns} {s = t} all m) (says {names = ms} {s = u} other n) = says_one g j lawful exports said (a, t) (a, u) (x a ns all) m (x a ms other) n
+  its_meaning made x {a = a} (says {names = ns} {s = t} all m) (says_nothing {names = ms} other n) = absurd (says_never g j lawful exports said (a, t) (x a ns all) m (x a ms other) (λ k z. n k.0 k.1 z))
+  its_meaning made x {a = a} (says_nothing {names = ns} all n) (says {names = ms} {s = u} other m) = absurd (says_never g j lawful exports said (a, u) (x a ms other) m (x a ns all) (λ k z. n k.0 k.1 z))
+  its_meaning made x (says_nothing all n) (says_nothing other m) = refl
+
+  made_so : {ns : Ident → Standing} {m : Made} {b : Added} → So ns (Ok m) → Brings exports (setting_at ns) (λ n. ⊥) E b → b ≡ type_added m
+  made_so (means _ k i z u n) (blocks.procedure_brings {s = y} c h) = ap (λ (x : Saids). x.0) (u (type_added (procedure_made y), its_standing) (blocks.a_procedure h) ∙ i)
+  made_so w (blocks.name_there t) = absurd t
+  made_so {m = m} w (blocks.no_heading c) = absurd (heading_there (it_says m w) c)
+    where
+      heading_there : {w : Setting} {a : Added} {t : Standing} → Says exports w false E a t → ((y : Signature) → IsHeading w.types w.names exports h y → ⊥) → ⊥
+      heading_there (blocks.a_procedure {s = y} i) c = c y i
+
+  nothing_so : {ns : Ident → Standing} {e : g.Reported} {b : Added} → So ns (Err e) → Brings exports (setting_at ns) (λ n. ⊥) E b → b ≡ nothing_added
+  nothing_so {e = e} w (blocks.procedure_brings {s = y} c h) = absurd (it_says_nothing e w (type_added (procedure_made y)) its_standing (blocks.a_procedure h))
+  nothing_so w (blocks.name_there t) = refl
+  nothing_so w (blocks.no_heading c) = refl
+
+  it_adds : (m : Made) → AllSo (Ok m) → (b : Added) → IsAdded exports (P b) → b ≡ type_added m
+  it_adds m x b (is_added {names = ns} all w) = made_so (x b ns all) w
+
+  it_adds_nothing : (e : g.Reported) → AllSo (Err e) → (b : Added) → IsAdded exports (P b) → b ≡ nothing_added
+  it_adds_nothing e x b (is_added {names = ns} all w) = nothing_so (x b ns all) w
+
   -- ---- what is known of other names
 
   its_name : {n : List ℕ} → Declares E n → h.name.name ≡ n
@@ -219,7 +247,7 @@ module _ (g : Gathers) (j : Judges g) (lawful : Lawful g j) (exports : ℕ → I
 
   -- ---- all of it
 
-  module _ (unheaded : AreUnheaded s.own) {r : Result (Unit {0}) g.Reported} (told : Tells g j lawful (λ f. ⊥) B r) (a : Added) (t : Scope g.Reported) (m : Result Meaning g.Reported) (own : t.own ≡ s.own) (withs : t.withs ≡ []) (around : t.outer ≡ start.outer) (types : t.types ≡ with_types start.types a.makes) (tables : t.tables ≡ start.tables) (add : IsAdded exports (P a)) (owns : Owns g j exports start names taken (P a) (M a) (known.Declared Here m)) where
+  module _ (unheaded : AreUnheaded s.own) {r : Result (Unit {0}) g.Reported} (told : Tells g j lawful (λ f. ⊥) B r) (a : Added) (t : Scope g.Reported) (m : Result Meaning g.Reported) (own : t.own ≡ s.own) (withs : t.withs ≡ []) (around : t.outer ≡ start.outer) (types : t.types ≡ with_types start.types a.makes) (tables : t.tables ≡ start.tables) (add : IsAdded exports (P a)) (owns : Owns g j exports start names taken (P a) (M a) (known.Declared Here m)) (only : (b : Added) → IsAdded exports (P b) → b ≡ a) (one : (t u : Standing) → Means exports (P a) t → Means exports (P a) u → t ≡ u) where
     abbrev d : Resolved
     d = record { what = E; adds = a }
 
@@ -263,6 +291,8 @@ module _ (g : Gathers) (j : Judges g) (lawful : Lawful g j) (exports : ℕ → I
       told = w (silent (λ f z. c z.0));
       unheaded = new_unheaded;
       listing = listing_one g j exports start names taken d ds v new (new_now f) r q fine (λ e f h. silent_of g j lawful exports (w (silent (λ f z. c z.0))) e f (inr (twice h))) (λ e f h. absurd h);
+      only = only;
+      one = one;
     }
     ends false (holds y) q w fine = let now : (n : List ℕ) → Now g j exports start names taken (P a) (M a) n (find_name n t.own) = (λ n. other_now n (λ e. subst (λ (n : List ℕ). taken n ≡ true) e y)) in let twice_told : Tells g j lawful B IsTwice (report g h.name.pos rule.DeclaredTwice) = tells (g.one (h.name.pos ! rule.DeclaredTwice)) (accounts_as g j lawful B (λ f e. (y, e)) (λ f z. z.1) (accounts_one g j lawful B (h.name.pos ! rule.DeclaredTwice))) in record {
       start = bare t;
@@ -275,6 +305,8 @@ module _ (g : Gathers) (j : Judges g) (lawful : Lawful g j) (exports : ℕ → I
       told = w twice_told;
       unheaded = still_unheaded;
       listing = listing_one g j exports start names taken d ds v t now r q fine (λ e f h. silent_of g j lawful exports (w twice_told) e f (inr (twice h))) (λ e f h. absurd h);
+      only = only;
+      one = one;
     }
 
   name_decided : Decided (taken h.name.name ≡ true) (not (is_free (find_name h.name.name s.own)))
@@ -283,12 +315,12 @@ module _ (g : Gathers) (j : Judges g) (lawful : Lawful g j) (exports : ℕ → I
   by_made : AreUnheaded s.own → {r : Result (Unit {0}) g.Reported} → Tells g j lawful (λ f. ⊥) B r → (made : Result Made g.Reported) → AllSo made → let t = with_made s made in let d = declared_procedure g t.0 h.name t.1 in (beside g r (beside g (formals_of g h) (beside g (nothing_of t.1) d.1)) ≡ Ok tt → (r ≡ Ok tt) × Takes g s E d.0) → One g j lawful exports start names taken E ds B (s, r) (d.0, beside g r (beside g (formals_of g h) (beside g (nothing_of t.1) d.1)))
   by_made u t (Ok m) x fine = (
     type_added m,
-    ends u t (type_added m) (with_procedure_type (with_shape s m) (Ok (next_type s.types))) (Ok (meaning.Procedure here_made)) refl v.block.same.withs v.block.same.outer (ap (λ (types : Types). with_types types (m ∷ [])) v.block.same.types) v.block.same.tables (it_is_added m x) (its_own_known m x)
+    ends u t (type_added m) (with_procedure_type (with_shape s m) (Ok (next_type s.types))) (Ok (meaning.Procedure here_made)) refl v.block.same.withs v.block.same.outer (ap (λ (types : Types). with_types types (m ∷ [])) v.block.same.types) v.block.same.tables (it_is_added m x) (its_own_known m x) (λ b w. it_adds m x b w) (λ t u p q. its_meaning (Ok m) x p q)
         (is_free (find_name h.name.name s.own)) name_decided _ (λ w. all_told (type_added m) x t w) fine,
   )
   by_made u t (Err e) x fine = (
     nothing_added,
-    ends u t nothing_added s (Err e) refl v.block.same.withs v.block.same.outer (v.block.same.types ∙ sym (no_types start.types)) v.block.same.tables (nothing_is_added e x) (its_unknown e x)
+    ends u t nothing_added s (Err e) refl v.block.same.withs v.block.same.outer (v.block.same.types ∙ sym (no_types start.types)) v.block.same.tables (nothing_is_added e x) (its_unknown e x) (λ b w. it_adds_nothing e x b w) (λ t u p q. its_meaning (Err e) x p q)
         (is_free (find_name h.name.name s.own)) name_decided _ (λ w. all_told nothing_added x t w) fine,
   )
 

@@ -24,6 +24,7 @@ use Rattle.law_defining.proofs.Listing.{Listing, listing_nothing, listing_more, 
 use Rattle.law_defining.proofs.Stepping.{context, Standpoint}
 use Rattle.law_defining.proofs.Ordinary.{One, constant_stepped, type_stepped, variables_stepped}
 use Rattle.law_defining.proofs.Procedures.{procedure_stepped}
+use Rattle.law_defining.proofs.Only.{nothing_only, step_only}
 
 module _ (g : Gathers) (j : Judges g) (lawful : Lawful g j) (exports : ℕ → Ident → Standing) where
   abbrev S : Type 0
@@ -44,6 +45,8 @@ module _ (g : Gathers) (j : Judges g) (lawful : Lawful g j) (exports : ℕ → I
     pub told : Tells g j lawful (λ f. ⊥) (λ f. B f ⊎ BrokenIn exports whole f) st.1
     pub unheaded : AreUnheaded st.0.own
     pub listing : Listing g exports taken next_taken xs whole old st
+    -- There is no other reading.
+    pub only : (others : List Placed) (end : Context) → AllFollow exports (context start names taken) (xs ++ rest) others end → (tail : List Placed) × (others ≡ whole ++ tail) × AllFollow exports (context next next_names next_taken) rest tail end
 
   -- behind all of them
   pub record RanAll (start : S) (names : Ident → Standing) (taken : List ℕ → Bool) (xs : List Declaration) (B : Breach → Type 0) (old st : State (Unit {0}) g.Reported) : Type 0 where
@@ -57,6 +60,7 @@ module _ (g : Gathers) (j : Judges g) (lawful : Lawful g j) (exports : ℕ → I
     pub told : Tells g j lawful (λ f. ⊥) (λ f. B f ⊎ BrokenIn exports whole f) st.1
     pub unheaded : AreUnheaded st.0.own
     pub listing : Listing g exports taken next_taken xs whole old st
+    pub only : (others : List Placed) (end : Context) → AllFollow exports (context start names taken) xs others end → (others ≡ whole) × (end ≡ context next next_names next_taken)
 
   stands_as : {start : S} {names : Ident → Standing} {taken : List ℕ → Bool} {rest : List Declaration} {B C : Breach → Type 0} {s : S} → ((f : Breach) → B f → C f) → Standpoint g j exports start names taken rest B s → Standpoint g j exports start names taken rest C s
   stands_as h v = record { awaited = v.awaited; takes = v.takes; knows = v.knows; no_withs = v.no_withs; once = v.once; block = v.block; repeats = λ f q. h f (v.repeats f q) }
@@ -101,6 +105,7 @@ module _ (g : Gathers) (j : Judges g) (lawful : Lawful g j) (exports : ℕ → I
       told = tells_as g j lawful (λ f. ⊥) (λ f b. inl b) (none_in B) t;
       unheaded = u;
       listing = listing_nothing g exports taken st;
+      only = λ others end k. (others, refl, k);
     }
 
     ran_more : (x : Declaration) (xs rest : List Declaration) {old st up : State (Unit {0}) g.Reported} (q : One g j lawful exports start names taken x (xs ++ rest) B old st) → Ran q.1.start q.1.names q.1.taken xs rest (λ f. B f ⊎ Breaks exports (record { at = context start names taken; what = x; adds = q.0; left = xs ++ rest }) f) st up → Ran start names taken (x ∷ xs) rest B old up
@@ -115,6 +120,8 @@ module _ (g : Gathers) (j : Judges g) (lawful : Lawful g j) (exports : ℕ → I
       told = tells_as g j lawful (λ f. ⊥) (in_first B) (first_in B) z.told;
       unheaded = z.unheaded;
       listing = listing_more g exports (record { at = context start names taken; what = x; adds = q.0; left = xs ++ rest }) q.1.taken z.next_taken q.1.follows.taken xs z.whole old st up q.1.listing z.listing;
+      only = λ others end k. let f = step_only g j lawful exports (context start names taken) x q.0 (xs ++ rest) start.tables B q.1 others end k in let w = z.only f.0 end f.2 in
+          (w.0, f.1 ∙ ap (λ (ps : List Placed). let p : Placed = record { at = context start names taken; what = x; adds = q.0; left = xs ++ rest } in p ∷ ps) w.1, w.2);
     }
 
     ran_all : (xs ys : List Declaration) {old st up : State (Unit {0}) g.Reported} (q : Ran start names taken xs ys B old st) → RanAll q.next q.next_names q.next_taken ys (λ f. B f ⊎ BrokenIn exports q.whole f) st up → RanAll start names taken (xs ++ ys) B old up
@@ -129,6 +136,7 @@ module _ (g : Gathers) (j : Judges g) (lawful : Lawful g j) (exports : ℕ → I
       told = tells_as g j lawful (λ f. ⊥) (in_both q.whole z.whole B) (both_in q.whole z.whole B) z.told;
       unheaded = z.unheaded;
       listing = listing_both g exports taken q.next_taken z.next_taken xs ys q.whole z.whole old st up q.listing z.listing;
+      only = λ others end k. let f = q.only others end k in let w = z.only f.0 end f.2 in (f.1 ∙ ap (λ (ps : List Placed). q.whole ++ ps) w.0, w.1);
     }
 
     all_nothing : (st : State (Unit {0}) g.Reported) → Standpoint g j exports start names taken [] B st.0 → Tells g j lawful (λ f. ⊥) B st.1 → AreUnheaded st.0.own → RanAll start names taken [] B st st
@@ -143,6 +151,7 @@ module _ (g : Gathers) (j : Judges g) (lawful : Lawful g j) (exports : ℕ → I
       told = tells_as g j lawful (λ f. ⊥) (λ f b. inl b) (none_in B) t;
       unheaded = u;
       listing = listing_nothing g exports taken st;
+      only = λ others end k. nothing_only exports k;
     }
 
   -- a section
@@ -159,14 +168,14 @@ module _ (g : Gathers) (j : Judges g) (lawful : Lawful g j) (exports : ℕ → I
 
   -- ---- all of a definition
 
-  def_ran : (d : Def) → (start : S) (names : Ident → Standing) (taken : List ℕ → Bool) (rest : List Declaration) (B : Breach → Type 0) (s : S) (r : R) → Standpoint g j exports start names taken (declared_in d ++ rest) B s → Tells g j lawful (λ f. ⊥) B r → AreUnheaded s.own → Ran start names taken (declared_in d) rest B (s, r) (with_def g (s, r) d)
+  def_ran : (d : Def) (start : S) (names : Ident → Standing) (taken : List ℕ → Bool) (rest : List Declaration) (B : Breach → Type 0) (s : S) (r : R) → Standpoint g j exports start names taken (declared_in d ++ rest) B s → Tells g j lawful (λ f. ⊥) B r → AreUnheaded s.own → Ran start names taken (declared_in d) rest B (s, r) (with_def g (s, r) d)
   def_ran (def.Constants cs) start names taken rest B s r v t u = section_ran (with_constant g) OfConstant cs (λ c m start names taken ds B s r t u v. constant_stepped g j lawful exports start names taken ds B s r t u c v) start names taken rest B s r v t u
   def_ran (def.Types ts) start names taken rest B s r v t u = section_ran (with_type g) OfType ts (λ d m start names taken ds B s r t u v. type_stepped g j lawful exports start names taken ds B s r t u d v) start names taken rest B s r v t u
   def_ran (def.Variables vs) start names taken rest B s r v t u = section_ran (with_variables g) OfVariables vs (λ w m start names taken ds B s r t u v. variables_stepped g j lawful exports start names taken ds B s r t u w v) start names taken rest B s r v t u
   def_ran (def.Procedure h) start names taken rest B s r v t u = let q = procedure_stepped g j lawful exports start names taken h rest v u t in
       ran_more (OfProcedure h) [] rest q (ran_nothing rest (with_def g (s, r) (def.Procedure h)) q.1.stands q.1.told q.1.unheaded)
 
-  pub defs_ran : (ds : List Def) → (start : S) (names : Ident → Standing) (taken : List ℕ → Bool) (B : Breach → Type 0) (s : S) (r : R) → Standpoint g j exports start names taken (all_declared ds) B s → Tells g j lawful (λ f. ⊥) B r → AreUnheaded s.own → RanAll start names taken (all_declared ds) B (s, r) (fold (with_def g) (s, r) ds)
+  pub defs_ran : (ds : List Def) (start : S) (names : Ident → Standing) (taken : List ℕ → Bool) (B : Breach → Type 0) (s : S) (r : R) → Standpoint g j exports start names taken (all_declared ds) B s → Tells g j lawful (λ f. ⊥) B r → AreUnheaded s.own → RanAll start names taken (all_declared ds) B (s, r) (fold (with_def g) (s, r) ds)
   defs_ran [] start names taken B s r v t u = all_nothing (s, r) v t u
   defs_ran (d ∷ ds) start names taken B s r v t u = let q = def_ran d start names taken (all_declared ds) B s r v t u in
       ran_all (declared_in d) (all_declared ds) q (defs_ran ds q.next q.next_names q.next_taken _ (with_def g (s, r) d).0 (with_def g (s, r) d).1 q.stands q.told q.unheaded)

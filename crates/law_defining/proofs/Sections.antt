@@ -223,13 +223,16 @@ module _ (g : Gathers) (j : Judges g) (lawful : Lawful g j) (exports : ℕ → I
     constant_exact : {s : Scope g.Reported} (k : KB front (OfConstant c ∷ ds) (Adding (c.name ∷ []) (Th front)) s) → Exactly g j lawful exports outside start taken awaited nested block said_constant front (OfConstant c) (constant g s (part g c.value))
     constant_exact {s = s} k names all = more_answers g j lawful (O front) (Repeat front (plain_one (OfConstant c)) ds refl refl refl k all) (constant_says g j lawful nested (T front) names (SetAt front (OfConstant c) names).there exports s (Read front (plain_one (OfConstant c)) ds refl refl refl k all) k.same.types c)
 
-    pub declare_constant : {s : Scope g.Reported} {r : Result (Unit {0}) g.Reported} → KB front (OfConstant c ∷ ds) (Th front) s → Told front r → Stepped front (plain_one (OfConstant c)) ds (with_constant g (s, r) c)
+    pub declare_constant : {s : Scope g.Reported} {r : Result (Unit {0}) g.Reported} → KB front (OfConstant c ∷ ds) (Th front) s → Told front r → Exactly g j lawful exports outside start taken awaited nested block said_constant front (OfConstant c) (constant g (begin_name g s c.name).0 (part g c.value)) × Stepped front (plain_one (OfConstant c)) ds (with_constant g (s, r) c)
     declare_constant k t = let b = begin_one g j lawful exports outside start taken awaited nested block takes (O front) front (OfConstant c) ds refl (Th front) c.name (c.name, here, refl) k in
         let h = constant_exact b.0 in (
-          ended front (plain_one (OfConstant c)) ds refl refl refl b.0 (mid_as g j lawful exports outside start taken awaited nested block takes front (plain_one (OfConstant c)) ds (Adding (c.name ∷ []) (Th front)) (λ n z. only_name z) (λ n z. name_only z)
-              (one_finished front (plain_one (OfConstant c)) ds refl refl refl b.0 c.name here (says_it front (plain_one (OfConstant c)) ds refl refl refl b.0 said_constant (λ v. meaning.Constant v) (λ v. refl) (λ v. refl) (λ v. refl) (λ v. refl) h) (λ n. ⊥) (begun_mid front (plain_one (OfConstant c)) ds refl refl refl b.0 (begin_name g _ c.name).0.own (no_made (begin_name g _ c.name).0) (enters_nothing (begin_name g _ c.name).0.own) (λ n. fails_it (λ z. elim z.1 [ ])) rules.constant_brings))),
-          told_one front (plain_one (OfConstant c)) ds refl refl refl refl t b.1 (telling front (plain_one (OfConstant c)) ds refl refl refl b.0 said_constant h),
-          rules.is_added (stand_here front (plain_one (OfConstant c)) ds refl refl refl b.0) rules.constant_brings,
+          h,
+          (
+            ended front (plain_one (OfConstant c)) ds refl refl refl b.0 (mid_as g j lawful exports outside start taken awaited nested block takes front (plain_one (OfConstant c)) ds (Adding (c.name ∷ []) (Th front)) (λ n z. only_name z) (λ n z. name_only z)
+                (one_finished front (plain_one (OfConstant c)) ds refl refl refl b.0 c.name here (says_it front (plain_one (OfConstant c)) ds refl refl refl b.0 said_constant (λ v. meaning.Constant v) (λ v. refl) (λ v. refl) (λ v. refl) (λ v. refl) h) (λ n. ⊥) (begun_mid front (plain_one (OfConstant c)) ds refl refl refl b.0 (begin_name g _ c.name).0.own (no_made (begin_name g _ c.name).0) (enters_nothing (begin_name g _ c.name).0.own) (λ n. fails_it (λ z. elim z.1 [ ])) rules.constant_brings))),
+            told_one front (plain_one (OfConstant c)) ds refl refl refl refl t b.1 (telling front (plain_one (OfConstant c)) ds refl refl refl b.0 said_constant h),
+            rules.is_added (stand_here front (plain_one (OfConstant c)) ds refl refl refl b.0) rules.constant_brings,
+          ),
         )
 
   -- ---- types
@@ -259,6 +262,10 @@ module _ (g : Gathers) (j : Judges g) (lawful : Lawful g j) (exports : ℕ → I
     type_exact names all = more_answers g j lawful (O front) (Repeat front one ds refl refl refl k all) (of_type_says g j lawful nested (T front) names (SetAt front (OfType d) names).there exports s (Read front one ds refl refl refl k all) k.same.types d read.adds
         (subst (λ (types : Types). Answers g j (Repeats g j names s) (λ a k. k ≡ (read.adds, a)) (λ (k : MadeType). IsTypeOf exports (at_types types names (SetAt front (OfType d) names).there) d.of k.0 k.1) (BrokenType exports (at_types types names (SetAt front (OfType d) names).there) d.of) q.1) k.same.types (read.exact names (SetAt front (OfType d) names).there (Read front one ds refl refl refl k all) (frees_here front one ds refl refl refl k))))
 
+    type_only : (names : Ident → Standing) → Stand front names → (a : Added) → Adds exports (SetAt front (OfType d) names) d.of a → a ≡ read.adds
+    type_only names all a w = read.only names (SetAt front (OfType d) names).there (Read front one ds refl refl refl k all) (frees_here front one ds refl refl refl k) a
+        (subst (λ (types : Types). Adds exports (at_types types names (SetAt front (OfType d) names).there) d.of a) (sym k.same.types) w)
+
     type_ended : {r b : Result (Unit {0}) g.Reported} → Told front r → Tells g j lawful (O front) (λ f. Th front d.name.name × (f ≡ d.name.pos ! rule.DeclaredTwice)) b
         → Stepped front one ds (finish_name q.0 d.name (type_meaning q.1 (brings_with d.of)), beside g r (beside g b (nothing_of q.1)))
     type_ended t w = let h = type_exact in (
@@ -269,14 +276,14 @@ module _ (g : Gathers) (j : Judges g) (lawful : Lawful g j) (exports : ℕ → I
       rules.is_added (stand_here front one ds refl refl refl k) type_brings,
     )
 
-  -- what it adds, whether its type is right, and what is known behind it
-  abbrev pub One : List Resolved → Declaration → (Added → TypeNo → Saids) → Result TypeNo g.Reported → List Declaration → State (Unit {0}) g.Reported → Type 0
-  One front x said r ds st = (a : Added) × Exactly g j lawful exports outside start taken awaited nested block (said a) front x r × Stepped front (typed_one x a) ds st
+  -- what it adds, and nothing else, whether its type is right, and what is known behind it
+  abbrev pub One : List Resolved → Declaration → TypeExpr → (Added → TypeNo → Saids) → Result TypeNo g.Reported → List Declaration → State (Unit {0}) g.Reported → Type 0
+  One front x e said r ds st = (a : Added) × Exactly g j lawful exports outside start taken awaited nested block (said a) front x r × Stepped front (typed_one x a) ds st × ((names : Ident → Standing) → Stand front names → (b : Added) → Adds exports (SetAt front x names) e b → b ≡ a)
 
-  pub declare_type : (front : List Resolved) (d : TypeDecl) (ds : List Declaration) → {s : Scope g.Reported} {r : Result (Unit {0}) g.Reported} → KB front (OfType d ∷ ds) (Th front) s → Told front r → One front (OfType d) (λ a t. said_type a t) (type_of g d.of (begin_name g s d.name).0).1 ds (with_type g (s, r) d)
+  pub declare_type : (front : List Resolved) (d : TypeDecl) (ds : List Declaration) → {s : Scope g.Reported} {r : Result (Unit {0}) g.Reported} → KB front (OfType d ∷ ds) (Th front) s → Told front r → One front (OfType d) d.of (λ a t. said_type a t) (type_of g d.of (begin_name g s d.name).0).1 ds (with_type g (s, r) d)
   declare_type front d ds {s = s} k t = let b = begin_one g j lawful exports outside start taken awaited nested block takes (O front) front (OfType d) ds refl (Th front) d.name (d.name, here, refl) k in
       let read = type_read g j lawful exports d.of (begin_name g s d.name).0 b.0.same.withs in
-      (read.adds, type_exact front d ds b.0 (type_of g d.of (begin_name g s d.name).0) read, type_ended front d ds b.0 (type_of g d.of (begin_name g s d.name).0) read t b.1)
+      (read.adds, type_exact front d ds b.0 (type_of g d.of (begin_name g s d.name).0) read, type_ended front d ds b.0 (type_of g d.of (begin_name g s d.name).0) read t b.1, type_only front d ds b.0 (type_of g d.of (begin_name g s d.name).0) read)
 
   -- ---- variables
 
@@ -294,6 +301,10 @@ module _ (g : Gathers) (j : Judges g) (lawful : Lawful g j) (exports : ℕ → I
     variables_exact : Exactly g j lawful exports outside start taken awaited nested block (said_variables read.adds) front (OfVariables v) q.1
     variables_exact names all = more_answers g j lawful (O front) (Repeat front many ds refl refl refl k all) (variables_say g j lawful nested (T front) names (SetAt front (OfVariables v) names).there exports s (Read front many ds refl refl refl k all) k.same.types v read.adds
         (subst (λ (types : Types). Answers g j (Repeats g j names s) (λ a k. k ≡ (read.adds, a)) (λ (k : MadeType). IsTypeOf exports (at_types types names (SetAt front (OfVariables v) names).there) v.of k.0 k.1) (BrokenType exports (at_types types names (SetAt front (OfVariables v) names).there) v.of) q.1) k.same.types (read.exact names (SetAt front (OfVariables v) names).there (Read front many ds refl refl refl k all) (frees_here front many ds refl refl refl k))))
+
+    variables_only : (names : Ident → Standing) → Stand front names → (a : Added) → Adds exports (SetAt front (OfVariables v) names) v.of a → a ≡ read.adds
+    variables_only names all a w = read.only names (SetAt front (OfVariables v) names).there (Read front many ds refl refl refl k all) (frees_here front many ds refl refl refl k) a
+        (subst (λ (types : Types). Adds exports (at_types types names (SetAt front (OfVariables v) names).there) v.of a) (sym k.same.types) w)
 
     abbrev MidOf : (List ℕ → Type 0) → Scope g.Reported → Type 0
     MidOf done t = Mid front many ds refl refl refl k done t
@@ -337,8 +348,8 @@ module _ (g : Gathers) (j : Judges g) (lawful : Lawful g j) (exports : ℕ → I
       → KB front (OfVariables v ∷ ds) (Adding v.names (Th front)) (fold (begun_name g) (s, r) v.names).0 × Tells g j lawful (O front) (λ f. BI front f ⊎ Twice (Th front) v.names f) (fold (begun_name g) (s, r) v.names).1
   begun_list front v ds k t = begin_all g j lawful exports outside start taken awaited nested block takes (O front) front (OfVariables v) ds refl v.names (Th front) (λ x m. named_left (constants_in v.of) (x, m, refl)) k (told_here t)
 
-  pub declare_variables : (front : List Resolved) (v : Variables) (ds : List Declaration) → {s : Scope g.Reported} {r : Result (Unit {0}) g.Reported} → KB front (OfVariables v ∷ ds) (Th front) s → Told front r → One front (OfVariables v) (λ a t. said_variables a t) (type_of g v.of (fold (begun_name g) (s, r) v.names).0).1 ds (with_variables g (s, r) v)
+  pub declare_variables : (front : List Resolved) (v : Variables) (ds : List Declaration) → {s : Scope g.Reported} {r : Result (Unit {0}) g.Reported} → KB front (OfVariables v ∷ ds) (Th front) s → Told front r → One front (OfVariables v) v.of (λ a t. said_variables a t) (type_of g v.of (fold (begun_name g) (s, r) v.names).0).1 ds (with_variables g (s, r) v)
   declare_variables front v ds {s = s} {r = r} k t = let b = begun_list front v ds k t in
       let u = (fold (begun_name g) (s, r) v.names).0 in
       let read = type_read g j lawful exports v.of u b.0.same.withs in
-      (read.adds, variables_exact front v ds b.0 (type_of g v.of u) read, module_ended front v ds b.0 (type_of g v.of u) read b.1)
+      (read.adds, variables_exact front v ds b.0 (type_of g v.of u) read, module_ended front v ds b.0 (type_of g v.of u) read b.1, variables_only front v ds b.0 (type_of g v.of u) read)

@@ -3,6 +3,7 @@ use Rattle.std.proofs.Common.{◌≡◌, ℕ, Bool, true, false, List, [], ◌�
 use Rattle.std.specs.Prelude.{map}
 use Rattle.std.specs.List.{fold}
 use Rattle.m2_rule.specs.declared.breach.Breach.{Breach}
+use Rattle.m2_tree.specs.declared.pos.Pos.{Pos}
 use Rattle.m2_tree.specs.declared.name.Ident.{Ident}
 use Rattle.m2_tree.specs.declared.decl.Def.{Def}
 use Rattle.m2_tree.specs.declared.decl.Def.TheVariants as def
@@ -24,7 +25,10 @@ use Rattle.check_scope.specs.declared.known.Known.{Known}
 use Rattle.check_scope.specs.declared.known.Known.TheVariants as known
 use Rattle.check_scope.specs.declared.scope.Scope.{Scope}
 use Rattle.check_scope.specs.Elaborated.{Gathers}
-use Rattle.check_scope.specs.Scopes.{State}
+use Rattle.check_scope.specs.declared.known.Origin.TheVariants.{Here}
+use Rattle.check_scope.specs.declared.meaningless.Meaningless.{Meaningless}
+use Rattle.check_scope.specs.declared.scope.OpenedRecord.{OpenedRecord}
+use Rattle.check_scope.specs.Scopes.{State, looked_up, known_outside, or_around, means_as, means_or, open_field}
 use Rattle.check_definition.specs.Marking.{marked_def}
 use Rattle.check_definition.specs.Predeclared.{console, first_scope}
 use Rattle.check_definition.specs.Importing.{numbered_modules, with_import}
@@ -44,7 +48,7 @@ use Rattle.def_typing.specs.Definitions.{Context, Placed, none_awaited}
 use Rattle.def_typing.specs.Imports as imports
 use Rattle.def_typing.specs.Imports.{all_imported, Origin, Itself, Exported, Brings, Entry}
 use Rattle.law_typing.specs.Judging.{Judges, Accounts, Reports, reports_nothing, reports_broken}
-use Rattle.law_typing.specs.Exact.{no_names, standing, of_local, Knows, Repeats, of_heading, of_declaration, TakenAs, is_taken, not_taken, AreOnce}
+use Rattle.law_typing.specs.Exact.{Sees, sees, no_names, standing, of_local, Knows, Repeats, of_heading, of_declaration, TakenAs, is_taken, not_taken, AreOnce}
 use Rattle.law_typing.proofs.Heading.{nil_right}
 use Rattle.law_typing.proofs.Combining.{Lawful, Tells, silent, tells}
 use Rattle.law_typing.proofs.Declaring.{any_first, headed, KnownAs, outer, ahead, reading, behind, a_member, KnowsBlock, mark_of}
@@ -53,12 +57,14 @@ use Rattle.law_typing.proofs.Marking.{block_begins}
 use Rattle.law_importing.specs.Exact.{origin, StandsFor, imported, from_outside, imported_all, AreImportsExact}
 use Rattle.law_importing.proofs.Behind.{first_imports}
 use Rattle.law_importing.proofs.Defining.{definition_imports}
-use Rattle.law_defining.specs.Exports.{AreExported, nothing_exported}
+use Rattle.law_defining.specs.Exports.{AreExported, AreModules, own_met, nothing_exported}
+use Rattle.law_defining.proofs.Modules.{modules_are}
+use Rattle.law_defining.proofs.Meeting.{others_kept, types_are}
 use Rattle.law_defining.proofs.Once.{imports_keep, imports_once}
 use Rattle.law_defining.proofs.Twices.{twice_as}
 use Rattle.law_defining.proofs.Keys.{Begins, begins_more, once_found, keys_apart}
 use Rattle.law_defining.proofs.Keeping.{defs_keep}
-use Rattle.law_defining.proofs.Entries.{entry_of, exported_are}
+use Rattle.law_defining.proofs.Entries.{found_named, entry_of, exported_are}
 use Rattle.law_defining.proofs.Listing.{names_all, any_named_all, AllListed}
 use Rattle.law_defining.proofs.Marks.{names as names_in, defs_declare}
 use Rattle.law_defining.specs.Exact.{declared_in, all_declared, none, IsTaken, by_import, by_none, AreSound, IsTable, IsAnswered, is_table, is_refused, IsDefinitionExact, DefinitionsAreExact}
@@ -387,6 +393,32 @@ module _ (g : Gathers) (j : Judges g) (lawful : Lawful g j) (found : Finds g j) 
         let c : AnyDeclares block d.0 → ⊥ = (λ a. keys_apart final_once d.0 keys_declared keys_first.0 keys_first.1 (key_declared (names_all block) (any_named_all block a)) (subst (λ (k : List ℕ). Among k keys_first.0) (sym q) w)) in
         undeclared_entry d.0 d.1 c (sym (all_of_it.listing.others d.0 c) ∙ once_found final_once d i)
 
+    exports_so : (table_of m modules final.0).exported ≡ listed.entries
+    exports_so = exported_are final_once keys_first.0 listed.found keys_first.1 other_entry
+
+    -- what is known behind all declarations
+    behind_all : (n : List ℕ) {k : Option (Known g.Reported)} → KnownAs g j exports all_of_it.next_names all_of_it.next all_of_it.next_taken all_of_it.stands.awaited false [] [] (rules.There all_of_it.next.types exports all_of_it.next_names all_of_it.next_taken all_of_it.stands.awaited false [] []) n k → k ≡ find_name n all_of_it.next.own
+    behind_all n (outer h w e) = e
+    behind_all n (headed p a b w) = elim b.1 [ ]
+    behind_all n (ahead d u i h w) = elim i [ ]
+    behind_all n (reading d u i h w q) = elim i [ ]
+    behind_all n (behind k u i o s) = elim i [ ]
+    behind_all n (a_member u i o a e) = elim i [ ]
+
+    seen_as : {at : Pos} {s : Standing} {w : Meaning} → Sees g j at s (Ok w) → s ≡ standing w
+    seen_as (sees w) = refl
+
+    abbrev looked_with : Ident → Option (Known g.Reported) → Result Meaning (Meaningless g.Reported)
+    looked_with x k = means_as g x.pos (or_around k (known_outside x.name all_of_it.next.outer))
+
+    looked_behind : (x : Ident) (w : Meaning) → find_name x.name final.0.own ≡ Some (known.Declared Here (Ok w)) → looked_up g all_of_it.next x ≡ Ok w
+    looked_behind x w q =
+        ap (λ (ws : List OpenedRecord). means_or (open_field all_of_it.next.types x.name ws) (looked_with x (find_name x.name all_of_it.next.own))) all_of_it.stands.no_withs
+        ∙ ap (λ (k : Option (Known g.Reported)). looked_with x k) (sym (behind_all x.name (all_of_it.stands.block.own x.name)) ∙ q)
+
+    its_meanings : (x : Ident) (w : Meaning) → find_name x.name (table_of m modules final.0).exported ≡ Some w → last.names x ≡ standing w
+    its_meanings x w q = seen_as (subst (λ (r : Result Meaning (Meaningless g.Reported)). Sees g j x.pos (last.names x) r) (looked_behind x w (found_named listed.found x.name w (subst (λ (es : List Entry). find_name x.name es ≡ Some w) exports_so q))) (all_of_it.stands.knows.of_names x))
+
     no_variables : length entered.0.variables ≡ 0
     no_variables = ap (λ (s : S). length s.variables) kept.rest
 
@@ -394,7 +426,7 @@ module _ (g : Gathers) (j : Judges g) (lawful : Lawful g j) (found : Finds g j) 
     no_procedures = ap (λ (s : S). length s.procedures) kept.rest
 
     its_exports : AreExported exports 0 0 all_of_it.whole (table_of m modules final.0).exported
-    its_exports = subst (λ (es : List Entry). AreExported exports 0 0 all_of_it.whole es) (sym (exported_are final_once keys_first.0 listed.found keys_first.1 other_entry))
+    its_exports = subst (λ (es : List Entry). AreExported exports 0 0 all_of_it.whole es) (sym exports_so)
         (subst (λ (ws : List Placed). AreExported exports 0 0 ws listed.entries) (nil_right all_of_it.whole) (subst (λ (es : List Entry). AreExported exports 0 0 (all_of_it.whole ++ []) es) (nil_right listed.entries)
         (subst (λ (v : ℕ). AreExported exports v 0 (all_of_it.whole ++ []) (listed.entries ++ [])) no_variables (subst (λ (p : ℕ). AreExported exports (length entered.0.variables) p (all_of_it.whole ++ []) (listed.entries ++ [])) no_procedures (listed.lists [] [] nothing_exported)))))
 
@@ -402,9 +434,11 @@ module _ (g : Gathers) (j : Judges g) (lawful : Lawful g j) (found : Finds g j) 
   its_table e = let k = all_of_it.stands.block.same in record {
     of_number = ap (λ (t : Types). t.home) k.types ∙ home_kept all_of_it.follow;
     of_name = refl;
-    of_imports = ap (λ (ts : List Table). imported_modules modules ts m.imports) (k.tables ∙ all_of_it.tables);
-    of_types = ap (λ (t : Types). reached_of t) k.types;
+    of_imports = subst (λ (ts : List Table). AreModules tables (all_imported m.imports) (imported_modules modules ts m.imports)) (sym (k.tables ∙ all_of_it.tables)) (modules_are tables m.imports);
+    of_types = let w = types_are tables last.types (others_kept all_of_it.follow) in
+        (w.0, w.1, ap (λ (t : Types). reached_of t) k.types ∙ w.2 ∙ ap (λ (n : ℕ). w.0 ++ own_met n last.types.own) (home_kept all_of_it.follow));
     of_exports = its_exports e;
+    of_meanings = its_meanings e;
   }
 
   tabled : Tabled Is Broken (of_contents g home m tables (contents.Definition defs))
@@ -415,6 +449,7 @@ module _ (g : Gathers) (j : Judges g) (lawful : Lawful g j) (found : Finds g j) 
     whole = all_of_it.whole;
     last = last;
     follow = all_of_it.follow;
+    only = all_of_it.only;
     answered = answered_by (λ r z. found home m given r z) (subst (λ (ts : List Table). Tabled Is Broken (of_contents g home m ts m.contents)) e (subst (λ (c : Contents). Tabled Is Broken (of_contents g home m tables c)) (sym q) tabled));
   }
 

@@ -1,5 +1,5 @@
 -- What is answered of a definition.
-use Rattle.std.specs.Prelude.{◌≡◌, ◌⊎◌, ℕ, Bool, true, false, List, [], ◌∷◌, ◌++◌, map, Result, Ok, Err}
+use Rattle.std.specs.Prelude.{◌≡◌, ◌⊎◌, ℕ, Bool, true, false, List, [], ◌∷◌, ◌++◌, map, reverse, Some, Result, Ok, Err}
 use Rattle.m2_rule.specs.declared.breach.Breach.{Breach}
 use Rattle.m2_tree.specs.declared.name.Ident.{Ident}
 use Rattle.m2_tree.specs.declared.decl.Constant.{Constant as ConstantDecl}
@@ -11,11 +11,11 @@ use Rattle.m2_tree.specs.declared.decl.Contents.TheVariants as contents
 use Rattle.m2_tree.specs.declared.decl.Module.{Module}
 use Rattle.typed_tree.specs.declared.meaning.Meaning.{Meaning}
 use Rattle.typed_tree.specs.declared.known_types.Types.{Types}
+use Rattle.typed_tree.specs.declared.table.ModuleTypes.{ModuleTypes}
 use Rattle.typed_tree.specs.declared.table.Table.{Table}
+use Rattle.typed_tree.specs.Names.{find_name}
 use Rattle.check_scope.specs.Elaborated.{Gathers}
 use Rattle.check_definition.specs.Predeclared.{console, others_of, first_scope}
-use Rattle.check_definition.specs.Importing.{numbered_modules}
-use Rattle.check_definition.specs.Export.{reached_of, imported_modules}
 use Rattle.check_definition.specs.Compiled.{definition_table}
 use Rattle.def_typing.specs.Things.{Headless, Standing, Known, Unknown}
 use Rattle.def_typing.specs.Parts.{Among}
@@ -25,9 +25,9 @@ use Rattle.def_typing.specs.Definitions.{Context, Placed, AllFollow}
 use Rattle.def_typing.specs.Imports as imports
 use Rattle.def_typing.specs.Imports.{Imported, all_imported, Origin, Brings}
 use Rattle.law_typing.specs.Judging.{Judges, Accounts}
-use Rattle.law_typing.specs.Exact.{Knows}
+use Rattle.law_typing.specs.Exact.{standing, Knows}
 use Rattle.law_importing.specs.Exact.{StandsFor}
-use Rattle.law_defining.specs.Exports.{AreExported}
+use Rattle.law_defining.specs.Exports.{AreExported, AreModules, all_reached, AreMet, own_met}
 
 -- ---- declarations of a definition
 
@@ -70,11 +70,17 @@ pub record IsTable (home : ℕ) (m : Module) (tables : List Table) (exports : �
     (whole : List Placed) (last : Context) (t : Table) : Type 0 where
   pub of_number : t.number ≡ home
   pub of_name : t.name ≡ m.name.name
-  pub of_imports : t.imports ≡ imported_modules (numbered_modules tables).0 tables m.imports
-  -- the types that are met through it: those of the tables, and those that its declarations make
-  pub of_types : t.reached ≡ reached_of last.types
+  -- It lists the modules that it imports.
+  pub of_imports : AreModules tables (all_imported m.imports) t.imports
+  -- the types that are met through it: those of the tables, and behind them those that its
+  -- declarations make
+  pub of_types : (met : List ModuleTypes) × AreMet (reverse (all_reached tables)) met
+      × (t.reached ≡ met ++ own_met home last.types.own)
   -- Each name that is declared is exported, with what it means, and no other is.
   pub of_exports : AreExported exports 0 0 whole t.exported
+  -- Its meaning is what the name stands for behind all declarations.
+  pub of_meanings : (x : Ident) (n : Meaning) → find_name x.name t.exported ≡ Some n
+      → last.names x ≡ standing n
 
 -- A table is answered exactly if no rule is broken, and else broken rules are reported.
 pub data IsAnswered (g : Gathers) (j : Judges g) (Is : Table → Type 0) (Breaks : Breach → Type 0)
@@ -99,6 +105,10 @@ pub record IsDefinitionExact (g : Gathers) (j : Judges g) (home : ℕ) (m : Modu
   -- Each adds the types and constants that the rules say, and its names stand for what they say.
   pub follow :
       AllFollow exports (first_context home tables names taken) (all_declared defs) whole last
+  -- There is no other reading of the declarations.
+  pub only : (others : List Placed) (end : Context)
+      → AllFollow exports (first_context home tables names taken) (all_declared defs) others end
+      → (others ≡ whole) × (end ≡ last)
   -- Exactly the rules that are broken in imports and in declarations are reported.
   pub answered : IsAnswered g j (IsTable home m tables exports whole last)
       (λ f.

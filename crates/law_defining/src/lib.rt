@@ -13,19 +13,21 @@
 //! - `proofs/Taking` says what a declaration enters into the scope if nothing is reported, `proofs/Listing` that it is exported
 //!   in the order of the text, `proofs/Marks` and `proofs/Keeping` that names keep this order, `proofs/Constants` that the
 //!   constants of enumerations are new, and `proofs/Entries` that no other name is exported.
-//! - `proofs/Finding` says that a refusal has a rule, `proofs/Outside` what names stand for outside, and `proofs/Importing`
-//!   what importers know.
+//! - `proofs/Only` says that the rules read a definition in one way, `proofs/Finding` that a refusal has a rule,
+//!   `proofs/Outside` what names stand for outside, `proofs/Modules` which modules stand in its table, `proofs/Meeting` which
+//!   types are met through it, and `proofs/Importing` what importers know.
 #![tactic(auto)]
 
 ghost use Rattle.check_scope.specs.Elaborated.{every, least};
 ghost use Rattle.law_typing.specs.Judging.{all_of_them, the_least};
 ghost use Rattle.law_defining.specs.Exact.{DefinitionsAreExact, DefinitionsAreKnown};
-ghost use Rattle.law_defining.specs.Importers.{TablesAreForeign, OwnNamesAreKnown};
+ghost use Rattle.law_defining.specs.Importers.{TablesAreForeign, OwnNamesAreKnown, NamesAgree};
 
 /// A definition has a table exactly if no rule is broken in its imports and in its declarations. Else what is reported are
 /// exactly the rules that are broken there; and the least refusal is a broken rule, and no broken rule is less, by place and
-/// then by number. Its table has the types that the rules say. It exports each name that is declared, in the order of the text,
-/// with what the rules say that it means and with its number, and no other name.
+/// then by number. Its table exports each name that is declared, in the order of the text,
+/// with what the rules say that it means and with its number, and no other name. It lists the modules that the definition
+/// imports, and the types that are met through it.
 pub fn definition_laws()
     ensures every_rule { DefinitionsAreExact every all_of_them }
     ensures least_rule { DefinitionsAreExact least the_least }
@@ -48,4 +50,11 @@ pub fn foreign_table_laws()
 pub fn own_name_laws()
     ensures every_rule { OwnNamesAreKnown every all_of_them }
     ensures least_rule { OwnNamesAreKnown least the_least }
+{}
+
+/// A name that a definition exports stands for the same behind its declarations, in its own implementation, and in those who
+/// import it.
+pub fn agreeing_name_laws()
+    ensures every_rule { NamesAgree every all_of_them }
+    ensures least_rule { NamesAgree least the_least }
 {}
