@@ -39,13 +39,14 @@ formal false t = AVariable t
 pub data IsProcedure : Standing → Type 0 where
   of_module : {t : TypeNo} → IsProcedure (Known (AProcedure t))
   of_procedure : {t : TypeNo} → IsProcedure (Known (ANested t))
+  -- Rules are broken in its heading.
   headless : IsProcedure (Known Headless)
 
 abbrev pub is_declared : List ℕ → List Declaration → Bool
 is_declared n ds = list_any (λ d. is_among n (names_of d ++ constants_of d)) ds
 
--- The names that the block around declares, those of them in front of the procedure, and what names
--- stand for behind all of them.
+-- block: the declarations of the block around; front: the ones in front of the procedure; names:
+-- what names stand for behind all declarations of the block.
 module _ (taken : List ℕ → Bool) (block front : List Declaration) (names : Ident → Standing) where
   -- what a name of outside stands for in a procedure
   pub data SeenAs (name : Ident) : Standing → Type 0 where
@@ -59,7 +60,8 @@ module _ (taken : List ℕ → Bool) (block front : List Declaration) (names : I
         → SeenAs name Undeclared
 
 module _ (exports : ℕ → Ident → Standing) (seen : Ident → Standing) (h : Heading) where
-  -- what a name stands for where the block of a procedure begins
+  -- what a name stands for where the block of a procedure begins: its formals come before the names
+  -- around it
   pub data InsideAs (name : Ident) : Standing → Type 0 where
     a_formal : {x : Section} {t : TypeNo} → formal_named name.name h.formals ≡ Some x
         → NamesType seen exports x.of.of t → InsideAs name (Known (formal x.of.is_open t))
@@ -94,8 +96,8 @@ pub record Place : Type 0 where
   -- what its body gives back
   pub gives : Giving
 
--- which names stand for variables of the module behind these declarations; those of a procedure are
--- none
+-- which names stand for variables of the module behind these declarations; names that a procedure
+-- declares do not
 abbrev pub module_variables : Place → List Declaration → (Ident → Bool) → Ident → Bool
 module_variables p block own name =
     cond p.nested ((p.taken name.name || not (is_declared name.name block)) && p.own name)

@@ -1,5 +1,5 @@
 -- What is known where the block of a procedure begins.
-use Rattle.std.proofs.Common.{◌≡◌, ℕ, ◌+◌, ◌<◌, ◌≤◌, Bool, true, false, cond, List, [], ◌∷◌, ◌++◌, length, Option, Some, None, Result, Ok, Err, ◌⊎◌, inl, inr, refl, sym, ap, subst, ◌∙◌, arith}
+use Rattle.std.proofs.Common.{◌≡◌, ℕ, ◌+◌, ◌<◌, Bool, true, false, cond, List, [], ◌∷◌, ◌++◌, length, Option, None, Result, Ok, ◌⊎◌, inl, inr, refl, sym, ap, subst, ◌∙◌, arith}
 use Rattle.std.specs.Prelude.{◌==◌, ◌&&◌, ◌||◌, not}
 use Rattle.std.specs.Option.{is_some}
 use Rattle.std.proofs.lemmas.Bool.Decides.{nat_tests}
@@ -13,7 +13,6 @@ use Rattle.typed_tree.specs.declared.meaning.Meaning.TheVariants as meaning
 use Rattle.typed_tree.specs.declared.shape.Formal.{Formal}
 use Rattle.typed_tree.specs.declared.types.TypeNo.{TypeNo}
 use Rattle.typed_tree.specs.Names.{find_name}
-use Rattle.check_scope.specs.declared.known.Known.{Known}
 use Rattle.check_scope.specs.declared.meaningless.Meaningless.{Meaningless}
 use Rattle.check_scope.specs.declared.scope.Block.{Block as Around}
 use Rattle.check_scope.specs.declared.scope.Scope.{Scope}
@@ -28,15 +27,15 @@ use Rattle.def_typing.specs.TypeNames.{BrokenTypeName}
 use Rattle.def_typing.specs.Headings.{BrokenResult}
 use Rattle.def_typing.specs.Returns.{Giving}
 use Rattle.def_typing.specs.Declarations.{Declaration, OfProcedure, AnyDeclares, Declared as Resolved, in_order, types_behind}
-use Rattle.def_typing.specs.Bodies.{formal_named, is_formal, SeenAs, InsideAs, BodyGives, is_declared, Place, in_procedure, module_variables}
+use Rattle.def_typing.specs.Bodies.{is_formal, SeenAs, InsideAs, BodyGives, is_declared, Place, in_procedure, module_variables}
 use Rattle.law_typing.specs.Judging.{Judges}
-use Rattle.law_typing.specs.Exact.{is_own_variable, Knows, KnowsOwn, Repeats, InResult, RepeatsResult, is_nested, IsAsBefore}
+use Rattle.law_typing.specs.Exact.{is_own_variable, Knows, KnowsOwn, Repeats, RepeatsResult, is_nested, IsAsBefore}
 use Rattle.law_typing.proofs.Combining.{Lawful}
 use Rattle.law_bodies.specs.Exact.{KnowsPlace}
 use Rattle.law_bodies.proofs.Keeping.{Keeps}
 use Rattle.law_bodies.proofs.Reading.{All, AddedAll, Breaks, never_ahead, HeadingAt, heading_at}
 use Rattle.law_bodies.proofs.Seeing.{PlaceIs, In, seen_there, seen_knows, seen_repeats, known_around}
-use Rattle.law_bodies.proofs.Formals.{Inside, NameIs, of_around, of_formal, of_broken, name_is, inside_there, inside_knows, inside_repeats, inside_takes, gives_there, gives_knows, gives_repeats}
+use Rattle.law_bodies.proofs.Formals.{NameIs, of_around, of_formal, of_broken, name_is, inside_there, inside_knows, inside_repeats, inside_takes, gives_there, gives_knows, gives_repeats}
 use Rattle.law_bodies.proofs.Extending.{Extends, extends_then}
 use Rattle.law_bodies.proofs.Refusing.{formal_refused, result_refused}
 use Rattle.law_bodies.proofs.Owning.{local_around, mine_counts}

@@ -8,7 +8,7 @@ use Rattle.typed_tree.specs.declared.types.TypeNo.{TypeNo}
 use Rattle.typed_tree.specs.declared.shape.Made.{Made}
 use Rattle.typed_tree.specs.declared.shape.Shape.{Shape}
 use Rattle.typed_tree.specs.declared.known_types.Types.{Types}
-use Rattle.def_typing.specs.Shapes.{shape_from, shape_at, IsMade}
+use Rattle.def_typing.specs.Shapes.{shape_from, IsMade}
 use Rattle.def_typing.specs.Headings as headings
 use Rattle.def_typing.specs.Headings.{IsResult}
 use Rattle.def_typing.specs.TypeExprs.{with_types}

@@ -1,6 +1,6 @@
 -- What is known of the formals of a procedure, inside it, and of what it gives back.
-use Rattle.std.proofs.Common.{◌≡◌, ℕ, ◌+◌, ◌<◌, Bool, true, false, cond, List, [], ◌∷◌, ◌++◌, length, Option, Some, None, Result, Ok, Err, ◌⊎◌, inl, inr, refl, sym, ap, subst, ◌∙◌, arith}
-use Rattle.std.specs.Prelude.{◌||◌, ◌&&◌, ◌==◌, not}
+use Rattle.std.proofs.Common.{◌≡◌, ℕ, Bool, true, false, cond, List, [], ◌∷◌, length, Option, Some, None, Result, Ok, Err, ◌⊎◌, inl, inr, refl, sym, ap, subst, ◌∙◌}
+use Rattle.std.specs.Prelude.{◌||◌}
 use Rattle.std.specs.List.{fold}
 use Rattle.std.specs.Option.{is_some}
 use Rattle.m2_rule.specs.declared.breach.Breach.{Breach}
@@ -26,24 +26,23 @@ use Rattle.check_scope.specs.declared.scope.OpenedRecord.{OpenedRecord}
 use Rattle.check_scope.specs.declared.scope.Scope.{Scope}
 use Rattle.check_scope.specs.Elaborated.{Gathers, ◌▷◌}
 use Rattle.check_scope.specs.Scopes.{or_around, known_outside, means_as, means_or, open_field, looked_up}
-use Rattle.check_type_expr.specs.Named.{first_place, first_of, named_type}
+use Rattle.check_type_expr.specs.Named.{first_of, named_type}
 use Rattle.check_type_expr.specs.Headings.{formal_of, result_in, result_of}
-use Rattle.check_block.specs.Inner.{formal_kind, formal_meaning, unless_found, with_formal_type, Formals, with_formal, with_section, formals_in, with_formals}
+use Rattle.check_block.specs.Inner.{formal_kind, formal_meaning, Formals, with_formal, with_section, formals_in, with_formals}
 use Rattle.check_body.specs.Inside.{returns_of}
-use Rattle.check_stmt_parts.specs.Control.{is_own}
 use Rattle.def_typing.specs.Operators.{◌!◌}
 use Rattle.def_typing.specs.Things as things
-use Rattle.def_typing.specs.Things.{Headless, Standing, Undeclared, Unknown}
+use Rattle.def_typing.specs.Things.{Headless, Standing, Unknown}
 use Rattle.def_typing.specs.Parts.{Among, here, later}
 use Rattle.def_typing.specs.TypeNames.{NamesType, BrokenTypeName}
 use Rattle.def_typing.specs.Headings as headings
-use Rattle.def_typing.specs.Headings.{IsResult, GivesBack, BrokenResult, begins_at}
+use Rattle.def_typing.specs.Headings.{IsResult, GivesBack, BrokenResult}
 use Rattle.def_typing.specs.Returns.{Giving, Nothing, AResult, AnyResult}
 use Rattle.def_typing.specs.Declarations.{is_among}
 use Rattle.def_typing.specs.Bodies as bodies
 use Rattle.def_typing.specs.Bodies.{formal_named, is_formal, formal, InsideAs, BodyGives}
 use Rattle.law_typing.specs.Judging.{Judges, Answers, means, refuses}
-use Rattle.law_typing.specs.Exact.{of_local, standing, is_own_variable, Sees, sees, sees_unknown, Knows, Repeats, of_heading, of_declaration, TakenAs, is_taken, not_taken, KnowsResult, knows_nothing, knows_type, knows_broken, InResult, in_result}
+use Rattle.law_typing.specs.Exact.{of_local, Sees, sees, sees_unknown, Knows, Repeats, of_heading, of_declaration, TakenAs, is_taken, not_taken, KnowsResult, knows_nothing, knows_type, knows_broken, InResult, in_result}
 use Rattle.law_typing.proofs.Combining.{Lawful, Decided, holds, fails_it, then_answer, where_answers, fine, exact}
 use Rattle.law_typing.proofs.Entering.{name_decided, entered_all}
 use Rattle.law_typing.proofs.Heading.{result_decided, place_same}

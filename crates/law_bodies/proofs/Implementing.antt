@@ -1,17 +1,13 @@
 -- Implementations are answered exactly.
-use Rattle.std.proofs.Common.{◌≡◌, ℕ, ◌<◌, Bool, true, false, cond, List, [], ◌∷◌, ◌++◌, length, Option, Some, None, Result, Ok, Err, ◌⊎◌, inl, inr, refl, sym, ap, subst, ◌∙◌, arith}
-use Rattle.std.specs.Prelude.{◌==◌, slice_get}
+use Rattle.std.proofs.Common.{◌≡◌, ℕ, Bool, true, false, cond, List, [], ◌∷◌, ◌++◌, Option, Some, None, Result, Ok, Err, ◌⊎◌, inl, inr, refl, sym, ap, subst, ◌∙◌, arith}
 use Rattle.std.specs.List.{fold}
 use Rattle.std.specs.Option.{is_some}
 use Rattle.m2_rule.specs.declared.breach.Breach.{Breach}
 use Rattle.m2_rule.specs.declared.rule.Rule.TheVariants as rule
 use Rattle.m2_tree.specs.Names.{same_name}
 use Rattle.m2_tree.specs.declared.name.Ident.{Ident}
-use Rattle.m2_tree.specs.declared.stmt.Stmt.{Stmt}
-use Rattle.m2_tree.specs.declared.decl.Heading.{Heading}
-use Rattle.m2_tree.specs.declared.decl.Decl.{Decl, out-Decl}
 use Rattle.m2_tree.specs.declared.decl.Decl.TheOpen as layer
-use Rattle.m2_tree.specs.declared.decl.Block.{Block, out-Block}
+use Rattle.m2_tree.specs.declared.decl.Block.{Block}
 use Rattle.m2_tree.specs.declared.decl.Contents.{Contents}
 use Rattle.m2_tree.specs.declared.decl.Contents.TheVariants as contents
 use Rattle.m2_tree.specs.declared.decl.Module.{Module}
@@ -19,9 +15,8 @@ use Rattle.typed_tree.specs.declared.meaning.LocalVariable.{LocalVariable}
 use Rattle.typed_tree.specs.declared.meaning.Meaning.{Meaning}
 use Rattle.typed_tree.specs.declared.meaning.Meaning.TheVariants as meaning
 use Rattle.typed_tree.specs.declared.table.Table.{Table}
-use Rattle.typed_tree.specs.declared.typed_module.TypedModule.{TypedModule}
 use Rattle.typed_tree.specs.declared.types.TypeNo.{TypeNo}
-use Rattle.typed_tree.specs.Names.{find_name, enter_name}
+use Rattle.typed_tree.specs.Names.{find_name}
 use Rattle.check_scope.specs.declared.known.Known.{Known}
 use Rattle.check_scope.specs.declared.known.Known.TheVariants.{Declared}
 use Rattle.check_scope.specs.declared.known.Origin.TheVariants.{Here}
@@ -29,12 +24,11 @@ use Rattle.check_scope.specs.declared.meaningless.Meaningless.{Meaningless}
 use Rattle.check_scope.specs.declared.scope.Scope.{Scope}
 use Rattle.check_scope.specs.Elaborated.{Gathers}
 use Rattle.check_scope.specs.Scopes.{looked_up, known_outside, or_around, means_as}
-use Rattle.check_const.specs.Denote.{exported_by}
 use Rattle.check_definition.specs.Predeclared.{console, first_scope}
 use Rattle.check_block.specs.Headings.{standing_from}
 use Rattle.check_block.specs.declared.heading.Standing.TheVariants as heading
 use Rattle.check_body.specs.Checks.{elaborate_body, body_module}
-use Rattle.check_body.specs.Checked.{of_body, of_contents}
+use Rattle.check_body.specs.Checked.{of_contents}
 use Rattle.check_body.specs.Own.{implementation_scope}
 use Rattle.def_typing.specs.Operators.{◌!◌}
 use Rattle.def_typing.specs.Things as things
@@ -42,9 +36,9 @@ use Rattle.def_typing.specs.Things.{Headless, Standing, Unknown}
 use Rattle.def_typing.specs.Parts.{Among, here, later}
 use Rattle.def_typing.specs.Imports as imports
 use Rattle.def_typing.specs.Imports.{Imported, all_imported, Origin, Itself, Exported, is_there, is_given, Brings}
-use Rattle.def_typing.specs.Bodies.{Place, statements_in, BrokenBlock, LacksHeading}
+use Rattle.def_typing.specs.Bodies.{BrokenBlock, LacksHeading}
 use Rattle.law_typing.specs.Judging.{Judges}
-use Rattle.law_typing.specs.Exact.{standing, is_own_variable, Sees, sees, Knows, KnowsOwn, knows_nothing, Repeats, of_heading, of_declaration, TakenAs, is_taken, awaits, not_taken, AreOnce, no_names, one_name, is_nested}
+use Rattle.law_typing.specs.Exact.{standing, is_own_variable, Sees, sees, Knows, knows_nothing, Repeats, of_heading, of_declaration, TakenAs, is_taken, awaits, not_taken, AreOnce, no_names, one_name}
 use Rattle.law_typing.proofs.Combining.{Lawful, Decided, holds, fails_it, accounts_one}
 use Rattle.law_typing.proofs.Entering.{name_decided, entered_all, once_more}
 use Rattle.law_importing.specs.Exact as importing
@@ -55,7 +49,6 @@ use Rattle.law_defining.specs.Exact.{AreSound}
 use Rattle.law_defining.proofs.Once.{imports_once}
 use Rattle.law_defining.proofs.Starting.{meaning_known, meaning_headed}
 use Rattle.law_defining.proofs.Outside.{definitions_known}
-use Rattle.law_bodies.specs.Exact as exact
 use Rattle.law_bodies.specs.Exact.{KnowsPlace, IsTyped, IsAnswered, is_refused, HasNoDefinition, an_implementation, a_definition, LonelyAreRefused, IsForeign, ExportForeign, IsTakenBy, by_definition, by_import, by_none, awaited_type, is_variable_of, declares, implementation_place, IsNoLocal, IsDefined, IsImplementationExact, ImplementationsAreExact, ImplementationsAreKnown}
 use Rattle.law_bodies.proofs.Seeing.{looked_around}
 use Rattle.law_bodies.proofs.Moduling.{Moduled, Breaks, module_read, read_from, module_told}

@@ -1,5 +1,5 @@
 -- What each declaration keeps of the scope, and what it enters.
-use Rattle.std.proofs.Common.{◌≡◌, ℕ, suc, ◌+◌, ◌<◌, ◌≤◌, Bool, true, false, cond, List, [], ◌∷◌, ◌++◌, length, Option, Some, None, Result, Ok, Err, ◌⊎◌, inl, inr, refl, sym, ap, subst, ◌∙◌, arith, pos}
+use Rattle.std.proofs.Common.{◌≡◌, ℕ, suc, ◌≤◌, Bool, true, false, cond, List, [], ◌∷◌, length, Option, Some, None, Result, Ok, Err, ◌⊎◌, inl, inr, refl, sym, ap, subst, ◌∙◌, arith, pos}
 use Rattle.std.specs.Prelude.{◌==◌, map}
 use Rattle.std.specs.List.{fold}
 use Rattle.m2_rule.specs.declared.rule.Rule.TheVariants as rule
@@ -19,20 +19,15 @@ use Rattle.m2_tree.specs.declared.decl.Decl.TheOpen as decl
 use Rattle.m2_tree.specs.declared.decl.Block.{Block}
 use Rattle.typed_tree.specs.declared.types.TypeNo.{TypeNo}
 use Rattle.typed_tree.specs.declared.shape.Made.{Made}
-use Rattle.typed_tree.specs.declared.table.Table.{Table}
 use Rattle.typed_tree.specs.declared.meaning.Meaning.{Meaning}
 use Rattle.typed_tree.specs.declared.meaning.Meaning.TheVariants as meaning
 use Rattle.typed_tree.specs.declared.meaning.LocalKind.TheVariants as kind
-use Rattle.typed_tree.specs.declared.meaning.Procedure.{Procedure}
 use Rattle.typed_tree.specs.declared.meaning.Value.{Value}
 use Rattle.typed_tree.specs.Names.{find_name, enter_name}
-use Rattle.check_scope.specs.Elaborated.{Gathers, report, beside, ◌▷◌}
+use Rattle.check_scope.specs.Elaborated.{Gathers, report, ◌▷◌}
 use Rattle.check_scope.specs.declared.known.Known.{Known}
 use Rattle.check_scope.specs.declared.known.Known.TheVariants.{Later, Ahead, Begun, Headed, Declared}
-use Rattle.check_scope.specs.declared.known.Origin.{Origin}
 use Rattle.check_scope.specs.declared.known.Origin.TheVariants.{Here}
-use Rattle.check_scope.specs.declared.scope.Block.{Block as Around}
-use Rattle.check_scope.specs.declared.scope.OpenedRecord.{OpenedRecord}
 use Rattle.check_scope.specs.declared.scope.Scope.{Scope}
 use Rattle.check_scope.specs.Scopes.{State, is_free, with_known, unless_declared, begin_name, is_begun, finish_name, unless_marked, mark_name}
 use Rattle.check_const.specs.Parts.{constant}
@@ -41,14 +36,14 @@ use Rattle.check_type_expr.specs.declared.field.Fields.{Fields}
 use Rattle.check_type_expr.specs.Fields.{no_fields}
 use Rattle.check_type_expr.specs.Headings.{heading_of}
 use Rattle.check_type_expr.specs.Made.{next_type, with_shape, with_made, enumeration_constant, enumeration_scalar, too_many, enumerate_name, simple_type, index_type, Makes, MakesFields, then_fields, type_layer, field_layer, type_of, field_list}
-use Rattle.check_definition.specs.Declare.{constant_meaning, with_constant, brings_with, type_meaning, with_type, begun_name, variable_meaning, with_variable_type, finished_variable, with_variables, procedure_meaning, with_procedure_type}
+use Rattle.check_definition.specs.Declare.{constant_meaning, with_constant, brings_with, type_meaning, with_type, begun_name, variable_meaning, with_variable_type, finished_variable, with_variables, with_procedure_type}
 use Rattle.check_definition.specs.Marking as marking
 use Rattle.check_definition.specs.Marking.{Marks, marked_later, marked_simple, then_marks, marked_in, marked_field, marked_constant, marked_type, marked_variables}
 use Rattle.check_block.specs.declared.heading.Standing.{Standing}
 use Rattle.check_block.specs.declared.heading.Standing.TheVariants.{Free, Awaited, Taken}
 use Rattle.check_block.specs.Headings.{name_standing, nested_meaning, set_heading, module_procedure, with_new, headed_as, with_heading}
 use Rattle.check_block.specs.Naming.{marked_layer, marked_decl}
-use Rattle.check_block.specs.Declarations.{local_meaning, finished_local, with_locals, with_variables_of, Course, decl_layer, with_decl}
+use Rattle.check_block.specs.Declarations.{local_meaning, finished_local, with_locals, Course, decl_layer, with_decl}
 use Rattle.law_typing.proofs.Entering.{entered_all}
 use Rattle.law_typing.proofs.Naming.{index}
 

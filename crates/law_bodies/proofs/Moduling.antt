@@ -1,9 +1,7 @@
 -- What is reported of a module behind what is known where its imports stand.
-use Rattle.std.proofs.Common.{◌≡◌, ℕ, Bool, true, false, List, [], ◌∷◌, ◌++◌, Option, Some, None, Result, Ok, Err, ◌⊎◌, inl, inr, refl, sym, ap, subst, ◌∙◌}
-use Rattle.std.specs.List.{fold}
+use Rattle.std.proofs.Common.{◌≡◌, ℕ, Bool, List, Option, None, Result, Ok, Err, ◌⊎◌, inl, inr, refl, sym, ap, subst, ◌∙◌}
 use Rattle.m2_rule.specs.declared.breach.Breach.{Breach}
 use Rattle.m2_tree.specs.declared.name.Ident.{Ident}
-use Rattle.m2_tree.specs.declared.stmt.Stmt.{Stmt}
 use Rattle.m2_tree.specs.declared.decl.Heading.{Heading}
 use Rattle.m2_tree.specs.declared.decl.Decl.{Decl, out-Decl}
 use Rattle.m2_tree.specs.declared.decl.Decl.TheOpen as layer
@@ -14,7 +12,6 @@ use Rattle.typed_tree.specs.declared.table.Table.{Table}
 use Rattle.typed_tree.specs.declared.typed_module.TypedModule.{TypedModule}
 use Rattle.typed_tree.specs.declared.known_types.Types.{Types}
 use Rattle.check_scope.specs.declared.scope.Scope.{Scope}
-use Rattle.check_scope.specs.Scopes.{State}
 use Rattle.check_scope.specs.Elaborated.{Gathers, both, beside, ◌▷◌}
 use Rattle.check_definition.specs.Importing.{numbered_modules}
 use Rattle.check_block.specs.Nesting.{procedure_ends}
@@ -23,21 +20,21 @@ use Rattle.check_body.specs.declared.procedure.Walk.{Walk}
 use Rattle.check_body.specs.Inside.{reported_in}
 use Rattle.check_body.specs.Bodies.{Checked, with_statements, bodies_checked}
 use Rattle.check_body.specs.Checks.{elaborate_body}
-use Rattle.check_body.specs.Checked.{module_or, walk_body, of_body}
+use Rattle.check_body.specs.Checked.{module_or, of_body}
 use Rattle.check_body.specs.Routines.{no_bodies, typed_module}
 use Rattle.def_typing.specs.Things.{Standing}
 use Rattle.def_typing.specs.Parts.{Among}
 use Rattle.def_typing.specs.Imports as imports
 use Rattle.def_typing.specs.Imports.{all_imported}
 use Rattle.def_typing.specs.Declarations.{Lacks}
-use Rattle.def_typing.specs.Bodies.{Place, statements_in, Reads, BrokenBlock}
+use Rattle.def_typing.specs.Bodies.{Place, Reads, BrokenBlock}
 use Rattle.law_typing.specs.Judging.{Judges, Accounts}
-use Rattle.law_typing.specs.Exact.{Repeats, InResult, RepeatsResult, AreOnce, is_nested}
+use Rattle.law_typing.specs.Exact.{Repeats, AreOnce, is_nested}
 use Rattle.law_typing.proofs.Combining.{Lawful, Tells, silent, tells, tells_as, beside_tells}
 use Rattle.law_importing.specs.Exact.{imported_all, AreImportsExact}
 use Rattle.law_importing.proofs.Following.{Associates, block_moves}
 use Rattle.law_bodies.specs.Exact.{KnowsPlace, IsTyped}
-use Rattle.law_bodies.proofs.Whole.{more_tells, told, blocks_done, Turn, of_block, whole, block, sd, Broke, Else, declared_refused, last, walked, walk_there, Said, statements_refused, is_read}
+use Rattle.law_bodies.proofs.Whole.{more_tells, told, blocks_done, Turn, of_block, whole, block, sd, Else, declared_refused, last, walked, walk_there, Said, statements_refused, is_read}
 
 module _ (g : Gathers) (j : Judges g) (lawful : Lawful g j) where
   -- a module, or what is reported

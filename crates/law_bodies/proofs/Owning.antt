@@ -1,8 +1,6 @@
 -- Which variables count as own ones in a procedure.
-use Rattle.std.proofs.Common.{◌≡◌, ℕ, ◌+◌, ◌<◌, ◌≤◌, Bool, true, false, cond, List, [], ◌∷◌, ◌++◌, length, Option, Some, None, Result, Ok, Err, ◌⊎◌, inl, inr, refl, sym, ap, subst, ◌∙◌, arith}
+use Rattle.std.proofs.Common.{◌≡◌, ℕ, ◌<◌, Bool, true, false, cond, List, [], ◌∷◌, ◌++◌, length, Option, Some, None, Result, Ok, Err, ◌⊎◌, inl, inr, refl, sym, ap, subst, ◌∙◌, arith}
 use Rattle.std.specs.Prelude.{◌==◌, ◌&&◌, ◌||◌, not}
-use Rattle.std.specs.List.{list_any}
-use Rattle.std.specs.Option.{is_some}
 use Rattle.std.proofs.lemmas.Bool.Decides.{nat_tests}
 use Rattle.m2_tree.specs.declared.pos.Pos.{Pos}
 use Rattle.m2_tree.specs.declared.name.Ident.{Ident}
@@ -10,7 +8,6 @@ use Rattle.typed_tree.specs.declared.meaning.LocalVariable.{LocalVariable}
 use Rattle.typed_tree.specs.declared.meaning.Variable.{Variable}
 use Rattle.typed_tree.specs.declared.meaning.Meaning.{Meaning}
 use Rattle.typed_tree.specs.declared.meaning.Meaning.TheVariants as meaning
-use Rattle.typed_tree.specs.declared.types.TypeNo.{TypeNo}
 use Rattle.typed_tree.specs.Names.{find_name}
 use Rattle.check_scope.specs.declared.known.Known.{Known}
 use Rattle.check_scope.specs.declared.known.Known.TheVariants.{Later, Ahead, Begun, Headed, Declared}
@@ -21,8 +18,7 @@ use Rattle.check_scope.specs.Elaborated.{Gathers}
 use Rattle.check_scope.specs.Scopes.{looked_up, known_outside, or_around, means_seen, means_as}
 use Rattle.check_stmt_parts.specs.Control.{is_own}
 use Rattle.def_typing.specs.Parts.{here, later, Named}
-use Rattle.def_typing.specs.Things.{Standing}
-use Rattle.def_typing.specs.Declarations.{Declaration, names_of, constants_of, AnyDeclares, is_among}
+use Rattle.def_typing.specs.Declarations.{Declaration, names_of, constants_of, AnyDeclares}
 use Rattle.def_typing.specs.Bodies.{is_declared}
 use Rattle.law_typing.specs.Judging.{Judges}
 use Rattle.law_typing.specs.Exact.{is_own_variable, KnowsOwn, is_nested, IsAsBefore, as_before, has_heading}

@@ -1,30 +1,24 @@
 -- Where the names of a block stand, and which variables are known there.
-use Rattle.std.proofs.Common.{◌≡◌, ℕ, ◌+◌, ◌<◌, ◌≤◌, Bool, true, false, cond, List, [], ◌∷◌, ◌++◌, length, Option, Some, None, Result, Ok, Err, ◌⊎◌, inl, inr, refl, sym, ap, subst, ◌∙◌, arith, append_assoc}
-use Rattle.std.specs.Prelude.{nat_lt, slice_get, ◌==◌, ◌&&◌, ◌||◌, not}
-use Rattle.std.specs.List.{fold, list_any}
+use Rattle.std.proofs.Common.{◌≡◌, ℕ, ◌<◌, ◌≤◌, Bool, true, false, List, [], ◌∷◌, ◌++◌, length, Option, Some, None, Ok, ◌⊎◌, inl, inr, refl, sym, ap, subst, ◌∙◌, arith, append_assoc}
+use Rattle.std.specs.Prelude.{nat_lt, slice_get}
+use Rattle.std.specs.List.{fold}
 use Rattle.std.proofs.lemmas.Bool.Decides.{nat_tests}
 use Rattle.m2_tree.specs.declared.name.Ident.{Ident}
-use Rattle.m2_tree.specs.declared.decl.Decl.{Decl, out-Decl}
-use Rattle.typed_tree.specs.declared.meaning.LocalVariable.{LocalVariable}
-use Rattle.typed_tree.specs.declared.meaning.Meaning.{Meaning}
-use Rattle.typed_tree.specs.declared.meaning.Meaning.TheVariants as meaning
+use Rattle.m2_tree.specs.declared.decl.Decl.{Decl}
 use Rattle.typed_tree.specs.declared.types.TypeNo.{TypeNo}
 use Rattle.typed_tree.specs.Names.{find_name}
 use Rattle.check_scope.specs.declared.known.Known.{Known}
-use Rattle.check_scope.specs.declared.known.Known.TheVariants as known
 use Rattle.check_scope.specs.declared.scope.Scope.{Scope}
 use Rattle.check_scope.specs.Elaborated.{Gathers}
 use Rattle.check_block.specs.Naming.{marked_decl, with_marks, all_marked}
-use Rattle.check_block.specs.Declarations.{with_decl, declared_block}
+use Rattle.check_block.specs.Declarations.{declared_block}
 use Rattle.def_typing.specs.Things.{Standing}
-use Rattle.def_typing.specs.Parts.{Among, here, later}
-use Rattle.def_typing.specs.Declarations.{Declaration, declared_by, declarations_of, AnyDeclares}
+use Rattle.def_typing.specs.Declarations.{Declaration, declarations_of, AnyDeclares}
 use Rattle.law_typing.specs.Judging.{Judges}
-use Rattle.law_typing.specs.Exact.{Knows, TakenAs, is_taken, awaits, not_taken, is_nested, IsAsBefore, as_before, has_heading}
-use Rattle.law_typing.proofs.Combining.{Lawful}
+use Rattle.law_typing.specs.Exact.{TakenAs, is_taken, awaits, not_taken, is_nested, IsAsBefore, as_before, has_heading}
 use Rattle.law_typing.proofs.Declaring.{any_first, clash, KnownAs, outer, headed, ahead, reading, behind, a_member}
 use Rattle.law_typing.proofs.Marking.{block_begins}
-use Rattle.law_typing.proofs.Naming.{index, index_less}
+use Rattle.law_typing.proofs.Naming.{index_less}
 use Rattle.law_bodies.proofs.Keeping.{Grows, grows_then, Fits, Keeps, keeps_then, marks_keep, declarations_keep}
 use Rattle.law_bodies.proofs.Seeing.{PlaceIs, nowhere, stands_in_front, stands_behind}
 

@@ -1,22 +1,17 @@
 -- Programs are answered exactly.
-use Rattle.std.proofs.Common.{◌≡◌, ℕ, ◌<◌, Bool, true, false, List, [], ◌∷◌, ◌++◌, length, Option, Some, None, Result, Ok, Err, ◌⊎◌, inl, inr, refl, sym, ap, subst, ◌∙◌, arith}
+use Rattle.std.proofs.Common.{◌≡◌, ℕ, Bool, true, false, List, [], ◌∷◌, ◌++◌, Option, None, Result, Ok, Err, ◌⊎◌, inl, inr, refl, sym, ap, subst, ◌∙◌, arith}
 use Rattle.std.specs.List.{Contains}
 use Rattle.m2_rule.specs.declared.breach.Breach.{Breach}
 use Rattle.m2_tree.specs.declared.name.Ident.{Ident}
-use Rattle.m2_tree.specs.declared.stmt.Stmt.{Stmt}
-use Rattle.m2_tree.specs.declared.decl.Heading.{Heading}
-use Rattle.m2_tree.specs.declared.decl.Decl.{Decl, out-Decl}
 use Rattle.m2_tree.specs.declared.decl.Decl.TheOpen as layer
-use Rattle.m2_tree.specs.declared.decl.Block.{Block, out-Block}
+use Rattle.m2_tree.specs.declared.decl.Block.{Block}
 use Rattle.m2_tree.specs.declared.decl.Contents.{Contents}
 use Rattle.m2_tree.specs.declared.decl.Contents.TheVariants as contents
 use Rattle.m2_tree.specs.declared.decl.Module.{Module}
-use Rattle.typed_tree.specs.declared.meaning.LocalVariable.{LocalVariable}
 use Rattle.typed_tree.specs.declared.meaning.Meaning.{Meaning}
 use Rattle.typed_tree.specs.declared.meaning.Meaning.TheVariants as meaning
 use Rattle.typed_tree.specs.declared.table.Table.{Table}
 use Rattle.typed_tree.specs.declared.typed_module.TypedModule.{TypedModule}
-use Rattle.typed_tree.specs.declared.types.TypeNo.{TypeNo}
 use Rattle.typed_tree.specs.Names.{find_name}
 use Rattle.check_scope.specs.declared.known.Known.{Known}
 use Rattle.check_scope.specs.declared.meaningless.Meaningless.{Meaningless}
@@ -24,29 +19,27 @@ use Rattle.check_scope.specs.declared.scope.Scope.{Scope}
 use Rattle.check_scope.specs.Elaborated.{Gathers, every, least}
 use Rattle.check_scope.specs.Scopes.{looked_up, known_outside, or_around, means_as}
 use Rattle.check_definition.specs.Predeclared.{console, first_scope}
-use Rattle.check_stmt_parts.specs.Control.{is_own}
 use Rattle.check_block.specs.Headings.{standing_from}
 use Rattle.check_block.specs.declared.heading.Standing.TheVariants as heading
 use Rattle.check_body.specs.Checks.{elaborate_body, body_module}
-use Rattle.check_body.specs.Checked.{of_body, of_contents}
+use Rattle.check_body.specs.Checked.{of_contents}
 use Rattle.def_typing.specs.Things as things
 use Rattle.def_typing.specs.Things.{Headless, Standing, Unknown}
 use Rattle.def_typing.specs.Parts.{Among}
 use Rattle.def_typing.specs.Imports as imports
 use Rattle.def_typing.specs.Imports.{all_imported, Origin, Itself, Exported, Brings}
 use Rattle.def_typing.specs.Declarations as rules
-use Rattle.def_typing.specs.Bodies.{Place, statements_in, Reads, BrokenBlock}
+use Rattle.def_typing.specs.Bodies.{BrokenBlock}
 use Rattle.law_least_definition.specs.Least as least_rules
 use Rattle.law_least_body.proofs.Bodies.{checked_reports}
-use Rattle.law_typing.specs.Judging.{Judges, all_of_them, the_least, Accounts}
-use Rattle.law_typing.specs.Exact.{no_names, is_own_variable, Knows, KnowsOwn, knows_nothing, Repeats, of_heading, of_declaration, TakenAs, is_taken, not_taken, AreOnce, is_nested}
+use Rattle.law_typing.specs.Judging.{Judges, all_of_them, the_least}
+use Rattle.law_typing.specs.Exact.{no_names, is_own_variable, Knows, knows_nothing, Repeats, of_heading, of_declaration, TakenAs, is_taken, not_taken, AreOnce}
 use Rattle.law_typing.proofs.Combining.{Lawful}
 use Rattle.law_importing.specs.Exact as importing
-use Rattle.law_importing.specs.Exact.{origin, StandsFor, AreForeign, imported_all, AreImportsExact}
+use Rattle.law_importing.specs.Exact.{origin, StandsFor, imported_all, AreImportsExact}
 use Rattle.law_importing.proofs.Behind.{first_imports}
 use Rattle.law_importing.proofs.Following.{Associates}
 use Rattle.law_defining.specs.Exact.{none, IsTaken, by_import, by_none, AreSound}
-use Rattle.def_typing.specs.Definitions.{none_awaited}
 use Rattle.law_defining.proofs.Once.{imports_once}
 use Rattle.law_defining.proofs.Starting.{meaning_known, meaning_headed}
 use Rattle.law_bodies.specs.Exact.{KnowsPlace, IsTyped, IsAnswered, is_module, is_refused, IsForeign, ExportForeign, program_place, IsProgramExact, ProgramsAreExact}

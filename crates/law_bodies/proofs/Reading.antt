@@ -1,24 +1,20 @@
 -- What names stand for behind all declarations of a block, and in front of one of them.
-use Rattle.std.proofs.Common.{◌≡◌, ℕ, Bool, true, false, List, [], ◌∷◌, ◌++◌, Option, Some, None, ◌⊎◌, inl, inr, refl, sym, ap, subst, ◌∙◌}
+use Rattle.std.proofs.Common.{◌≡◌, ℕ, Bool, true, false, List, [], ◌∷◌, ◌++◌, Option, ◌⊎◌, inl, inr, refl, sym, ap, subst, ◌∙◌}
 use Rattle.std.specs.Prelude.{map}
 use Rattle.m2_rule.specs.declared.breach.Breach.{Breach}
 use Rattle.m2_tree.specs.declared.name.Ident.{Ident}
 use Rattle.m2_tree.specs.declared.decl.Heading.{Heading}
 use Rattle.typed_tree.specs.declared.types.TypeNo.{TypeNo}
 use Rattle.typed_tree.specs.declared.known_types.Types.{Types}
-use Rattle.typed_tree.specs.Names.{find_name}
-use Rattle.def_typing.specs.Things as things
-use Rattle.def_typing.specs.Things.{Thing, AValue, AVariable, AnOpenArray, AType, AProcedure, ANested, AStandard, AModule, Headless, Standing, Known, Ahead, Undeclared, NotExported, Unknown}
+use Rattle.def_typing.specs.Things.{AValue, AVariable, AnOpenArray, AType, AProcedure, ANested, AStandard, AModule, Headless, Standing, Known, Ahead, Undeclared, NotExported, Unknown}
 use Rattle.def_typing.specs.Parts.{Among, here, later, Named}
-use Rattle.def_typing.specs.TypeExprs.{Member, member_stands}
 use Rattle.def_typing.specs.Declarations as rules
-use Rattle.def_typing.specs.Declarations.{Declaration, OfConstant, OfType, OfVariables, OfProcedure, names_of, constants_of, Declares, AnyDeclares, IsFirst, at_first, later_on, Declared as Resolved, in_order, IsThere, IsNamed, nearest, farther, types_behind, in_front_of, without, StandsFor, Means, IsAdded, AllAdded, AllStand, BrokenIn}
+use Rattle.def_typing.specs.Declarations.{Declaration, OfConstant, OfType, OfVariables, OfProcedure, names_of, Declares, AnyDeclares, IsFirst, at_first, later_on, Declared as Resolved, in_order, IsThere, IsNamed, nearest, farther, types_behind, without, StandsFor, Means, IsAdded, AllAdded, AllStand, BrokenIn}
 use Rattle.def_typing.specs.Bodies as bodies
 use Rattle.def_typing.specs.Bodies.{IsProcedure}
-use Rattle.law_typing.proofs.Combining.{Decided, holds, fails_it}
 use Rattle.law_typing.proofs.Entering.{named_split}
 use Rattle.law_bodies.proofs.Extending.{Extends, extends_then, extends_more}
-use Rattle.law_typing.proofs.Declaring.{any_named, one_named, any_first, one_first}
+use Rattle.law_typing.proofs.Declaring.{any_named, any_first, one_first}
 
 -- ---- procedures
 

@@ -1,32 +1,23 @@
 -- What is refused of a heading inside its procedure is refused where it stands.
-use Rattle.std.proofs.Common.{◌≡◌, ℕ, Bool, true, false, cond, List, [], ◌∷◌, ◌++◌, Option, Some, None, ◌⊎◌, inl, inr, refl, sym, ap, subst, ◌∙◌, zero, suc}
-use Rattle.std.specs.Prelude.{◌==◌, slice_get}
-use Rattle.std.specs.Option.{option_map}
+use Rattle.std.proofs.Common.{◌≡◌, ℕ, Bool, false, List, Option, ◌⊎◌, inl, inr, refl, sym, subst, ◌∙◌}
 use Rattle.m2_rule.specs.declared.breach.Breach.{Breach}
 use Rattle.m2_tree.specs.declared.pos.Pos.{Pos}
 use Rattle.m2_tree.specs.declared.name.Ident.{Ident}
 use Rattle.m2_tree.specs.declared.expr.Qualified.{Qualified}
 use Rattle.m2_tree.specs.declared.decl.Section.{Section}
 use Rattle.m2_tree.specs.declared.decl.Heading.{Heading}
-use Rattle.typed_tree.specs.declared.types.Home.{Home}
-use Rattle.typed_tree.specs.declared.types.Home.TheVariants.{Predeclared, Module}
 use Rattle.typed_tree.specs.declared.types.TypeNo.{TypeNo}
-use Rattle.typed_tree.specs.declared.shape.Made.{Made}
-use Rattle.typed_tree.specs.declared.shape.Shape.{Shape}
 use Rattle.typed_tree.specs.declared.known_types.Types.{Types}
 use Rattle.check_scope.specs.declared.scope.Scope.{Scope}
 use Rattle.check_scope.specs.Elaborated.{Gathers}
 use Rattle.check_scope.specs.Scopes.{looked_up}
-use Rattle.def_typing.specs.Shapes.{shape_from, shape_at, IsMade}
-use Rattle.def_typing.specs.Things as things
 use Rattle.def_typing.specs.Things.{Thing, AType, AModule, Standing, Known, Ahead, Undeclared}
 use Rattle.def_typing.specs.Parts.{Among}
 use Rattle.def_typing.specs.Constants.{Misses, no_name, other_sort, a_procedure}
 use Rattle.def_typing.specs.TypeNames as type_names
 use Rattle.def_typing.specs.TypeNames.{NamesType, BrokenTypeName}
 use Rattle.def_typing.specs.Headings as headings
-use Rattle.def_typing.specs.Headings.{IsResult, BrokenResult, BrokenHeading}
-use Rattle.def_typing.specs.TypeExprs.{with_types}
+use Rattle.def_typing.specs.Headings.{BrokenResult, BrokenHeading}
 use Rattle.def_typing.specs.Declarations as rules
 use Rattle.def_typing.specs.Declarations.{Declaration, OfConstant, OfType, OfVariables, OfProcedure, AnyDeclares, IsFirst, Declared as Resolved, in_order, IsThere, types_behind, in_front_of}
 use Rattle.def_typing.specs.Bodies as bodies

@@ -1,6 +1,6 @@
 -- What is known of the names around a procedure, inside it.
-use Rattle.std.proofs.Common.{◌≡◌, ℕ, Bool, true, false, cond, List, [], ◌∷◌, ◌++◌, length, Option, Some, None, Result, Ok, Err, ◌⊎◌, inl, inr, refl, sym, ap, subst, ◌∙◌}
-use Rattle.std.specs.Prelude.{nat_lt, slice_get, ◌==◌}
+use Rattle.std.proofs.Common.{◌≡◌, ℕ, Bool, true, false, List, [], ◌∷◌, ◌++◌, Option, Some, None, Result, Ok, Err, ◌⊎◌, inl, inr, refl, sym, ap, subst, ◌∙◌}
+use Rattle.std.specs.Prelude.{nat_lt}
 use Rattle.std.specs.List.{fold}
 use Rattle.std.specs.Option.{option_map}
 use Rattle.m2_rule.specs.declared.breach.Breach.{Breach}
@@ -11,12 +11,10 @@ use Rattle.typed_tree.specs.declared.meaning.LocalKind.{LocalKind}
 use Rattle.typed_tree.specs.declared.meaning.LocalKind.TheVariants as local
 use Rattle.typed_tree.specs.declared.meaning.Meaning.{Meaning}
 use Rattle.typed_tree.specs.declared.meaning.Meaning.TheVariants as meaning
-use Rattle.typed_tree.specs.declared.table.Table.{Table}
 use Rattle.typed_tree.specs.declared.types.TypeNo.{TypeNo}
-use Rattle.typed_tree.specs.Names.{find_name, place_of}
+use Rattle.typed_tree.specs.Names.{find_name}
 use Rattle.check_scope.specs.declared.known.Known.{Known}
 use Rattle.check_scope.specs.declared.known.Known.TheVariants.{Later, Ahead, Begun, Headed, Declared}
-use Rattle.check_scope.specs.declared.known.Origin.{Origin}
 use Rattle.check_scope.specs.declared.meaningless.Meaningless.{Meaningless}
 use Rattle.check_scope.specs.declared.meaningless.Meaningless.TheVariants as meaningless
 use Rattle.check_scope.specs.declared.scope.Block.{Block as Around}
@@ -24,16 +22,15 @@ use Rattle.check_scope.specs.declared.scope.OpenedRecord.{OpenedRecord}
 use Rattle.check_scope.specs.declared.scope.Scope.{Scope}
 use Rattle.check_scope.specs.Elaborated.{Gathers}
 use Rattle.check_scope.specs.Scopes.{Sight, in_block, seen_at, nearer, or_outside, or_around, known_outside, means_seen, means_as, means_or, open_field, looked_up}
-use Rattle.check_const.specs.Denote.{exported_by}
 use Rattle.check_block.specs.Inner.{inwards}
 use Rattle.def_typing.specs.Operators.{◌!◌}
 use Rattle.def_typing.specs.Things as things
-use Rattle.def_typing.specs.Things.{AVariable, AnOpenArray, Headless, Standing, Undeclared, Unknown}
+use Rattle.def_typing.specs.Things.{Headless, Standing, Undeclared, Unknown}
 use Rattle.def_typing.specs.Declarations.{Declaration, AnyDeclares}
 use Rattle.def_typing.specs.Bodies as bodies
 use Rattle.def_typing.specs.Bodies.{IsProcedure, SeenAs}
 use Rattle.law_typing.specs.Judging.{Judges}
-use Rattle.law_typing.specs.Exact.{of_local, standing, Sees, sees, sees_nothing, sees_headless, sees_unknown, Exports, Knows, Repeats, of_heading, of_declaration}
+use Rattle.law_typing.specs.Exact.{of_local, standing, Sees, sees, sees_nothing, sees_headless, sees_unknown, Knows, Repeats, of_heading, of_declaration}
 use Rattle.law_typing.proofs.Naming.{index, place_found, place_none, stands_at}
 use Rattle.law_bodies.proofs.Keeping.{IsProc, FitsMeaning, Fits}
 

@@ -1,5 +1,5 @@
 -- Blocks are answered exactly, with all procedures inside.
-use Rattle.std.proofs.Common.{◌≡◌, ℕ, ◌+◌, ◌<◌, Bool, true, false, cond, List, [], ◌∷◌, ◌++◌, length, Option, Some, None, Result, Ok, Err, ◌⊎◌, inl, inr, refl, sym, ap, subst, ◌∙◌, arith}
+use Rattle.std.proofs.Common.{◌≡◌, ℕ, ◌+◌, Bool, false, List, [], ◌∷◌, ◌++◌, length, Option, Some, None, Result, Ok, Err, ◌⊎◌, inl, inr, refl, sym, ap, subst, ◌∙◌, arith}
 use Rattle.std.specs.Prelude.{slice_get, ◌==◌, ◌&&◌}
 use Rattle.std.specs.List.{fold}
 use Rattle.std.specs.Option.{unwrap_or}
@@ -21,34 +21,33 @@ use Rattle.typed_tree.specs.Names.{find_name}
 use Rattle.check_scope.specs.declared.known.Known.{Known}
 use Rattle.check_scope.specs.declared.meaningless.Meaningless.{Meaningless}
 use Rattle.check_scope.specs.declared.scope.Block.{Block as Around}
-use Rattle.check_scope.specs.declared.scope.OpenedRecord.{OpenedRecord}
 use Rattle.check_scope.specs.declared.scope.Scope.{Scope}
 use Rattle.check_scope.specs.Elaborated.{Gathers, beside}
 use Rattle.check_scope.specs.Scopes.{looked_up, known_outside, or_around, means_as}
 use Rattle.check_const.specs.Denote.{exported_by}
 use Rattle.check_stmt_parts.specs.Control.{is_own}
 use Rattle.check_block.specs.Naming.{marked_decl, all_marked}
-use Rattle.check_block.specs.Declarations.{Declared, declared_block}
+use Rattle.check_block.specs.Declarations.{declared_block}
 use Rattle.check_block.specs.Inner.{split_last, pop_block}
 use Rattle.check_body.specs.declared.procedure.Walk.{Walk}
 use Rattle.check_body.specs.declared.procedure.Begun.{Begun}
 use Rattle.check_body.specs.Elaborating.{statements_of}
-use Rattle.check_body.specs.Inside.{which_of, begun_procedure, reported_in, ended_procedure}
+use Rattle.check_body.specs.Inside.{which_of, begun_procedure, reported_in}
 use Rattle.check_body.specs.Bodies.{Checked, with_body, begun_block, procedure_checked, checks_block, checks_decl, bodies_checked}
 use Rattle.check_body.specs.Checks.{elaborate_body}
 use Rattle.def_typing.specs.Shapes.{IsMade}
 use Rattle.def_typing.specs.Things.{Standing}
 use Rattle.def_typing.specs.Parts.{Among, here, later}
 use Rattle.def_typing.specs.Statements.{Broken}
-use Rattle.def_typing.specs.Declarations.{Declaration, OfProcedure, declared_by, declarations_of, AnyDeclares, Declared as Resolved, in_order, types_behind}
+use Rattle.def_typing.specs.Declarations.{Declaration, OfProcedure, declared_by, declarations_of, AnyDeclares, Declared as Resolved, types_behind}
 use Rattle.def_typing.specs.Bodies.{Place, statements_in, body_spot, IsNoProcedure, Reads, reads, ReadsBodies, no_more, no_body, a_body, BrokenBlock, BrokenBodies}
 use Rattle.law_typing.specs.Judging.{Judges, Reports, reports_nothing, reports_broken}
 use Rattle.law_typing.proofs.Blocks.{block_answers}
-use Rattle.law_typing.specs.Exact.{Sees, Exports, Knows, KnowsOwn, Repeats, of_heading, of_declaration, InResult, RepeatsResult, KnowsSpot, is_own_variable, is_nested, IsAsBefore, IsBlockExact}
+use Rattle.law_typing.specs.Exact.{Sees, Exports, Knows, KnowsOwn, Repeats, of_heading, of_declaration, RepeatsResult, KnowsSpot, is_own_variable, is_nested, IsAsBefore, IsBlockExact}
 use Rattle.law_typing.proofs.Combining.{Lawful, Tells, silent, tells, tells_as, beside_tells}
 use Rattle.law_importing.proofs.Following.{Associates, block_moves}
-use Rattle.law_bodies.specs.Exact.{KnowsPlace, reported_of, IsBlockWhole, BlocksAreWhole}
-use Rattle.law_bodies.proofs.Keeping.{Grows, Fits, Keeps}
+use Rattle.law_bodies.specs.Exact.{KnowsPlace, BlocksAreWhole}
+use Rattle.law_bodies.proofs.Keeping.{Grows, Keeps}
 use Rattle.law_bodies.proofs.Layers.{checks_written, checks_is, written, block_is, all_blocks}
 use Rattle.law_bodies.proofs.Extending.{Extends, extends_then, extends_behind}
 use Rattle.law_bodies.proofs.Reading.{All, Breaks}

@@ -4,11 +4,8 @@ use Rattle.std.specs.Option.{is_some}
 use Rattle.m2_rule.specs.declared.breach.Breach.{Breach}
 use Rattle.m2_rule.specs.declared.rule.Rule.TheVariants as rule
 use Rattle.m2_tree.specs.declared.name.Ident.{Ident}
-use Rattle.m2_tree.specs.declared.stmt.Stmt.{Stmt}
-use Rattle.m2_tree.specs.declared.decl.Heading.{Heading}
-use Rattle.m2_tree.specs.declared.decl.Decl.{Decl, out-Decl}
 use Rattle.m2_tree.specs.declared.decl.Decl.TheOpen as layer
-use Rattle.m2_tree.specs.declared.decl.Block.{Block, out-Block}
+use Rattle.m2_tree.specs.declared.decl.Block.{Block}
 use Rattle.m2_tree.specs.declared.decl.Def.{Def}
 use Rattle.m2_tree.specs.declared.decl.Contents.{Contents}
 use Rattle.m2_tree.specs.declared.decl.Contents.TheVariants as contents
@@ -16,22 +13,17 @@ use Rattle.m2_tree.specs.declared.decl.Module.{Module}
 use Rattle.typed_tree.specs.declared.meaning.LocalVariable.{LocalVariable}
 use Rattle.typed_tree.specs.declared.meaning.Meaning.{Meaning}
 use Rattle.typed_tree.specs.declared.meaning.Meaning.TheVariants as meaning
-use Rattle.typed_tree.specs.declared.meaning.Procedure.{Procedure as ModuleProcedure}
 use Rattle.typed_tree.specs.declared.table.Table.{Table}
 use Rattle.typed_tree.specs.declared.types.TypeNo.{TypeNo}
 use Rattle.typed_tree.specs.declared.typed_module.Which.{Which}
 use Rattle.typed_tree.specs.declared.typed_module.TypedModule.{TypedModule}
 use Rattle.typed_tree.specs.declared.known_types.Types.{Types}
 use Rattle.typed_tree.specs.Names.{find_name}
-use Rattle.check_scope.specs.declared.known.Known.{Known}
-use Rattle.check_scope.specs.declared.known.Known.TheVariants.{Declared, Headed}
-use Rattle.check_scope.specs.declared.known.Origin.TheVariants.{Here}
 use Rattle.check_scope.specs.declared.scope.Scope.{Scope}
 use Rattle.check_scope.specs.Elaborated.{Gathers, beside}
 use Rattle.check_scope.specs.Scopes.{looked_up}
 use Rattle.check_stmt_parts.specs.Control.{is_own}
 use Rattle.check_definition.specs.Predeclared.{console, first_scope}
-use Rattle.check_block.specs.Declarations.{declared_block}
 use Rattle.check_body.specs.declared.procedure.Walk.{Walk}
 use Rattle.check_body.specs.Inside.{reported_in}
 use Rattle.check_body.specs.Bodies.{Checked, checks_block}
@@ -43,13 +35,11 @@ use Rattle.def_typing.specs.Parts.{Among}
 use Rattle.def_typing.specs.Returns.{Nothing}
 use Rattle.def_typing.specs.Imports as imports
 use Rattle.def_typing.specs.Imports.{all_imported}
-use Rattle.def_typing.specs.Declarations.{declarations_of, AnyDeclares, AllStand, BrokenIn}
-use Rattle.def_typing.specs.Bodies.{Place, statements_in, Reads, BrokenBlock, LacksHeading}
+use Rattle.def_typing.specs.Bodies.{Place, Reads, BrokenBlock, LacksHeading}
 use Rattle.law_typing.specs.Judging.{Judges, Accounts, Reports}
-use Rattle.law_typing.specs.Exact.{Knows, KnowsOwn, KnowsResult, TakenAs, Repeats, RepeatsResult, AreOnce, is_nested, IsBlockExact}
+use Rattle.law_typing.specs.Exact.{Knows, KnowsOwn, KnowsResult, TakenAs, RepeatsResult, AreOnce, is_nested}
 use Rattle.law_importing.specs.Exact.{StandsFor}
 use Rattle.law_defining.specs.Exact.{none, IsTaken, AreSound, met_types}
-use Rattle.def_typing.specs.Definitions.{none_awaited}
 
 -- what is known where a block begins
 pub record KnowsPlace (g : Gathers) (j : Judges g) (exports : ℕ → Ident → Standing) (p : Place)
@@ -61,7 +51,7 @@ pub record KnowsPlace (g : Gathers) (j : Judges g) (exports : ℕ → Ident → 
   pub gives : KnowsResult g j p.gives returns
   pub nested : p.nested ≡ is_nested s
   pub level : s.level < length s.outer
-  -- Local variables that are known there are those of procedures around, or formals.
+  -- Local variables that are known there belong to procedures around, or are formals.
   pub locals : (name : Ident) (v : LocalVariable) → looked_up g s name ≡ Ok (meaning.Local v)
       → (is_nested s ≡ true) × (v.level < length s.outer)
       × ((is_own v.kind && (v.level == s.level)) ≡ false)
@@ -121,7 +111,7 @@ program_place names taken = record {
   names = names;
   own = λ name. false;
   taken = taken;
-  awaited = none_awaited;
+  awaited = λ n. None;
   nested = false;
   gives = Nothing;
 }

@@ -12,7 +12,7 @@ use Rattle.typed_tree.specs.Names.{find_name}
 use Rattle.def_typing.specs.Things.{Standing}
 use Rattle.def_typing.specs.Parts.{Named, here, later}
 use Rattle.def_typing.specs.TypeExprs as rules
-use Rattle.def_typing.specs.TypeExprs.{Twice, constants_listed, all_listed, constants_in, constants_in_field, Member, members_from, Added, Setting, behind, IsSimpleType, IsTypeOf, AreFields}
+use Rattle.def_typing.specs.TypeExprs.{constants_listed, all_listed, constants_in, constants_in_field, Member, members_from, Added, Setting, behind, IsSimpleType, IsTypeOf, AreFields}
 use Rattle.law_typing.proofs.Combining.{Decided, holds, fails_it}
 use Rattle.law_typing.proofs.Entering.{name_decided, named_split}
 use Rattle.law_typing.proofs.TypeReading.{constants_at}

@@ -25,7 +25,7 @@ use Rattle.def_typing.specs.Things.{Standing, Undeclared, Unknown}
 use Rattle.def_typing.specs.Parts.{here, later}
 use Rattle.def_typing.specs.TypeExprs.{Added, nothing_added, Setting, IsTypeOf, Adds}
 use Rattle.def_typing.specs.Declarations as blocks
-use Rattle.def_typing.specs.Declarations.{Declaration, OfConstant, OfType, OfVariables, names_of, constants_of, is_among, Declares, IsFirst, at_first, later_on, nearest, farther, Declared as Resolved, in_front_of, without, Brings, There}
+use Rattle.def_typing.specs.Declarations.{Declaration, OfConstant, OfType, OfVariables, names_of, constants_of, is_among, IsFirst, at_first, later_on, nearest, farther, Declared as Resolved, in_front_of, without, Brings, There}
 use Rattle.def_typing.specs.Definitions.{Placed, IsAdded, is_added, Means, says, says_nothing, Follows, Breaks, inside, twice, formal_twice}
 use Rattle.law_typing.specs.Judging.{Judges, Answers, means, refuses}
 use Rattle.law_typing.specs.Exact.{Repeats, TakenAs, is_taken}

@@ -31,7 +31,7 @@ use Rattle.def_typing.specs.Things.{AProcedure, Standing, Unknown}
 use Rattle.def_typing.specs.Parts.{here, later}
 use Rattle.def_typing.specs.TypeExprs.{Twice, with_types, next_type, Added, nothing_added, type_added, Setting}
 use Rattle.def_typing.specs.Declarations as blocks
-use Rattle.def_typing.specs.Declarations.{Declaration, OfProcedure, names_in, Declares, AnyDeclares, IsFirst, at_first, later_on, Declared as Resolved, Says, Brings, Misdeclares, There}
+use Rattle.def_typing.specs.Declarations.{Declaration, OfProcedure, names_in, Declares, IsFirst, at_first, later_on, Declared as Resolved, Says, Brings, Misdeclares, There}
 use Rattle.def_typing.specs.Definitions.{Placed, AllStand, IsAdded, is_added, Means, says, says_nothing, Breaks, inside, twice, formal_twice}
 use Rattle.law_typing.specs.Judging.{Judges, Answers, means, refuses}
 use Rattle.law_typing.specs.Exact.{standing, Sees, sees, sees_unknown, Repeats, is_taken, awaits, AreOnce}

@@ -20,11 +20,11 @@ use Rattle.check_scope.specs.Elaborated.{Gathers}
 use Rattle.check_scope.specs.Scopes.{looked_up, known_outside, or_around, means_seen, means_as, means_or, open_field, is_free}
 use Rattle.check_const.specs.Denote.{exported_by}
 use Rattle.def_typing.specs.Things as things
-use Rattle.def_typing.specs.Things.{Headless, Standing, Undeclared, Unknown}
+use Rattle.def_typing.specs.Things.{Headless, Standing, Unknown}
 use Rattle.def_typing.specs.Parts.{here, later, Named}
 use Rattle.def_typing.specs.TypeExprs.{Member, member_stands, with_types}
 use Rattle.def_typing.specs.Declarations as blocks
-use Rattle.def_typing.specs.Declarations.{Declaration, names_of, constants_of, Declares, AnyDeclares, IsFirst, at_first, later_on, Declared as Resolved, is_among, in_front_of, without, There}
+use Rattle.def_typing.specs.Declarations.{Declaration, names_of, constants_of, Declares, AnyDeclares, IsFirst, later_on, Declared as Resolved, is_among, There}
 use Rattle.def_typing.specs.Definitions.{Context, Placed, Means, Behind, its_own, its_constant, as_before, Follows, Breaks}
 use Rattle.law_typing.specs.Judging.{Judges}
 use Rattle.law_typing.specs.Exact.{standing, Sees, sees, Exports, Knows, Repeats, of_heading, of_declaration, TakenAs, is_taken, awaits, not_taken, AreOnce}

@@ -1,6 +1,5 @@
 -- The rules decide what is answered of definitions, programs and implementations.
 use Rattle.std.proofs.Common.{refl, sym, subst}
-use Rattle.m2_tree.specs.declared.decl.Contents.{Contents}
 use Rattle.check_scope.specs.Elaborated.{least}
 use Rattle.law_typing.specs.Judging.{the_least}
 use Rattle.law_typing.proofs.Gathering.{least_lawful}

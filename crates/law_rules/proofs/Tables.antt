@@ -13,10 +13,10 @@ use Rattle.def_typing.specs.Things.{Standing}
 use Rattle.def_typing.specs.Parts.{Among, here, later}
 use Rattle.law_typing.specs.Judging.{the_least}
 use Rattle.law_typing.proofs.Gathering.{least_lawful}
-use Rattle.law_defining.specs.Exports.{IsEntry, a_constant, a_type, a_variable, a_procedure, Lists, no_name, a_name, Exports, its_own, its_constant, AreExported, nothing_exported, one_exports}
+use Rattle.law_defining.specs.Exports.{IsEntry, a_constant, a_type, a_variable, a_procedure, Lists, no_name, a_name, OwnMeans, ConstantMeans, AreExported, nothing_exported, one_exports}
 use Rattle.law_defining.specs.Importers.{IsTableOf, CanBeImported, of_console, of_definition}
 use Rattle.law_defining.proofs.Finding.{least_finds}
-use Rattle.law_defining.proofs.Importing.{two_numbers, Answered, answered, own_names}
+use Rattle.law_defining.proofs.Importing.{two_numbers, answered, own_names}
 use Rattle.law_bodies.specs.Exact.{IsForeign, ExportForeign, IsNoLocal, IsDefined}
 use Rattle.law_rules.specs.Ruled.{AreImported, with_console}
 
@@ -33,11 +33,15 @@ module _ (P : Meaning → Type 0) where
   of_list h (a_name i l) e (later m) = of_list h l e m
 
   of_exports : {exports : ℕ → Ident → Standing} {v p : ℕ} {ds : List Placed} {es : List Entry} → AreExported exports v p ds es
-      → ((v p : ℕ) (d : Placed) → Among d ds → (x : Ident) (m : Meaning) → Exports exports v p d x m → P m) → (e : Entry) → Among e es → P e.1
-  of_exports nothing_exported h e m = elim m [ ]
-  of_exports (one_exports {v = v} {p = p} {d = d} {es = es} l k) h e m = elim (among_either es m) [
+      → ((v p : ℕ) (d : Placed) → Among d ds → (x : Ident) (m : Meaning) → OwnMeans exports v p d x m → P m)
+      → ((d : Placed) (x : Ident) (m : Meaning) → ConstantMeans exports d x m → P m) → (e : Entry) → Among e es → P e.1
+  of_exports nothing_exported h c e m = elim m [ ]
+  of_exports (one_exports {v = v} {p = p} {d = d} {own = own} {constants = constants} l k r) h c e m = elim (among_either own m) [
     | inl y ↦ of_list (λ x w i. h v p d here x w i) l e y
-    | inr y ↦ of_exports k (λ v p d n x w i. h v p d (later n) x w i) e y
+    | inr z ↦ elim (among_either constants z) [
+      | inl y ↦ of_list (λ x w i. c d x w i) k e y
+      | inr y ↦ of_exports r (λ v p d n x w i. h v p d (later n) x w i) c e y
+    ]
   ]
 
 entry_foreign : (home : ℕ) {number v p : ℕ} {d : Declaration} {x : Ident} {m : Meaning} → IsEntry number v p d x m → (number ≡ home → ⊥) → IsForeign home m
@@ -46,9 +50,11 @@ entry_foreign home a_type c = tt
 entry_foreign home {number = number} (a_variable before behind q) c = two_numbers number home c
 entry_foreign home a_procedure c = tt
 
-export_foreign : (home : ℕ) {exports : ℕ → Ident → Standing} {v p : ℕ} {d : Placed} {x : Ident} {m : Meaning} → Exports exports v p d x m → (d.at.types.home ≡ home → ⊥) → IsForeign home m
-export_foreign home (its_own i w) c = entry_foreign home i c
-export_foreign home (its_constant h f q) c = subst (IsForeign home) (sym q) tt
+own_foreign : (home : ℕ) {exports : ℕ → Ident → Standing} {v p : ℕ} {d : Placed} {x : Ident} {m : Meaning} → OwnMeans exports v p d x m → (d.at.types.home ≡ home → ⊥) → IsForeign home m
+own_foreign home o c = entry_foreign home o.entry c
+
+constant_foreign : (home : ℕ) (exports : ℕ → Ident → Standing) (d : Placed) (x : Ident) (m : Meaning) → ConstantMeans exports d x m → IsForeign home m
+constant_foreign home exports d x m (e, f, q) = subst (IsForeign home) (sym q) tt
 
 entry_no_local : {number v p : ℕ} {d : Declaration} {x : Ident} {m : Meaning} → IsEntry number v p d x m → IsNoLocal m
 entry_no_local a_constant = tt
@@ -56,9 +62,8 @@ entry_no_local a_type = tt
 entry_no_local (a_variable before behind q) = tt
 entry_no_local a_procedure = tt
 
-export_no_local : {exports : ℕ → Ident → Standing} {v p : ℕ} {d : Placed} {x : Ident} {m : Meaning} → Exports exports v p d x m → IsNoLocal m
-export_no_local (its_own i w) = entry_no_local i
-export_no_local (its_constant h f q) = subst IsNoLocal (sym q) tt
+constant_no_local : (exports : ℕ → Ident → Standing) (d : Placed) (x : Ident) (m : Meaning) → ConstantMeans exports d x m → IsNoLocal m
+constant_no_local exports d x m (e, f, q) = subst IsNoLocal (sym q) tt
 
 console_foreign : (home : ℕ) (e : Entry) → Among e console.exported → IsForeign home e.1
 unfolding console
@@ -69,7 +74,7 @@ table_foreign : (home : ℕ) (t : Table) → CanBeImported least home t → (e :
 table_foreign home t (of_console q) e m = console_foreign home e (subst (λ (t : Table). Among e t.exported) q m)
 table_foreign home t (of_definition number w c) e m =
     let a = answered least the_least least_lawful least_finds w in
-    of_exports (IsForeign home) a.exported (λ v p d n x y i. export_foreign home i (λ q. c (sym (a.homes d n) ∙ q))) e m
+    of_exports (IsForeign home) a.exported (λ v p d n x y i. own_foreign home i (λ q. c (sym (a.homes d n) ∙ q))) (λ d x y i. constant_foreign home a.exports d x y i) e m
 
 pub tables_foreign : (home : ℕ) (imported : List Table) → AreImported home imported → ExportForeign home (with_console imported)
 tables_foreign home imported i t m e n = elim (among_either imported m) [
@@ -87,4 +92,4 @@ number_is number t w = (answered least the_least least_lawful least_finds w).num
 pub own_defined : (number : ℕ) (own : Table) → IsTableOf least number own → IsDefined own
 own_defined number own w =
     let a = answered least the_least least_lawful least_finds w in
-    record { once = (own_names least the_least least_lawful least_finds number own w).0; no_locals = λ e m. of_exports IsNoLocal a.exported (λ v p d n x y i. export_no_local i) e m }
+    record { once = (own_names least the_least least_lawful least_finds number own w).0; no_locals = λ e m. of_exports IsNoLocal a.exported (λ v p d n x y i. entry_no_local i.entry) (λ d x y i. constant_no_local a.exports d x y i) e m }

@@ -1,5 +1,5 @@
 -- The rules decide what is answered of each module: the tables that it needs are those of definitions with smaller numbers.
-use Rattle.std.proofs.Common.{◌≡◌, ◌⊎◌, inl, inr, ◌≤◌, ◌<◌, ◌+◌, ◌==◌, ℕ, Bool, true, false, cond, List, [], ◌∷◌, ◌++◌, Option, Some, None, Result, Ok, Err, refl, sym, ap, subst, ◌∙◌, arith}
+use Rattle.std.proofs.Common.{◌≡◌, ◌≤◌, ◌<◌, ◌+◌, ◌==◌, ℕ, Bool, true, false, cond, List, [], ◌∷◌, ◌++◌, Option, Some, None, Result, Ok, Err, refl, sym, ap, subst, ◌∙◌, arith}
 use Rattle.std.specs.Prelude.{length, slice_get, slice_index_or}
 use Rattle.std.specs.List.{list_all}
 use Rattle.std.proofs.lemmas.Bool.{eq-eqb}
@@ -18,12 +18,12 @@ use Rattle.pool_board.specs.Results.{results_below, items_at, with_item}
 use Rattle.m2_graph.specs.Files.{number_files}
 use Rattle.m2_graph.specs.Graph.{IsGraph}
 use Rattle.m2_graph.proofs.Smaller.{are_jobs}
-use Rattle.graph_walk.specs.Links.{times, targets}
+use Rattle.graph_walk.specs.Links.{times}
 use Rattle.check_scope.specs.Elaborated.{least}
 use Rattle.check_definition.specs.Compiled.{definition_table}
 use Rattle.layout_storage.specs.Layouts.{too_large}
 use Rattle.def_typing.specs.Parts.{Among, here, later}
-use Rattle.law_defining.specs.Importers.{IsTableOf, is_answered, CanBeImported, of_definition as imported_from}
+use Rattle.law_defining.specs.Importers.{IsTableOf, is_answered, of_definition as imported_from}
 use Rattle.law_rules.specs.Ruled.{AreImported}
 use Rattle.law_rules.proofs.Tables.{number_is}
 use Rattle.law_rules.proofs.Ruled.{definitions_ruled, programs_ruled, implementations_ruled, lonely_ruled}
