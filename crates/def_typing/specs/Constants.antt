@@ -1,5 +1,5 @@
--- What constant expressions without calls are, and which rules are broken in them.
-use Rattle.std.specs.Prelude.{◌≡◌, ℕ, ℤ, pos, true, int_lt, bit_or, List, [], ◌∷◌, Option, Some, None}
+-- What constant expressions are, and which rules fail at their tokens.
+use Rattle.std.specs.Prelude.{◌≡◌, ℕ, ℤ, pos, true, int_lt, bit_or, List, [], ◌∷◌, length, Option, Some, None}
 use Rattle.m2_rule.specs.declared.rule.Rule.TheVariants as rule
 use Rattle.m2_tree.specs.declared.pos.Pos.{Pos}
 use Rattle.m2_tree.specs.declared.name.Ident.{Ident}
@@ -14,25 +14,35 @@ use Rattle.m2_tree.specs.declared.expr.Selector.{Selector, Selector-F, out-Selec
 use Rattle.m2_tree.specs.declared.expr.Designator.{Designator, out-Designator}
 use Rattle.m2_tree.specs.declared.expr.Item.{Item, Item-F, out-Item}
 use Rattle.typed_tree.specs.declared.types.TypeNo.{TypeNo}
+use Rattle.typed_tree.specs.declared.meaning.Standard.{Standard}
+use Rattle.typed_tree.specs.declared.meaning.Standard.TheVariants.{Val}
+use Rattle.typed_tree.specs.declared.shape.Scalar.{Scalar as Range}
+use Rattle.typed_tree.specs.declared.shape.Shape.TheVariants as shape
 use Rattle.typed_tree.specs.declared.known_types.Types.{Types}
 use Rattle.typed_tree.specs.Types.{bitset, char}
 use Rattle.m2_rule.specs.declared.breach.Breach.{Breach}
 use Rattle.check_const_ops.specs.declared.operator.BinaryOp.TheVariants as op
 use Rattle.check_const_ops.specs.Sets.{with_span}
+use Rattle.def_typing.specs.Shapes.{IsMade}
 use Rattle.def_typing.specs.Amounts.{Constant, IsNumber, GoTogether, Within}
 use Rattle.def_typing.specs.Operators.{◌!◌, Kind, Scalar, Set, Text, operand, Makes, Misused, Misapplied, MaySign, SignMakes, Negates}
-use Rattle.def_typing.specs.Things.{Thing, AValue, AType, AModule, Standing, Known, Ahead, Misnamed}
+use Rattle.def_typing.specs.Things.{Thing, AValue, AType, AStandard, AModule, Standing, Known, Ahead, Misnamed}
+use Rattle.def_typing.specs.Functions.{Applies, Misapplies, BoundOf, Converts, Misconverts, IsOfOne, fixed_arity, TakesValue, TakesType}
 use Rattle.def_typing.specs.Parts.{first, Operand, factors, addends, Among, IsInner}
 
 -- what an expression stands for, if it has to be constant
 pub data Fixed : Type 0 where
   AConstant : Kind → Fixed
   AScope : ℕ → Fixed
+  ANamedType : TypeNo → Fixed
+  AFunction : Standard → Fixed
   NoConstant : Fixed
 
 abbrev pub fixed_thing : Thing → Fixed
 fixed_thing (AValue k) = AConstant k
 fixed_thing (AModule k) = AScope k
+fixed_thing (AType t) = ANamedType t
+fixed_thing (AStandard f) = AFunction f
 fixed_thing other = NoConstant
 
 -- A procedure is no constant, also before its heading.
@@ -48,14 +58,21 @@ pub record FixedMisnamed (at : Pos) (s : Standing) (f : Breach) : Type 0 where
 
 -- ---- components
 
+-- no constant, and no module that may export one
+pub data IsUnfixed : Fixed → Type 0 where
+  unfixed_type : {t : TypeNo} → IsUnfixed (ANamedType t)
+  unfixed_function : {f : Standard} → IsUnfixed (AFunction f)
+  unfixed_other : IsUnfixed NoConstant
+
 pub data FixedPicks (exports : ℕ → Ident → Standing)
     : Fixed → Selector-F Expr Selector Designator Item → Fixed → Type 0 where
   of_module : {k : ℕ} {at : Pos} {name : Ident} {y : Fixed} → FixedAs (exports k name) y
       → FixedPicks exports (AScope k) (layer.Field at name) y
   -- What is no constant has no constant components.
-  of_field : {at : Pos} {name : Ident}
-      → FixedPicks exports NoConstant (layer.Field at name) NoConstant
-  of_element : {at : Pos} {e : Expr} → FixedPicks exports NoConstant (layer.Index at e) NoConstant
+  of_field : {x : Fixed} {at : Pos} {name : Ident} → IsUnfixed x
+      → FixedPicks exports x (layer.Field at name) NoConstant
+  of_element : {x : Fixed} {at : Pos} {e : Expr} → IsUnfixed x
+      → FixedPicks exports x (layer.Index at e) NoConstant
 
 pub data FixedMispicks (exports : ℕ → Ident → Standing)
     : Fixed → Selector-F Expr Selector Designator Item → Breach → Type 0 where
@@ -85,6 +102,24 @@ pub data FixedSelectionFails (exports : ℕ → Ident → Standing)
       → FixedPicks exports x (out-Selector s) y → FixedSelectionFails exports y ss f
       → FixedSelectionFails exports x (s ∷ ss) f
 
+-- a name with its components
+pub data FixedDenotes (names : Ident → Standing) (exports : ℕ → Ident → Standing) (d : Designator)
+    (y : Fixed) : Type 0 where
+  fixed_named : {x : Fixed} → FixedAs (names (out-Designator d).name) x
+      → FixedSelected exports x (out-Designator d).selectors y → FixedDenotes names exports d y
+
+-- ---- functions
+
+-- what a constant calls, by the number of its arguments
+pub data IsFixedFunctionOf : Fixed → ℕ → Type 0 where
+  fixed_standard : {f : Standard} {n : ℕ} → fixed_arity f ≡ Some n
+      → IsFixedFunctionOf (AFunction f) n
+
+-- the name of a scalar type
+pub data FixedScalar (types : Types) : Fixed → Range → Type 0 where
+  fixed_scalar : {t : TypeNo} {r : Range} → IsMade types t (shape.Scalar r)
+      → FixedScalar types (ANamedType t) r
+
 -- ---- parts
 
 -- the bounds of an element
@@ -92,11 +127,23 @@ pub data IsBound (x : Expr) (i : Item-F Expr Selector Designator Item) : Type 0 
   low_bound : i.low ≡ x → IsBound x i
   high_bound : i.high ≡ Some x → IsBound x i
 
--- the parts of a constant expression, which are constants themselves
-pub data IsFixedPart : Expr → Expr-F Expr Selector Designator Item → Type 0 where
-  an_inner : {e : Expr} {y : Expr-F Expr Selector Designator Item} → IsInner e y → IsFixedPart e y
-  in_element : {name : Option Ident} {at : Pos} {items : List Item} {i : Item} {e : Expr}
-      → Among i items → IsBound e (out-Item i) → IsFixedPart e (layer.Set name at items)
+module _ (names : Ident → Standing) (exports : ℕ → Ident → Standing) where
+  -- the parts of a constant expression, which are constants themselves
+  pub data IsFixedPart : Expr → Expr-F Expr Selector Designator Item → Type 0 where
+    an_inner : {e : Expr} {y : Expr-F Expr Selector Designator Item} → IsInner e y
+        → IsFixedPart e y
+    in_element : {name : Option Ident} {at : Pos} {items : List Item} {i : Item} {e : Expr}
+        → Among i items → IsBound e (out-Item i) → IsFixedPart e (layer.Set name at items)
+    -- Arguments are looked at if a standard function takes this number of them.
+    an_argument : {d : Designator} {args : List Expr} {f : Standard} {e : Expr}
+        → FixedDenotes names exports d (AFunction f) → TakesValue f args e
+        → IsFixedPart e (layer.Use d (Some args))
+
+  -- the argument that names a type
+  pub data IsTypePart (t : Expr) : Expr-F Expr Selector Designator Item → Type 0 where
+    a_type : {d : Designator} {args : List Expr} {f : Standard}
+        → FixedDenotes names exports d (AFunction f) → TakesType f args t
+        → IsTypePart t (layer.Use d (Some args))
 
 -- the refusals at a name that should stand for something of a sort
 pub data Misses (Fits : Thing → Type 0) (spot at : Pos) : Standing → Breach → Type 0 where
@@ -128,9 +175,11 @@ module _ (types : Types) (names : Ident → Standing) (exports : ℕ → Ident �
       fixed_named_set : {name : Ident} {at : Pos} {items : List Item} {bits : ℕ}
           → names name ≡ Known (AType bitset) → AddUp 0 items bits
           → FixedReads (layer.Set (Some name) at items) (AConstant (Set (Some bits)))
-      fixed_name : {d : Designator} {x y : Fixed} → FixedAs (names (out-Designator d).name) x
-          → FixedSelected exports x (out-Designator d).selectors y
-          → FixedReads (layer.Use d None) y
+      fixed_name : {d : Designator} {x : Fixed} → FixedDenotes names exports d x
+          → FixedReads (layer.Use d None) x
+      fixed_called : {d : Designator} {args : List Expr} {f : Standard} {k : Kind}
+          → FixedDenotes names exports d (AFunction f) → FixedCalls f args k
+          → FixedReads (layer.Use d (Some args)) (AConstant k)
       fixed_brackets : {at : Pos} {e : Expr} {k : Kind} → Fixes e (AConstant k)
           → FixedReads (layer.Bracketed at e) (AConstant k)
       fixed_negated : {at : Pos} {e : Expr} {a k : Kind} → Fixes e (AConstant a) → Negates a k
@@ -147,6 +196,17 @@ module _ (types : Types) (names : Ident → Standing) (exports : ℕ → Ident �
       fixed_relation : {a b : Expr} {o : Operator RelOp} {x y k : Kind} → Fixes a (AConstant x)
           → Fixes b (AConstant y) → Makes types (op.Relation o.op) (operand x) (operand y) k
           → FixedReads (layer.Relation a o b) (AConstant k)
+
+    -- what a standard function gives of constants
+    pub data FixedCalls : Standard → List Expr → Kind → Type 0 where
+      fixed_of_one : {f : Standard} {e : Expr} {a k : Kind} → Fixes e (AConstant a)
+          → Applies f (operand a) k → FixedCalls f (e ∷ []) k
+      fixed_of_type : {f : Standard} {t : Expr} {x : Fixed} {r : Range} {n : ℤ} → Fixes t x
+          → FixedScalar types x r → BoundOf r f n
+          → FixedCalls f (t ∷ []) (Scalar (Constant (Some r.base) n))
+      fixed_converted : {t e : Expr} {x : Fixed} {r : Range} {a k : Kind} → Fixes t x
+          → FixedScalar types x r → Fixes e (AConstant a) → Converts r (operand a) k
+          → FixedCalls Val (t ∷ e ∷ []) k
 
     pub data FixedChain : Kind → List Operand → Kind → Type 0 where
       fixed_done : {k : Kind} → FixedChain k [] k
@@ -176,6 +236,20 @@ module _ (types : Types) (names : Ident → Standing) (exports : ℕ → Ident �
 
   -- ---- rules that are broken
 
+  -- the refusals at a call; those of a type's name stand in `Expressions`
+  pub data FixedMiscalled (at : Pos) : Fixed → List Expr → Breach → Type 0 where
+    -- Constants call standard functions alone, and not HIGH.
+    fixed_no_function : {x : Fixed} {args : List Expr} → ((n : ℕ) → IsFixedFunctionOf x n → ⊥)
+        → FixedMiscalled at x args (at ! rule.NoConstant)
+    fixed_wrong_count : {x : Fixed} {args : List Expr} {n : ℕ} → IsFixedFunctionOf x n
+        → (n ≡ length args → ⊥) → FixedMiscalled at x args (at ! rule.ArgumentCount)
+    fixed_misapplied : {p : Standard} {e : Expr} {k : Kind} {f : Breach} → IsOfOne p
+        → Fixes e (AConstant k) → Misapplies p (first e) (operand k) f
+        → FixedMiscalled at (AFunction p) (e ∷ []) f
+    fixed_misconverted : {t e : Expr} {x : Fixed} {r : Range} {k : Kind} {f : Breach} → Fixes t x
+        → FixedScalar types x r → Fixes e (AConstant k) → Misconverts r (first e) (operand k) f
+        → FixedMiscalled at (AFunction Val) (t ∷ e ∷ []) f
+
   pub data FixedChainFails (left : Pos) : Kind → List Operand → Breach → Type 0 where
     fixed_at_once : {a b : Kind} {x : Operand} {xs : List Operand} {f : Breach}
         → Fixes x.of (AConstant b)
@@ -201,15 +275,18 @@ module _ (types : Types) (names : Ident → Standing) (exports : ℕ → Ident �
         → ItemFails i (first i.low ! rule.EmptyRange)
 
   pub data FixedFails : Expr-F Expr Selector Designator Item → Breach → Type 0 where
-    fixed_at_name : {d : Designator} {f : Breach}
+    fixed_at_name : {d : Designator} {args : Option (List Expr)} {f : Breach}
         → FixedMisnamed (out-Designator d).name.pos (names (out-Designator d).name) f
-        → FixedFails (layer.Use d None) f
-    fixed_at_selector : {d : Designator} {x : Fixed} {f : Breach}
+        → FixedFails (layer.Use d args) f
+    fixed_at_selector : {d : Designator} {args : Option (List Expr)} {x : Fixed} {f : Breach}
         → FixedAs (names (out-Designator d).name) x
         → FixedSelectionFails exports x (out-Designator d).selectors f
-        → FixedFails (layer.Use d None) f
+        → FixedFails (layer.Use d args) f
+    fixed_at_call : {d : Designator} {args : List Expr} {x : Fixed} {f : Breach}
+        → FixedDenotes names exports d x → FixedMiscalled (out-Designator d).name.pos x args f
+        → FixedFails (layer.Use d (Some args)) f
     no_constant : {y : Expr-F Expr Selector Designator Item} {e : Expr} {x : Fixed}
-        → IsFixedPart e y → Fixes e x → ((k : Kind) → x ≡ AConstant k → ⊥)
+        → IsFixedPart names exports e y → Fixes e x → ((k : Kind) → x ≡ AConstant k → ⊥)
         → FixedFails y (first e ! rule.NoConstant)
     fixed_not_boolean : {at : Pos} {e : Expr} {a : Kind} → Fixes e (AConstant a)
         → ((k : Kind) → Negates a k → ⊥) → FixedFails (layer.Not at e) (at ! rule.WrongType)
@@ -236,14 +313,3 @@ module _ (types : Types) (names : Ident → Standing) (exports : ℕ → Ident �
         → Misset name.pos (names name) f → FixedFails (layer.Set (Some name) at items) f
     at_item : {name : Option Ident} {at : Pos} {items : List Item} {i : Item} {f : Breach}
         → Among i items → ItemFails (out-Item i) f → FixedFails (layer.Set name at items) f
-
-  pub data FixedBroken : Expr → Breach → Type 0 where
-    fixed_fails : {e : Expr} {f : Breach} → FixedFails (out-Expr e) f → FixedBroken e f
-    fixed_inside : {e x : Expr} {f : Breach} → IsFixedPart x (out-Expr e) → FixedBroken x f
-        → FixedBroken e f
-
-  -- the same of an expression that has to be constant
-  pub data BrokenAsConstant (e : Expr) : Breach → Type 0 where
-    broken_constant : {f : Breach} → FixedBroken e f → BrokenAsConstant e f
-    not_constant : {x : Fixed} → Fixes e x → ((k : Kind) → x ≡ AConstant k → ⊥)
-        → BrokenAsConstant e (first e ! rule.NoConstant)

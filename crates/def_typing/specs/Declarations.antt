@@ -21,7 +21,8 @@ use Rattle.typed_tree.specs.declared.known_types.Types.{Types}
 use Rattle.def_typing.specs.Operators.{◌!◌, Kind}
 use Rattle.def_typing.specs.Things.{Thing, AValue, AVariable, AType, AProcedure, ANested, Headless, Standing, Known, Ahead, Undeclared, Unknown}
 use Rattle.def_typing.specs.Parts.{Among, Named}
-use Rattle.def_typing.specs.Constants.{AConstant, Fixes, BrokenAsConstant}
+use Rattle.def_typing.specs.Constants.{AConstant, Fixes}
+use Rattle.def_typing.specs.Expressions.{BrokenAsConstant}
 use Rattle.def_typing.specs.TypeExprs.{Twice, constants_in, with_types, next_type, Member, member_stands, Added, nothing_added, type_added, Setting, IsTypeOf, Adds, BrokenType}
 use Rattle.def_typing.specs.Headings.{procedure_made, IsHeading, BrokenHeading}
 use Rattle.def_typing.specs.Agreements.{Disagrees}

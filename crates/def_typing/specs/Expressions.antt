@@ -15,7 +15,7 @@ use Rattle.m2_tree.specs.declared.expr.Designator.{Designator, out-Designator}
 use Rattle.m2_tree.specs.declared.expr.Item.{Item}
 use Rattle.typed_tree.specs.declared.types.TypeNo.{TypeNo}
 use Rattle.typed_tree.specs.declared.meaning.Standard.{Standard}
-use Rattle.typed_tree.specs.declared.meaning.Standard.TheVariants.{High, Max, Min, Val}
+use Rattle.typed_tree.specs.declared.meaning.Standard.TheVariants.{High, Val}
 use Rattle.typed_tree.specs.declared.shape.Formal.{Formal}
 use Rattle.typed_tree.specs.declared.shape.Scalar.{Scalar as Range}
 use Rattle.typed_tree.specs.declared.shape.Signature.{Signature}
@@ -24,11 +24,11 @@ use Rattle.typed_tree.specs.Types.{cardinal, char}
 use Rattle.m2_rule.specs.declared.breach.Breach.{Breach}
 use Rattle.check_const_ops.specs.declared.operator.BinaryOp.TheVariants as op
 use Rattle.def_typing.specs.Parts.{first, Operand, factors, addends, Among, IsInner}
-use Rattle.def_typing.specs.Constants.{AConstant, FixedReads, FixedFails, IsFixedPart, FixedBroken}
+use Rattle.def_typing.specs.Constants.{Fixed, AConstant, Fixes, FixedReads, FixedFails, FixedScalar, IsFixedPart, IsTypePart}
 use Rattle.def_typing.specs.Amounts.{Constant, Value}
 use Rattle.def_typing.specs.Operators.{◌!◌, Kind, Scalar, Text, operand, Makes, Misused, Misapplied, MaySign, SignMakes, Negates}
 use Rattle.def_typing.specs.Things.{Thing, AValue, AVariable, AnOpenArray, AStandard, Headless, Standing, Known, Misnamed, Taken, Mistaken, IsAssignable, Misassigned, Picks, Indexes}
-use Rattle.def_typing.specs.Functions.{MayApply, Applies, NamesScalar, BoundOf, MayConvert, Converts, IsOfOne, result_kind, HasHeading, IsFunctionOf, Mispassed, IsPassed}
+use Rattle.def_typing.specs.Functions.{Applies, Misapplies, NamesScalar, BoundOf, Converts, Misconverts, IsOfOne, TakesValue, TakesType, result_kind, HasHeading, IsFunctionOf, Mispassed, IsPassed}
 
 -- ---- parts
 
@@ -51,16 +51,10 @@ pub data IsPart (x : Expr) : Expr-F Expr Selector Designator Item → Type 0 whe
   an_argument : {d : Designator} {args : List Expr} → Among x args
       → IsPart x (layer.Use d (Some args))
 
--- the argument of a standard function that is taken as a value, and the one that names a type
-pub data TakesValue : Standard → List Expr → Expr → Type 0 where
-  of_one : {f : Standard} {x : Expr} → IsOfOne f → TakesValue f (x ∷ []) x
-  of_high : {x : Expr} → TakesValue High (x ∷ []) x
-  to_convert : {t x : Expr} → TakesValue Val (t ∷ x ∷ []) x
-
-pub data TakesType : Standard → List Expr → Expr → Type 0 where
-  of_max : {t : Expr} → TakesType Max (t ∷ []) t
-  of_min : {t : Expr} → TakesType Min (t ∷ []) t
-  of_conversion : {t x : Expr} → TakesType Val (t ∷ x ∷ []) t
+-- a name with components, as M.T
+pub data HasComponents : Expr → Type 0 where
+  has_components : {e : Expr} {d : Designator} {s : Selector} {ss : List Selector}
+      → out-Expr e ≡ layer.Use d None → (out-Designator d).selectors ≡ s ∷ ss → HasComponents e
 
 -- ---- what expressions stand for
 
@@ -192,19 +186,16 @@ module _ (types : Types) (names : Ident → Standing) (exports : ℕ → Ident �
         → TakesValue p args e → Stands e x → Mistaken (first e) x f
         → Miscalled at (AStandard p) args f
     misapplied : {p : Standard} {e : Expr} {k : Kind} {f : Breach} → IsOfOne p → Has e k
-        → Misapplied (MayApply p (operand k)) (Applies p (operand k)) (first e) rule.WrongArgument f
-        → Miscalled at (AStandard p) (e ∷ []) f
+        → Misapplies p (first e) (operand k) f → Miscalled at (AStandard p) (e ∷ []) f
     no_type : {p : Standard} {args : List Expr} {e : Expr} {x : Thing} → TakesType p args e
         → Stands e x
         → ((r : Range) → NamesScalar types x r → ⊥)
         → Miscalled at (AStandard p) args (first e ! rule.NoType)
-    misconverted : {t e : Expr} {x : Thing} {r : Range} {k : Kind} {f : Breach}
-        → Stands t x
-        → NamesScalar types x r
-        → Has e k
-        → Misapplied (MayConvert (operand k)) (Converts r (operand k)) (first e) rule.WrongArgument
-        f
+    misconverted : {t e : Expr} {x : Thing} {r : Range} {k : Kind} {f : Breach} → Stands t x
+        → NamesScalar types x r → Has e k → Misconverts r (first e) (operand k) f
         → Miscalled at (AStandard Val) (t ∷ e ∷ []) f
+    no_array : {e : Expr} {x : Thing} {f : Breach} → Stands e x → Mistaken (first e) x f
+        → Miscalled at (AStandard High) (e ∷ []) f
     no_open_array : {e : Expr} {x : Thing} → Stands e x → ((t : TypeNo) → x ≡ AnOpenArray t → ⊥)
         → ((f : Breach) → Mistaken (first e) x f → ⊥)
         → Miscalled at (AStandard High) (e ∷ []) (first e ! rule.WrongArgument)
@@ -218,49 +209,79 @@ module _ (types : Types) (names : Ident → Standing) (exports : ℕ → Ident �
         → Makes types x.op (operand a) (operand b) c → ChainFails left c xs f
         → ChainFails left a (x ∷ xs) f
 
-  -- A rule fails at a token of the construct itself. It speaks only if the parts that it looks at
-  -- have a meaning.
-  pub data Fails : Expr-F Expr Selector Designator Item → Breach → Type 0 where
-    at_name : {d : Designator} {args : Option (List Expr)} {f : Breach}
-        → Misnamed (out-Designator d).name.pos (names (out-Designator d).name) f
-        → Fails (layer.Use d args) f
-    at_selector : {d : Designator} {args : Option (List Expr)} {x : Thing} {f : Breach}
-        → names (out-Designator d).name ≡ Known x
-        → SelectionFails x (out-Designator d).selectors f → Fails (layer.Use d args) f
-    at_call : {d : Designator} {args : List Expr} {x : Thing} {f : Breach} → Denotes d x
-        → Miscalled (out-Designator d).name.pos x args f → Fails (layer.Use d (Some args)) f
-    no_operand : {y : Expr-F Expr Selector Designator Item} {e : Expr} {x : Thing} {f : Breach}
-        → IsOperand e y → Stands e x → Mistaken (first e) x f → Fails y f
-    at_set : {name : Option Ident} {at : Pos} {items : List Item} {f : Breach}
-        → FixedFails types names exports (layer.Set name at items) f
-        → Fails (layer.Set name at items) f
-    in_set : {name : Option Ident} {at : Pos} {items : List Item} {e : Expr} {f : Breach}
-        → IsFixedPart e (layer.Set name at items) → FixedBroken types names exports e f
-        → Fails (layer.Set name at items) f
-    not_boolean : {at : Pos} {e : Expr} {a : Kind} → Has e a → ((k : Kind) → Negates a k → ⊥)
-        → Fails (layer.Not at e) (at ! rule.WrongType)
-    in_term : {e : Expr} {rest : List (Operator MulOp × Expr)} {a : Kind} {f : Breach} → Has e a
-        → ChainFails (first e) a (factors rest) f → Fails (layer.Term e rest) f
-    in_sum : {e : Expr} {rest : List (Operator AddOp × Expr)} {a : Kind} {f : Breach} → Has e a
-        → ChainFails (first e) a (addends rest) f → Fails (layer.Sum None e rest) f
-    at_sign : {sign : Operator Sign} {e : Expr} {rest : List (Operator AddOp × Expr)} {a : Kind}
-        {f : Breach} → Has e a
-        → Misapplied (MaySign sign.op (operand a)) (SignMakes sign.op (operand a)) sign.pos
-        rule.WrongType f
-        → Fails (layer.Sum (Some sign) e rest) f
-    in_signed_sum : {sign : Operator Sign} {e : Expr} {rest : List (Operator AddOp × Expr)}
-        {a b : Kind} {f : Breach} → Has e a → SignMakes sign.op (operand a) b
-        → ChainFails sign.pos b (addends rest) f → Fails (layer.Sum (Some sign) e rest) f
-    at_relation : {a b : Expr} {o : Operator RelOp} {x y : Kind} {f : Breach} → Has a x → Has b y
-        → Misused types (op.Relation o.op) o.pos (first a) (first b) (operand x) (operand y) f
-        → Fails (layer.Relation a o b) f
+  mutual
+    -- A rule fails at a token of the construct itself. It speaks only if the parts that it looks at
+    -- have a meaning.
+    pub data Fails : Expr-F Expr Selector Designator Item → Breach → Type 0 where
+      at_name : {d : Designator} {args : Option (List Expr)} {f : Breach}
+          → Misnamed (out-Designator d).name.pos (names (out-Designator d).name) f
+          → Fails (layer.Use d args) f
+      at_selector : {d : Designator} {args : Option (List Expr)} {x : Thing} {f : Breach}
+          → names (out-Designator d).name ≡ Known x
+          → SelectionFails x (out-Designator d).selectors f → Fails (layer.Use d args) f
+      at_call : {d : Designator} {args : List Expr} {x : Thing} {f : Breach} → Denotes d x
+          → Miscalled (out-Designator d).name.pos x args f → Fails (layer.Use d (Some args)) f
+      no_operand : {y : Expr-F Expr Selector Designator Item} {e : Expr} {x : Thing} {f : Breach}
+          → IsOperand e y → Stands e x → Mistaken (first e) x f → Fails y f
+      at_set : {name : Option Ident} {at : Pos} {items : List Item} {f : Breach}
+          → FixedFails types names exports (layer.Set name at items) f
+          → Fails (layer.Set name at items) f
+      in_set : {name : Option Ident} {at : Pos} {items : List Item} {e : Expr} {f : Breach}
+          → IsFixedPart names exports e (layer.Set name at items) → FixedBroken e f
+          → Fails (layer.Set name at items) f
+      not_boolean : {at : Pos} {e : Expr} {a : Kind} → Has e a
+          → ((k : Kind) → Negates a k → ⊥) → Fails (layer.Not at e) (at ! rule.WrongType)
+      in_term : {e : Expr} {rest : List (Operator MulOp × Expr)} {a : Kind} {f : Breach}
+          → Has e a → ChainFails (first e) a (factors rest) f → Fails (layer.Term e rest) f
+      in_sum : {e : Expr} {rest : List (Operator AddOp × Expr)} {a : Kind} {f : Breach}
+          → Has e a → ChainFails (first e) a (addends rest) f → Fails (layer.Sum None e rest) f
+      at_sign : {sign : Operator Sign} {e : Expr} {rest : List (Operator AddOp × Expr)} {a : Kind}
+          {f : Breach} → Has e a
+          → Misapplied (MaySign sign.op (operand a)) (SignMakes sign.op (operand a)) sign.pos
+          rule.WrongType f
+          → Fails (layer.Sum (Some sign) e rest) f
+      in_signed_sum : {sign : Operator Sign} {e : Expr} {rest : List (Operator AddOp × Expr)}
+          {a b : Kind} {f : Breach} → Has e a → SignMakes sign.op (operand a) b
+          → ChainFails sign.pos b (addends rest) f → Fails (layer.Sum (Some sign) e rest) f
+      at_relation : {a b : Expr} {o : Operator RelOp} {x y : Kind} {f : Breach} → Has a x
+          → Has b y
+          → Misused types (op.Relation o.op) o.pos (first a) (first b) (operand x) (operand y) f
+          → Fails (layer.Relation a o b) f
 
-  -- A rule is broken in an expression if it fails at a token of it, or of a part of it.
-  pub data Broken : Expr → Breach → Type 0 where
-    fails : {e : Expr} {f : Breach} → Fails (out-Expr e) f → Broken e f
-    inside : {e x : Expr} {f : Breach} → IsPart x (out-Expr e) → Broken x f → Broken e f
+    -- A rule is broken in an expression if it fails at a token of it, or of a part of it.
+    pub data Broken : Expr → Breach → Type 0 where
+      fails : {e : Expr} {f : Breach} → Fails (out-Expr e) f → Broken e f
+      inside : {e x : Expr} {f : Breach} → IsPart x (out-Expr e) → Broken x f → Broken e f
+
+    -- the same of a constant expression
+    pub data FixedBroken : Expr → Breach → Type 0 where
+      fixed_fails : {e : Expr} {f : Breach} → FixedFails types names exports (out-Expr e) f
+          → FixedBroken e f
+      fixed_inside : {e x : Expr} {f : Breach} → IsFixedPart names exports x (out-Expr e)
+          → FixedBroken x f → FixedBroken e f
+      in_type : {e t : Expr} {f : Breach} → IsTypePart names exports t (out-Expr e)
+          → BrokenTypeArgument t f → FixedBroken e f
+
+    -- the same of an argument that names a type; with components it is read as in a body
+    pub data BrokenTypeArgument : Expr → Breach → Type 0 where
+      in_fixed : {t : Expr} {f : Breach} → (HasComponents t → ⊥) → FixedBroken t f
+          → BrokenTypeArgument t f
+      no_scalar : {t : Expr} {x : Fixed} → (HasComponents t → ⊥) → Fixes types names exports t x
+          → ((r : Range) → FixedScalar types x r → ⊥)
+          → BrokenTypeArgument t (first t ! rule.NoType)
+      in_components : {t : Expr} {f : Breach} → HasComponents t → Broken t f
+          → BrokenTypeArgument t f
+      no_scalar_component : {t : Expr} {x : Thing} → HasComponents t → Stands t x
+          → ((r : Range) → NamesScalar types x r → ⊥)
+          → BrokenTypeArgument t (first t ! rule.NoType)
 
   -- the same of an expression that is taken as a value
   pub data BrokenAsValue (e : Expr) (f : Breach) : Type 0 where
     broken : Broken e f → BrokenAsValue e f
     mistaken : {x : Thing} → Stands e x → Mistaken (first e) x f → BrokenAsValue e f
+
+  -- the same of an expression that has to be constant
+  pub data BrokenAsConstant (e : Expr) : Breach → Type 0 where
+    broken_constant : {f : Breach} → FixedBroken e f → BrokenAsConstant e f
+    not_constant : {x : Fixed} → Fixes types names exports e x → ((k : Kind) → x ≡ AConstant k → ⊥)
+        → BrokenAsConstant e (first e ! rule.NoConstant)

@@ -1,8 +1,9 @@
 -- Standard functions, and which arguments formals take.
-use Rattle.std.specs.Prelude.{◌≡◌, ℕ, ℤ, pos, ◌-ℤ◌, Bool, true, false, int_lt, List, length, Option, Some, None}
+use Rattle.std.specs.Prelude.{◌≡◌, ℕ, ℤ, pos, ◌-ℤ◌, Bool, true, false, int_lt, List, [], ◌∷◌, length, Option, Some, None}
 use Rattle.std.specs.Int.{int_rem_euclid}
 use Rattle.m2_rule.specs.declared.rule.Rule.TheVariants as rule
 use Rattle.m2_tree.specs.declared.pos.Pos.{Pos}
+use Rattle.m2_tree.specs.declared.expr.Expr.{Expr}
 use Rattle.typed_tree.specs.declared.types.TypeNo.{TypeNo}
 use Rattle.typed_tree.specs.declared.meaning.Standard.{Standard}
 use Rattle.typed_tree.specs.declared.meaning.Standard.TheVariants.{Abs, Cap, Chr, High, Max, Min, Odd, Ord, Val}
@@ -17,7 +18,7 @@ use Rattle.m2_rule.specs.declared.breach.Breach.{Breach}
 use Rattle.check_const_ops.specs.Standards.{upper}
 use Rattle.def_typing.specs.Shapes.{shape_at, IsMade}
 use Rattle.def_typing.specs.Amounts.{Amount, Constant, Value, sort_of, IsNumber, Within, InRange, truth}
-use Rattle.def_typing.specs.Operators.{◌!◌, Kind, Scalar, Set, Text, Routine, Whole, Untaken, operand}
+use Rattle.def_typing.specs.Operators.{◌!◌, Kind, Scalar, Set, Text, Routine, Whole, Untaken, operand, Misapplied}
 use Rattle.def_typing.specs.Things.{Thing, AValue, AVariable, AnOpenArray, AType, AProcedure, ANested, AStandard, content, Taken, Mistaken, Compatible, OutOfType}
 
 -- ---- functions of one value
@@ -64,6 +65,10 @@ pub data Applies (f : Standard) : Kind → Kind → Type 0 where
   applied : {a b : Amount} → TakesOne f (sort_of a) → Computes f a b
       → Applies f (Scalar a) (Scalar b)
 
+-- the refusals of its argument
+abbrev pub Misapplies : Standard → Pos → Kind → Breach → Type 0
+Misapplies f at k b = Misapplied (MayApply f k) (Applies f k) at rule.WrongArgument b
+
 -- ---- functions of types
 
 -- the name of a scalar type
@@ -87,6 +92,10 @@ pub data Converts (r : Range) : Kind → Kind → Type 0 where
   converted_value : {t : TypeNo} → IsNumber (Some t)
       → Converts r (Scalar (Value t)) (Scalar (Value r.base))
 
+-- the refusals of what is converted
+abbrev pub Misconverts : Range → Pos → Kind → Breach → Type 0
+Misconverts r at k f = Misapplied (MayConvert k) (Converts r k) at rule.WrongArgument f
+
 -- how many arguments a standard function has; the other standard procedures are none
 abbrev pub arity : Standard → Option ℕ
 arity Abs = Some 1
@@ -106,6 +115,21 @@ pub data IsOfOne : Standard → Type 0 where
   of_chr : IsOfOne Chr
   of_odd : IsOfOne Odd
   of_ord : IsOfOne Ord
+
+-- HIGH is a value of a running program: no constant calls it.
+abbrev pub fixed_arity : Standard → Option ℕ
+fixed_arity High = None
+fixed_arity other = arity other
+
+-- the argument of a standard function that is taken as a value, and the one that names a type
+pub data TakesValue : Standard → List Expr → Expr → Type 0 where
+  of_one : {f : Standard} {x : Expr} → IsOfOne f → TakesValue f (x ∷ []) x
+  to_convert : {t x : Expr} → TakesValue Val (t ∷ x ∷ []) x
+
+pub data TakesType : Standard → List Expr → Expr → Type 0 where
+  of_max : {t : Expr} → TakesType Max (t ∷ []) t
+  of_min : {t : Expr} → TakesType Min (t ∷ []) t
+  of_conversion : {t x : Expr} → TakesType Val (t ∷ x ∷ []) t
 
 -- ---- functions that are declared
 

@@ -21,3 +21,4 @@ pub mod Loops
 pub mod Fields
 pub mod Cases
 pub mod Statements
+pub mod Bodies

@@ -14,8 +14,8 @@ use Rattle.def_typing.specs.Amounts.{Constant, sort_of, IsNumber, Suits}
 use Rattle.def_typing.specs.Operators.{◌!◌, Kind, Scalar, operand}
 use Rattle.def_typing.specs.Things.{Thing, AVariable, Standing, Known, Misnamed, SuitsBase, IsAssignable, Misassigned}
 use Rattle.def_typing.specs.Parts.{first}
-use Rattle.def_typing.specs.Constants.{AConstant, Fixes, BrokenAsConstant}
-use Rattle.def_typing.specs.Expressions.{Has, BrokenAsValue}
+use Rattle.def_typing.specs.Constants.{AConstant, Fixes}
+use Rattle.def_typing.specs.Expressions.{Has, BrokenAsValue, BrokenAsConstant}
 
 -- ---- the limit and the step
 

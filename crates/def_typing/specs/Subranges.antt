@@ -15,7 +15,8 @@ use Rattle.def_typing.specs.Amounts.{Constant, GoTogether, Suits, Within}
 use Rattle.def_typing.specs.Operators.{◌!◌, Kind, Scalar, operand}
 use Rattle.def_typing.specs.Things.{Standing}
 use Rattle.def_typing.specs.Parts.{first}
-use Rattle.def_typing.specs.Constants.{AConstant, Fixes, BrokenAsConstant}
+use Rattle.def_typing.specs.Constants.{AConstant, Fixes}
+use Rattle.def_typing.specs.Expressions.{BrokenAsConstant}
 use Rattle.def_typing.specs.Cases.{SelectsIn, IsOfBase, IsEmpty}
 use Rattle.def_typing.specs.TypeNames.{NamesType, BrokenTypeName}
 use Rattle.def_typing.specs.Headings.{begins_at}

@@ -45,7 +45,7 @@ use Rattle.law_typing.proofs.Entering.{once_more}
 use Rattle.law_importing.specs.Exact.{with_declared}
 use Rattle.law_defining.specs.Exact.{IsTable, IsAnswered, is_table, is_refused, IsDefinitionExact}
 use Rattle.law_defining.specs.Exports.{IsEntry, a_constant, a_type, a_variable, a_procedure, Lists, no_name, a_name, AreExported, nothing_exported, one_exports}
-use Rattle.law_defining.specs.Importers.{IsPlainModule, IsTableOf, is_answered, CanBeImported, of_console, of_definition, TablesAreForeign, awaits_heading, OwnNamesAreKnown, NamesAgree}
+use Rattle.law_defining.specs.Importers.{IsTableOf, is_answered, CanBeImported, of_console, of_definition, TablesAreForeign, awaits_heading, OwnNamesAreKnown, NamesAgree}
 use Rattle.law_defining.proofs.Among.{among_split}
 use Rattle.law_defining.proofs.Keys.{entered_last, entered_other, there_found}
 use Rattle.law_defining.proofs.Finding.{Finds}
@@ -59,7 +59,7 @@ home_at nothing_follows p m = elim m [ ]
 home_at (one_follows a f k) _ here = refl
 home_at (one_follows a f k) p (later m) = home_at k p m ∙ ap (λ (t : Types). t.home) f.types
 
-two_numbers : (a b : ℕ) → (a ≡ b → ⊥) → (a == b) ≡ false
+pub two_numbers : (a b : ℕ) → (a ≡ b → ⊥) → (a == b) ≡ false
 two_numbers a b c = by (a == b) refl
   where
     by : (t : Bool) → (a == b) ≡ t → t ≡ false
@@ -132,11 +132,12 @@ module _ {T : Type 0} where
 
 module _ (g : Gathers) (j : Judges g) (lawful : Lawful g j) (found : Finds g j) where
   -- what it exports, by the rules
-  record Answered (number : ℕ) (t : Table) : Type 0 where
-    exports : ℕ → Ident → Standing
-    whole : List Placed
-    homes : (p : Placed) → Among p whole → p.at.types.home ≡ number
-    exported : AreExported exports 0 0 whole t.exported
+  pub record Answered (number : ℕ) (t : Table) : Type 0 where
+    pub exports : ℕ → Ident → Standing
+    pub whole : List Placed
+    pub homes : (p : Placed) → Among p whole → p.at.types.home ≡ number
+    pub exported : AreExported exports 0 0 whole t.exported
+    pub numbered : t.number ≡ number
 
   lonely : (m : Module) {t : Table} → ◌≡◌ {A = Result Table g.Reported} (report g m.name.pos rule.LonelyModule) (Ok t) → ⊥
   lonely m q = absurd cc
@@ -148,18 +149,18 @@ module _ (g : Gathers) (j : Judges g) (lawful : Lawful g j) (found : Finds g j) 
   answered_by {number = number} {m = m} {tables = tables} {exports = exports} {t = t} d q = by d.answered q
     where
       by : {Breaks : Breach → Type 0} {r : Result Table g.Reported} → IsAnswered g j (IsTable number m tables exports d.whole d.last) Breaks r → r ≡ Ok t → Answered number t
-      by (is_table u i n) q = record { exports = exports; whole = d.whole; homes = λ p w. home_at d.follow p w; exported = subst (λ (t : Table). AreExported exports 0 0 d.whole t.exported) (one_table q) i.of_exports }
+      by (is_table u i n) q = record { exports = exports; whole = d.whole; homes = λ p w. home_at d.follow p w; exported = subst (λ (t : Table). AreExported exports 0 0 d.whole t.exported) (one_table q) i.of_exports; numbered = subst (λ (t : Table). t.number ≡ number) (one_table q) i.of_number }
       by (is_refused r a f b) q = absurd cc
 
-  answered_of : (number : ℕ) (m : Module) (given : List Table) (t : Table) → IsPlainModule m → definition_table g number m given ≡ Ok t → (c : Contents) → m.contents ≡ c → Answered number t
-  answered_of number m given t plain q (contents.Definition defs) e =
+  answered_of : (number : ℕ) (m : Module) (given : List Table) (t : Table) → definition_table g number m given ≡ Ok t → (c : Contents) → m.contents ≡ c → Answered number t
+  answered_of number m given t q (contents.Definition defs) e =
       let k = definitions_known g j lawful number m (given ++ console ∷ []) in
-      answered_by (definitions_answer g j lawful found number m given (given ++ console ∷ []) refl k.0 k.1 k.2 k.4 k.5 k.6 k.3 k.7 defs e (plain defs e)) q
-  answered_of number m given t plain q (contents.Implementation b) e = absurd (lonely m (sym (ap (λ (c : Contents). of_contents g number m (given ++ console ∷ []) c) e) ∙ q))
-  answered_of number m given t plain q (contents.Program b) e = absurd (lonely m (sym (ap (λ (c : Contents). of_contents g number m (given ++ console ∷ []) c) e) ∙ q))
+      answered_by (definitions_answer g j lawful found number m given (given ++ console ∷ []) refl k.0 k.1 k.2 k.4 k.5 k.6 k.3 k.7 defs e) q
+  answered_of number m given t q (contents.Implementation b) e = absurd (lonely m (sym (ap (λ (c : Contents). of_contents g number m (given ++ console ∷ []) c) e) ∙ q))
+  answered_of number m given t q (contents.Program b) e = absurd (lonely m (sym (ap (λ (c : Contents). of_contents g number m (given ++ console ∷ []) c) e) ∙ q))
 
-  answered : {number : ℕ} {t : Table} → IsTableOf g number t → Answered number t
-  answered {number = number} {t = t} (is_answered m given plain q) = answered_of number m given t plain q m.contents refl
+  pub answered : {number : ℕ} {t : Table} → IsTableOf g number t → Answered number t
+  answered {number = number} {t = t} (is_answered m given q) = answered_of number m given t q m.contents refl
 
   -- ---- those who import
 
@@ -206,7 +207,7 @@ module _ (g : Gathers) (j : Judges g) (lawful : Lawful g j) (found : Finds g j) 
       (sym (ap (λ (own : List (List ℕ × Known g.Reported)). find_name n own) (q ∙ own_list o [] (λ e m. refl)) ∙ found_own n es)) (taken_by (find_name n es))
 
   pub own_names : OwnNamesAreKnown g j
-  own_names number t (is_answered m given plain q) = let o = contents_once number m (given ++ console ∷ []) m.contents q in (o, λ s e n. own_taken t.exported o s e n)
+  own_names number t (is_answered m given q) = let o = contents_once number m (given ++ console ∷ []) m.contents q in (o, λ s e n. own_taken t.exported o s e n)
 
   -- ---- names stand for the same
 

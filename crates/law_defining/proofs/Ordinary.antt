@@ -28,7 +28,7 @@ use Rattle.def_typing.specs.Declarations as blocks
 use Rattle.def_typing.specs.Declarations.{Declaration, OfConstant, OfType, OfVariables, names_of, constants_of, is_among, Declares, IsFirst, at_first, later_on, nearest, farther, Declared as Resolved, in_front_of, without, Brings, There}
 use Rattle.def_typing.specs.Definitions.{Placed, IsAdded, is_added, Means, says, says_nothing, Follows, Breaks, inside, twice, formal_twice}
 use Rattle.law_typing.specs.Judging.{Judges, Answers, means, refuses}
-use Rattle.law_typing.specs.Exact.{Repeats, TakenAs, is_taken, IsCallFree, IsPlainType}
+use Rattle.law_typing.specs.Exact.{Repeats, TakenAs, is_taken}
 use Rattle.law_typing.proofs.Combining.{Lawful, Decided, holds, fails_it, Tells, silent, tells}
 use Rattle.law_typing.proofs.Entering.{among_decided}
 use Rattle.law_typing.proofs.Beginning.{Adding, added}
@@ -264,14 +264,14 @@ module _ (g : Gathers) (j : Judges g) (lawful : Lawful g j) (exports : ℕ → I
         by (silent n) = silent (λ f z. elim z [ inl b ↦ n f b | inr b ↦ elim b [ ] ])
         by (tells r a) = tells r (record { only = λ f m. elim (a.only f m) [ inl b ↦ inl (inl b) | inr z ↦ absurd z ]; each = λ f z. elim z [ inl b ↦ a.each f b | inr b ↦ elim b [ ] ] })
 
-    pub constant_stepped : (c : Constant) → IsCallFree c.value → Stands (OfConstant c) → One start names taken (OfConstant c) ds B (s, r) (with_constant g (s, r) c)
-    constant_stepped c i v =
-        let q = sections.declare_constant g j lawful exports names start taken v.awaited false (OfConstant c ∷ ds) v.takes v.knows v.no_withs B [] c ds i v.block (told_there (OfConstant c) v) in
+    pub constant_stepped : (c : Constant) → Stands (OfConstant c) → One start names taken (OfConstant c) ds B (s, r) (with_constant g (s, r) c)
+    constant_stepped c v =
+        let q = sections.declare_constant g j lawful exports names start taken v.awaited false (OfConstant c ∷ ds) v.takes v.knows v.no_withs B [] c ds v.block (told_there (OfConstant c) v) in
         (nothing_added, stepped start names taken (record { what = OfConstant c; adds = nothing_added }) ds v refl refl q.1.0 q.1.1 q.1.2 (finish_unheaded (begin_name g s c.name).0 c.name (constant_meaning _) (begin_unheaded g s c.name unheaded)) r (constant_takes g (s, r) c) (λ e f h. absurd h) said_constant q.0 (λ ns all a b. constant_brings_nothing b))
 
-    type_unheaded : (d : TypeDecl) → IsPlainType d.of → (begin_name g s d.name).0.withs ≡ [] → AreUnheaded (with_type g (s, r) d).0.own
-    type_unheaded d i w = let b = (begin_name g s d.name).0 in
-        let q = type_read g j lawful exports i b w in
+    type_unheaded : (d : TypeDecl) → (begin_name g s d.name).0.withs ≡ [] → AreUnheaded (with_type g (s, r) d).0.own
+    type_unheaded d w = let b = (begin_name g s d.name).0 in
+        let q = type_read g j lawful exports d.of b w in
         finish_unheaded (type_of g d.of b).0 d.name (type_meaning (type_of g d.of b).1 (brings_with d.of)) (subst (λ (t : Scope g.Reported). AreUnheaded t.own) (sym q.is) (enters_unheaded q.enters (begin_unheaded g s d.name unheaded)))
 
     -- the constants in a type that is right are new
@@ -308,32 +308,32 @@ module _ (g : Gathers) (j : Judges g) (lawful : Lawful g j) (exports : ℕ → I
     variables_are : {w : Setting} {y : Variables} {a : Added} {t : Standing} → blocks.Says exports w false (OfVariables y) a t → (u : TypeNo) × IsTypeOf exports w y.of a u
     variables_are (blocks.variables {t = u} m) = (u, m)
 
-    pub type_stepped : (d : TypeDecl) → IsPlainType d.of → Stands (OfType d) → One start names taken (OfType d) ds B (s, r) (with_type g (s, r) d)
-    type_stepped d i v =
-        let q = sections.declare_type g j lawful exports names start taken v.awaited false (OfType d ∷ ds) v.takes v.knows v.no_withs B [] d ds i v.block (told_there (OfType d) v) in
+    pub type_stepped : (d : TypeDecl) → Stands (OfType d) → One start names taken (OfType d) ds B (s, r) (with_type g (s, r) d)
+    type_stepped d v =
+        let q = sections.declare_type g j lawful exports names start taken v.awaited false (OfType d ∷ ds) v.takes v.knows v.no_withs B [] d ds v.block (told_there (OfType d) v) in
         let b = (begin_name g s d.name).0 in
         let w = begin_withs s d.name v.block.same.withs in
-        let t = type_read g j lawful exports i b w in (
+        let t = type_read g j lawful exports d.of b w in (
           q.0,
-          stepped start names taken (record { what = OfType d; adds = q.0 }) ds v refl refl q.2.0 q.2.1 q.2.2 (type_unheaded d i w) r (type_takes g (s, r) d t.adds.makes t.own t.is t.enters)
+          stepped start names taken (record { what = OfType d; adds = q.0 }) ds v refl refl q.2.0 q.2.1 q.2.2 (type_unheaded d w) r (type_takes g (s, r) d t.adds.makes t.own t.is t.enters)
               (λ e. let k = typed_right (q.1 (names_there (OfType d) v) (stand_there (OfType d) v)) (right_fine g (begin_name g s d.name).1 (nothing_of (type_of g d.of b).1) (right_fine g r (beside g (begin_name g s d.name).1 (nothing_of (type_of g d.of b).1)) e)) in
               new_constants (OfType d) v (type_new exports (type_is k.1).1)) (said_type q.0) q.1 (λ ns all a b. q.3 ns all a (type_adds b)),
         )
 
-    variables_unheaded : (w : Variables) → IsPlainType w.of → (fold (begun_name g) (s, r) w.names).0.withs ≡ [] → AreUnheaded (with_variables g (s, r) w).0.own
-    variables_unheaded w i e = let b = (fold (begun_name g) (s, r) w.names).0 in
-        let q = type_read g j lawful exports i b e in
+    variables_unheaded : (w : Variables) → (fold (begun_name g) (s, r) w.names).0.withs ≡ [] → AreUnheaded (with_variables g (s, r) w).0.own
+    variables_unheaded w e = let b = (fold (begun_name g) (s, r) w.names).0 in
+        let q = type_read g j lawful exports w.of b e in
         finished_unheaded (type_of g w.of b).1 w.names (type_of g w.of b).0 (subst (λ (t : Scope g.Reported). AreUnheaded t.own) (sym q.is) (enters_unheaded q.enters (begun_unheaded g w.names s r unheaded)))
 
-    pub variables_stepped : (w : Variables) → IsPlainType w.of → Stands (OfVariables w) → One start names taken (OfVariables w) ds B (s, r) (with_variables g (s, r) w)
-    variables_stepped w i v =
-        let q = sections.declare_variables g j lawful exports names start taken v.awaited false (OfVariables w ∷ ds) v.takes v.knows v.no_withs B [] w ds i v.block (told_there (OfVariables w) v) in
+    pub variables_stepped : (w : Variables) → Stands (OfVariables w) → One start names taken (OfVariables w) ds B (s, r) (with_variables g (s, r) w)
+    variables_stepped w v =
+        let q = sections.declare_variables g j lawful exports names start taken v.awaited false (OfVariables w ∷ ds) v.takes v.knows v.no_withs B [] w ds v.block (told_there (OfVariables w) v) in
         let c = fold (begun_name g) (s, r) w.names in
         let e = begun_withs w.names s r v.block.same.withs in
-        let t = type_read g j lawful exports i c.0 e in
+        let t = type_read g j lawful exports w.of c.0 e in
         let told_now = told_so start names taken (record { what = OfVariables w; adds = q.0 }) ds v refl refl q.2.1 in (
           q.0,
-          stepped start names taken (record { what = OfVariables w; adds = q.0 }) ds v refl refl q.2.0 q.2.1 q.2.2 (variables_unheaded w i e) r
+          stepped start names taken (record { what = OfVariables w; adds = q.0 }) ds v refl refl q.2.0 q.2.1 q.2.2 (variables_unheaded w e) r
               (λ z. variables_take g (s, r) w (λ n. taken n ≡ true) (λ f h. silent_of told_now z f (inr (twice h))) t.adds.makes t.own t.is t.enters z)
               (λ z. let k = typed_right (q.1 (names_there (OfVariables w) v) (stand_there (OfVariables w) v)) (right_fine g c.1 (nothing_of (type_of g w.of c.0).1) z) in
               new_constants (OfVariables w) v (type_new exports (variables_are k.1).1)) (said_variables q.0) q.1 (λ ns all a b. q.3 ns all a (variables_add b)),

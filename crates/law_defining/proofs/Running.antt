@@ -17,7 +17,7 @@ use Rattle.def_typing.specs.Declarations.{Declaration, OfConstant, OfType, OfVar
 use Rattle.def_typing.specs.Definitions.{Context, Placed, Breaks, AllFollow, nothing_follows, one_follows, BrokenIn}
 use Rattle.law_typing.specs.Judging.{Judges}
 use Rattle.law_typing.proofs.Combining.{Lawful, Tells, tells_as}
-use Rattle.law_defining.specs.Exact.{declared_in, all_declared, IsPlainDef, ArePlainDefs}
+use Rattle.law_defining.specs.Exact.{declared_in, all_declared}
 use Rattle.law_defining.proofs.Unheaded.{AreUnheaded}
 use Rattle.law_defining.proofs.Among.{among_left, among_right, among_split}
 use Rattle.law_defining.proofs.Listing.{Listing, listing_nothing, listing_more, listing_both}
@@ -168,17 +168,17 @@ module _ (g : Gathers) (j : Judges g) (lawful : Lawful g j) (exports : ℕ → I
 
   -- ---- all of a definition
 
-  def_ran : (d : Def) → IsPlainDef d → (start : S) (names : Ident → Standing) (taken : List ℕ → Bool) (rest : List Declaration) (B : Breach → Type 0) (s : S) (r : R) → Standpoint g j exports start names taken (declared_in d ++ rest) B s → Tells g j lawful (λ f. ⊥) B r → AreUnheaded s.own → Ran start names taken (declared_in d) rest B (s, r) (with_def g (s, r) d)
-  def_ran (def.Constants cs) i start names taken rest B s r v t u = section_ran (with_constant g) OfConstant cs (λ c m start names taken ds B s r t u v. constant_stepped g j lawful exports start names taken ds B s r t u c (i c m) v) start names taken rest B s r v t u
-  def_ran (def.Types ts) i start names taken rest B s r v t u = section_ran (with_type g) OfType ts (λ d m start names taken ds B s r t u v. type_stepped g j lawful exports start names taken ds B s r t u d (i d m) v) start names taken rest B s r v t u
-  def_ran (def.Variables vs) i start names taken rest B s r v t u = section_ran (with_variables g) OfVariables vs (λ w m start names taken ds B s r t u v. variables_stepped g j lawful exports start names taken ds B s r t u w (i w m) v) start names taken rest B s r v t u
-  def_ran (def.Procedure h) i start names taken rest B s r v t u = let q = procedure_stepped g j lawful exports start names taken h rest v u t in
+  def_ran : (d : Def) → (start : S) (names : Ident → Standing) (taken : List ℕ → Bool) (rest : List Declaration) (B : Breach → Type 0) (s : S) (r : R) → Standpoint g j exports start names taken (declared_in d ++ rest) B s → Tells g j lawful (λ f. ⊥) B r → AreUnheaded s.own → Ran start names taken (declared_in d) rest B (s, r) (with_def g (s, r) d)
+  def_ran (def.Constants cs) start names taken rest B s r v t u = section_ran (with_constant g) OfConstant cs (λ c m start names taken ds B s r t u v. constant_stepped g j lawful exports start names taken ds B s r t u c v) start names taken rest B s r v t u
+  def_ran (def.Types ts) start names taken rest B s r v t u = section_ran (with_type g) OfType ts (λ d m start names taken ds B s r t u v. type_stepped g j lawful exports start names taken ds B s r t u d v) start names taken rest B s r v t u
+  def_ran (def.Variables vs) start names taken rest B s r v t u = section_ran (with_variables g) OfVariables vs (λ w m start names taken ds B s r t u v. variables_stepped g j lawful exports start names taken ds B s r t u w v) start names taken rest B s r v t u
+  def_ran (def.Procedure h) start names taken rest B s r v t u = let q = procedure_stepped g j lawful exports start names taken h rest v u t in
       ran_more (OfProcedure h) [] rest q (ran_nothing rest (with_def g (s, r) (def.Procedure h)) q.1.stands q.1.told q.1.unheaded)
 
-  pub defs_ran : (ds : List Def) → ArePlainDefs ds → (start : S) (names : Ident → Standing) (taken : List ℕ → Bool) (B : Breach → Type 0) (s : S) (r : R) → Standpoint g j exports start names taken (all_declared ds) B s → Tells g j lawful (λ f. ⊥) B r → AreUnheaded s.own → RanAll start names taken (all_declared ds) B (s, r) (fold (with_def g) (s, r) ds)
-  defs_ran [] i start names taken B s r v t u = all_nothing (s, r) v t u
-  defs_ran (d ∷ ds) i start names taken B s r v t u = let q = def_ran d (i d here) start names taken (all_declared ds) B s r v t u in
-      ran_all (declared_in d) (all_declared ds) q (defs_ran ds (λ c m. i c (later m)) q.next q.next_names q.next_taken _ (with_def g (s, r) d).0 (with_def g (s, r) d).1 q.stands q.told q.unheaded)
+  pub defs_ran : (ds : List Def) → (start : S) (names : Ident → Standing) (taken : List ℕ → Bool) (B : Breach → Type 0) (s : S) (r : R) → Standpoint g j exports start names taken (all_declared ds) B s → Tells g j lawful (λ f. ⊥) B r → AreUnheaded s.own → RanAll start names taken (all_declared ds) B (s, r) (fold (with_def g) (s, r) ds)
+  defs_ran [] start names taken B s r v t u = all_nothing (s, r) v t u
+  defs_ran (d ∷ ds) start names taken B s r v t u = let q = def_ran d start names taken (all_declared ds) B s r v t u in
+      ran_all (declared_in d) (all_declared ds) q (defs_ran ds q.next q.next_names q.next_taken _ (with_def g (s, r) d).0 (with_def g (s, r) d).1 q.stands q.told q.unheaded)
 
 -- Types are those of one module.
 pub home_kept : {exports : ℕ → Ident → Standing} {c last : Context} {ds : List Declaration} {ps : List Placed} → AllFollow exports c ds ps last → last.types.home ≡ c.types.home

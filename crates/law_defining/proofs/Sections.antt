@@ -31,7 +31,7 @@ use Rattle.def_typing.specs.Parts.{Among, here, later, Named}
 use Rattle.def_typing.specs.Declarations as rules
 use Rattle.def_typing.specs.Declarations.{Declaration, OfConstant, OfType, OfVariables, OfProcedure, declared_by, declarations_of, names_of, constants_of, names_in, formals_in, Declares, AnyDeclares, Declared as Resolved, in_order, IsThere, types_behind, procedure, is_variables, in_front_of, without, Says, Brings, Misdeclares, AllAdded, BrokenIn}
 use Rattle.law_typing.specs.Judging.{Judges, Answers}
-use Rattle.law_typing.specs.Exact.{standing, is_own_variable, TakenAs, Knows, Repeats, IsCallFree, IsPlainType}
+use Rattle.law_typing.specs.Exact.{standing, is_own_variable, TakenAs, Knows, Repeats}
 use Rattle.law_typing.proofs.Combining.{Lawful, Decided, fails_it, Tells, silent, tells, tells_as, beside_tells}
 use Rattle.law_typing.proofs.Entering.{named_left}
 use Rattle.law_typing.proofs.Declaring.{All, Added as Added_there, Elsewhere, Saying, KnowsBlock, knowing, repeating, standings, all_stand, home_same}
@@ -219,9 +219,9 @@ module _ (g : Gathers) (j : Judges g) (lawful : Lawful g j) (exports : ℕ → I
 
   -- ---- constants
 
-  module _ (front : List Resolved) (c : Constant) (ds : List Declaration) (free : IsCallFree c.value) where
+  module _ (front : List Resolved) (c : Constant) (ds : List Declaration) where
     constant_exact : {s : Scope g.Reported} (k : KB front (OfConstant c ∷ ds) (Adding (c.name ∷ []) (Th front)) s) → Exactly g j lawful exports outside start taken awaited nested block said_constant front (OfConstant c) (constant g s (part g c.value))
-    constant_exact {s = s} k names all = more_answers g j lawful (O front) (Repeat front (plain_one (OfConstant c)) ds refl refl refl k all) (constant_says g j lawful nested (T front) names (SetAt front (OfConstant c) names).there exports s (Read front (plain_one (OfConstant c)) ds refl refl refl k all) k.same.types c free)
+    constant_exact {s = s} k names all = more_answers g j lawful (O front) (Repeat front (plain_one (OfConstant c)) ds refl refl refl k all) (constant_says g j lawful nested (T front) names (SetAt front (OfConstant c) names).there exports s (Read front (plain_one (OfConstant c)) ds refl refl refl k all) k.same.types c)
 
     pub declare_constant : {s : Scope g.Reported} {r : Result (Unit {0}) g.Reported} → KB front (OfConstant c ∷ ds) (Th front) s → Told front r → Exactly g j lawful exports outside start taken awaited nested block said_constant front (OfConstant c) (constant g (begin_name g s c.name).0 (part g c.value)) × Stepped front (plain_one (OfConstant c)) ds (with_constant g (s, r) c)
     declare_constant k t = let b = begin_one g j lawful exports outside start taken awaited nested block takes (O front) front (OfConstant c) ds refl (Th front) c.name (c.name, here, refl) k in
@@ -280,9 +280,9 @@ module _ (g : Gathers) (j : Judges g) (lawful : Lawful g j) (exports : ℕ → I
   abbrev pub One : List Resolved → Declaration → TypeExpr → (Added → TypeNo → Saids) → Result TypeNo g.Reported → List Declaration → State (Unit {0}) g.Reported → Type 0
   One front x e said r ds st = (a : Added) × Exactly g j lawful exports outside start taken awaited nested block (said a) front x r × Stepped front (typed_one x a) ds st × ((names : Ident → Standing) → Stand front names → (b : Added) → Adds exports (SetAt front x names) e b → b ≡ a)
 
-  pub declare_type : (front : List Resolved) (d : TypeDecl) (ds : List Declaration) → IsPlainType d.of → {s : Scope g.Reported} {r : Result (Unit {0}) g.Reported} → KB front (OfType d ∷ ds) (Th front) s → Told front r → One front (OfType d) d.of (λ a t. said_type a t) (type_of g d.of (begin_name g s d.name).0).1 ds (with_type g (s, r) d)
-  declare_type front d ds i {s = s} k t = let b = begin_one g j lawful exports outside start taken awaited nested block takes (O front) front (OfType d) ds refl (Th front) d.name (d.name, here, refl) k in
-      let read = type_read g j lawful exports i (begin_name g s d.name).0 b.0.same.withs in
+  pub declare_type : (front : List Resolved) (d : TypeDecl) (ds : List Declaration) → {s : Scope g.Reported} {r : Result (Unit {0}) g.Reported} → KB front (OfType d ∷ ds) (Th front) s → Told front r → One front (OfType d) d.of (λ a t. said_type a t) (type_of g d.of (begin_name g s d.name).0).1 ds (with_type g (s, r) d)
+  declare_type front d ds {s = s} k t = let b = begin_one g j lawful exports outside start taken awaited nested block takes (O front) front (OfType d) ds refl (Th front) d.name (d.name, here, refl) k in
+      let read = type_read g j lawful exports d.of (begin_name g s d.name).0 b.0.same.withs in
       (read.adds, type_exact front d ds b.0 (type_of g d.of (begin_name g s d.name).0) read, type_ended front d ds b.0 (type_of g d.of (begin_name g s d.name).0) read t b.1, type_only front d ds b.0 (type_of g d.of (begin_name g s d.name).0) read)
 
   -- ---- variables
@@ -348,8 +348,8 @@ module _ (g : Gathers) (j : Judges g) (lawful : Lawful g j) (exports : ℕ → I
       → KB front (OfVariables v ∷ ds) (Adding v.names (Th front)) (fold (begun_name g) (s, r) v.names).0 × Tells g j lawful (O front) (λ f. BI front f ⊎ Twice (Th front) v.names f) (fold (begun_name g) (s, r) v.names).1
   begun_list front v ds k t = begin_all g j lawful exports outside start taken awaited nested block takes (O front) front (OfVariables v) ds refl v.names (Th front) (λ x m. named_left (constants_in v.of) (x, m, refl)) k (told_here t)
 
-  pub declare_variables : (front : List Resolved) (v : Variables) (ds : List Declaration) → IsPlainType v.of → {s : Scope g.Reported} {r : Result (Unit {0}) g.Reported} → KB front (OfVariables v ∷ ds) (Th front) s → Told front r → One front (OfVariables v) v.of (λ a t. said_variables a t) (type_of g v.of (fold (begun_name g) (s, r) v.names).0).1 ds (with_variables g (s, r) v)
-  declare_variables front v ds i {s = s} {r = r} k t = let b = begun_list front v ds k t in
+  pub declare_variables : (front : List Resolved) (v : Variables) (ds : List Declaration) → {s : Scope g.Reported} {r : Result (Unit {0}) g.Reported} → KB front (OfVariables v ∷ ds) (Th front) s → Told front r → One front (OfVariables v) v.of (λ a t. said_variables a t) (type_of g v.of (fold (begun_name g) (s, r) v.names).0).1 ds (with_variables g (s, r) v)
+  declare_variables front v ds {s = s} {r = r} k t = let b = begun_list front v ds k t in
       let u = (fold (begun_name g) (s, r) v.names).0 in
-      let read = type_read g j lawful exports i u b.0.same.withs in
+      let read = type_read g j lawful exports v.of u b.0.same.withs in
       (read.adds, variables_exact front v ds b.0 (type_of g v.of u) read, module_ended front v ds b.0 (type_of g v.of u) read b.1, variables_only front v ds b.0 (type_of g v.of u) read)

@@ -48,7 +48,7 @@ use Rattle.def_typing.specs.Definitions.{Context, Placed, none_awaited}
 use Rattle.def_typing.specs.Imports as imports
 use Rattle.def_typing.specs.Imports.{all_imported, Origin, Itself, Exported, Brings, Entry}
 use Rattle.law_typing.specs.Judging.{Judges, Accounts, Reports, reports_nothing, reports_broken}
-use Rattle.law_typing.specs.Exact.{Sees, sees, no_names, standing, of_local, Knows, Repeats, of_heading, of_declaration, TakenAs, is_taken, not_taken, IsPlainLayer, ArePlainDecls, AreOnce}
+use Rattle.law_typing.specs.Exact.{Sees, sees, no_names, standing, of_local, Knows, Repeats, of_heading, of_declaration, TakenAs, is_taken, not_taken, AreOnce}
 use Rattle.law_typing.proofs.Heading.{nil_right}
 use Rattle.law_typing.proofs.Combining.{Lawful, Tells, silent, tells}
 use Rattle.law_typing.proofs.Declaring.{any_first, headed, KnownAs, outer, ahead, reading, behind, a_member, KnowsBlock, mark_of}
@@ -67,7 +67,7 @@ use Rattle.law_defining.proofs.Keeping.{defs_keep}
 use Rattle.law_defining.proofs.Entries.{found_named, entry_of, exported_are}
 use Rattle.law_defining.proofs.Listing.{names_all, any_named_all, AllListed}
 use Rattle.law_defining.proofs.Marks.{names as names_in, defs_declare}
-use Rattle.law_defining.specs.Exact.{declared_in, all_declared, IsPlainDef, ArePlainDefs, none, IsTaken, by_import, by_none, AreSound, IsTable, IsAnswered, is_table, is_refused, IsDefinitionExact, DefinitionsAreExact}
+use Rattle.law_defining.specs.Exact.{declared_in, all_declared, none, IsTaken, by_import, by_none, AreSound, IsTable, IsAnswered, is_table, is_refused, IsDefinitionExact, DefinitionsAreExact}
 use Rattle.law_defining.proofs.Unheaded.{Unheaded, AreUnheaded}
 use Rattle.law_defining.proofs.Stepping.{context, Standpoint}
 use Rattle.law_defining.proofs.Running.{RanAll, defs_ran, home_kept}
@@ -87,12 +87,6 @@ decl_of d = roll-Decl (layer_of d)
 decl_is : (d : Def) → out-Decl (decl_of d) ≡ layer_of d
 decl_is d = out-roll-Decl (layer_of d)
 
-layer_plain : (d : Def) → IsPlainDef d → IsPlainLayer (layer_of d)
-layer_plain (def.Constants cs) i = i
-layer_plain (def.Types ts) i = i
-layer_plain (def.Variables vs) i = i
-layer_plain (def.Procedure h) i = i
-
 layer_declares : (d : Def) → declared_by (layer_of d) ≡ declared_in d
 layer_declares (def.Constants cs) = refl
 layer_declares (def.Types ts) = refl
@@ -104,11 +98,6 @@ layer_marks s (def.Constants cs) = refl
 layer_marks s (def.Types ts) = refl
 layer_marks s (def.Variables vs) = refl
 layer_marks s (def.Procedure h) = refl
-
-decls_plain : (ds : List Def) → ArePlainDefs ds → ArePlainDecls (map decl_of ds)
-decls_plain [] i d m = elim m [ ]
-decls_plain (x ∷ xs) i _ here = subst (λ (y : Decl-F Decl Block). IsPlainLayer y) (sym (decl_is x)) (layer_plain x (i x here))
-decls_plain (x ∷ xs) i d (later m) = decls_plain xs (λ y n. i y (later n)) d m
 
 decls_declare : (ds : List Def) → declarations_of (map decl_of ds) ≡ all_declared ds
 decls_declare [] = refl
@@ -170,7 +159,7 @@ unheaded_mark T (OfProcedure h) = tt
 -- ---- one definition
 
 module _ (g : Gathers) (j : Judges g) (lawful : Lawful g j) (found : Finds g j) (home : ℕ) (m : Module) (tables : List Table) (exports : ℕ → Ident → Standing) (outside names : Ident → Standing) (knows : Knows g j outside exports (first_scope home tables)) (sound : AreSound outside)
-    (stands : (name : Ident) → StandsFor tables none (all_imported m.imports) outside name (names name)) (taken : List ℕ → Bool) (takes : (n : List ℕ) → IsTaken tables (all_imported m.imports) n (taken n)) (defs : List Def) (plain : ArePlainDefs defs) where
+    (stands : (name : Ident) → StandsFor tables none (all_imported m.imports) outside name (names name)) (taken : List ℕ → Bool) (takes : (n : List ℕ) → IsTaken tables (all_imported m.imports) n (taken n)) (defs : List Def) where
   abbrev S : Type 0
   S = Scope g.Reported
 
@@ -225,7 +214,7 @@ module _ (g : Gathers) (j : Judges g) (lawful : Lawful g j) (found : Finds g j) 
   ThBare = rules.There first.types exports outside none none_awaited false block []
 
   marks_begin : KnowsBlock g j exports outside first none none_awaited false block [] block ThBare marked
-  marks_begin = subst (λ (s : S). KnowsBlock g j exports outside first none none_awaited false block [] block ThBare s) (decls_mark defs first []) (block_begins g j exports outside first none none_awaited false block (λ n. not_taken) (map decl_of defs) (decls_plain defs plain) refl (decls_declare defs))
+  marks_begin = subst (λ (s : S). KnowsBlock g j exports outside first none none_awaited false block [] block ThBare s) (decls_mark defs first []) (block_begins g j exports outside first none none_awaited false block (λ n. not_taken) (map decl_of defs) refl (decls_declare defs))
 
   taken_is : {n : List ℕ} {b : Bool} → IsTaken tables (all_imported m.imports) n b → (o : Origin) (w : Meaning) → There n o w → b ≡ true
   taken_is (by_import u x i) o w h = refl
@@ -321,7 +310,7 @@ module _ (g : Gathers) (j : Judges g) (lawful : Lawful g j) (found : Finds g j) 
   }
 
   all_of_it : RanAll g j lawful exports start names taken block Before entered (fold (with_def g) entered defs)
-  all_of_it = defs_ran g j lawful exports defs plain start names taken Before entered.0 entered.1 stands_first (told_by kept.reported) entered_unheaded
+  all_of_it = defs_ran g j lawful exports defs start names taken Before entered.0 entered.1 stands_first (told_by kept.reported) entered_unheaded
 
   -- a table, or what is reported
   data Tabled (Is : Table → Type 0) (B : Breach → Type 0) : Result Table g.Reported → Type 0 where
@@ -465,5 +454,5 @@ module _ (g : Gathers) (j : Judges g) (lawful : Lawful g j) (found : Finds g j) 
   }
 
 pub definitions_answer : (g : Gathers) (j : Judges g) → Lawful g j → Finds g j → DefinitionsAreExact g j
-definitions_answer g j lawful found home m given tables e exports outside names knows sound stands taken takes defs q plain =
-    definition_answers g j lawful found home m tables exports outside names knows sound stands taken takes defs plain given e q
+definitions_answer g j lawful found home m given tables e exports outside names knows sound stands taken takes defs q =
+    definition_answers g j lawful found home m tables exports outside names knows sound stands taken takes defs given e q

@@ -2,9 +2,6 @@
 use Rattle.std.specs.Prelude.{◌≡◌, ◌⊎◌, ℕ, Bool, true, false, List, [], ◌∷◌, ◌++◌, map, reverse, Some, Result, Ok, Err}
 use Rattle.m2_rule.specs.declared.breach.Breach.{Breach}
 use Rattle.m2_tree.specs.declared.name.Ident.{Ident}
-use Rattle.m2_tree.specs.declared.decl.Constant.{Constant as ConstantDecl}
-use Rattle.m2_tree.specs.declared.decl.TypeDecl.{TypeDecl}
-use Rattle.m2_tree.specs.declared.decl.Variables.{Variables}
 use Rattle.m2_tree.specs.declared.decl.Def.{Def}
 use Rattle.m2_tree.specs.declared.decl.Def.TheVariants as def
 use Rattle.m2_tree.specs.declared.decl.Contents.TheVariants as contents
@@ -18,14 +15,13 @@ use Rattle.check_scope.specs.Elaborated.{Gathers}
 use Rattle.check_definition.specs.Predeclared.{console, others_of, first_scope}
 use Rattle.check_definition.specs.Compiled.{definition_table}
 use Rattle.def_typing.specs.Things.{Headless, Standing, Known, Unknown}
-use Rattle.def_typing.specs.Parts.{Among}
 use Rattle.def_typing.specs.Declarations.{Declaration, OfConstant, OfType, OfVariables, OfProcedure}
 use Rattle.def_typing.specs.Definitions as definitions
 use Rattle.def_typing.specs.Definitions.{Context, Placed, AllFollow}
 use Rattle.def_typing.specs.Imports as imports
 use Rattle.def_typing.specs.Imports.{Imported, all_imported, Origin, Brings}
 use Rattle.law_typing.specs.Judging.{Judges, Accounts}
-use Rattle.law_typing.specs.Exact.{standing, Knows, IsCallFree, IsPlainType}
+use Rattle.law_typing.specs.Exact.{standing, Knows}
 use Rattle.law_importing.specs.Exact.{StandsFor}
 use Rattle.law_defining.specs.Exports.{AreExported, AreModules, all_reached, AreMet, own_met}
 
@@ -40,16 +36,6 @@ declared_in (def.Procedure h) = OfProcedure h ∷ []
 abbrev pub all_declared : List Def → List Declaration
 all_declared [] = []
 all_declared (d ∷ ds) = declared_in d ++ all_declared ds
-
--- Constants and bounds call nothing.
-abbrev pub IsPlainDef : Def → Type 0
-IsPlainDef (def.Constants cs) = (c : ConstantDecl) → Among c cs → IsCallFree c.value
-IsPlainDef (def.Types ts) = (d : TypeDecl) → Among d ts → IsPlainType d.of
-IsPlainDef (def.Variables vs) = (v : Variables) → Among v vs → IsPlainType v.of
-IsPlainDef (def.Procedure h) = Unit {0}
-
-abbrev pub ArePlainDefs : List Def → Type 0
-ArePlainDefs ds = (d : Def) → Among d ds → IsPlainDef d
 
 -- ---- where they begin
 
@@ -135,7 +121,7 @@ DefinitionsAreExact g j =
     → ((name : Ident) → StandsFor tables none (all_imported m.imports) outside name (names name))
     → (taken : List ℕ → Bool)
     → ((n : List ℕ) → IsTaken tables (all_imported m.imports) n (taken n))
-    → (defs : List Def) → m.contents ≡ contents.Definition defs → ArePlainDefs defs
+    → (defs : List Def) → m.contents ≡ contents.Definition defs
     → IsDefinitionExact g j home m imported tables exports names taken defs
 
 -- For each definition there is what names stand for before its declarations, and no rule is broken

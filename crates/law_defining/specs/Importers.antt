@@ -4,7 +4,6 @@ use Rattle.std.specs.List.{fold}
 use Rattle.std.specs.Option.{is_some}
 use Rattle.m2_tree.specs.declared.name.Ident.{Ident}
 use Rattle.m2_tree.specs.declared.decl.Def.{Def}
-use Rattle.m2_tree.specs.declared.decl.Contents.TheVariants as contents
 use Rattle.m2_tree.specs.declared.decl.Module.{Module}
 use Rattle.typed_tree.specs.declared.types.TypeNo.{TypeNo}
 use Rattle.typed_tree.specs.declared.meaning.Meaning.{Meaning}
@@ -20,14 +19,11 @@ use Rattle.def_typing.specs.Parts.{Among}
 use Rattle.law_typing.specs.Judging.{Judges}
 use Rattle.law_typing.specs.Exact.{Knows, TakenAs, AreOnce}
 use Rattle.law_importing.specs.Exact.{AreForeign, with_declared}
-use Rattle.law_defining.specs.Exact.{ArePlainDefs, IsDefinitionExact}
-
-abbrev pub IsPlainModule : Module → Type 0
-IsPlainModule m = (defs : List Def) → m.contents ≡ contents.Definition defs → ArePlainDefs defs
+use Rattle.law_defining.specs.Exact.{IsDefinitionExact}
 
 -- the table of a definition
 pub data IsTableOf (g : Gathers) (number : ℕ) (t : Table) : Type 0 where
-  is_answered : (m : Module) (imported : List Table) → IsPlainModule m
+  is_answered : (m : Module) (imported : List Table)
       → definition_table g number m imported ≡ Ok t → IsTableOf g number t
 
 -- a table that a module of this number can import from

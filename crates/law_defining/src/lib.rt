@@ -2,8 +2,7 @@
 //!
 //! `law_importing` has imports, and `law_typing` the declarations of a block. Those of a definition are elaborated by the same
 //! definitions, but its names are marked before its imports, and its procedures make their types in another way. These laws hold
-//! of the elaboration in `check_definition`, of all that it gathers and of the least refusal alike. Constants and bounds call
-//! nothing there (`ArePlainDefs`).
+//! of the elaboration in `check_definition`, of all that it gathers and of the least refusal alike.
 //!
 //! - `specs/Exact` says what is answered of a definition, `specs/Exports` what its table exports, and `specs/Importers` what
 //!   those who import it, and its own implementation, know of this table. The rules of its declarations stand in

@@ -178,7 +178,7 @@ module _ (g : Gathers) (j : Judges g) (lawful : Lawful g j) (own : List ℕ → 
     known = λ exports outside names knows e h. knows_end exports outside knows e names h;
     counts = λ outer. ((λ name. (mine_by outer name (all.0.names name.name)).0), (λ name. (mine_by outer name (all.0.names name.name)).1));
     counted = λ foreign outer mine e owned h. owns_end e foreign outer owned mine h;
-    block = λ exports outside names knows e h taken awaited t ends first ds plain. block_answers g j lawful exports names end.0 taken awaited (knows_end exports outside knows e names h) (withs_end e) t ends first ds plain;
+    block = λ exports outside names knows e h taken awaited t ends first ds. block_answers g j lawful exports names end.0 taken awaited (knows_end exports outside knows e names h) (withs_end e) t ends first ds;
     takes = λ before waits t. ((λ n. (taken_by before waits t n (all.0.names n)).0), (λ n. (taken_by before waits t n (all.0.names n)).1), (λ n. (taken_by before waits t n (all.0.names n)).2));
   }
 

@@ -139,9 +139,9 @@ module _ (g : Gathers) (j : Judges g) (lawful : Lawful g j) (associates : Associ
   both_reported {B = B} {C = C} {O = O} x y e = subst (λ (r : Result (Unit {0}) g.Reported). Reports g j O (λ f. B f ⊎ C f) r) (sym e) (reports (beside_tells g j lawful O (told x) (told_too y)))
 
   pub following_answers : FollowingBlocksAreExact g j
-  following_answers own s owns imports exports outside names knows e h taken awaited t ends first ds plain =
+  following_answers own s owns imports exports outside names knows e h taken awaited t ends first ds =
       let i = imports_answer g j lawful own s owns imports in
-      let b = i.block exports outside names knows e h taken awaited t ends first ds plain in
+      let b = i.block exports outside names knows e h taken awaited t ends first ds in
       let m = block_moves g associates (imported_all g s imports).1 ends (imported_all g s imports).0 first ds in (
         b.whole,
         b.in_text,

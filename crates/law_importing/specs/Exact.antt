@@ -28,7 +28,7 @@ use Rattle.def_typing.specs.Parts.{Among}
 use Rattle.def_typing.specs.Imports as rules
 use Rattle.def_typing.specs.Imports.{Imported, all_imported, Itself, Exported, Brings, BrokenIn}
 use Rattle.law_typing.specs.Judging.{Judges, Reports}
-use Rattle.law_typing.specs.Exact.{standing, is_own_variable, Knows, KnowsOwn, Repeats, TakenAs, ArePlainDecls, is_nested, IsBlockExact}
+use Rattle.law_typing.specs.Exact.{standing, is_own_variable, Knows, KnowsOwn, Repeats, TakenAs, is_nested, IsBlockExact}
 
 abbrev pub origin : rules.Origin → Origin
 origin (Itself k) = Module k
@@ -120,7 +120,7 @@ pub record AreImportsExact (g : Gathers) (j : Judges g) (own : List ℕ → Bool
       → (taken : List ℕ → Bool) (awaited : List ℕ → Option TypeNo)
       → ((n : List ℕ)
       → TakenAs g j (taken n) (awaited n) (find_name n (imported_all g s imports).0.own))
-      → (ends : List ℕ) (first : ℕ) (ds : List Decl) → ArePlainDecls ds
+      → (ends : List ℕ) (first : ℕ) (ds : List Decl)
       → IsBlockExact g j exports names (imported_all g s imports).0 taken awaited ends first ds
 
 -- Imports are elaborated exactly, if the module's own definition alone has declared names before.
@@ -169,7 +169,7 @@ FollowingBlocksAreExact g j =
     → (taken : List ℕ → Bool) (awaited : List ℕ → Option TypeNo)
     → ((n : List ℕ)
     → TakenAs g j (taken n) (awaited n) (find_name n (imported_all g s imports).0.own))
-    → (ends : List ℕ) (first : ℕ) (ds : List Decl) → ArePlainDecls ds
+    → (ends : List ℕ) (first : ℕ) (ds : List Decl)
     → (whole : List Resolved) × (in_order whole ≡ declarations_of ds)
     × Reports g j (Repeats g j names (imported_all g s imports).0)
     (λ f. BrokenIn s.tables own (all_imported imports) f

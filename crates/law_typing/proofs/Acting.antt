@@ -33,7 +33,7 @@ use Rattle.def_typing.specs.Assignments.{at_designator, in_designator, BrokenDes
 use Rattle.def_typing.specs.Actions as rules
 use Rattle.def_typing.specs.Actions.{IsProper, proper, standard, Acts, acts, counts, changes, halts, puts, Misacts, IsAction, is_action, BrokenAction, in_procedure, in_argument, at_action}
 use Rattle.law_typing.specs.Judging.{Judges, Answers}
-use Rattle.law_typing.specs.Exact.{Knows, IsPlain, ArePlain, ArePlainSelectors}
+use Rattle.law_typing.specs.Exact.{Knows}
 use Rattle.law_typing.proofs.Combining.{Lawful, exact, passes, map_checks, ahead_answers, heading_answers}
 use Rattle.law_typing.proofs.Elements.{checks_answer}
 use Rattle.law_typing.proofs.Shaping.{signature_there, SignatureIs, has_signature, no_signature, one_signature}
@@ -41,7 +41,7 @@ use Rattle.law_typing.proofs.Finding.{Elsewhere, IsFound, AnyBroken, InLayer, lo
 use Rattle.law_typing.proofs.Places.{head_at}
 use Rattle.law_typing.proofs.Routines.{Heads, heading_of, made_of, not_headless, no_standard, Wrong, all_pass, IsCallee, callee_routine, callee_standard, MayCall, may_standard, NoCall, callee_answers, may_or_not, no_call_of, headed_may, none_is_some}
 use Rattle.law_typing.proofs.Changing.{ActsSo, refused_action, standard_acts}
-use Rattle.law_typing.proofs.Expressing.{found_all, plain_all, designator_found}
+use Rattle.law_typing.proofs.Expressing.{expression_found, designator_found}
 
 module _ (g : Gathers) (j : Judges g) (lawful : Lawful g j) (names : Ident → Standing) (exports : ℕ → Ident → Standing) (s : Scope g.Reported) where
   abbrev E : Breach → Type 0
@@ -126,19 +126,19 @@ module _ (g : Gathers) (j : Judges g) (lawful : Lawful g j) (names : Ident → S
   passed_length (one_more m p r) = ap suc (passed_length r)
 
   counted_by : {x : Thing} {h : TypeNo} {p : Signature} (at : Pos) (xs : List Expr) (c : Callee) (b : Bool) → (length p.formals == length (map (meanings_of g) xs)) ≡ b → Heads s.types x h → IsMade s.types h (shape.Procedure p) → p.result ≡ None
-      → ((y : Expr) → Among y xs → IsPlain y) → ((y : Expr) → Among y xs → Found y)
+      → ((y : Expr) → Among y xs → Found y)
       → So at x xs (ahead g (reported_where g (not b) at rule.ArgumentCount (Ok tt)) (breaches_in_all g s (map (meanings_of g) xs)) (λ (u : Unit {0}). call_done c (actuals g s p.formals (map (meanings_of g) xs))))
-  counted_by {x = x} {p = p} at xs c false e w m r i h = refused_action g j lawful names exports s at rule.ArgumentCount (λ a. not_equal (passed_length (passed_by w m a))) (rules.wrong_count (proper (heading_of s.types w m) r) (λ i. not_equal (sym (proper_count w m i).0))) (λ f z. count_wrong at f w m r not_equal z) h
+  counted_by {x = x} {p = p} at xs c false e w m r h = refused_action g j lawful names exports s at rule.ArgumentCount (λ a. not_equal (passed_length (passed_by w m a))) (rules.wrong_count (proper (heading_of s.types w m) r) (λ i. not_equal (sym (proper_count w m i).0))) (λ f z. count_wrong at f w m r not_equal z) h
     where
       differ : (a b : ℕ) → (a == b) ≡ false → a ≡ b → ⊥
       differ a b e q = absurd (grind (arith, nat_tests))
 
       not_equal : length p.formals ≡ length xs → ⊥
       not_equal q = differ (length p.formals) (length (map (meanings_of g) xs)) e (q ∙ sym (length-map xs (meanings_of g)))
-  counted_by {x = x} {p = p} at xs c true e w m r i h = exact g j lawful E {M = λ u. Unit {0} × ArePassed s.types names exports p.formals xs} {B = λ f. ⊥ ⊎ (Any xs f ⊎ W p.formals xs f)}
+  counted_by {x = x} {p = p} at xs c true e w m r h = exact g j lawful E {M = λ u. Unit {0} × ArePassed s.types names exports p.formals xs} {B = λ f. ⊥ ⊎ (Any xs f ⊎ W p.formals xs f)}
       (λ u z. acts (heading_of s.types w m) r z.1) (λ u z. (tt, passed_by w m z)) (λ f z. elim z [ inl b ↦ absurd b | inr v ↦ elim v [ inl a ↦ inr a | inr q ↦ inl (wrong_right at f w m r equal q) ] ])
       (λ f z. elim z [ inl q ↦ inr (inr (count_right at f w m r equal q)) | inr a ↦ inr (inl a) ])
-      (checks_answer g j lawful E (map_checks g j lawful E (λ v. statement.Call (call_by v c)) (all_pass g j lawful names exports s p.formals xs {P = Unit {0}} {B = λ f. ⊥} (Ok []) equal i h (passes [] tt (λ f b. b)))))
+      (checks_answer g j lawful E (map_checks g j lawful E (λ v. statement.Call (call_by v c)) (all_pass g j lawful names exports s p.formals xs {P = Unit {0}} {B = λ f. ⊥} (Ok []) equal h (passes [] tt (λ f b. b)))))
     where
       same : (a b : ℕ) → (a == b) ≡ true → a ≡ b
       same a b e = grind (arith, nat_tests)
@@ -147,15 +147,15 @@ module _ (g : Gathers) (j : Judges g) (lawful : Lawful g j) (names : Ident → S
       equal = same (length p.formals) (length (map (meanings_of g) xs)) e ∙ length-map xs (meanings_of g)
 
   result_by : {x : Thing} {h : TypeNo} {p : Signature} (at : Pos) (xs : List Expr) (c : Callee) (r : Option TypeNo) → p.result ≡ r → Heads s.types x h → IsMade s.types h (shape.Procedure p)
-      → ((y : Expr) → Among y xs → IsPlain y) → ((y : Expr) → Among y xs → Found y)
+      → ((y : Expr) → Among y xs → Found y)
       → So at x xs (ahead g (proper_with g at (length p.formals) (length (map (meanings_of g) xs)) r) (breaches_in_all g s (map (meanings_of g) xs)) (λ (u : Unit {0}). call_done c (actuals g s p.formals (map (meanings_of g) xs))))
-  result_by at xs c None e w m i h = counted_by at xs c _ refl w m e i h
-  result_by at xs c (Some t) e w m i h = no_action at w (λ n q. none_is_some g j lawful names exports s (proper_count w m q).1 e) h
+  result_by at xs c None e w m h = counted_by at xs c _ refl w m e h
+  result_by at xs c (Some t) e w m h = no_action at w (λ n q. none_is_some g j lawful names exports s (proper_count w m q).1 e) h
 
-  routine_by : {x : Thing} {h : TypeNo} (at : Pos) (xs : List Expr) (c : Callee) (o : Option Signature) → SignatureIs s.types h o → Heads s.types x h → ((y : Expr) → Among y xs → IsPlain y) → ((y : Expr) → Among y xs → Found y)
+  routine_by : {x : Thing} {h : TypeNo} (at : Pos) (xs : List Expr) (c : Callee) (o : Option Signature) → SignatureIs s.types h o → Heads s.types x h → ((y : Expr) → Among y xs → Found y)
       → So at x xs (ahead g (proper_of g at o (length (map (meanings_of g) xs))) (breaches_in_all g s (map (meanings_of g) xs)) (λ (u : Unit {0}). call_done c (actuals g s (formals_of o) (map (meanings_of g) xs))))
-  routine_by at xs c _ (no_signature n) w i h = no_action at w (λ k q. unproper w n q) h
-  routine_by at xs c _ (has_signature p m) w i h = result_by at xs c p.result refl w m i h
+  routine_by at xs c _ (no_signature n) w h = no_action at w (λ k q. unproper w n q) h
+  routine_by at xs c _ (has_signature p m) w h = result_by at xs c p.result refl w m h
 
   -- ---- all of them
 
@@ -182,9 +182,9 @@ module _ (g : Gathers) (j : Judges g) (lawful : Lawful g j) (names : Ident → S
   inactive at f n (rules.misamounts {p = p} t z y) = absurd (n (may_standard p))
   inactive at f n (rules.no_character z y) = absurd (n (may_standard _))
 
-  act : (at : Pos) (xs : List Expr) (c : Called) (x : Thing) → IsCallee g j lawful names exports s c x → ((y : Expr) → Among y xs → IsPlain y) → ((y : Expr) → Among y xs → Found y) → So at x xs (callee_statement g s at (map (meanings_of g) xs) c)
-  act at xs _ x (callee_routine {h = h} c w) i q = routine_by at xs c (signature_at s.types h) (signature_there s.types h) w i q
-  act at xs _ _ (callee_standard p) i q = standard_acts g j lawful names exports s p at xs i q
+  act : (at : Pos) (xs : List Expr) (c : Called) (x : Thing) → IsCallee g j lawful names exports s c x → ((y : Expr) → Among y xs → Found y) → So at x xs (callee_statement g s at (map (meanings_of g) xs) c)
+  act at xs _ x (callee_routine {h = h} c w) q = routine_by at xs c (signature_at s.types h) (signature_there s.types h) w q
+  act at xs _ _ (callee_standard p) q = standard_acts g j lawful names exports s p at xs q
 
   -- ---- calls of designators
 
@@ -201,14 +201,14 @@ module _ (g : Gathers) (j : Judges g) (lawful : Lawful g j) (names : Ident → S
     abbrev Fails : Designator → List Expr → Breach → Type 0
     Fails d xs f = ((BD d f ⊎ ((x : Thing) × D d x × NoCall g j lawful names exports s (out-Designator d).name.pos x f)) ⊎ ((y : Thing) × IsCalled d y × M (out-Designator d).name.pos y xs f)) ⊎ Any xs f
 
-    pub action_answers : (d : Designator) (xs : List Expr) → ArePlainSelectors (out-Designator d).selectors → ArePlain xs
+    pub action_answers : (d : Designator) (xs : List Expr)
         → Answers g j E {A = TypedStmt} {K = Unit {0}} (λ v u. Unit {0}) (λ u. IsAction s.types names exports d xs) (BrokenAction s.types names exports d xs) (call_statement g s (head g d) (map (meanings_of g) xs))
-    action_answers d xs i a = subst (λ (t : Pos). Answers g j E {A = TypedStmt} {K = Unit {0}} (λ v u. Unit {0}) (λ u. IsAction s.types names exports d xs) (BrokenAction s.types names exports d xs) (ahead g (of_heading ((head g d).means s) ▷ callee_of g s.types t) (breaches_in_all g s (map (meanings_of g) xs)) (callee_statement g s t (map (meanings_of g) xs)))) (sym (head_at g d))
+    action_answers d xs = subst (λ (t : Pos). Answers g j E {A = TypedStmt} {K = Unit {0}} (λ v u. Unit {0}) (λ u. IsAction s.types names exports d xs) (BrokenAction s.types names exports d xs) (ahead g (of_heading ((head g d).means s) ▷ callee_of g s.types t) (breaches_in_all g s (map (meanings_of g) xs)) (callee_statement g s t (map (meanings_of g) xs)))) (sym (head_at g d))
         (exact g j lawful E {M = λ u. (y : Thing) × IsCalled d y × A y xs} {B = Fails d xs} (λ u z. is_action (subst (D d) (sym z.1.2.1) z.1.1) z.2) (λ u z. parted z) (λ f z. into f z) (λ f z. out f z)
         (ahead_answers g j lawful E {N = λ y u. A y xs} {D = λ y f. M (out-Designator d).name.pos y xs f}
-        (heading_answers g j lawful E {N = λ x y. May x × (y ≡ x)} {D = λ x f. NoCall g j lawful names exports s (out-Designator d).name.pos x f} (designator_found g j lawful names exports s knows d i) (callee_answers g j lawful names exports s (out-Designator d).name.pos) (λ y m. no_call_of g j lawful names exports s (λ h w. elim w [ ]) (λ p q. absurd cc) m.0) (λ f z. z.1.0 refl))
-        (look_tells g j lawful names exports s xs (λ x m. found_all g j lawful names exports s knows a x m))
-        (λ c y e m. act (out-Designator d).name.pos xs c y e (plain_all g j lawful names exports s knows a) (λ x m. found_all g j lawful names exports s knows a x m))))
+        (heading_answers g j lawful E {N = λ x y. May x × (y ≡ x)} {D = λ x f. NoCall g j lawful names exports s (out-Designator d).name.pos x f} (designator_found g j lawful names exports s knows d) (callee_answers g j lawful names exports s (out-Designator d).name.pos) (λ y m. no_call_of g j lawful names exports s (λ h w. elim w [ ]) (λ p q. absurd cc) m.0) (λ f z. z.1.0 refl))
+        (look_tells g j lawful names exports s xs (λ x m. expression_found g j lawful names exports s knows x))
+        (λ c y e m. act (out-Designator d).name.pos xs c y e (λ x m. expression_found g j lawful names exports s knows x))))
       where
         parted : IsAction s.types names exports d xs → (y : Thing) × IsCalled d y × A y xs
         parted (is_action {x = x} m z) = (x, (x, m, (acts_may z, refl)), z)

@@ -41,7 +41,7 @@ use Rattle.def_typing.specs.Expressions.{Has, Denotes, BrokenAsValue}
 use Rattle.def_typing.specs.Assignments as rules
 use Rattle.def_typing.specs.Assignments.{HasRoom, has_room, MayTake, IsTarget, a_variable, an_open_array, Untaken, of_type, of_whole, of_open_array, BrokenDesignator, at_designator, in_designator, Assigns, assigns, BrokenAssignment, on_the_left, on_the_right, no_target, unassignable, IsCondition, is_condition, BrokenCondition, in_condition, no_boolean}
 use Rattle.law_typing.specs.Judging.{Judges, Answers, means}
-use Rattle.law_typing.specs.Exact.{IsKind, kind_constant, kind_scalar, kind_set, kind_routine, kind_procedure, kind_whole, kind_untaken, IsThing, thing_value, thing_variable, thing_open, thing_type, thing_procedure, thing_nested, thing_standard, thing_module, Knows, Repeats, IsPlain, ArePlainSelectors}
+use Rattle.law_typing.specs.Exact.{IsKind, kind_constant, kind_scalar, kind_set, kind_routine, kind_procedure, kind_whole, kind_untaken, IsThing, thing_value, thing_variable, thing_open, thing_type, thing_procedure, thing_nested, thing_standard, thing_module, Knows, Repeats}
 use Rattle.law_typing.proofs.Combining.{Lawful, Decided, holds, fails_it, decided_as, declined, both_answer, Checks, passes, stopped, checks_as, map_checks, then_check, Finds, sort_answers}
 use Rattle.law_typing.proofs.Deciding.{same_decided, both_decided, some_same}
 use Rattle.law_typing.proofs.Placing.{goes_made, unmade_none, value_suits}
@@ -258,10 +258,10 @@ module _ (g : Gathers) (j : Judges g) (lawful : Lawful g j) (names : Ident → S
   abbrev V : Expr → Breach → Type 0
   V = BrokenAsValue s.types names exports
 
-  pub condition_answers : (e : Expr) → IsPlain e → Answers g j E {A = TypedExpr} {K = Unit {0}} (λ v u. Unit {0}) (λ u. IsCondition s.types names exports e) (BrokenCondition s.types names exports e) (value_of g s (meanings_of g e) ▷ value_suited g rule.WrongType s.types boolean (meanings_of g e).fixed.at)
-  condition_answers e i = checks_answer g j lawful E (subst (λ (t : Pos). Checks g j lawful E {A = TypedExpr} (IsCondition s.types names exports e) (BrokenCondition s.types names exports e) (value_of g s (meanings_of g e) ▷ value_suited g rule.WrongType s.types boolean t)) (sym (at_is g i))
+  pub condition_answers : (e : Expr) → Answers g j E {A = TypedExpr} {K = Unit {0}} (λ v u. Unit {0}) (λ u. IsCondition s.types names exports e) (BrokenCondition s.types names exports e) (value_of g s (meanings_of g e) ▷ value_suited g rule.WrongType s.types boolean (meanings_of g e).fixed.at)
+  condition_answers e = checks_answer g j lawful E (subst (λ (t : Pos). Checks g j lawful E {A = TypedExpr} (IsCondition s.types names exports e) (BrokenCondition s.types names exports e) (value_of g s (meanings_of g e) ▷ value_suited g rule.WrongType s.types boolean t)) (sym (at_is g e))
       (checks_as g j lawful E (λ m. is_condition m.1 m.2) parted (λ f b. elim b [ inl v ↦ in_condition v | inr m ↦ no_boolean m.1 m.2 ]) out
-      (then_check g j lawful E {P = λ k. IsAssignable s.types boolean (operand k)} {D = λ k f. Misassigned s.types boolean (first e) rule.WrongType (operand k) f} (exactly g j lawful names exports s knows e i) (λ v k q. value_suits s.types boolean g j lawful E rule.WrongType (first e) q))))
+      (then_check g j lawful E {P = λ k. IsAssignable s.types boolean (operand k)} {D = λ k f. Misassigned s.types boolean (first e) rule.WrongType (operand k) f} (exactly g j lawful names exports s knows e) (λ v k q. value_suits s.types boolean g j lawful E rule.WrongType (first e) q))))
     where
       parted : IsCondition s.types names exports e → (k : Kind) × H e k × IsAssignable s.types boolean (operand k)
       parted (is_condition {k = k} m a) = (k, m, a)
@@ -282,12 +282,12 @@ module _ (g : Gathers) (j : Judges g) (lawful : Lawful g j) (names : Ident → S
   abbrev SidesFail : Designator → Expr → Breach → Type 0
   SidesFail d e f = ((BD d f ⊎ ((x : Thing) × D d x × ((IsTarget x → ⊥) × (f ≡ (out-Designator d).name.pos ! rule.WrongType)))) ⊎ V e f) ⊎ ((p : Thing × Kind) × (((x : Thing) × D d x × (IsTarget x × (p.0 ≡ x))) × H e p.1) × Untaken s.types (first e) p.1 p.0 f)
 
-  pub assignment_answers : (d : Designator) (e : Expr) → ArePlainSelectors (out-Designator d).selectors → IsPlain e
+  pub assignment_answers : (d : Designator) (e : Expr)
       → Answers g j E {A = TypedStmt} {K = Unit {0}} (λ v u. Unit {0}) (λ u. Assigns s.types names exports d e) (BrokenAssignment s.types names exports d e) (assignment_of g s.types (target_at g (head g d).fixed.at ((head g d).means s)) (meanings_of g e).fixed.at (value_of g s (meanings_of g e)))
-  assignment_answers d e i k = checks_answer g j lawful E
+  assignment_answers d e = checks_answer g j lawful E
       (subst (λ (t : Pos). Checks g j lawful E {A = TypedStmt} (Assigns s.types names exports d e) (BrokenAssignment s.types names exports d e) (assignment_of g s.types (target_at g t ((head g d).means s)) (meanings_of g e).fixed.at (value_of g s (meanings_of g e)))) (sym (head_at g d))
-      (subst (λ (t : Pos). Checks g j lawful E {A = TypedStmt} (Assigns s.types names exports d e) (BrokenAssignment s.types names exports d e) (assignment_of g s.types (target_at g (out-Designator d).name.pos ((head g d).means s)) t (value_of g s (meanings_of g e)))) (sym (at_is g k))
-      (checks_as g j lawful E made parted into out (sides_check g j lawful E s.types (first e) (out-Designator d).name.pos (designator_found g j lawful names exports s knows d i) (exactly g j lawful names exports s knows e k)))))
+      (subst (λ (t : Pos). Checks g j lawful E {A = TypedStmt} (Assigns s.types names exports d e) (BrokenAssignment s.types names exports d e) (assignment_of g s.types (target_at g (out-Designator d).name.pos ((head g d).means s)) t (value_of g s (meanings_of g e)))) (sym (at_is g e))
+      (checks_as g j lawful E made parted into out (sides_check g j lawful E s.types (first e) (out-Designator d).name.pos (designator_found g j lawful names exports s knows d) (exactly g j lawful names exports s knows e)))))
     where
       made : Sides d e → Assigns s.types names exports d e
       made (p, ((x, m, (t, q)), h), (u, r, z)) = assigns (subst (D d) (sym q ∙ r) m) h z

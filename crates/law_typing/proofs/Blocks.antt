@@ -62,13 +62,13 @@ use Rattle.def_typing.specs.Parts.{Among, here, later, Named}
 use Rattle.def_typing.specs.Declarations as rules
 use Rattle.def_typing.specs.Declarations.{Declaration, OfConstant, OfType, OfVariables, OfProcedure, declared_by, declarations_of, names_of, constants_of, names_in, formals_in, Declares, AnyDeclares, Declared as Resolved, in_order, IsThere, IsHeaded, types_behind, procedure, is_variables, in_front_of, without, Says, Brings, Misdeclares, Differs, IsAwaited, AllAdded, Lacks, BrokenIn}
 use Rattle.law_typing.specs.Judging.{Judges, Answers, means, refuses, Reports, reports_nothing, reports_broken}
-use Rattle.law_typing.specs.Exact.{standing, is_own_variable, TakenAs, is_taken, awaits, not_taken, Knows, Repeats, IsCallFree, IsPlainType, IsPlainLayer, ArePlainDecls, is_nested, IsBlockExact, AreOnce}
+use Rattle.law_typing.specs.Exact.{standing, is_own_variable, TakenAs, is_taken, awaits, not_taken, Knows, Repeats, is_nested, IsAsBefore, as_before, has_heading, IsBlockExact, AreOnce}
 use Rattle.law_typing.proofs.Combining.{Lawful, Decided, holds, fails_it, Tells, silent, tells, tells_as, beside_tells, accounts_as, accounts_one}
 use Rattle.law_typing.proofs.Heading.{nil_right, append_assoc, heading_answers}
 use Rattle.law_typing.proofs.Agreeing.{agreement_decided}
 use Rattle.law_typing.proofs.Entering.{named_left, entered_all, once_more}
 use Rattle.law_typing.proofs.Lacking.{Awaits, AnyAwaits, lacks_decided}
-use Rattle.law_typing.proofs.Declaring.{clash, All, Added as Added_there, Elsewhere, Saying, KnownAs, outer, headed, ahead, reading, behind, a_member, Same, KnowsBlock, knowing, repeating, standings, all_stand, home_same, owning, some_own}
+use Rattle.law_typing.proofs.Declaring.{any_first, any_named, clash, All, Added as Added_there, Elsewhere, Saying, KnownAs, outer, headed, ahead, reading, behind, a_member, Same, KnowsBlock, knowing, repeating, standings, all_stand, home_same, owning, some_own}
 use Rattle.law_typing.proofs.Beginning.{Adding, adding_name, added, mark_place, unawaited, Theres, free_now, widen, begin_one, begin_all, place_is, PlaceIs, place_free, place_taken, place_awaited, MidAs, is_done, is_other, is_headed, KnowsMid, mid_begins, mid_as, finish_one, finish_end}
 use Rattle.law_typing.proofs.Sayings.{Set, Saids, said_constant, said_type, said_variables, said_procedure, Exactly, saying, saying_heading, tells_all, says_tells, more_answers, constant_says, of_type_says, variables_say, procedure_says}
 use Rattle.def_typing.specs.TypeExprs.{Twice, constants_in, with_types, next_type, Added, nothing_added, type_added, Setting, IsTypeOf, Adds, BrokenType}
@@ -260,9 +260,9 @@ module _ (g : Gathers) (j : Judges g) (lawful : Lawful g j) (exports : ℕ → I
 
   -- ---- constants
 
-  module _ (front : List Resolved) (c : Constant) (ds : List Declaration) (free : IsCallFree c.value) where
+  module _ (front : List Resolved) (c : Constant) (ds : List Declaration) where
     constant_exact : {s : Scope g.Reported} (k : KB front (OfConstant c ∷ ds) (Adding (c.name ∷ []) (Th front)) s) → Exactly g j lawful exports outside start taken awaited nested block said_constant front (OfConstant c) (constant g s (part g c.value))
-    constant_exact {s = s} k names all = more_answers g j lawful (O front) (Repeat front (plain_one (OfConstant c)) ds refl refl refl k all) (constant_says g j lawful nested (T front) names (SetAt front (OfConstant c) names).there exports s (Read front (plain_one (OfConstant c)) ds refl refl refl k all) k.same.types c free)
+    constant_exact {s = s} k names all = more_answers g j lawful (O front) (Repeat front (plain_one (OfConstant c)) ds refl refl refl k all) (constant_says g j lawful nested (T front) names (SetAt front (OfConstant c) names).there exports s (Read front (plain_one (OfConstant c)) ds refl refl refl k all) k.same.types c)
 
     declare_constant : {s : Scope g.Reported} {r : Result (Unit {0}) g.Reported} → KB front (OfConstant c ∷ ds) (Th front) s → Told front r → Stepped front (plain_one (OfConstant c)) ds (with_constant g (s, r) c)
     declare_constant k t = let b = begin_one g j lawful exports outside start taken awaited nested block takes (O front) front (OfConstant c) ds refl (Th front) c.name (c.name, here, refl) k in
@@ -313,9 +313,9 @@ module _ (g : Gathers) (j : Judges g) (lawful : Lawful g j) (exports : ℕ → I
   abbrev One : List Resolved → Declaration → List Declaration → State (Unit {0}) g.Reported → Type 0
   One front x ds st = (d : Resolved) × (d.what ≡ x) × Stepped front d ds st
 
-  declare_type : (front : List Resolved) (d : TypeDecl) (ds : List Declaration) → IsPlainType d.of → {s : Scope g.Reported} {r : Result (Unit {0}) g.Reported} → KB front (OfType d ∷ ds) (Th front) s → Told front r → One front (OfType d) ds (with_type g (s, r) d)
-  declare_type front d ds i {s = s} k t = let b = begin_one g j lawful exports outside start taken awaited nested block takes (O front) front (OfType d) ds refl (Th front) d.name (d.name, here, refl) k in
-      let read = type_read g j lawful exports i (begin_name g s d.name).0 b.0.same.withs in
+  declare_type : (front : List Resolved) (d : TypeDecl) (ds : List Declaration) → {s : Scope g.Reported} {r : Result (Unit {0}) g.Reported} → KB front (OfType d ∷ ds) (Th front) s → Told front r → One front (OfType d) ds (with_type g (s, r) d)
+  declare_type front d ds {s = s} k t = let b = begin_one g j lawful exports outside start taken awaited nested block takes (O front) front (OfType d) ds refl (Th front) d.name (d.name, here, refl) k in
+      let read = type_read g j lawful exports d.of (begin_name g s d.name).0 b.0.same.withs in
       (typed_one (OfType d) read.adds, refl, type_ended front d ds b.0 (type_of g d.of (begin_name g s d.name).0) read t b.1)
 
   -- ---- variables
@@ -386,16 +386,16 @@ module _ (g : Gathers) (j : Judges g) (lawful : Lawful g j) (exports : ℕ → I
       → KB front (OfVariables v ∷ ds) (Adding v.names (Th front)) (fold (begun_name g) (s, r) v.names).0 × Tells g j lawful (O front) (λ f. BI front f ⊎ Twice (Th front) v.names f) (fold (begun_name g) (s, r) v.names).1
   begun_list front v ds k t = begin_all g j lawful exports outside start taken awaited nested block takes (O front) front (OfVariables v) ds refl v.names (Th front) (λ x m. named_left (constants_in v.of) (x, m, refl)) k (told_here t)
 
-  declare_variables : (front : List Resolved) (v : Variables) (ds : List Declaration) → IsPlainType v.of → {s : Scope g.Reported} {r : Result (Unit {0}) g.Reported} → KB front (OfVariables v ∷ ds) (Th front) s → Told front r → One front (OfVariables v) ds (with_variables g (s, r) v)
-  declare_variables front v ds i {s = s} {r = r} k t = let b = begun_list front v ds k t in
+  declare_variables : (front : List Resolved) (v : Variables) (ds : List Declaration) → {s : Scope g.Reported} {r : Result (Unit {0}) g.Reported} → KB front (OfVariables v ∷ ds) (Th front) s → Told front r → One front (OfVariables v) ds (with_variables g (s, r) v)
+  declare_variables front v ds {s = s} {r = r} k t = let b = begun_list front v ds k t in
       let u = (fold (begun_name g) (s, r) v.names).0 in
-      let read = type_read g j lawful exports i u b.0.same.withs in
+      let read = type_read g j lawful exports v.of u b.0.same.withs in
       (typed_one (OfVariables v) read.adds, refl, module_ended front v ds b.0 (type_of g v.of u) read b.1)
 
-  declare_locals : (front : List Resolved) (v : Variables) (ds : List Declaration) → IsPlainType v.of → {s : Scope g.Reported} {r : Result (Unit {0}) g.Reported} → KB front (OfVariables v ∷ ds) (Th front) s → Told front r → One front (OfVariables v) ds (with_locals g (s, r) v)
-  declare_locals front v ds i {s = s} {r = r} k t = let b = begun_list front v ds k t in
+  declare_locals : (front : List Resolved) (v : Variables) (ds : List Declaration) → {s : Scope g.Reported} {r : Result (Unit {0}) g.Reported} → KB front (OfVariables v ∷ ds) (Th front) s → Told front r → One front (OfVariables v) ds (with_locals g (s, r) v)
+  declare_locals front v ds {s = s} {r = r} k t = let b = begun_list front v ds k t in
       let u = (fold (begun_name g) (s, r) v.names).0 in
-      let read = type_read g j lawful exports i u b.0.same.withs in
+      let read = type_read g j lawful exports v.of u b.0.same.withs in
       (typed_one (OfVariables v) read.adds, refl, local_ended front v ds b.0 (type_of g v.of u) read b.1)
 
   -- ---- names of formals
@@ -750,33 +750,33 @@ module _ (g : Gathers) (j : Judges g) (lawful : Lawful g j) (exports : ℕ → I
   -- ---- all of a block
 
   module _ (level : nested ≡ not (start.level == 0)) (ends : List ℕ) where
-    variables_ran : (vs : List Variables) → ((v : Variables) → Among v vs → IsPlainType v.of) → (front : List Resolved) (rest : List Declaration) {s : Scope g.Reported} {r : Result (Unit {0}) g.Reported} → KB front (map OfVariables vs ++ rest) (Th front) s → Told front r
+    variables_ran : (vs : List Variables) (front : List Resolved) (rest : List Declaration) {s : Scope g.Reported} {r : Result (Unit {0}) g.Reported} → KB front (map OfVariables vs ++ rest) (Th front) s → Told front r
         → Ran front (map OfVariables vs) rest (with_variables_of g (s, r) vs)
-    variables_ran vs i front rest {s = s} {r = r} k t = by (s.level == 0)
+    variables_ran vs front rest {s = s} {r = r} k t = by (s.level == 0)
       where
         by : (b : Bool) → Ran front (map OfVariables vs) rest (cond b (fold (with_variables g) (s, r) vs) (fold (with_locals g) (s, r) vs))
-        by true = section_ran (with_variables g) OfVariables vs (λ v m front ds s r k t. declare_variables front v ds (i v m) k t) front rest k t
-        by false = section_ran (with_locals g) OfVariables vs (λ v m front ds s r k t. declare_locals front v ds (i v m) k t) front rest k t
+        by true = section_ran (with_variables g) OfVariables vs (λ v m front ds s r k t. declare_variables front v ds k t) front rest k t
+        by false = section_ran (with_locals g) OfVariables vs (λ v m front ds s r k t. declare_locals front v ds k t) front rest k t
 
     procedure_ran : (h : Heading) (n : ℕ) (front : List Resolved) (rest : List Declaration) {s : Scope g.Reported} {r : Result (Unit {0}) g.Reported} → KB front (OfProcedure h ∷ rest) (Th front) s → Told front r
         → Ran front (OfProcedure h ∷ []) rest ((with_heading g s n h).0, beside g r (with_heading g s n h).1)
     procedure_ran h n front rest k t = let q = declare_procedure level front h rest k n t in (record { what = OfProcedure h; adds = record { makes = q.0; brings = [] } } ∷ front, refl, (q.1.0, q.1.1, λ a. rules.each_added q.1.2 a))
 
-    layer_ran : (y : Decl-F Decl Block) → IsPlainLayer y → (front : List Resolved) (rest : List Declaration) (n : ℕ) {s : Scope g.Reported} {r : Result (Unit {0}) g.Reported} → KB front (declared_by y ++ rest) (Th front) s → Told front r
+    layer_ran : (y : Decl-F Decl Block) (front : List Resolved) (rest : List Declaration) (n : ℕ) {s : Scope g.Reported} {r : Result (Unit {0}) g.Reported} → KB front (declared_by y ++ rest) (Th front) s → Told front r
         → Ran front (declared_by y) rest ((decl_layer g ends (s, r, n) y).0, (decl_layer g ends (s, r, n) y).1)
-    layer_ran (decl.Constants cs) i front rest n k t = section_ran (with_constant g) OfConstant cs (λ c m front ds s r k t. (plain_one (OfConstant c), refl, declare_constant front c ds (i c m) k t)) front rest k t
-    layer_ran (decl.Types ts) i front rest n k t = section_ran (with_type g) OfType ts (λ d m front ds s r k t. declare_type front d ds (i d m) k t) front rest k t
-    layer_ran (decl.Variables vs) i front rest n k t = variables_ran vs i front rest k t
-    layer_ran (decl.Procedure h b) i front rest n k t = procedure_ran h n front rest k t
+    layer_ran (decl.Constants cs) front rest n k t = section_ran (with_constant g) OfConstant cs (λ c m front ds s r k t. (plain_one (OfConstant c), refl, declare_constant front c ds k t)) front rest k t
+    layer_ran (decl.Types ts) front rest n k t = section_ran (with_type g) OfType ts (λ d m front ds s r k t. declare_type front d ds k t) front rest k t
+    layer_ran (decl.Variables vs) front rest n k t = variables_ran vs front rest k t
+    layer_ran (decl.Procedure h b) front rest n k t = procedure_ran h n front rest k t
 
-    all_ran : (ds : List Decl) → ArePlainDecls ds → (front : List Resolved) (n : ℕ) {s : Scope g.Reported} {r : Result (Unit {0}) g.Reported} → KB front (declarations_of ds) (Th front) s → Told front r
+    all_ran : (ds : List Decl) (front : List Resolved) (n : ℕ) {s : Scope g.Reported} {r : Result (Unit {0}) g.Reported} → KB front (declarations_of ds) (Th front) s → Told front r
         → Ran front (declarations_of ds) [] ((fold (with_decl g ends) (s, r, n) ds).0, (fold (with_decl g ends) (s, r, n) ds).1)
-    all_ran [] i front n k t = ran_nothing k t
-    all_ran (d ∷ ds) i front n k t = let q = layer_ran (out-Decl d) (i d here) front (declarations_of ds) n k t in
-        let z = all_ran ds (λ c m. i c (later m)) q.0 _ q.2.0 q.2.1 in
+    all_ran [] front n k t = ran_nothing k t
+    all_ran (d ∷ ds) front n k t = let q = layer_ran (out-Decl d) front (declarations_of ds) n k t in
+        let z = all_ran ds q.0 _ q.2.0 q.2.1 in
         (z.0, z.1 ∙ ap (λ (xs : List Declaration). xs ++ declarations_of ds) q.1 ∙ append_assoc (in_order front) (declared_by (out-Decl d)) (declarations_of ds), (z.2.0, z.2.1, λ a. z.2.2 (q.2.2 a)))
 
-module _ (g : Gathers) (j : Judges g) (lawful : Lawful g j) (exports : ℕ → Ident → Standing) (outside : Ident → Standing) (start : Scope g.Reported) (taken : List ℕ → Bool) (awaited : List ℕ → Option TypeNo) (knows : Knows g j outside exports start) (no_withs : start.withs ≡ []) (takes : (n : List ℕ) → TakenAs g j (taken n) (awaited n) (find_name n start.own)) (ends : List ℕ) (first : ℕ) (ds : List Decl) (plain : ArePlainDecls ds) where
+module _ (g : Gathers) (j : Judges g) (lawful : Lawful g j) (exports : ℕ → Ident → Standing) (outside : Ident → Standing) (start : Scope g.Reported) (taken : List ℕ → Bool) (awaited : List ℕ → Option TypeNo) (knows : Knows g j outside exports start) (no_withs : start.withs ≡ []) (takes : (n : List ℕ) → TakenAs g j (taken n) (awaited n) (find_name n start.own)) (ends : List ℕ) (first : ℕ) (ds : List Decl) where
   abbrev block : List Declaration
   block = declarations_of ds
 
@@ -784,7 +784,7 @@ module _ (g : Gathers) (j : Judges g) (lawful : Lawful g j) (exports : ℕ → I
   declared = declared_block g ends (start, Ok tt) first ds
 
   all_of_it : Ran g j lawful exports outside start taken awaited (is_nested start) block takes knows no_withs [] block [] (declared.0, declared.1)
-  all_of_it = all_ran g j lawful exports outside start taken awaited (is_nested start) block takes knows no_withs refl ends ds plain [] first (block_begins g j exports outside start taken awaited (is_nested start) block takes ds plain no_withs refl) (silent (λ f z. elim z [ ]))
+  all_of_it = all_ran g j lawful exports outside start taken awaited (is_nested start) block takes knows no_withs refl ends ds [] first (block_begins g j exports outside start taken awaited (is_nested start) block takes ds no_withs refl) (silent (λ f z. elim z [ ]))
 
   reports : {whole : List Resolved} {r : Result (Unit {0}) g.Reported} → Tells g j lawful (Repeats g j outside start) (BrokenIn start.types exports outside taken awaited (is_nested start) block whole) r → Reports g j (Repeats g j outside start) (BrokenIn start.types exports outside taken awaited (is_nested start) block whole) r
   reports (silent n) = reports_nothing n
@@ -864,6 +864,15 @@ module _ (g : Gathers) (j : Judges g) (lawful : Lawful g j) (exports : ℕ → I
         none : {f : Breach} → Lacked at fs f → ⊥
         none (rules.missing {n = n} v h) = c (n, still_waits fs _ n (k.own n) v h)
 
+  -- what is known of a name that these declarations do not declare stays
+  other_stays : (n : List ℕ) → (taken n ≡ false → AnyDeclares block n → ⊥) → {fs : List Resolved} {Th : List ℕ → Type 0} {o : Option (Known g.Reported)} → KnownAs g j exports outside start taken awaited (is_nested start) block fs Th n o → (IsThere fs n → AnyDeclares block n) → IsAsBefore (find_name n start.own) o
+  other_stays n u (outer c w e) i = subst (λ (o : Option (Known g.Reported)). IsAsBefore (find_name n start.own) o) (sym e) as_before
+  other_stays n u (headed p y w e) i = subst (λ (o : Option (Known g.Reported)). IsAsBefore o (Some (known.Headed (Ok (meaning.Procedure p))))) e (has_heading p)
+  other_stays n u (ahead d t f c b) i = absurd (u t (any_first f))
+  other_stays n u (reading d t f c b q) i = absurd (u t (any_first f))
+  other_stays n u (behind k t f o s) i = absurd (u t (i (any_named f)))
+  other_stays n u (a_member t f o a q) i = absurd (u t (i (any_named f)))
+
   pub block_answers : IsBlockExact g j exports outside start taken awaited ends first ds
   block_answers = record {
     whole = all_of_it.0;
@@ -882,5 +891,7 @@ module _ (g : Gathers) (j : Judges g) (lawful : Lawful g j) (exports : ℕ → I
       of_result = r;
       of_loop = refl;
     };
+    others = λ n u. other_stays n u (all_of_it.2.0.own n) (λ i. all_of_it.2.0.within n i);
+    repeated = λ names all f r. repeating g j exports outside start taken awaited (is_nested start) block knows no_withs all_of_it.2.0 all f r;
     known = λ names all. knowing g j exports outside start taken awaited (is_nested start) block knows no_withs all_of_it.2.0 all;
   }

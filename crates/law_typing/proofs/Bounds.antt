@@ -31,14 +31,14 @@ use Rattle.def_typing.specs.Expressions.{Stands, Broken}
 use Rattle.def_typing.specs.Cases as rules
 use Rattle.def_typing.specs.Cases.{IsConstantThing, IsNoValue, IsNoConstant, run_time_kind, SuitsSelector, IsBound, is_bound, Misbounds, IsLabelBound, is_label_bound, BrokenLabelBound, in_bound, at_bound}
 use Rattle.law_typing.specs.Judging.{Judges, Answers, means, refuses}
-use Rattle.law_typing.specs.Exact.{kind_of, IsKind, kind_constant, kind_scalar, kind_set, kind_routine, kind_procedure, kind_whole, kind_untaken, IsThing, thing_value, thing_variable, thing_open, thing_type, thing_procedure, thing_nested, thing_standard, thing_module, Knows, Repeats, IsPlain}
+use Rattle.law_typing.specs.Exact.{kind_of, IsKind, kind_constant, kind_scalar, kind_set, kind_routine, kind_procedure, kind_whole, kind_untaken, IsThing, thing_value, thing_variable, thing_open, thing_type, thing_procedure, thing_nested, thing_standard, thing_module, Knows, Repeats}
 use Rattle.law_typing.proofs.Combining.{Lawful, Decided, holds, fails_it, decided_as, accounts_as, declined, exact, Checks, passes, stops, stopped, where_checks, both_checks, map_checks, Finds, finds, finds_headless, finds_nothing}
 use Rattle.law_typing.proofs.Deciding.{same_decided}
 use Rattle.law_typing.proofs.Singles.{IsConstantOperand, constant_scalar, constant_set, constant_text, constant_is}
 use Rattle.law_typing.proofs.Elements.{IsOrdinal, is_ordinal}
 use Rattle.law_typing.proofs.Shaping.{class_of, class_is}
 use Rattle.law_typing.proofs.Places.{at_is}
-use Rattle.law_typing.proofs.Expressing.{found}
+use Rattle.law_typing.proofs.Expressing.{expression_found}
 
 abbrev sorted_in : Option TypeNo × ℤ → Kind → Option TypeNo × ℤ
 sorted_in p (Scalar (Constant sort n)) = (sort, n)
@@ -193,10 +193,10 @@ renamed (means a k i m u n) = means a k (numbered_by i) m u n
 renamed (refuses r c n) = refuses r c n
 
 module _ (g : Gathers) (j : Judges g) (lawful : Lawful g j) (names : Ident → Standing) (exports : ℕ → Ident → Standing) (s : Scope g.Reported) (knows : Knows g j names exports s) where
-  pub ordinal_answers : (base : Option TypeNo) (label : Pos) (e : Expr) → IsPlain e
+  pub ordinal_answers : (base : Option TypeNo) (label : Pos) (e : Expr)
       → Answers g j (Repeats g j names s) IsOrdinal (λ p. IsLabelBound s.types names exports e p.0 p.1) (BrokenLabelBound s.types names exports base label e) (bound_of g s base label (meanings_of g e))
-  ordinal_answers base label e i = subst (λ (at : Pos). Answers g j (Repeats g j names s) IsOrdinal (λ p. IsLabelBound s.types names exports e p.0 p.1) (BrokenLabelBound s.types names exports base label e) (bound_in g s.types base label at ((meanings_of g e).means s))) (sym (at_is g i))
-      (exact g j lawful (Repeats g j names s) (λ p z. is_label_bound z.1 z.2) (λ p z. parts z) (λ f z. elim z [ inl b ↦ in_bound b | inr q ↦ at_bound q.1 q.2 ]) out (bound_found g j lawful (Repeats g j names s) s.types base label (first e) (found g j lawful names exports s knows i)))
+  ordinal_answers base label e = subst (λ (at : Pos). Answers g j (Repeats g j names s) IsOrdinal (λ p. IsLabelBound s.types names exports e p.0 p.1) (BrokenLabelBound s.types names exports base label e) (bound_in g s.types base label at ((meanings_of g e).means s))) (sym (at_is g e))
+      (exact g j lawful (Repeats g j names s) (λ p z. is_label_bound z.1 z.2) (λ p z. parts z) (λ f z. elim z [ inl b ↦ in_bound b | inr q ↦ at_bound q.1 q.2 ]) out (bound_found g j lawful (Repeats g j names s) s.types base label (first e) (expression_found g j lawful names exports s knows e)))
     where
       parts : {sort : Option TypeNo} {n : ℤ} → IsLabelBound s.types names exports e sort n → (x : Thing) × Stands s.types names exports e x × IsBound x sort n
       parts (is_label_bound {x = x} m b) = (x, m, b)
@@ -205,6 +205,6 @@ module _ (g : Gathers) (j : Judges g) (lawful : Lawful g j) (names : Ident → S
       out f (in_bound b) = inl b
       out f (at_bound {x = x} m b) = inr (x, m, b)
 
-  pub bound_answers : (base : Option TypeNo) (label : Pos) (e : Expr) → IsPlain e
+  pub bound_answers : (base : Option TypeNo) (label : Pos) (e : Expr)
       → Answers g j (Repeats g j names s) IsNumbered (λ p. IsLabelBound s.types names exports e p.0 p.1) (BrokenLabelBound s.types names exports base label e) (bound_of g s base label (meanings_of g e))
-  bound_answers base label e i = renamed (ordinal_answers base label e i)
+  bound_answers base label e = renamed (ordinal_answers base label e)

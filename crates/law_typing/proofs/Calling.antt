@@ -29,12 +29,13 @@ use Rattle.def_typing.specs.Shapes.{shape_at, IsMade}
 use Rattle.def_typing.specs.Amounts.{Constant, Value}
 use Rattle.def_typing.specs.Operators.{◌!◌, Kind, Scalar, operand, Misapplied}
 use Rattle.def_typing.specs.Things.{Thing, AnOpenArray, AType, AStandard, Standing, Mistaken}
-use Rattle.def_typing.specs.Functions.{TakesOne, abs_takes, cap_takes, chr_takes, odd_takes, ord_takes, MayApply, Applies, applied, NamesScalar, names_scalar, BoundOf, greatest, smallest, MayConvert, Converts, arity, IsOfOne, of_abs, of_cap, of_chr, of_odd, of_ord, IsFunctionOf, declared, standard}
+use Rattle.def_typing.specs.Functions as functions
+use Rattle.def_typing.specs.Functions.{TakesOne, abs_takes, cap_takes, chr_takes, odd_takes, ord_takes, MayApply, Applies, applied, NamesScalar, names_scalar, BoundOf, greatest, smallest, MayConvert, Converts, arity, IsOfOne, of_abs, of_cap, of_chr, of_odd, of_ord, TakesValue, TakesType, IsFunctionOf, declared, standard}
 use Rattle.def_typing.specs.Parts.{first, Among, here, later}
-use Rattle.def_typing.specs.Expressions.{Beside, beside, behind, TakesValue, TakesType, Stands, Has, Calls, ArePassed, no_more, one_more, Miscalled, BrokenAsValue, broken, mistaken}
+use Rattle.def_typing.specs.Expressions.{Beside, beside, behind, Stands, Has, Calls, ArePassed, no_more, one_more, Miscalled, BrokenAsValue, broken, mistaken}
 use Rattle.def_typing.specs.Expressions as rules
 use Rattle.law_typing.specs.Judging.{Judges, Answers, means}
-use Rattle.law_typing.specs.Exact.{IsKind, kind_constant, kind_scalar, IsThing, thing_value, thing_variable, thing_open, thing_type, thing_procedure, thing_nested, thing_standard, thing_module, IsPlain}
+use Rattle.law_typing.specs.Exact.{IsKind, kind_constant, kind_scalar, IsThing, thing_value, thing_variable, thing_open, thing_type, thing_procedure, thing_nested, thing_standard, thing_module}
 use Rattle.law_typing.proofs.Combining.{Lawful, declined, exact, both_answer, then_answer, declined_beside, sort_answers}
 use Rattle.law_typing.proofs.Deciding.{some_same}
 use Rattle.law_typing.proofs.Places.{at_is}
@@ -44,24 +45,23 @@ use Rattle.law_typing.proofs.Finding.{Elsewhere, StandsFor, HasKind, IsBroken, I
 
 -- ---- standard functions and their arguments
 
-of_one_arity : {p : Standard} → IsOfOne p → arity p ≡ Some 1
+pub of_one_arity : {p : Standard} → IsOfOne p → arity p ≡ Some 1
 of_one_arity of_abs = refl
 of_one_arity of_cap = refl
 of_one_arity of_chr = refl
 of_one_arity of_odd = refl
 of_one_arity of_ord = refl
 
-value_arity : {p : Standard} {xs : List Expr} {x : Expr} → TakesValue p xs x → arity p ≡ Some (length xs)
-value_arity (rules.of_one i) = of_one_arity i
-value_arity rules.of_high = refl
-value_arity rules.to_convert = refl
+pub value_arity : {p : Standard} {xs : List Expr} {x : Expr} → TakesValue p xs x → arity p ≡ Some (length xs)
+value_arity (functions.of_one i) = of_one_arity i
+value_arity functions.to_convert = refl
 
-type_arity : {p : Standard} {xs : List Expr} {x : Expr} → TakesType p xs x → arity p ≡ Some (length xs)
-type_arity rules.of_max = refl
-type_arity rules.of_min = refl
-type_arity rules.of_conversion = refl
+pub type_arity : {p : Standard} {xs : List Expr} {x : Expr} → TakesType p xs x → arity p ≡ Some (length xs)
+type_arity functions.of_max = refl
+type_arity functions.of_min = refl
+type_arity functions.of_conversion = refl
 
-bound_arity : {p : Standard} {r : Range} {n : ℤ} → BoundOf r p n → arity p ≡ Some 1
+pub bound_arity : {p : Standard} {r : Range} {n : ℤ} → BoundOf r p n → arity p ≡ Some 1
 bound_arity greatest = refl
 bound_arity smallest = refl
 
@@ -72,19 +72,32 @@ takes_one (chr_takes n) = of_chr
 takes_one (odd_takes n) = of_odd
 takes_one ord_takes = of_ord
 
-applies_one : {p : Standard} {a k : Kind} → Applies p a k → IsOfOne p
+pub applies_one : {p : Standard} {a k : Kind} → Applies p a k → IsOfOne p
 applies_one (applied t c) = takes_one t
 
-unary_one : {p : Standard} {u : Unary} → UnaryIs p u → IsOfOne p
+pub unary_one : {p : Standard} {u : Unary} → UnaryIs p u → IsOfOne p
 unary_one is_abs = of_abs
 unary_one is_cap = of_cap
 unary_one is_chr = of_chr
 unary_one is_odd = of_odd
 unary_one is_ord = of_ord
 
-not_bound : {p : Standard} {u : Unary} {r : Range} {n : ℤ} → UnaryIs p u → BoundOf r p n → ⊥
+pub not_bound : {p : Standard} {u : Unary} {r : Range} {n : ℤ} → UnaryIs p u → BoundOf r p n → ⊥
 not_bound w greatest = elim w [ ]
 not_bound w smallest = elim w [ ]
+
+-- MAX and MIN
+pub data IsBound : Standard → Type 0 where
+  bound_max : IsBound Max
+  bound_min : IsBound Min
+
+pub bound_one : {p : Standard} → IsBound p → arity p ≡ Some 1
+bound_one bound_max = refl
+bound_one bound_min = refl
+
+pub bound_not_one : {p : Standard} → IsBound p → IsOfOne p → ⊥
+bound_not_one bound_max i = elim i [ ]
+bound_not_one bound_min i = elim i [ ]
 
 module _ (g : Gathers) (j : Judges g) (lawful : Lawful g j) (names : Ident → Standing) (exports : ℕ → Ident → Standing) (s : Scope g.Reported) where
   abbrev E : Breach → Type 0
@@ -148,6 +161,7 @@ module _ (g : Gathers) (j : Judges g) (lawful : Lawful g j) (names : Ident → S
   count_only at f e q (rules.misapplied i m z) = absurd (q (some_same _ _ (sym e ∙ of_one_arity i)))
   count_only at _ e q (rules.no_type t m z) = absurd (q (some_same _ _ (sym e ∙ type_arity t)))
   count_only at f e q (rules.misconverted m z h w) = absurd (q (some_same _ _ (sym e)))
+  count_only at f e q (rules.no_array m z) = absurd (q (some_same _ _ (sym e)))
   count_only at _ e q (rules.no_open_array m z w) = absurd (q (some_same _ _ (sym e)))
 
   miscounted_calls : {p : Standard} {xs : List Expr} {n : ℕ} (at : Pos) → arity p ≡ Some n → (n ≡ length xs → ⊥) → ((y : Expr) → Among y xs → Found y) → CallsSo at (AStandard p) xs (wrong_count g s at (map (meanings_of g) xs))
@@ -161,6 +175,7 @@ module _ (g : Gathers) (j : Judges g) (lawful : Lawful g j) (names : Ident → S
   proper_only at f e (rules.misapplied i m z) = let w = sym e ∙ of_one_arity i in absurd cc
   proper_only at _ e (rules.no_type t m z) = let w = sym e ∙ type_arity t in absurd cc
   proper_only at f e (rules.misconverted m z h w) = absurd cc
+  proper_only at f e (rules.no_array m z) = absurd cc
   proper_only at _ e (rules.no_open_array m z w) = absurd cc
 
   proper_calls : {p : Standard} {xs : List Expr} (at : Pos) → arity p ≡ None → ((y : Expr) → Among y xs → Found y) → CallsSo at (AStandard p) xs (reported_beside g at rule.WrongType (breaches_in_all g s (map (meanings_of g) xs)))
@@ -177,10 +192,6 @@ module _ (g : Gathers) (j : Judges g) (lawful : Lawful g j) (names : Ident → S
   abbrev OneFails : Standard → Expr → Breach → Type 0
   OneFails p x f = V x f ⊎ ((k : Kind) × H x k × Misapplied (MayApply p (operand k)) (Applies p (operand k)) (first x) rule.WrongArgument f)
 
-  one_valued : {p : Standard} {u : Unary} {x e : Expr} → UnaryIs p u → TakesValue p (x ∷ []) e → e ≡ x
-  one_valued w (rules.of_one i) = refl
-  one_valued w rules.of_high = refl
-
   one_fails : {p : Standard} {u : Unary} {x : Expr} (at : Pos) (f : Breach) → UnaryIs p u → M at (AStandard p) (x ∷ []) f → OneFails p x f
   one_fails at _ w (rules.no_function h m) = absurd (m 1 (standard (of_one_arity (unary_one w))))
   one_fails at _ w (rules.wrong_count i m) = absurd (m (some_same _ _ (sym (standard_function i) ∙ of_one_arity (unary_one w))))
@@ -188,46 +199,46 @@ module _ (g : Gathers) (j : Judges g) (lawful : Lawful g j) (names : Ident → S
   one_fails at f w (rules.no_value t m z) = inl (value_of_one w t m z)
     where
       value_of_one : {p : Standard} {u : Unary} {x e : Expr} {y : Thing} → UnaryIs p u → TakesValue p (x ∷ []) e → S e y → Mistaken (first e) y f → V x f
-      value_of_one w (rules.of_one i) m z = mistaken m z
-      value_of_one w rules.of_high m z = elim w [ ]
+      value_of_one w (functions.of_one i) m z = mistaken m z
   one_fails at f w (rules.misapplied {k = k} i m z) = inr (k, m, z)
   one_fails at _ w (rules.no_type t m z) = absurd (no_type_of_one w t)
     where
       no_type_of_one : {p : Standard} {u : Unary} {xs : List Expr} {e : Expr} → UnaryIs p u → TakesType p xs e → ⊥
-      no_type_of_one w rules.of_max = elim w [ ]
-      no_type_of_one w rules.of_min = elim w [ ]
-      no_type_of_one w rules.of_conversion = elim w [ ]
+      no_type_of_one w functions.of_max = elim w [ ]
+      no_type_of_one w functions.of_min = elim w [ ]
+      no_type_of_one w functions.of_conversion = elim w [ ]
+  one_fails at f w (rules.no_array m z) = elim w [ ]
   one_fails at _ w (rules.no_open_array m z q) = elim w [ ]
 
   fails_one : {p : Standard} {u : Unary} {x : Expr} (at : Pos) (f : Breach) → UnaryIs p u → OneFails p x f → M at (AStandard p) (x ∷ []) f ⊎ Any (x ∷ []) f
   fails_one {x = x} at f w (inl (broken b)) = inr (x, here, b)
-  fails_one at f w (inl (mistaken m z)) = inl (rules.no_value (rules.of_one (unary_one w)) m z)
+  fails_one at f w (inl (mistaken m z)) = inl (rules.no_value (functions.of_one (unary_one w)) m z)
   fails_one at f w (inr (k, m, z)) = inl (rules.misapplied (unary_one w) m z)
 
   any_one : {x : Expr} (f : Breach) → Any (x ∷ []) f → B x f
   any_one f (x, here, b) = b
   any_one f (x, later m, b) = elim m [ ]
 
-  one_called : {p : Standard} {u : Unary} {x : Expr} (at : Pos) → UnaryIs p u → IsPlain x → Found x → CallsSo at (AStandard p) (x ∷ []) (value_of g s (meanings_of g x) ▷ unary_at g p u (meanings_of g x).fixed.at)
-  one_called {p = p} {u = u} {x = x} at w i h = subst (λ (q : Pos). CallsSo at (AStandard p) (x ∷ []) (value_of g s (meanings_of g x) ▷ unary_at g p u q)) (sym (at_is g i))
+  one_called : {p : Standard} {u : Unary} {x : Expr} (at : Pos) → UnaryIs p u → Found x → CallsSo at (AStandard p) (x ∷ []) (value_of g s (meanings_of g x) ▷ unary_at g p u (meanings_of g x).fixed.at)
+  one_called {p = p} {u = u} {x = x} at w h = subst (λ (q : Pos). CallsSo at (AStandard p) (x ∷ []) (value_of g s (meanings_of g x) ▷ unary_at g p u q)) (sym (at_is g x))
       (exact g j lawful E {M = λ l. (k : Kind) × H x k × Applies p (operand k) l} (λ k m. rules.of_one m.1 m.2) (λ k m. one_calls w m) (λ f b. fails_one at f w b) (λ f b. elim b [ inl m ↦ one_fails at f w m | inr a ↦ inl (broken (any_one f a)) ])
-      (then_answer g j lawful E {N = λ k l. Applies p (operand k) l} {D = λ k f. Misapplied (MayApply p (operand k)) (Applies p (operand k)) (first x) rule.WrongArgument f} (valued g j lawful names exports s i h) (λ v k q. one_answers g j lawful E (first x) w q)))
+      (then_answer g j lawful E {N = λ k l. Applies p (operand k) l} {D = λ k f. Misapplied (MayApply p (operand k)) (Applies p (operand k)) (first x) rule.WrongArgument f} (valued g j lawful names exports s h) (λ v k q. one_answers g j lawful E (first x) w q)))
 
   -- by the number of arguments
-  unary_calls : {p : Standard} {u : Unary} (at : Pos) (xs : List Expr) → UnaryIs p u → ((y : Expr) → Among y xs → IsPlain y) → ((y : Expr) → Among y xs → Found y) → CallsSo at (AStandard p) xs (meanings.unary g s at p u (map (meanings_of g) xs))
-  unary_calls at [] w i h = miscounted_calls at (of_one_arity (unary_one w)) (λ e. absurd cc) h
-  unary_calls at (x ∷ []) w i h = one_called at w (i x here) (h x here)
-  unary_calls at (x ∷ y ∷ xs) w i h = miscounted_calls at (of_one_arity (unary_one w)) (λ e. omega (arith, e)) h
+  unary_calls : {p : Standard} {u : Unary} (at : Pos) (xs : List Expr) → UnaryIs p u → ((y : Expr) → Among y xs → Found y) → CallsSo at (AStandard p) xs (meanings.unary g s at p u (map (meanings_of g) xs))
+  unary_calls at [] w h = miscounted_calls at (of_one_arity (unary_one w)) (λ e. absurd cc) h
+  unary_calls at (x ∷ []) w h = one_called at w (h x here)
+  unary_calls at (x ∷ y ∷ xs) w h = miscounted_calls at (of_one_arity (unary_one w)) (λ e. omega (arith, e)) h
 
   -- ---- functions of types
 
-  abbrev NoScalar : Pos → Thing → Breach → Type 0
+  abbrev pub NoScalar : Pos → Thing → Breach → Type 0
   NoScalar at y f = ((r : Range) → NamesScalar s.types y r → ⊥) × (f ≡ at ! rule.NoType)
 
-  abbrev IsOfRange : TypeNo × Range → Range → Type 0
+  abbrev pub IsOfRange : TypeNo × Range → Range → Type 0
   IsOfRange p r = p.1 ≡ r
 
-  abbrev ScalarSo : Pos → Thing → Result (TypeNo × Range) g.Reported → Type 0
+  abbrev pub ScalarSo : Pos → Thing → Result (TypeNo × Range) g.Reported → Type 0
   ScalarSo at y r = Answers g j E IsOfRange (NamesScalar s.types y) (NoScalar at y) r
 
   no_scalar : {y : Thing} (at : Pos) → ((r : Range) → NamesScalar s.types y r → ⊥) → ScalarSo at y (report g at rule.NoType)
@@ -237,13 +248,13 @@ module _ (g : Gathers) (j : Judges g) (lawful : Lawful g j) (names : Ident → S
   range_in r (shape.Scalar q) = q
   range_in r other = r
 
-  one_range : {t : TypeNo} {r q : Range} → IsMade s.types t (shape.Scalar r) → NamesScalar s.types (AType t) q → q ≡ r
+  pub one_range : {t : TypeNo} {r q : Range} → IsMade s.types t (shape.Scalar r) → NamesScalar s.types (AType t) q → q ≡ r
   one_range {t = t} {r = r} m (names_scalar n) = ap (range_in r) (one_made s.types t n m)
 
   not_scalar : {t : TypeNo} (z : Option Shape) → shape_at s.types t ≡ z → ((r : Range) → z ≡ Some (shape.Scalar r) → ⊥) → (q : Range) → NamesScalar s.types (AType t) q → ⊥
   not_scalar z e n q (names_scalar m) = n q (sym e ∙ m)
 
-  scalar_by : (at : Pos) (t : TypeNo) (z : Option Shape) → shape_at s.types t ≡ z → ScalarSo at (AType t) (scalar_type g at t (scalar_of z))
+  pub scalar_by : (at : Pos) (t : TypeNo) (z : Option Shape) → shape_at s.types t ≡ z → ScalarSo at (AType t) (scalar_type g at t (scalar_of z))
   scalar_by at t None e = no_scalar at (not_scalar None e (λ r q. absurd cc))
   scalar_by at t (Some (shape.Scalar r)) e = means (t, r) r refl (names_scalar e) (λ q n. one_range e n) (λ f z. z.0 r (names_scalar e))
   scalar_by at t (Some shape.Set) e = no_scalar at (not_scalar _ e (λ r q. absurd cc))
@@ -262,29 +273,21 @@ module _ (g : Gathers) (j : Judges g) (lawful : Lawful g j) (names : Ident → S
   type_answers at _ _ (thing_standard p) = no_scalar at (λ r n. elim n [ ])
   type_answers at _ _ (thing_module k) = no_scalar at (λ r n. elim n [ ])
 
-  abbrev NamesIt : Expr → Range → Type 0
+  abbrev pub NamesIt : Expr → Range → Type 0
   NamesIt x r = (y : Thing) × S x y × NamesScalar s.types y r
 
-  abbrev NameFails : Expr → Breach → Type 0
+  abbrev pub NameFails : Expr → Breach → Type 0
   NameFails x f = B x f ⊎ ((y : Thing) × S x y × NoScalar (first x) y f)
 
-  scalar_answers : {x : Expr} → IsPlain x → Found x → Answers g j E IsOfRange (NamesIt x) (NameFails x) (scalar_named g s (meanings_of g x))
-  scalar_answers {x = x} i h = subst (λ (at : Pos). Answers g j E IsOfRange (NamesIt x) (NameFails x) (of_sort g at rule.NoType ((meanings_of g x).means s) ▷ type_named g s.types at)) (sym (at_is g i))
+  pub scalar_answers : {x : Expr} → Found x → Answers g j E IsOfRange (NamesIt x) (NameFails x) (scalar_named g s (meanings_of g x))
+  scalar_answers {x = x} h = subst (λ (at : Pos). Answers g j E IsOfRange (NamesIt x) (NameFails x) (of_sort g at rule.NoType ((meanings_of g x).means s) ▷ type_named g s.types at)) (sym (at_is g x))
       (sort_answers g j lawful E (first x) rule.NoType h (type_answers (first x)) (no_scalar (first x) (λ r n. elim n [ ])))
 
   -- MAX and MIN
-  pub data IsBound : Standard → Type 0 where
-    bound_max : IsBound Max
-    bound_min : IsBound Min
-
-  bound_one : {p : Standard} → IsBound p → arity p ≡ Some 1
-  bound_one bound_max = refl
-  bound_one bound_min = refl
-
-  abbrev BoundedBy : Standard → Range → Kind → Type 0
+  abbrev pub BoundedBy : Standard → Range → Kind → Type 0
   BoundedBy p r l = (n : ℤ) × BoundOf r p n × (l ≡ Scalar (Constant (Some r.base) n))
 
-  bounded_by : {p : Standard} (q : TypeNo × Range) (r : Range) → IsBound p → IsOfRange q r → Answers g j E IsKind (BoundedBy p r) (λ f. ⊥) (Ok (computed.Constant (bound_by p q.0 q.1)))
+  pub bounded_by : {p : Standard} (q : TypeNo × Range) (r : Range) → IsBound p → IsOfRange q r → Answers g j E IsKind (BoundedBy p r) (λ f. ⊥) (Ok (computed.Constant (bound_by p q.0 q.1)))
   bounded_by q r bound_max e = subst (λ (x : Range). Answers g j E IsKind (BoundedBy Max x) (λ f. ⊥) (Ok (computed.Constant (bound_by Max q.0 q.1)))) e
       (means _ (Scalar (Constant (Some q.1.base) q.1.high)) (kind_constant (bound_by Max q.0 q.1)) (q.1.high, greatest, refl) (λ l m. one m) (λ f b. b))
     where
@@ -298,11 +301,7 @@ module _ (g : Gathers) (j : Judges g) (lawful : Lawful g j) (names : Ident → S
 
   bound_calls_by : {p : Standard} {x : Expr} {l : Kind} → IsBound p → C (AStandard p) (x ∷ []) l → (r : Range) × NamesIt x r × BoundedBy p r l
   bound_calls_by w (rules.of_function h e a) = elim h [ ]
-  bound_calls_by w (rules.of_one m a) = absurd (none w (applies_one a))
-    where
-      none : {p : Standard} → IsBound p → IsOfOne p → ⊥
-      none bound_max i = elim i [ ]
-      none bound_min i = elim i [ ]
+  bound_calls_by w (rules.of_one m a) = absurd (bound_not_one w (applies_one a))
   bound_calls_by w (rules.of_type {x = y} {r = r} {n = n} h m b) = (r, (y, h, m), (n, b, refl))
   bound_calls_by w (rules.greatest_index h) = elim w [ ]
 
@@ -310,8 +309,8 @@ module _ (g : Gathers) (j : Judges g) (lawful : Lawful g j) (names : Ident → S
   calls_bound {p = p} {x = x} l (r, (y, h, m), (n, b, e)) = subst (C (AStandard p) (x ∷ [])) (sym e) (rules.of_type h m b)
 
   type_of_bound : {p : Standard} {x : Expr} → IsBound p → TakesType p (x ∷ []) x
-  type_of_bound bound_max = rules.of_max
-  type_of_bound bound_min = rules.of_min
+  type_of_bound bound_max = functions.of_max
+  type_of_bound bound_min = functions.of_min
 
   bound_fails : {p : Standard} {x : Expr} (at : Pos) (f : Breach) → IsBound p → M at (AStandard p) (x ∷ []) f → NameFails x f
   bound_fails at _ w (rules.no_function h m) = absurd (m 1 (standard (bound_one w)))
@@ -320,33 +319,30 @@ module _ (g : Gathers) (j : Judges g) (lawful : Lawful g j) (names : Ident → S
   bound_fails at f w (rules.no_value t m z) = absurd (no_value_of w t)
     where
       no_value_of : {p : Standard} {x e : Expr} → IsBound p → TakesValue p (x ∷ []) e → ⊥
-      no_value_of bound_max (rules.of_one i) = elim i [ ]
-      no_value_of bound_min (rules.of_one i) = elim i [ ]
-  bound_fails at f w (rules.misapplied i m z) = absurd (none w i)
-    where
-      none : {p : Standard} → IsBound p → IsOfOne p → ⊥
-      none bound_max i = elim i [ ]
-      none bound_min i = elim i [ ]
+      no_value_of bound_max (functions.of_one i) = elim i [ ]
+      no_value_of bound_min (functions.of_one i) = elim i [ ]
+  bound_fails at f w (rules.misapplied i m z) = absurd (bound_not_one w i)
   bound_fails at _ w (rules.no_type t m z) = named w t m z
     where
       named : {p : Standard} {x e : Expr} {y : Thing} → IsBound p → TakesType p (x ∷ []) e → S e y → ((r : Range) → NamesScalar s.types y r → ⊥) → NameFails x (first e ! rule.NoType)
-      named w rules.of_max m z = inr (_, m, (z, refl))
-      named w rules.of_min m z = inr (_, m, (z, refl))
+      named w functions.of_max m z = inr (_, m, (z, refl))
+      named w functions.of_min m z = inr (_, m, (z, refl))
+  bound_fails at f w (rules.no_array m z) = elim w [ ]
   bound_fails at _ w (rules.no_open_array m z q) = elim w [ ]
 
   fails_bound : {p : Standard} {x : Expr} (at : Pos) (f : Breach) → IsBound p → NameFails x f → M at (AStandard p) (x ∷ []) f ⊎ Any (x ∷ []) f
   fails_bound {x = x} at f w (inl b) = inr (x, here, b)
   fails_bound {p = p} {x = x} at f w (inr (y, m, (z, e))) = inl (subst (M at (AStandard p) (x ∷ [])) (sym e) (rules.no_type (type_of_bound w) m z))
 
-  bound_called : {p : Standard} {x : Expr} (at : Pos) → IsBound p → IsPlain x → Found x → CallsSo at (AStandard p) (x ∷ []) (bound_at p (scalar_named g s (meanings_of g x)))
-  bound_called {p = p} {x = x} at w i h = exact g j lawful E {M = λ l. (r : Range) × NamesIt x r × BoundedBy p r l} {B = λ f. NameFails x f ⊎ ((r : Range) × NamesIt x r × ⊥)} calls_bound (λ l m. bound_calls_by w m)
+  bound_called : {p : Standard} {x : Expr} (at : Pos) → IsBound p → Found x → CallsSo at (AStandard p) (x ∷ []) (bound_at p (scalar_named g s (meanings_of g x)))
+  bound_called {p = p} {x = x} at w h = exact g j lawful E {M = λ l. (r : Range) × NamesIt x r × BoundedBy p r l} {B = λ f. NameFails x f ⊎ ((r : Range) × NamesIt x r × ⊥)} calls_bound (λ l m. bound_calls_by w m)
       (λ f b. elim b [ inl c ↦ fails_bound at f w c | inr c ↦ absurd c.2 ]) (λ f b. elim b [ inl m ↦ inl (bound_fails at f w m) | inr a ↦ inl (inl (any_one f a)) ])
-      (then_answer g j lawful E {N = BoundedBy p} {D = λ r f. ⊥} (scalar_answers i h) (λ q r e. bounded_by q r w e))
+      (then_answer g j lawful E {N = BoundedBy p} {D = λ r f. ⊥} (scalar_answers h) (λ q r e. bounded_by q r w e))
 
-  bound_calls : {p : Standard} (at : Pos) (xs : List Expr) → IsBound p → ((y : Expr) → Among y xs → IsPlain y) → ((y : Expr) → Among y xs → Found y) → CallsSo at (AStandard p) xs (meanings.bound g s at p (map (meanings_of g) xs))
-  bound_calls at [] w i h = miscounted_calls at (bound_one w) (λ e. absurd cc) h
-  bound_calls at (x ∷ []) w i h = bound_called at w (i x here) (h x here)
-  bound_calls at (x ∷ y ∷ xs) w i h = miscounted_calls at (bound_one w) (λ e. omega (arith, e)) h
+  bound_calls : {p : Standard} (at : Pos) (xs : List Expr) → IsBound p → ((y : Expr) → Among y xs → Found y) → CallsSo at (AStandard p) xs (meanings.bound g s at p (map (meanings_of g) xs))
+  bound_calls at [] w h = miscounted_calls at (bound_one w) (λ e. absurd cc) h
+  bound_calls at (x ∷ []) w h = bound_called at w (h x here)
+  bound_calls at (x ∷ y ∷ xs) w h = miscounted_calls at (bound_one w) (λ e. omega (arith, e)) h
 
   -- VAL
   abbrev ConvertFails : Expr → Range × Kind → Breach → Type 0
@@ -369,15 +365,15 @@ module _ (g : Gathers) (j : Judges g) (lawful : Lawful g j) (names : Ident → S
   val_fails at _ (rules.no_function h m) = absurd (m 2 (standard refl))
   val_fails at _ (rules.wrong_count i m) = absurd (m (some_same _ _ (sym (standard_function i))))
   val_fails at f (rules.mispassed h r c b m z) = elim h [ ]
-  val_fails at f (rules.no_value rules.to_convert m z) = inl (inr (mistaken m z))
-  val_fails at _ (rules.no_type rules.of_conversion m z) = inl (inl (inr (_, m, (z, refl))))
+  val_fails at f (rules.no_value functions.to_convert m z) = inl (inr (mistaken m z))
+  val_fails at _ (rules.no_type functions.of_conversion m z) = inl (inl (inr (_, m, (z, refl))))
   val_fails at f (rules.misconverted {x = y} {r = r} {k = k} m n h z) = inr ((r, k), ((y, m, n), h), z)
 
   fails_val : {t x : Expr} (at : Pos) (f : Breach) → ValFails t x f → M at (AStandard Val) (t ∷ x ∷ []) f ⊎ Any (t ∷ x ∷ []) f
   fails_val {t = t} at f (inl (inl (inl b))) = inr (t, here, b)
-  fails_val {t = t} {x = x} at f (inl (inl (inr (y, m, (z, e))))) = inl (subst (M at (AStandard Val) (t ∷ x ∷ [])) (sym e) (rules.no_type rules.of_conversion m z))
+  fails_val {t = t} {x = x} at f (inl (inl (inr (y, m, (z, e))))) = inl (subst (M at (AStandard Val) (t ∷ x ∷ [])) (sym e) (rules.no_type functions.of_conversion m z))
   fails_val {x = x} at f (inl (inr (broken b))) = inr (x, later here, b)
-  fails_val at f (inl (inr (mistaken m z))) = inl (rules.no_value rules.to_convert m z)
+  fails_val at f (inl (inr (mistaken m z))) = inl (rules.no_value functions.to_convert m z)
   fails_val at f (inr (p, ((y, m, n), h), z)) = inl (rules.misconverted m n h z)
 
   any_val : {t x : Expr} (f : Breach) → Any (t ∷ x ∷ []) f → ValFails t x f
@@ -385,17 +381,17 @@ module _ (g : Gathers) (j : Judges g) (lawful : Lawful g j) (names : Ident → S
   any_val f (x, later here, b) = inl (inr (broken b))
   any_val f (x, later (later m), b) = elim m [ ]
 
-  val_called : {t x : Expr} (at : Pos) → IsPlain t → IsPlain x → Found t → Found x → CallsSo at (AStandard Val) (t ∷ x ∷ []) (conversion_at g (scalar_named g s (meanings_of g t)) (meanings_of g x).fixed.at (value_of g s (meanings_of g x)))
-  val_called {t = t} {x = x} at i k h q = subst (λ (p : Pos). CallsSo at (AStandard Val) (t ∷ x ∷ []) (conversion_at g (scalar_named g s (meanings_of g t)) p (value_of g s (meanings_of g x)))) (sym (at_is g k))
+  val_called : {t x : Expr} (at : Pos) → Found t → Found x → CallsSo at (AStandard Val) (t ∷ x ∷ []) (conversion_at g (scalar_named g s (meanings_of g t)) (meanings_of g x).fixed.at (value_of g s (meanings_of g x)))
+  val_called {t = t} {x = x} at h q = subst (λ (p : Pos). CallsSo at (AStandard Val) (t ∷ x ∷ []) (conversion_at g (scalar_named g s (meanings_of g t)) p (value_of g s (meanings_of g x)))) (sym (at_is g x))
       (exact g j lawful E calls_val (λ l m. val_calls_by m) (fails_val at) (λ f b. elim b [ inl m ↦ val_fails at f m | inr a ↦ any_val f a ])
-      (then_answer g j lawful E {N = λ p l. Converts p.0 (operand p.1) l} {D = ConvertFails x} (both_answer g j lawful E (scalar_answers i h) (valued g j lawful names exports s k q))
+      (then_answer g j lawful E {N = λ p l. Converts p.0 (operand p.1) l} {D = ConvertFails x} (both_answer g j lawful E (scalar_answers h) (valued g j lawful names exports s q))
       (λ v p w. subst (λ (r : Range). Answers g j E IsKind (Converts r (operand p.1)) (ConvertFails x (r, p.1)) (converted_value g v.0.0 v.0.1 (first x) v.1)) w.0 (converted_answers g j lawful E (first x) v.0.0 v.0.1 w.1))))
 
-  val_calls : (at : Pos) (xs : List Expr) → ((y : Expr) → Among y xs → IsPlain y) → ((y : Expr) → Among y xs → Found y) → CallsSo at (AStandard Val) xs (meanings.conversion g s at (map (meanings_of g) xs))
-  val_calls at [] i h = miscounted_calls {p = Val} at refl (λ e. absurd cc) h
-  val_calls at (t ∷ []) i h = miscounted_calls {p = Val} at refl (λ e. omega (arith, e)) h
-  val_calls at (t ∷ x ∷ []) i h = val_called at (i t here) (i x (later here)) (h t here) (h x (later here))
-  val_calls at (t ∷ x ∷ y ∷ xs) i h = miscounted_calls {p = Val} at refl (λ e. omega (arith, e)) h
+  val_calls : (at : Pos) (xs : List Expr) → ((y : Expr) → Among y xs → Found y) → CallsSo at (AStandard Val) xs (meanings.conversion g s at (map (meanings_of g) xs))
+  val_calls at [] h = miscounted_calls {p = Val} at refl (λ e. absurd cc) h
+  val_calls at (t ∷ []) h = miscounted_calls {p = Val} at refl (λ e. omega (arith, e)) h
+  val_calls at (t ∷ x ∷ []) h = val_called at (h t here) (h x (later here))
+  val_calls at (t ∷ x ∷ y ∷ xs) h = miscounted_calls {p = Val} at refl (λ e. omega (arith, e)) h
 
   -- HIGH
   abbrev HighOf : Thing → Kind → Type 0
@@ -439,42 +435,42 @@ module _ (g : Gathers) (j : Judges g) (lawful : Lawful g j) (names : Ident → S
   high_fails at _ (rules.no_function h m) = absurd (m 1 (standard refl))
   high_fails at _ (rules.wrong_count i m) = absurd (m (some_same _ _ (sym (standard_function i))))
   high_fails at f (rules.mispassed h r c b m z) = elim h [ ]
-  high_fails at f (rules.no_value (rules.of_one i) m z) = elim i [ ]
-  high_fails at f (rules.no_value rules.of_high m z) = inr (_, m, inl z)
+  high_fails at f (rules.no_value (functions.of_one i) m z) = elim i [ ]
+  high_fails at f (rules.no_array m z) = inr (_, m, inl z)
   high_fails at f (rules.misapplied i m z) = elim i [ ]
   high_fails at _ (rules.no_type t m z) = elim t [ ]
   high_fails at _ (rules.no_open_array m z q) = inr (_, m, inr (z, q, refl))
 
   fails_high : {x : Expr} (at : Pos) (f : Breach) → HighBreaks x f → M at (AStandard High) (x ∷ []) f ⊎ Any (x ∷ []) f
   fails_high {x = x} at f (inl b) = inr (x, here, b)
-  fails_high at f (inr (y, m, inl z)) = inl (rules.no_value rules.of_high m z)
+  fails_high at f (inr (y, m, inl z)) = inl (rules.no_array m z)
   fails_high {x = x} at f (inr (y, m, inr (z, q, e))) = inl (subst (M at (AStandard High) (x ∷ [])) (sym e) (rules.no_open_array m z q))
 
-  high_called : {x : Expr} (at : Pos) → IsPlain x → Found x → CallsSo at (AStandard High) (x ∷ []) (of_sort g (meanings_of g x).fixed.at rule.WrongArgument ((meanings_of g x).means s) ▷ high_of g (meanings_of g x).fixed.at)
-  high_called {x = x} at i h = subst (λ (p : Pos). CallsSo at (AStandard High) (x ∷ []) (of_sort g p rule.WrongArgument ((meanings_of g x).means s) ▷ high_of g p)) (sym (at_is g i))
+  high_called : {x : Expr} (at : Pos) → Found x → CallsSo at (AStandard High) (x ∷ []) (of_sort g (meanings_of g x).fixed.at rule.WrongArgument ((meanings_of g x).means s) ▷ high_of g (meanings_of g x).fixed.at)
+  high_called {x = x} at h = subst (λ (p : Pos). CallsSo at (AStandard High) (x ∷ []) (of_sort g p rule.WrongArgument ((meanings_of g x).means s) ▷ high_of g p)) (sym (at_is g x))
       (exact g j lawful E calls_high (λ l m. high_calls_by m) (fails_high at) (λ f b. elim b [ inl m ↦ high_fails at f m | inr a ↦ inl (any_one f a) ])
       (sort_answers g j lawful E (first x) rule.WrongArgument h (high_answers (first x)) (no_high (first x) (λ t e. absurd cc) (λ h m. m))))
 
-  high_calls : (at : Pos) (xs : List Expr) → ((y : Expr) → Among y xs → IsPlain y) → ((y : Expr) → Among y xs → Found y) → CallsSo at (AStandard High) xs (meanings.high g s at (map (meanings_of g) xs))
-  high_calls at [] i h = miscounted_calls {p = High} at refl (λ e. absurd cc) h
-  high_calls at (x ∷ []) i h = high_called at (i x here) (h x here)
-  high_calls at (x ∷ y ∷ xs) i h = miscounted_calls {p = High} at refl (λ e. omega (arith, e)) h
+  high_calls : (at : Pos) (xs : List Expr) → ((y : Expr) → Among y xs → Found y) → CallsSo at (AStandard High) xs (meanings.high g s at (map (meanings_of g) xs))
+  high_calls at [] h = miscounted_calls {p = High} at refl (λ e. absurd cc) h
+  high_calls at (x ∷ []) h = high_called at (h x here)
+  high_calls at (x ∷ y ∷ xs) h = miscounted_calls {p = High} at refl (λ e. omega (arith, e)) h
 
   -- ---- all standard procedures
 
-  pub standard_answers : (p : Standard) (at : Pos) (xs : List Expr) → ((y : Expr) → Among y xs → IsPlain y) → ((y : Expr) → Among y xs → Found y) → CallsSo at (AStandard p) xs (callee_value g s at (map (meanings_of g) xs) (called.Standard p))
-  standard_answers Abs at xs i h = unary_calls at xs is_abs i h
-  standard_answers Cap at xs i h = unary_calls at xs is_cap i h
-  standard_answers Chr at xs i h = unary_calls at xs is_chr i h
-  standard_answers High at xs i h = high_calls at xs i h
-  standard_answers Max at xs i h = bound_calls at xs bound_max i h
-  standard_answers Min at xs i h = bound_calls at xs bound_min i h
-  standard_answers Odd at xs i h = unary_calls at xs is_odd i h
-  standard_answers Ord at xs i h = unary_calls at xs is_ord i h
-  standard_answers Val at xs i h = val_calls at xs i h
-  standard_answers Inc at xs i h = proper_calls at refl h
-  standard_answers Dec at xs i h = proper_calls at refl h
-  standard_answers Incl at xs i h = proper_calls at refl h
-  standard_answers Excl at xs i h = proper_calls at refl h
-  standard_answers Halt at xs i h = proper_calls at refl h
-  standard_answers Put at xs i h = proper_calls at refl h
+  pub standard_answers : (p : Standard) (at : Pos) (xs : List Expr) → ((y : Expr) → Among y xs → Found y) → CallsSo at (AStandard p) xs (callee_value g s at (map (meanings_of g) xs) (called.Standard p))
+  standard_answers Abs at xs h = unary_calls at xs is_abs h
+  standard_answers Cap at xs h = unary_calls at xs is_cap h
+  standard_answers Chr at xs h = unary_calls at xs is_chr h
+  standard_answers High at xs h = high_calls at xs h
+  standard_answers Max at xs h = bound_calls at xs bound_max h
+  standard_answers Min at xs h = bound_calls at xs bound_min h
+  standard_answers Odd at xs h = unary_calls at xs is_odd h
+  standard_answers Ord at xs h = unary_calls at xs is_ord h
+  standard_answers Val at xs h = val_calls at xs h
+  standard_answers Inc at xs h = proper_calls at refl h
+  standard_answers Dec at xs h = proper_calls at refl h
+  standard_answers Incl at xs h = proper_calls at refl h
+  standard_answers Excl at xs h = proper_calls at refl h
+  standard_answers Halt at xs h = proper_calls at refl h
+  standard_answers Put at xs h = proper_calls at refl h

@@ -47,7 +47,7 @@ use Rattle.def_typing.specs.Expressions.{broken, mistaken}
 use Rattle.def_typing.specs.Actions as rules
 use Rattle.def_typing.specs.Actions.{IsCounting, by_inc, by_dec, IsSetting, by_incl, by_excl, HasCount, inc_by_one, inc_by, dec_by_one, dec_by, to_include, to_exclude, to_halt, to_put, MayChange, a_scalar, a_set, InSet, IsAmount, a_number, an_element, Misamounts, no_number, no_element, TakesVariable, by_one, by_number, of_set, TakesAmount, of_counting, of_setting, TakesValue, an_amount, of_put, IsProper, proper, standard, Acts, acts, counts, changes, halts, puts, Misacts}
 use Rattle.law_typing.specs.Judging.{Judges, Answers}
-use Rattle.law_typing.specs.Exact.{IsKind, kind_constant, kind_scalar, kind_set, kind_routine, kind_procedure, kind_whole, kind_untaken, IsThing, thing_value, thing_variable, thing_open, thing_type, thing_procedure, thing_nested, thing_standard, thing_module, IsPlain}
+use Rattle.law_typing.specs.Exact.{IsKind, kind_constant, kind_scalar, kind_set, kind_routine, kind_procedure, kind_whole, kind_untaken, IsThing, thing_value, thing_variable, thing_open, thing_type, thing_procedure, thing_nested, thing_standard, thing_module}
 use Rattle.law_typing.proofs.Combining.{Lawful, Decided, holds, fails_it, exact, declined_beside, Checks, passes, stopped, map_checks, both_checks, then_check, sort_checks}
 use Rattle.law_typing.proofs.Deciding.{number_decided, within_decided}
 use Rattle.law_typing.proofs.Placing.{value_suits}
@@ -347,21 +347,21 @@ module _ (g : Gathers) (j : Judges g) (lawful : Lawful g j) (names : Ident → S
   abbrev AmountFails : Standard → Expr → Breach → Type 0
   AmountFails p e f = V e f ⊎ ((k : Kind) × H e k × Misamounts p (first e) (operand k) f)
 
-  counted_variable : {p : Standard} {v : Expr} → IsCounting p → IsPlain v → Found v → Checks g j lawful E {A = TypeNo × Place} (Variable p v) (VariableFails p v) (change_target_in g s (meanings_of g v))
-  counted_variable {p = p} {v = v} c i h = subst (λ (at : Pos). Checks g j lawful E {A = TypeNo × Place} (Variable p v) (VariableFails p v) (of_sort g at rule.NoVariable ((meanings_of g v).means s) ▷ change_target g s.types at)) (sym (at_is g i))
+  counted_variable : {p : Standard} {v : Expr} → IsCounting p → Found v → Checks g j lawful E {A = TypeNo × Place} (Variable p v) (VariableFails p v) (change_target_in g s (meanings_of g v))
+  counted_variable {p = p} {v = v} c h = subst (λ (at : Pos). Checks g j lawful E {A = TypeNo × Place} (Variable p v) (VariableFails p v) (of_sort g at rule.NoVariable ((meanings_of g v).means s) ▷ change_target g s.types at)) (sym (at_is g v))
       (sort_checks g j lawful E (first v) rule.NoVariable h (changed_checks g j lawful E s.types p (first v) c) (unchanged g j lawful E s.types p (first v) (λ m. elim m [ ])))
 
-  set_variable_checks : {p : Standard} {v : Expr} → IsSetting p → IsPlain v → Found v → Checks g j lawful E {A = Place} (Variable p v) (VariableFails p v) (set_in g s (meanings_of g v))
-  set_variable_checks {p = p} {v = v} c i h = subst (λ (at : Pos). Checks g j lawful E {A = Place} (Variable p v) (VariableFails p v) (of_sort g at rule.NoVariable ((meanings_of g v).means s) ▷ set_variable g s.types at)) (sym (at_is g i))
+  set_variable_checks : {p : Standard} {v : Expr} → IsSetting p → Found v → Checks g j lawful E {A = Place} (Variable p v) (VariableFails p v) (set_in g s (meanings_of g v))
+  set_variable_checks {p = p} {v = v} c h = subst (λ (at : Pos). Checks g j lawful E {A = Place} (Variable p v) (VariableFails p v) (of_sort g at rule.NoVariable ((meanings_of g v).means s) ▷ set_variable g s.types at)) (sym (at_is g v))
       (sort_checks g j lawful E (first v) rule.NoVariable h (set_checks g j lawful E s.types p (first v) c) (unchanged g j lawful E s.types p (first v) (λ m. elim m [ ])))
 
-  amount_of : {p : Standard} {e : Expr} → IsCounting p → IsPlain e → Found e → Checks g j lawful E {A = TypedExpr} (Amount p e) (AmountFails p e) (value_of g s (meanings_of g e) ▷ amount g (meanings_of g e).fixed.at)
-  amount_of {p = p} {e = e} c i h = subst (λ (at : Pos). Checks g j lawful E {A = TypedExpr} (Amount p e) (AmountFails p e) (value_of g s (meanings_of g e) ▷ amount g at)) (sym (at_is g i))
-      (then_check g j lawful E {P = λ k. IsAmount p (operand k)} {D = λ k f. Misamounts p (first e) (operand k) f} (valued g j lawful names exports s i h) (λ v k q. amount_checks g j lawful E s.types p (first e) c q))
+  amount_of : {p : Standard} {e : Expr} → IsCounting p → Found e → Checks g j lawful E {A = TypedExpr} (Amount p e) (AmountFails p e) (value_of g s (meanings_of g e) ▷ amount g (meanings_of g e).fixed.at)
+  amount_of {p = p} {e = e} c h = subst (λ (at : Pos). Checks g j lawful E {A = TypedExpr} (Amount p e) (AmountFails p e) (value_of g s (meanings_of g e) ▷ amount g at)) (sym (at_is g e))
+      (then_check g j lawful E {P = λ k. IsAmount p (operand k)} {D = λ k f. Misamounts p (first e) (operand k) f} (valued g j lawful names exports s h) (λ v k q. amount_checks g j lawful E s.types p (first e) c q))
 
-  element_of : {p : Standard} {e : Expr} → IsSetting p → IsPlain e → Found e → Checks g j lawful E {A = TypedExpr} (Amount p e) (AmountFails p e) (value_of g s (meanings_of g e) ▷ set_element g (meanings_of g e).fixed.at)
-  element_of {p = p} {e = e} c i h = subst (λ (at : Pos). Checks g j lawful E {A = TypedExpr} (Amount p e) (AmountFails p e) (value_of g s (meanings_of g e) ▷ set_element g at)) (sym (at_is g i))
-      (then_check g j lawful E {P = λ k. IsAmount p (operand k)} {D = λ k f. Misamounts p (first e) (operand k) f} (valued g j lawful names exports s i h) (λ v k q. element_checks g j lawful E s.types p (first e) c q))
+  element_of : {p : Standard} {e : Expr} → IsSetting p → Found e → Checks g j lawful E {A = TypedExpr} (Amount p e) (AmountFails p e) (value_of g s (meanings_of g e) ▷ set_element g (meanings_of g e).fixed.at)
+  element_of {p = p} {e = e} c h = subst (λ (at : Pos). Checks g j lawful E {A = TypedExpr} (Amount p e) (AmountFails p e) (value_of g s (meanings_of g e) ▷ set_element g at)) (sym (at_is g e))
+      (then_check g j lawful E {P = λ k. IsAmount p (operand k)} {D = λ k f. Misamounts p (first e) (operand k) f} (valued g j lawful names exports s h) (λ v k q. element_checks g j lawful E s.types p (first e) c q))
 
   -- ---- INC and DEC by 1
 
@@ -389,10 +389,10 @@ module _ (g : Gathers) (j : Judges g) (lawful : Lawful g j) (names : Ident → S
   any_one f (v, here, b) = b
   any_one f (v, later m, b) = elim m [ ]
 
-  one_action : {p : Standard} {v : Expr} (at : Pos) (o : Change) → IsCounting p → IsPlain v → Found v → ActsSo at (AStandard p) (v ∷ []) (change_by g o (change_target_in g s (meanings_of g v)) (Ok (expr.Constant cardinal (pos 1))))
-  one_action {p = p} {v = v} at o c i h = exact g j lawful E {M = λ u. Variable p v × Unit {0}} {B = λ f. VariableFails p v f ⊎ ⊥} (λ u z. counts c z.0.1 z.0.2) (λ u z. (one_out z c, tt)) (λ f z. one_in at f c z)
+  one_action : {p : Standard} {v : Expr} (at : Pos) (o : Change) → IsCounting p → Found v → ActsSo at (AStandard p) (v ∷ []) (change_by g o (change_target_in g s (meanings_of g v)) (Ok (expr.Constant cardinal (pos 1))))
+  one_action {p = p} {v = v} at o c h = exact g j lawful E {M = λ u. Variable p v × Unit {0}} {B = λ f. VariableFails p v f ⊎ ⊥} (λ u z. counts c z.0.1 z.0.2) (λ u z. (one_out z c, tt)) (λ f z. one_in at f c z)
       (λ f z. elim z [ inl m ↦ one_fails at f c m | inr a ↦ inl (inl (any_one f a)) ])
-      (checks_answer g j lawful E (map_checks g j lawful E (λ (q : (TypeNo × Place) × TypedExpr). statement.Change o q.0.1 q.0.0 q.1) (both_checks g j lawful E (counted_variable c i h) (passes (expr.Constant cardinal (pos 1)) tt (λ f b. b)))))
+      (checks_answer g j lawful E (map_checks g j lawful E (λ (q : (TypeNo × Place) × TypedExpr). statement.Change o q.0.1 q.0.0 q.1) (both_checks g j lawful E (counted_variable c h) (passes (expr.Constant cardinal (pos 1)) tt (λ f b. b)))))
 
   -- ---- with a second argument
 
@@ -428,35 +428,35 @@ module _ (g : Gathers) (j : Judges g) (lawful : Lawful g j) (names : Ident → S
   two_action {p = p} {v = v} {e = e} at c i t h = exact g j lawful E {M = λ u. Variable p v × Amount p e} {B = λ f. VariableFails p v f ⊎ AmountFails p e f} (λ u z. changes z.0.1 z.0.2 z.1.1 z.1.2) (λ u z. two_out z) (λ f z. two_in at f i t z)
       (λ f z. elim z [ inl m ↦ two_fails at f c m | inr a ↦ any_two f a ]) (checks_answer g j lawful E h)
 
-  change_action : {p : Standard} (at : Pos) (o : Change) (xs : List Expr) → IsCounting p → ((y : Expr) → Among y xs → IsPlain y) → ((y : Expr) → Among y xs → Found y) → ActsSo at (AStandard p) xs (change_statement g s at o (map (meanings_of g) xs))
-  change_action at o [] c i h = miscounted_action at (counting_one c) (λ q. no_zero c q) h
+  change_action : {p : Standard} (at : Pos) (o : Change) (xs : List Expr) → IsCounting p → ((y : Expr) → Among y xs → Found y) → ActsSo at (AStandard p) xs (change_statement g s at o (map (meanings_of g) xs))
+  change_action at o [] c h = miscounted_action at (counting_one c) (λ q. no_zero c q) h
     where
       no_zero : {p : Standard} → IsCounting p → HasCount p 0 → ⊥
       no_zero by_inc q = elim q [ ]
       no_zero by_dec q = elim q [ ]
-  change_action at o (v ∷ []) c i h = one_action at o c (i v here) (h v here)
-  change_action at o (v ∷ e ∷ []) c i h = two_action at (counting_two c) (by_number c) (of_counting c)
-      (map_checks g j lawful E (λ (q : (TypeNo × Place) × TypedExpr). statement.Change o q.0.1 q.0.0 q.1) (both_checks g j lawful E (counted_variable c (i v here) (h v here)) (amount_of c (i e (later here)) (h e (later here)))))
-  change_action at o (v ∷ e ∷ x ∷ xs) c i h = miscounted_action at (counting_one c) (λ q. too_many c q) h
+  change_action at o (v ∷ []) c h = one_action at o c (h v here)
+  change_action at o (v ∷ e ∷ []) c h = two_action at (counting_two c) (by_number c) (of_counting c)
+      (map_checks g j lawful E (λ (q : (TypeNo × Place) × TypedExpr). statement.Change o q.0.1 q.0.0 q.1) (both_checks g j lawful E (counted_variable c (h v here)) (amount_of c (h e (later here)))))
+  change_action at o (v ∷ e ∷ x ∷ xs) c h = miscounted_action at (counting_one c) (λ q. too_many c q) h
     where
       too_many : {p : Standard} {n : ℕ} → IsCounting p → HasCount p (suc (suc (suc n))) → ⊥
       too_many by_inc q = elim q [ ]
       too_many by_dec q = elim q [ ]
 
-  set_action : {p : Standard} (at : Pos) (o : Membership) (xs : List Expr) → IsSetting p → ((y : Expr) → Among y xs → IsPlain y) → ((y : Expr) → Among y xs → Found y) → ActsSo at (AStandard p) xs (member_by g s at o (map (meanings_of g) xs))
-  set_action at o [] c i h = miscounted_action at (setting_two c) (λ q. no_zero c q) h
+  set_action : {p : Standard} (at : Pos) (o : Membership) (xs : List Expr) → IsSetting p → ((y : Expr) → Among y xs → Found y) → ActsSo at (AStandard p) xs (member_by g s at o (map (meanings_of g) xs))
+  set_action at o [] c h = miscounted_action at (setting_two c) (λ q. no_zero c q) h
     where
       no_zero : {p : Standard} → IsSetting p → HasCount p 0 → ⊥
       no_zero by_incl q = elim q [ ]
       no_zero by_excl q = elim q [ ]
-  set_action at o (v ∷ []) c i h = miscounted_action at (setting_two c) (λ q. no_one c q) h
+  set_action at o (v ∷ []) c h = miscounted_action at (setting_two c) (λ q. no_one c q) h
     where
       no_one : {p : Standard} → IsSetting p → HasCount p 1 → ⊥
       no_one by_incl q = elim q [ ]
       no_one by_excl q = elim q [ ]
-  set_action at o (v ∷ e ∷ []) c i h = two_action at (setting_two c) (of_set c) (of_setting c)
-      (map_checks g j lawful E (λ (q : Place × TypedExpr). statement.Membership o q.0 q.1) (both_checks g j lawful E (set_variable_checks c (i v here) (h v here)) (element_of c (i e (later here)) (h e (later here)))))
-  set_action at o (v ∷ e ∷ x ∷ xs) c i h = miscounted_action at (setting_two c) (λ q. too_many c q) h
+  set_action at o (v ∷ e ∷ []) c h = two_action at (setting_two c) (of_set c) (of_setting c)
+      (map_checks g j lawful E (λ (q : Place × TypedExpr). statement.Membership o q.0 q.1) (both_checks g j lawful E (set_variable_checks c (h v here)) (element_of c (h e (later here)))))
+  set_action at o (v ∷ e ∷ x ∷ xs) c h = miscounted_action at (setting_two c) (λ q. too_many c q) h
     where
       too_many : {p : Standard} {n : ℕ} → IsSetting p → HasCount p (suc (suc (suc n))) → ⊥
       too_many by_incl q = elim q [ ]
@@ -502,29 +502,29 @@ module _ (g : Gathers) (j : Judges g) (lawful : Lawful g j) (names : Ident → S
   put_in at f (inl (mistaken m z)) = inl (rules.no_value of_put m z)
   put_in at f (inr (k, m, z)) = inl (rules.no_character m z)
 
-  put_action : (at : Pos) (xs : List Expr) → ((y : Expr) → Among y xs → IsPlain y) → ((y : Expr) → Among y xs → Found y) → ActsSo at (AStandard Put) xs (put_by g s at (map (meanings_of g) xs))
-  put_action at [] i h = miscounted_action at to_put (λ q. elim q [ ]) h
-  put_action at (e ∷ []) i h = subst (λ (p : Pos). ActsSo at (AStandard Put) (e ∷ []) (value_of g s (meanings_of g e) ▷ put g s.types p)) (sym (at_is g (i e here)))
+  put_action : (at : Pos) (xs : List Expr) → ((y : Expr) → Among y xs → Found y) → ActsSo at (AStandard Put) xs (put_by g s at (map (meanings_of g) xs))
+  put_action at [] h = miscounted_action at to_put (λ q. elim q [ ]) h
+  put_action at (e ∷ []) h = subst (λ (p : Pos). ActsSo at (AStandard Put) (e ∷ []) (value_of g s (meanings_of g e) ▷ put g s.types p)) (sym (at_is g e))
       (exact g j lawful E {M = λ u. PutOf e} {B = PutFails e} (λ u z. puts z.1 z.2) (λ u z. put_out z) (λ f z. put_in at f z) (λ f z. elim z [ inl m ↦ put_fails at f m | inr a ↦ inl (broken (any_one f a)) ])
-      (checks_answer g j lawful E (then_check g j lawful E {P = λ k. IsAssignable s.types char (operand k)} {D = λ k f. Misassigned s.types char (first e) rule.WrongArgument (operand k) f} (valued g j lawful names exports s (i e here) (h e here))
+      (checks_answer g j lawful E (then_check g j lawful E {P = λ k. IsAssignable s.types char (operand k)} {D = λ k f. Misassigned s.types char (first e) rule.WrongArgument (operand k) f} (valued g j lawful names exports s (h e here))
       (λ v k q. map_checks g j lawful E (λ x. statement.Put x) (value_suits s.types char g j lawful E rule.WrongArgument (first e) q)))))
-  put_action at (e ∷ x ∷ xs) i h = miscounted_action at to_put (λ q. elim q [ ]) h
+  put_action at (e ∷ x ∷ xs) h = miscounted_action at to_put (λ q. elim q [ ]) h
 
   -- ---- all of them
 
-  pub standard_acts : (p : Standard) (at : Pos) (xs : List Expr) → ((y : Expr) → Among y xs → IsPlain y) → ((y : Expr) → Among y xs → Found y) → ActsSo at (AStandard p) xs (standard_done g s at (map (meanings_of g) xs) p)
-  standard_acts Abs at xs i h = function_action at (λ n c. elim c [ ]) h
-  standard_acts Cap at xs i h = function_action at (λ n c. elim c [ ]) h
-  standard_acts Chr at xs i h = function_action at (λ n c. elim c [ ]) h
-  standard_acts High at xs i h = function_action at (λ n c. elim c [ ]) h
-  standard_acts Max at xs i h = function_action at (λ n c. elim c [ ]) h
-  standard_acts Min at xs i h = function_action at (λ n c. elim c [ ]) h
-  standard_acts Odd at xs i h = function_action at (λ n c. elim c [ ]) h
-  standard_acts Ord at xs i h = function_action at (λ n c. elim c [ ]) h
-  standard_acts Val at xs i h = function_action at (λ n c. elim c [ ]) h
-  standard_acts Inc at xs i h = change_action at Increase xs by_inc i h
-  standard_acts Dec at xs i h = change_action at Decrease xs by_dec i h
-  standard_acts Incl at xs i h = set_action at Include xs by_incl i h
-  standard_acts Excl at xs i h = set_action at Exclude xs by_excl i h
-  standard_acts Halt at xs i h = halt_action at xs h
-  standard_acts Put at xs i h = put_action at xs i h
+  pub standard_acts : (p : Standard) (at : Pos) (xs : List Expr) → ((y : Expr) → Among y xs → Found y) → ActsSo at (AStandard p) xs (standard_done g s at (map (meanings_of g) xs) p)
+  standard_acts Abs at xs h = function_action at (λ n c. elim c [ ]) h
+  standard_acts Cap at xs h = function_action at (λ n c. elim c [ ]) h
+  standard_acts Chr at xs h = function_action at (λ n c. elim c [ ]) h
+  standard_acts High at xs h = function_action at (λ n c. elim c [ ]) h
+  standard_acts Max at xs h = function_action at (λ n c. elim c [ ]) h
+  standard_acts Min at xs h = function_action at (λ n c. elim c [ ]) h
+  standard_acts Odd at xs h = function_action at (λ n c. elim c [ ]) h
+  standard_acts Ord at xs h = function_action at (λ n c. elim c [ ]) h
+  standard_acts Val at xs h = function_action at (λ n c. elim c [ ]) h
+  standard_acts Inc at xs h = change_action at Increase xs by_inc h
+  standard_acts Dec at xs h = change_action at Decrease xs by_dec h
+  standard_acts Incl at xs h = set_action at Include xs by_incl h
+  standard_acts Excl at xs h = set_action at Exclude xs by_excl h
+  standard_acts Halt at xs h = halt_action at xs h
+  standard_acts Put at xs h = put_action at xs h

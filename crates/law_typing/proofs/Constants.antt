@@ -1,4 +1,4 @@
--- Constant expressions without calls are answered exactly, layer by layer.
+-- Constant expressions are answered exactly, layer by layer.
 use Rattle.std.proofs.Common.{◌≡◌, ℕ, ℤ, pos, Bool, true, not, cond, List, [], ◌∷◌, Option, Some, None, Result, Ok, Err, ◌⊎◌, inl, inr, refl, sym, ap, subst, ◌∙◌}
 use Rattle.std.specs.Prelude.{map, int_lt, bit_or}
 use Rattle.std.specs.List.{fold}
@@ -44,12 +44,13 @@ use Rattle.def_typing.specs.Things.{Thing, AValue, AVariable, AnOpenArray, AType
 use Rattle.def_typing.specs.Parts as parts
 use Rattle.def_typing.specs.Parts.{first, Operand, factors, addends, Among, here, later}
 use Rattle.def_typing.specs.Constants as rules
-use Rattle.def_typing.specs.Constants.{Fixed, AConstant, AScope, NoConstant, FixedMisnamed, IsBound, low_bound, high_bound, IsFixedPart, Fixes, as_fixed, FixedReads, FixedChain, fixed_done, fixed_then, AddUp, no_item, one_item, Adds, HasNumber, has_number, FixedChainFails, fixed_at_once, fixed_further, ItemFails, Misset, FixedFails, no_constant, FixedBroken, fixed_fails, fixed_inside, BrokenAsConstant, broken_constant, not_constant}
+use Rattle.def_typing.specs.Constants.{Fixed, AConstant, AScope, NoConstant, FixedMisnamed, IsBound, low_bound, high_bound, IsFixedPart, Fixes, as_fixed, FixedReads, FixedChain, fixed_done, fixed_then, AddUp, no_item, one_item, Adds, HasNumber, has_number, FixedChainFails, fixed_at_once, fixed_further, ItemFails, Misset, FixedFails, no_constant, IsTypePart}
+use Rattle.def_typing.specs.Expressions.{FixedBroken, fixed_fails, fixed_inside, in_type, BrokenTypeArgument}
 use Rattle.law_typing.specs.Judging.{Judges, Answers, means}
-use Rattle.law_typing.specs.Exact.{IsConst, is_const, kind_of, of_local, standing, Sees, sees, sees_nothing, sees_headless, sees_unknown, Knows, of_declaration, IsCallFree, free_number, free_character, free_string, free_set, free_name, free_not, free_brackets, free_term, free_sum, free_relation, AreCallFreeOperands, no_free_operand, one_free_operand, AreCallFree, no_free_item, one_free_item, one_free_range}
+use Rattle.law_typing.specs.Exact.{IsConst, is_const, kind_of, of_local, standing, Sees, sees, sees_nothing, sees_headless, sees_unknown, Knows, of_declaration}
 use Rattle.law_typing.proofs.Combining.{Lawful, Decided, holds, fails_it, fine, exact, both_answer, then_answer, Checks, passes, stops, stopped}
 use Rattle.law_typing.proofs.Deciding.{same_decided, some_same}
-use Rattle.law_typing.proofs.Places.{opened, meant_is, free_at}
+use Rattle.law_typing.proofs.Places.{opened, meant_is, at_is}
 use Rattle.law_typing.proofs.Fixing.{IsFixed, fixed_value, fixed_of, as_constant_answers, const_operated, const_signed, const_negated, E, DesignatesFixed, DesignatorFails, designator_fixes}
 use Rattle.law_typing.proofs.Elements.{IsOrdinal, IsSame, is_same, NumberOf, NoNumber, number_answers, one_meaning, checks_answer, one_answers, range_answers}
 
@@ -69,6 +70,16 @@ module _ (g : Gathers) (j : Judges g) (lawful : Lawful g j) (names : Ident → S
   abbrev Fails : Expr-F Expr Selector Designator Item → Breach → Type 0
   Fails = FixedFails s.types names exports
 
+  abbrev Part : Expr → Expr-F Expr Selector Designator Item → Type 0
+  Part = IsFixedPart names exports
+
+  abbrev TypePart : Expr → Expr-F Expr Selector Designator Item → Type 0
+  TypePart = IsTypePart names exports
+
+  -- what is broken in an argument that names a type
+  abbrev pub TypeBroken : Expr → Breach → Type 0
+  TypeBroken = BrokenTypeArgument s.types names exports
+
   abbrev pub FixedFound : Expr → Type 0
   FixedFound e = Answers g j O IsFixed (F e) (B e) ((meanings_of g e).fixed.denotes s)
 
@@ -76,47 +87,65 @@ module _ (g : Gathers) (j : Judges g) (lawful : Lawful g j) (names : Ident → S
   abbrev pub ConstBroken : Expr → Breach → Type 0
   ConstBroken e f = B e f ⊎ ((x : Fixed) × F e x × (((k : Kind) → x ≡ AConstant k → ⊥) × (f ≡ first e ! rule.NoConstant)))
 
-  abbrev ConstValued : Expr → Type 0
+  abbrev pub ConstValued : Expr → Type 0
   ConstValued e = Answers g j O IsConst (λ k. F e (AConstant k)) (ConstBroken e) (constants.constant g s (meanings_of g e).fixed)
 
-  const_valued : {e : Expr} → IsCallFree e → FixedFound e → ConstValued e
-  const_valued {e = e} i h = exact g j lawful O {M = λ k. (x : Fixed) × F e x × (x ≡ AConstant k)} {B = ConstBroken e} (λ k m. subst (F e) m.2 m.1) (λ k m. (AConstant k, m, refl)) (λ f b. b) (λ f b. b)
-      (subst (λ (at : Pos). Answers g j O IsConst (λ k. (x : Fixed) × F e x × (x ≡ AConstant k)) (ConstBroken e) ((meanings_of g e).fixed.denotes s ▷ as_constant g at)) (sym (free_at g i))
+  pub const_valued : {e : Expr} → FixedFound e → ConstValued e
+  const_valued {e = e} h = exact g j lawful O {M = λ k. (x : Fixed) × F e x × (x ≡ AConstant k)} {B = ConstBroken e} (λ k m. subst (F e) m.2 m.1) (λ k m. (AConstant k, m, refl)) (λ f b. b) (λ f b. b)
+      (subst (λ (at : Pos). Answers g j O IsConst (λ k. (x : Fixed) × F e x × (x ≡ AConstant k)) (ConstBroken e) ((meanings_of g e).fixed.denotes s ▷ as_constant g at)) (sym (at_is g e))
       (then_answer g j lawful O {N = λ x k. x ≡ AConstant k} {D = λ x f. ((k : Kind) → x ≡ AConstant k → ⊥) × (f ≡ first e ! rule.NoConstant)} h (as_constant_answers g j lawful O (first e))))
 
   -- ---- layers
 
   abbrev pub FixedIn : Expr-F Expr Selector Designator Item → Breach → Type 0
-  FixedIn y f = Fails y f ⊎ ((x : Expr) × IsFixedPart x y × B x f)
+  FixedIn y f = Fails y f ⊎ ((x : Expr) × Part x y × B x f)
 
-  broken_by : {e : Expr} {f : Breach} (y : Expr-F Expr Selector Designator Item) → out-Expr e ≡ y → B e f → FixedIn y f
-  broken_by {f = f} y h (fixed_fails x) = inl (subst (λ (y : Expr-F Expr Selector Designator Item). Fails y f) h x)
-  broken_by {f = f} y h (fixed_inside {x = x} p b) = inr (x, subst (IsFixedPart x) h p, b)
+  -- with what is broken in names of types
+  abbrev pub FixedAll : Expr-F Expr Selector Designator Item → Breach → Type 0
+  FixedAll y f = FixedIn y f ⊎ ((t : Expr) × TypePart t y × TypeBroken t f)
 
-  by_broken : {e : Expr} {f : Breach} (y : Expr-F Expr Selector Designator Item) → out-Expr e ≡ y → FixedIn y f → B e f
-  by_broken {f = f} y h (inl x) = fixed_fails (subst (λ (y : Expr-F Expr Selector Designator Item). Fails y f) (sym h) x)
-  by_broken y h (inr (x, p, b)) = fixed_inside (subst (IsFixedPart x) (sym h) p) b
+  broken_by : {e : Expr} {f : Breach} (y : Expr-F Expr Selector Designator Item) → out-Expr e ≡ y → B e f → FixedAll y f
+  broken_by {f = f} y h (fixed_fails x) = inl (inl (subst (λ (y : Expr-F Expr Selector Designator Item). Fails y f) h x))
+  broken_by {f = f} y h (fixed_inside {x = x} p b) = inl (inr (x, subst (Part x) h p, b))
+  broken_by {f = f} y h (in_type {t = t} p b) = inr (t, subst (TypePart t) h p, b)
+
+  by_broken : {e : Expr} {f : Breach} (y : Expr-F Expr Selector Designator Item) → out-Expr e ≡ y → FixedAll y f → B e f
+  by_broken {f = f} y h (inl (inl x)) = fixed_fails (subst (λ (y : Expr-F Expr Selector Designator Item). Fails y f) (sym h) x)
+  by_broken y h (inl (inr (x, p, b))) = fixed_inside (subst (Part x) (sym h) p) b
+  by_broken y h (inr (t, p, b)) = in_type (subst (TypePart t) (sym h) p) b
 
   fixes_by : {e : Expr} {x : Fixed} (y : Expr-F Expr Selector Designator Item) → out-Expr e ≡ y → F e x → R y x
   fixes_by {x = x} y h (as_fixed r) = subst (λ (y : Expr-F Expr Selector Designator Item). R y x) h r
 
-  fixed_layer : {e : Expr} (y : Expr-F Expr Selector Designator Item) (r : Result Denoted g.Reported) → out-Expr e ≡ y → (expr_layer g (opened g y)).fixed.denotes s ≡ r → Answers g j O IsFixed (R y) (FixedIn y) r → FixedFound e
-  fixed_layer {e = e} y r h q a = subst (Answers g j O IsFixed (F e) (B e)) (sym (ap (λ (m : Meant g.Reported). m.fixed.denotes s) (meant_is g e y h) ∙ q))
+  any_layer : {e : Expr} (y : Expr-F Expr Selector Designator Item) (r : Result Denoted g.Reported) → out-Expr e ≡ y → (expr_layer g (opened g y)).fixed.denotes s ≡ r → Answers g j O IsFixed (R y) (FixedAll y) r → FixedFound e
+  any_layer {e = e} y r h q a = subst (Answers g j O IsFixed (F e) (B e)) (sym (ap (λ (m : Meant g.Reported). m.fixed.denotes s) (meant_is g e y h) ∙ q))
       (exact g j lawful O {N = F e} {C = B e} (λ x r. as_fixed (subst (λ (y : Expr-F Expr Selector Designator Item). R y x) (sym h) r)) (λ x m. fixes_by y h m) (λ f b. by_broken y h b) (λ f b. broken_by y h b) a)
 
-  const_layer : {e : Expr} {M : Kind → Type 0} {Q : Breach → Type 0} (y : Expr-F Expr Selector Designator Item) (r : Result ConstantValue g.Reported) → out-Expr e ≡ y → (expr_layer g (opened g y)).fixed.denotes s ≡ of_value r
-      → ((k : Kind) → M k → R y (AConstant k)) → ((x : Fixed) → R y x → (k : Kind) × M k × (x ≡ AConstant k)) → ((f : Breach) → Q f → FixedIn y f) → ((f : Breach) → FixedIn y f → Q f) → Answers g j O IsConst M Q r → FixedFound e
-  const_layer y r h q mr rm bi ib a = fixed_layer y (of_value r) h q (exact g j lawful O {N = R y} {C = FixedIn y} (λ x m. subst (R y) (sym m.2) (mr m.0 m.1)) rm bi ib (fixed_of g j lawful O a))
+  -- a layer that is the value of a call
+  pub called_layer : {e : Expr} {M : Kind → Type 0} {Q : Breach → Type 0} (y : Expr-F Expr Selector Designator Item) (r : Result ConstantValue g.Reported) → out-Expr e ≡ y → (expr_layer g (opened g y)).fixed.denotes s ≡ of_value r
+      → ((k : Kind) → M k → R y (AConstant k)) → ((x : Fixed) → R y x → (k : Kind) × M k × (x ≡ AConstant k)) → ((f : Breach) → Q f → FixedAll y f) → ((f : Breach) → FixedAll y f → Q f) → Answers g j O IsConst M Q r → FixedFound e
+  called_layer y r h q mr rm bi ib a = any_layer y (of_value r) h q (exact g j lawful O {N = R y} {C = FixedAll y} (λ x m. subst (R y) (sym m.2) (mr m.0 m.1)) rm bi ib (fixed_of g j lawful O a))
 
-  part_broken : {x : Expr} {y : Expr-F Expr Selector Designator Item} {f : Breach} → IsFixedPart x y → ConstBroken x f → FixedIn y f
+  -- a layer that is no call
+  abbrev NoTypes : Expr-F Expr Selector Designator Item → Type 0
+  NoTypes y = (t : Expr) → TypePart t y → ⊥
+
+  fixed_layer : {e : Expr} (y : Expr-F Expr Selector Designator Item) (r : Result Denoted g.Reported) → out-Expr e ≡ y → (expr_layer g (opened g y)).fixed.denotes s ≡ r → NoTypes y → Answers g j O IsFixed (R y) (FixedIn y) r → FixedFound e
+  fixed_layer y r h q n a = any_layer y r h q (exact g j lawful O {N = R y} {C = FixedAll y} (λ x m. m) (λ x m. m) (λ f b. inl b) (λ f b. elim b [ inl c ↦ c | inr c ↦ absurd (n c.0 c.1) ]) a)
+
+  const_layer : {e : Expr} {M : Kind → Type 0} {Q : Breach → Type 0} (y : Expr-F Expr Selector Designator Item) (r : Result ConstantValue g.Reported) → out-Expr e ≡ y → (expr_layer g (opened g y)).fixed.denotes s ≡ of_value r → NoTypes y
+      → ((k : Kind) → M k → R y (AConstant k)) → ((x : Fixed) → R y x → (k : Kind) × M k × (x ≡ AConstant k)) → ((f : Breach) → Q f → FixedIn y f) → ((f : Breach) → FixedIn y f → Q f) → Answers g j O IsConst M Q r → FixedFound e
+  const_layer y r h q n mr rm bi ib a = fixed_layer y (of_value r) h q n (exact g j lawful O {N = R y} {C = FixedIn y} (λ x m. subst (R y) (sym m.2) (mr m.0 m.1)) rm bi ib (fixed_of g j lawful O a))
+
+  pub part_broken : {x : Expr} {y : Expr-F Expr Selector Designator Item} {f : Breach} → Part x y → ConstBroken x f → FixedIn y f
   part_broken {x = x} i (inl b) = inr (x, i, b)
   part_broken {y = y} i (inr (z, m, (n, e))) = inl (subst (Fails y) (sym e) (no_constant i m n))
 
-  literal_fixed : {e : Expr} (y : Expr-F Expr Selector Designator Item) (v : ConstantValue) → out-Expr e ≡ y → (expr_layer g (opened g y)).fixed.denotes s ≡ Ok (denoted.Value v) → R y (AConstant (kind_of v)) → ((x : Fixed) → R y x → x ≡ AConstant (kind_of v)) → ((f : Breach) → FixedIn y f → ⊥) → FixedFound e
-  literal_fixed y v h q r one none = fixed_layer y (Ok (denoted.Value v)) h q (means (denoted.Value v) (AConstant (kind_of v)) (fixed_value (is_const v)) r one none)
+  literal_fixed : {e : Expr} (y : Expr-F Expr Selector Designator Item) (v : ConstantValue) → out-Expr e ≡ y → (expr_layer g (opened g y)).fixed.denotes s ≡ Ok (denoted.Value v) → NoTypes y → R y (AConstant (kind_of v)) → ((x : Fixed) → R y x → x ≡ AConstant (kind_of v)) → ((f : Breach) → FixedIn y f → ⊥) → FixedFound e
+  literal_fixed y v h q t r one none = fixed_layer y (Ok (denoted.Value v)) h q t (means (denoted.Value v) (AConstant (kind_of v)) (fixed_value (is_const v)) r one none)
 
-  number_fixed : {e : Expr} (at : Pos) (n : ℕ) → out-Expr e ≡ layer.Number at n → FixedFound e
-  number_fixed at n h = literal_fixed (layer.Number at n) (value.Number (pos n)) h refl rules.fixed_literal one none
+  pub number_fixed : {e : Expr} (at : Pos) (n : ℕ) → out-Expr e ≡ layer.Number at n → FixedFound e
+  number_fixed at n h = literal_fixed (layer.Number at n) (value.Number (pos n)) h refl (λ t p. elim p [ ]) rules.fixed_literal one none
     where
       one : (x : Fixed) → R (layer.Number at n) x → x ≡ AConstant (Scalar (Constant None (pos n)))
       one _ rules.fixed_literal = refl
@@ -125,8 +154,8 @@ module _ (g : Gathers) (j : Judges g) (lawful : Lawful g j) (names : Ident → S
       none _ (inl (no_constant (rules.an_inner i) m z)) = elim i [ ]
       none f (inr (x, rules.an_inner i, b)) = elim i [ ]
 
-  character_fixed : {e : Expr} (at : Pos) (c : ℕ) → out-Expr e ≡ layer.Char at c → FixedFound e
-  character_fixed at c h = literal_fixed (layer.Char at c) (number_value (Some char) (pos c)) h refl rules.fixed_character one none
+  pub character_fixed : {e : Expr} (at : Pos) (c : ℕ) → out-Expr e ≡ layer.Char at c → FixedFound e
+  character_fixed at c h = literal_fixed (layer.Char at c) (number_value (Some char) (pos c)) h refl (λ t p. elim p [ ]) rules.fixed_character one none
     where
       one : (x : Fixed) → R (layer.Char at c) x → x ≡ AConstant (Scalar (Constant (Some char) (pos c)))
       one _ rules.fixed_character = refl
@@ -135,8 +164,8 @@ module _ (g : Gathers) (j : Judges g) (lawful : Lawful g j) (names : Ident → S
       none _ (inl (no_constant (rules.an_inner i) m z)) = elim i [ ]
       none f (inr (x, rules.an_inner i, b)) = elim i [ ]
 
-  string_fixed : {e : Expr} (at : Pos) (text : List ℕ) → out-Expr e ≡ layer.Text at text → FixedFound e
-  string_fixed at text h = literal_fixed (layer.Text at text) (value.Text text) h refl rules.fixed_string one none
+  pub string_fixed : {e : Expr} (at : Pos) (text : List ℕ) → out-Expr e ≡ layer.Text at text → FixedFound e
+  string_fixed at text h = literal_fixed (layer.Text at text) (value.Text text) h refl (λ t p. elim p [ ]) rules.fixed_string one none
     where
       one : (x : Fixed) → R (layer.Text at text) x → x ≡ AConstant (Text text)
       one _ rules.fixed_string = refl
@@ -145,11 +174,11 @@ module _ (g : Gathers) (j : Judges g) (lawful : Lawful g j) (names : Ident → S
       none _ (inl (no_constant (rules.an_inner i) m z)) = elim i [ ]
       none f (inr (x, rules.an_inner i, b)) = elim i [ ]
 
-  name_fixed : {e : Expr} (d : Designator) → out-Expr e ≡ layer.Use d None → FixedFound e
-  name_fixed d h = fixed_layer (layer.Use d None) ((head g d).fixed.denotes s) h refl (exact g j lawful O {N = R (layer.Use d None)} {C = FixedIn (layer.Use d None)} (λ y m. rules.fixed_name m.1 m.2) (λ y r. parted r) into out (designator_fixes g j lawful names exports s knows d))
+  pub name_fixed : {e : Expr} (d : Designator) → out-Expr e ≡ layer.Use d None → FixedFound e
+  name_fixed d h = fixed_layer (layer.Use d None) ((head g d).fixed.denotes s) h refl (λ t p. elim p [ ]) (exact g j lawful O {N = R (layer.Use d None)} {C = FixedIn (layer.Use d None)} (λ y m. rules.fixed_name (rules.fixed_named m.1 m.2)) (λ y r. parted r) into out (designator_fixes g j lawful names exports s knows d))
     where
       parted : {y : Fixed} → R (layer.Use d None) y → DesignatesFixed g j lawful names exports s knows d y
-      parted (rules.fixed_name {x = x} m r) = (x, m, r)
+      parted (rules.fixed_name (rules.fixed_named {x = x} m r)) = (x, m, r)
 
       into : (f : Breach) → DesignatorFails g j lawful names exports s knows d f → FixedIn (layer.Use d None) f
       into f (inl m) = inl (rules.fixed_at_name m)
@@ -161,9 +190,9 @@ module _ (g : Gathers) (j : Judges g) (lawful : Lawful g j) (names : Ident → S
       out _ (inl (no_constant (rules.an_inner i) m z)) = elim i [ ]
       out f (inr (x, rules.an_inner i, b)) = elim i [ ]
 
-  not_fixed : {e : Expr} (at : Pos) (x : Expr) → out-Expr e ≡ layer.Not at x → IsCallFree x → FixedFound x → FixedFound e
-  not_fixed at x h i q = const_layer (layer.Not at x) (operate.negation g at (constants.constant g s (meanings_of g x).fixed)) h refl (λ k m. rules.fixed_negated m.1 m.2) reads into out
-      (then_answer g j lawful O {N = Negates} {D = λ a f. ((k : Kind) → Negates a k → ⊥) × (f ≡ at ! rule.WrongType)} (const_valued i q) (λ v k i. const_negated g j lawful O at i))
+  pub not_fixed : {e : Expr} (at : Pos) (x : Expr) → out-Expr e ≡ layer.Not at x → FixedFound x → FixedFound e
+  not_fixed at x h q = const_layer (layer.Not at x) (operate.negation g at (constants.constant g s (meanings_of g x).fixed)) h refl (λ t p. elim p [ ]) (λ k m. rules.fixed_negated m.1 m.2) reads into out
+      (then_answer g j lawful O {N = Negates} {D = λ a f. ((k : Kind) → Negates a k → ⊥) × (f ≡ at ! rule.WrongType)} (const_valued q) (λ v k i. const_negated g j lawful O at i))
     where
       reads : (y : Fixed) → R (layer.Not at x) y → (k : Kind) × ((a : Kind) × F x (AConstant a) × Negates a k) × (y ≡ AConstant k)
       reads _ (rules.fixed_negated {a = a} {k = k} m n) = (k, (a, m, n), refl)
@@ -177,8 +206,8 @@ module _ (g : Gathers) (j : Judges g) (lawful : Lawful g j) (names : Ident → S
       out _ (inl (rules.fixed_not_boolean {a = a} m n)) = inr (a, m, (n, refl))
       out f (inr (y, (rules.an_inner parts.in_not), b)) = inl (inl b)
 
-  brackets_fixed : {e : Expr} (at : Pos) (x : Expr) → out-Expr e ≡ layer.Bracketed at x → IsCallFree x → FixedFound x → FixedFound e
-  brackets_fixed at x h i q = const_layer (layer.Bracketed at x) (constants.constant g s (meanings_of g x).fixed) h refl (λ k m. rules.fixed_brackets m) reads (λ f b. part_broken (rules.an_inner parts.in_brackets) b) out (const_valued i q)
+  pub brackets_fixed : {e : Expr} (at : Pos) (x : Expr) → out-Expr e ≡ layer.Bracketed at x → FixedFound x → FixedFound e
+  brackets_fixed at x h q = const_layer (layer.Bracketed at x) (constants.constant g s (meanings_of g x).fixed) h refl (λ t p. elim p [ ]) (λ k m. rules.fixed_brackets m) reads (λ f b. part_broken (rules.an_inner parts.in_brackets) b) out (const_valued q)
     where
       reads : (y : Fixed) → R (layer.Bracketed at x) y → (k : Kind) × F x (AConstant k) × (y ≡ AConstant k)
       reads _ (rules.fixed_brackets {k = k} m) = (k, m, refl)
@@ -187,13 +216,13 @@ module _ (g : Gathers) (j : Judges g) (lawful : Lawful g j) (names : Ident → S
       out _ (inl (no_constant (rules.an_inner parts.in_brackets) m z)) = inr (_, m, (z, refl))
       out f (inr (y, (rules.an_inner parts.in_brackets), b)) = inl b
 
-  relation_fixed : {e : Expr} (a : Expr) (o : Operator RelOp) (b : Expr) → out-Expr e ≡ layer.Relation a o b → IsCallFree a → IsCallFree b → FixedFound a → FixedFound b → FixedFound e
-  relation_fixed a o b h i k p q = const_layer (layer.Relation a o b) (operate.constant_operation g (op.Relation o.op) o.pos (meanings_of g a).fixed.at (constants.constant g s (meanings_of g a).fixed) (meanings_of g b).fixed.at (constants.constant g s (meanings_of g b).fixed)) h refl
+  pub relation_fixed : {e : Expr} (a : Expr) (o : Operator RelOp) (b : Expr) → out-Expr e ≡ layer.Relation a o b → FixedFound a → FixedFound b → FixedFound e
+  relation_fixed a o b h p q = const_layer (layer.Relation a o b) (operate.constant_operation g (op.Relation o.op) o.pos (meanings_of g a).fixed.at (constants.constant g s (meanings_of g a).fixed) (meanings_of g b).fixed.at (constants.constant g s (meanings_of g b).fixed)) h refl (λ t p. elim p [ ])
       (λ l m. rules.fixed_relation m.1.0 m.1.1 m.2) reads into out
-      (subst (λ (t : Pos). Answers g j O IsConst Related Breaks (operate.constant_operation g (op.Relation o.op) o.pos t (constants.constant g s (meanings_of g a).fixed) (meanings_of g b).fixed.at (constants.constant g s (meanings_of g b).fixed))) (sym (free_at g i))
-      (subst (λ (t : Pos). Answers g j O IsConst Related Breaks (operate.constant_operation g (op.Relation o.op) o.pos (first a) (constants.constant g s (meanings_of g a).fixed) t (constants.constant g s (meanings_of g b).fixed))) (sym (free_at g k))
+      (subst (λ (t : Pos). Answers g j O IsConst Related Breaks (operate.constant_operation g (op.Relation o.op) o.pos t (constants.constant g s (meanings_of g a).fixed) (meanings_of g b).fixed.at (constants.constant g s (meanings_of g b).fixed))) (sym (at_is g a))
+      (subst (λ (t : Pos). Answers g j O IsConst Related Breaks (operate.constant_operation g (op.Relation o.op) o.pos (first a) (constants.constant g s (meanings_of g a).fixed) t (constants.constant g s (meanings_of g b).fixed))) (sym (at_is g b))
       (then_answer g j lawful O {N = λ c l. Makes s.types (op.Relation o.op) (operand c.0) (operand c.1) l} {D = λ c f. Misused s.types (op.Relation o.op) o.pos (first a) (first b) (operand c.0) (operand c.1) f}
-      (both_answer g j lawful O (const_valued i p) (const_valued k q)) (λ v c w. const_operated g j lawful O s.types (op.Relation o.op) o.pos (first a) (first b) w.0 w.1))))
+      (both_answer g j lawful O (const_valued p) (const_valued q)) (λ v c w. const_operated g j lawful O s.types (op.Relation o.op) o.pos (first a) (first b) w.0 w.1))))
     where
       Related : Kind → Type 0
       Related l = (c : Kind × Kind) × (F a (AConstant c.0) × F b (AConstant c.1)) × Makes s.types (op.Relation o.op) (operand c.0) (operand c.1) l
@@ -246,10 +275,10 @@ module _ (g : Gathers) (j : Judges g) (lawful : Lawful g j) (names : Ident → S
   abbrev StepFails : (Kind → Type 0) → (Breach → Type 0) → Pos → Operand → Breach → Type 0
   StepFails P Q left x f = (Q f ⊎ ConstBroken x.of f) ⊎ ((k : Kind × Kind) × (P k.0 × F x.of (AConstant k.1)) × Misused s.types x.op x.spot left (first x.of) (operand k.0) (operand k.1) f)
 
-  step_answers : {P : Kind → Type 0} {Q : Breach → Type 0} {v : Result ConstantValue g.Reported} (left : Pos) (x : Operand) → IsCallFree x.of → FixedFound x.of → Answers g j O IsConst P Q v → Answers g j O IsConst (Stepped P x) (StepFails P Q left x) (step left v x)
-  step_answers {P = P} {Q = Q} {v = v} left x i h a = subst (λ (at : Pos). Answers g j O IsConst (Stepped P x) (StepFails P Q left x) (operate.constant_operation g x.op x.spot left v at (constants.constant g s (meanings_of g x.of).fixed))) (sym (free_at g i))
+  step_answers : {P : Kind → Type 0} {Q : Breach → Type 0} {v : Result ConstantValue g.Reported} (left : Pos) (x : Operand) → FixedFound x.of → Answers g j O IsConst P Q v → Answers g j O IsConst (Stepped P x) (StepFails P Q left x) (step left v x)
+  step_answers {P = P} {Q = Q} {v = v} left x h a = subst (λ (at : Pos). Answers g j O IsConst (Stepped P x) (StepFails P Q left x) (operate.constant_operation g x.op x.spot left v at (constants.constant g s (meanings_of g x.of).fixed))) (sym (at_is g x.of))
       (then_answer g j lawful O {N = λ k c. Makes s.types x.op (operand k.0) (operand k.1) c} {D = λ k f. Misused s.types x.op x.spot left (first x.of) (operand k.0) (operand k.1) f}
-      (both_answer g j lawful O a (const_valued i h)) (λ p k i. const_operated g j lawful O s.types x.op x.spot left (first x.of) i.0 i.1))
+      (both_answer g j lawful O a (const_valued h)) (λ p k i. const_operated g j lawful O s.types x.op x.spot left (first x.of) i.0 i.1))
 
   module _ (P : Kind → Type 0) (Q : Breach → Type 0) where
     chain_of : (x : Operand) (xs : List Operand) (k : Kind) → (c : Kind) × Stepped P x c × Chained c xs k → (a : Kind) × P a × Chained a (x ∷ xs) k
@@ -281,17 +310,17 @@ module _ (g : Gathers) (j : Judges g) (lawful : Lawful g j) (names : Ident → S
     end_of : {a k : Kind} → P a → Chained a [] k → P k
     end_of m fixed_done = m
 
-  chain_answers : (xs : List Operand) {P : Kind → Type 0} {Q : Breach → Type 0} {v : Result ConstantValue g.Reported} (left : Pos) → ((x : Operand) → Among x xs → IsCallFree x.of) → ((x : Operand) → Among x xs → FixedFound x.of) → Answers g j O IsConst P Q v
+  chain_answers : (xs : List Operand) {P : Kind → Type 0} {Q : Breach → Type 0} {v : Result ConstantValue g.Reported} (left : Pos) → ((x : Operand) → Among x xs → FixedFound x.of) → Answers g j O IsConst P Q v
       → Answers g j O IsConst (λ k. (a : Kind) × P a × Chained a xs k) (InChain P Q left xs) (fold (step left) v xs)
-  chain_answers [] {P = P} {Q = Q} left i h a = exact g j lawful O {N = λ k. (a : Kind) × P a × Chained a [] k} {C = InChain P Q left []} (λ k m. (k, m, fixed_done)) (λ k m. end_of P Q m.1 m.2) (λ f b. inl b)
+  chain_answers [] {P = P} {Q = Q} left h a = exact g j lawful O {N = λ k. (a : Kind) × P a × Chained a [] k} {C = InChain P Q left []} (λ k m. (k, m, fixed_done)) (λ k m. end_of P Q m.1 m.2) (λ f b. inl b)
       (λ f b. elim b [ inl c ↦ c | inr c ↦ elim c [ inl d ↦ elim d.1 [ ] | inr d ↦ elim d.2 [ ] ] ]) a
-  chain_answers (x ∷ xs) {P = P} {Q = Q} left i h a = exact g j lawful O {N = λ k. (a : Kind) × P a × Chained a (x ∷ xs) k} {C = InChain P Q left (x ∷ xs)} (chain_of P Q x xs) (λ k m. of_chain P Q m.1 m.2) (fails_of P Q left x xs) (of_fails P Q left x xs)
-      (chain_answers xs {P = Stepped P x} {Q = StepFails P Q left x} left (λ y m. i y (later m)) (λ y m. h y (later m)) (step_answers left x (i x here) (h x here) a))
+  chain_answers (x ∷ xs) {P = P} {Q = Q} left h a = exact g j lawful O {N = λ k. (a : Kind) × P a × Chained a (x ∷ xs) k} {C = InChain P Q left (x ∷ xs)} (chain_of P Q x xs) (λ k m. of_chain P Q m.1 m.2) (fails_of P Q left x xs) (of_fails P Q left x xs)
+      (chain_answers xs {P = Stepped P x} {Q = StepFails P Q left x} left (λ y m. h y (later m)) (step_answers left x (h x here) a))
 
-  term_fixed : {e : Expr} (x : Expr) (rest : List (Operator MulOp × Expr)) → out-Expr e ≡ layer.Term x rest → IsCallFree x → FixedFound x → ((y : Operand) → Among y (factors rest) → IsCallFree y.of) → ((y : Operand) → Among y (factors rest) → FixedFound y.of) → FixedFound e
-  term_fixed x rest h i q k p = const_layer (layer.Term x rest) (fold (step (first x)) (constants.constant g s (meanings_of g x).fixed) (factors rest)) h
-      (ap (λ (r : Result ConstantValue g.Reported). of_value r) (fold_factors (meanings_of g x).fixed.at rest (constants.constant g s (meanings_of g x).fixed) ∙ ap (λ (t : Pos). fold (step t) (constants.constant g s (meanings_of g x).fixed) (factors rest)) (free_at g i)))
-      (λ k m. rules.fixed_term m.1 m.2) reads into out (chain_answers (factors rest) (first x) k p (const_valued i q))
+  pub term_fixed : {e : Expr} (x : Expr) (rest : List (Operator MulOp × Expr)) → out-Expr e ≡ layer.Term x rest → FixedFound x → ((y : Operand) → Among y (factors rest) → FixedFound y.of) → FixedFound e
+  term_fixed x rest h q p = const_layer (layer.Term x rest) (fold (step (first x)) (constants.constant g s (meanings_of g x).fixed) (factors rest)) h
+      (ap (λ (r : Result ConstantValue g.Reported). of_value r) (fold_factors (meanings_of g x).fixed.at rest (constants.constant g s (meanings_of g x).fixed) ∙ ap (λ (t : Pos). fold (step t) (constants.constant g s (meanings_of g x).fixed) (factors rest)) (at_is g x)))
+      (λ t p. elim p [ ]) (λ k m. rules.fixed_term m.1 m.2) reads into out (chain_answers (factors rest) (first x) p (const_valued q))
     where
       reads : (y : Fixed) → R (layer.Term x rest) y → (k : Kind) × ((a : Kind) × F x (AConstant a) × Chained a (factors rest) k) × (y ≡ AConstant k)
       reads _ (rules.fixed_term {a = a} {k = k} m c) = (k, (a, m, c), refl)
@@ -308,10 +337,10 @@ module _ (g : Gathers) (j : Judges g) (lawful : Lawful g j) (names : Ident → S
       out f (inr (y, (rules.an_inner parts.first_factor), b)) = inl (inl b)
       out f (inr (_, rules.an_inner (parts.other_factor {x = y} a), b)) = inr (inl (y, a, inl b))
 
-  sum_fixed : {e : Expr} (x : Expr) (rest : List (Operator AddOp × Expr)) → out-Expr e ≡ layer.Sum None x rest → IsCallFree x → FixedFound x → ((y : Operand) → Among y (addends rest) → IsCallFree y.of) → ((y : Operand) → Among y (addends rest) → FixedFound y.of) → FixedFound e
-  sum_fixed x rest h i q k p = const_layer (layer.Sum None x rest) (fold (step (first x)) (constants.constant g s (meanings_of g x).fixed) (addends rest)) h
-      (ap (λ (r : Result ConstantValue g.Reported). of_value r) (fold_addends (meanings_of g x).fixed.at rest (constants.constant g s (meanings_of g x).fixed) ∙ ap (λ (t : Pos). fold (step t) (constants.constant g s (meanings_of g x).fixed) (addends rest)) (free_at g i)))
-      (λ k m. rules.fixed_sum m.1 m.2) reads into out (chain_answers (addends rest) (first x) k p (const_valued i q))
+  pub sum_fixed : {e : Expr} (x : Expr) (rest : List (Operator AddOp × Expr)) → out-Expr e ≡ layer.Sum None x rest → FixedFound x → ((y : Operand) → Among y (addends rest) → FixedFound y.of) → FixedFound e
+  sum_fixed x rest h q p = const_layer (layer.Sum None x rest) (fold (step (first x)) (constants.constant g s (meanings_of g x).fixed) (addends rest)) h
+      (ap (λ (r : Result ConstantValue g.Reported). of_value r) (fold_addends (meanings_of g x).fixed.at rest (constants.constant g s (meanings_of g x).fixed) ∙ ap (λ (t : Pos). fold (step t) (constants.constant g s (meanings_of g x).fixed) (addends rest)) (at_is g x)))
+      (λ t p. elim p [ ]) (λ k m. rules.fixed_sum m.1 m.2) reads into out (chain_answers (addends rest) (first x) p (const_valued q))
     where
       reads : (y : Fixed) → R (layer.Sum None x rest) y → (k : Kind) × ((a : Kind) × F x (AConstant a) × Chained a (addends rest) k) × (y ≡ AConstant k)
       reads _ (rules.fixed_sum {a = a} {k = k} m c) = (k, (a, m, c), refl)
@@ -334,12 +363,12 @@ module _ (g : Gathers) (j : Judges g) (lawful : Lawful g j) (names : Ident → S
   abbrev SignFails : Operator Sign → Expr → Breach → Type 0
   SignFails sign x f = ConstBroken x f ⊎ ((a : Kind) × F x (AConstant a) × Misapplied (MaySign sign.op (operand a)) (SignMakes sign.op (operand a)) sign.pos rule.WrongType f)
 
-  signed_fixed : {e : Expr} (sign : Operator Sign) (x : Expr) (rest : List (Operator AddOp × Expr)) → out-Expr e ≡ layer.Sum (Some sign) x rest → IsCallFree x → FixedFound x → ((y : Operand) → Among y (addends rest) → IsCallFree y.of) → ((y : Operand) → Among y (addends rest) → FixedFound y.of) → FixedFound e
-  signed_fixed sign x rest h i q k p = const_layer (layer.Sum (Some sign) x rest) (fold (step sign.pos) (operate.with_sign g sign.op sign.pos (constants.constant g s (meanings_of g x).fixed)) (addends rest)) h
+  pub signed_fixed : {e : Expr} (sign : Operator Sign) (x : Expr) (rest : List (Operator AddOp × Expr)) → out-Expr e ≡ layer.Sum (Some sign) x rest → FixedFound x → ((y : Operand) → Among y (addends rest) → FixedFound y.of) → FixedFound e
+  signed_fixed sign x rest h q p = const_layer (layer.Sum (Some sign) x rest) (fold (step sign.pos) (operate.with_sign g sign.op sign.pos (constants.constant g s (meanings_of g x).fixed)) (addends rest)) h
       (ap (λ (r : Result ConstantValue g.Reported). of_value r) (fold_addends sign.pos rest (operate.with_sign g sign.op sign.pos (constants.constant g s (meanings_of g x).fixed))))
-      (λ k m. rules.fixed_signed_sum m.1.1 m.1.2 m.2) reads into out
-      (chain_answers (addends rest) sign.pos k p (then_answer g j lawful O {N = λ a b. SignMakes sign.op (operand a) b} {D = λ a f. Misapplied (MaySign sign.op (operand a)) (SignMakes sign.op (operand a)) sign.pos rule.WrongType f}
-      (const_valued i q) (λ v c w. const_signed g j lawful O sign.op sign.pos w)))
+      (λ t p. elim p [ ]) (λ k m. rules.fixed_signed_sum m.1.1 m.1.2 m.2) reads into out
+      (chain_answers (addends rest) sign.pos p (then_answer g j lawful O {N = λ a b. SignMakes sign.op (operand a) b} {D = λ a f. Misapplied (MaySign sign.op (operand a)) (SignMakes sign.op (operand a)) sign.pos rule.WrongType f}
+      (const_valued q) (λ v c w. const_signed g j lawful O sign.op sign.pos w)))
     where
       reads : (y : Fixed) → R (layer.Sum (Some sign) x rest) y → (k : Kind) × ((b : Kind) × HasSigned sign x b × Chained b (addends rest) k) × (y ≡ AConstant k)
       reads _ (rules.fixed_signed_sum {a = a} {b = b} {k = k} m t c) = (k, (b, (a, m, t), c), refl)
@@ -369,9 +398,9 @@ module _ (g : Gathers) (j : Judges g) (lawful : Lawful g j) (names : Ident → S
   abbrev NumberFails : Expr → Breach → Type 0
   NumberFails x f = ConstBroken x f ⊎ ((k : Kind) × F x (AConstant k) × NoNumber g j lawful O (first x) k f)
 
-  number_at : {x : Expr} → IsCallFree x → FixedFound x → Answers g j O IsOrdinal (Number x) (NumberFails x) (constants.element_of g (meanings_of g x).fixed.at (constants.constant g s (meanings_of g x).fixed))
-  number_at {x = x} i h = subst (λ (at : Pos). Answers g j O IsOrdinal (Number x) (NumberFails x) (constants.element_of g at (constants.constant g s (meanings_of g x).fixed))) (sym (free_at g i))
-      (then_answer g j lawful O {N = NumberOf} {D = NoNumber g j lawful O (first x)} (const_valued i h) (number_answers g j lawful O (first x)))
+  number_at : {x : Expr} → FixedFound x → Answers g j O IsOrdinal (Number x) (NumberFails x) (constants.element_of g (meanings_of g x).fixed.at (constants.constant g s (meanings_of g x).fixed))
+  number_at {x = x} h = subst (λ (at : Pos). Answers g j O IsOrdinal (Number x) (NumberFails x) (constants.element_of g at (constants.constant g s (meanings_of g x).fixed))) (sym (at_is g x))
+      (then_answer g j lawful O {N = NumberOf} {D = NoNumber g j lawful O (first x)} (const_valued h) (number_answers g j lawful O (first x)))
 
   has_it : {x : Expr} (p : Option TypeNo × ℤ) → Number x p → HasNumber s.types names exports x p.0 p.1
   has_it p (k, m, (e, n)) = has_number m e n
@@ -379,16 +408,16 @@ module _ (g : Gathers) (j : Judges g) (lawful : Lawful g j) (names : Ident → S
   it_has : {x : Expr} {sort : Option TypeNo} {n : ℤ} → HasNumber s.types names exports x sort n → Number x (sort, n)
   it_has (has_number {k = k} m e n) = (k, m, (e, n))
 
-  abbrev ItemBreaks : L → Breach → Type 0
+  abbrev pub ItemBreaks : L → Breach → Type 0
   ItemBreaks l f = ItemFails s.types names exports l f ⊎ ((x : Expr) × IsBound x l × ConstBroken x f)
 
   -- what is refused of a bound alone
-  bound_fails : {l : L} {x : Expr} (f : Breach) → IsCallFree x → FixedFound x → IsBound x l → NumberFails x f → ItemBreaks l f
-  bound_fails {x = x} f i h b (inl c) = inr (x, b, c)
-  bound_fails {l = l} {x = x} f i h b (inr (k, m, (n, e))) = inl (subst (ItemFails s.types names exports l) (sym e) (rules.no_number b m (λ sort z y. none sort z (it_has y))))
+  bound_fails : {l : L} {x : Expr} (f : Breach) → FixedFound x → IsBound x l → NumberFails x f → ItemBreaks l f
+  bound_fails {x = x} f h b (inl c) = inr (x, b, c)
+  bound_fails {l = l} {x = x} f h b (inr (k, m, (n, e))) = inl (subst (ItemFails s.types names exports l) (sym e) (rules.no_number b m (λ sort z y. none sort z (it_has y))))
     where
       none : (sort : Option TypeNo) (z : ℤ) → Number x (sort, z) → ⊥
-      none sort z (c, q, t) = n (sort, z) (subst (λ (k : Kind). NumberOf k (sort, z)) (one_meaning g j lawful O (const_valued i h) c k q m) t)
+      none sort z (c, q, t) = n (sort, z) (subst (λ (k : Kind). NumberOf k (sort, z)) (one_meaning g j lawful O (const_valued h) c k q m) t)
 
   single_is : (at : Pos) (v : Result ConstantValue g.Reported) → constants.single_of g at v ≡ (constants.element_of g at v ▷ λ a. is_element g at a ▷ λ fine. Ok (with_span 0 a.number a.number))
   single_is at (Ok v) = refl
@@ -403,10 +432,10 @@ module _ (g : Gathers) (j : Judges g) (lawful : Lawful g j) (names : Ident → S
   abbrev opened_item : L → Item-F (Meant g.Reported) (Picks g.Reported) (Meant g.Reported) (ItemAdds g.Reported)
   opened_item l = map-Item Expr Selector Designator Item (Meant g.Reported) (Picks g.Reported) (Meant g.Reported) (ItemAdds g.Reported) (meanings_of g) (picks g) (head g) (item g) l
 
-  single_answers : (l : L) → IsCallFree l.low → FixedFound l.low → l.high ≡ None → Answers g j O IsSame (Adds s.types names exports l) (ItemBreaks l) (constants.single_of g (meanings_of g l.low).fixed.at (constants.constant g s (meanings_of g l.low).fixed))
-  single_answers l i h e = subst (Answers g j O IsSame (Adds s.types names exports l) (ItemBreaks l)) (sym (single_is (meanings_of g l.low).fixed.at (constants.constant g s (meanings_of g l.low).fixed)))
-      (subst (λ (at : Pos). Answers g j O IsSame (Adds s.types names exports l) (ItemBreaks l) (constants.element_of g (meanings_of g l.low).fixed.at (constants.constant g s (meanings_of g l.low).fixed) ▷ λ a. is_element g at a ▷ λ fine. Ok (with_span 0 a.number a.number))) (sym (free_at g i))
-      (exact g j lawful O into out fails_in fails_out (one_answers g j lawful O (first l.low) (first l.low) (number_at i h) (number_at i h))))
+  pub single_answers : (l : L) → FixedFound l.low → l.high ≡ None → Answers g j O IsSame (Adds s.types names exports l) (ItemBreaks l) (constants.single_of g (meanings_of g l.low).fixed.at (constants.constant g s (meanings_of g l.low).fixed))
+  single_answers l h e = subst (Answers g j O IsSame (Adds s.types names exports l) (ItemBreaks l)) (sym (single_is (meanings_of g l.low).fixed.at (constants.constant g s (meanings_of g l.low).fixed)))
+      (subst (λ (at : Pos). Answers g j O IsSame (Adds s.types names exports l) (ItemBreaks l) (constants.element_of g (meanings_of g l.low).fixed.at (constants.constant g s (meanings_of g l.low).fixed) ▷ λ a. is_element g at a ▷ λ fine. Ok (with_span 0 a.number a.number))) (sym (at_is g l.low))
+      (exact g j lawful O into out fails_in fails_out (one_answers g j lawful O (first l.low) (first l.low) (number_at h) (number_at h))))
     where
       into : (bits : ℕ) → (p : Option TypeNo × ℤ) × Number l.low p × (Within (pos 0) p.1 (pos 31) × (bits ≡ with_span 0 p.1 p.1)) → Adds s.types names exports l bits
       into bits (p, m, (w, q)) = subst (Adds s.types names exports l) (sym q) (rules.single e (has_it p m) w)
@@ -416,7 +445,7 @@ module _ (g : Gathers) (j : Judges g) (lawful : Lawful g j) (names : Ident → S
       out _ (rules.range q m n w v t u) = absurd (not_both e q)
 
       fails_in : (f : Breach) → NumberFails l.low f ⊎ ((p : Option TypeNo × ℤ) × Number l.low p × ((Within (pos 0) p.1 (pos 31) → ⊥) × (f ≡ first l.low ! rule.OutOfRange))) → ItemBreaks l f
-      fails_in f (inl b) = bound_fails f i h (low_bound refl) b
+      fails_in f (inl b) = bound_fails f h (low_bound refl) b
       fails_in f (inr (p, m, (n, q))) = inl (subst (ItemFails s.types names exports l) (sym q) (rules.no_element (low_bound refl) (has_it p m) n))
 
       low_only : {x : Expr} → IsBound x l → l.low ≡ x
@@ -451,10 +480,10 @@ module _ (g : Gathers) (j : Judges g) (lawful : Lawful g j) (names : Ident → S
   abbrev spanned_at : L → Expr → Pos → Pos → Result ℕ g.Reported
   spanned_at l high at at' = span_of g at (constants.element_of g (meanings_of g l.low).fixed.at (constants.constant g s (meanings_of g l.low).fixed)) at' (constants.element_of g (meanings_of g high).fixed.at (constants.constant g s (meanings_of g high).fixed))
 
-  range_item_answers : (l : L) (high : Expr) → IsCallFree l.low → FixedFound l.low → IsCallFree high → FixedFound high → l.high ≡ Some high → Answers g j O IsSame (Adds s.types names exports l) (ItemBreaks l) (spanned_at l high (meanings_of g l.low).fixed.at (meanings_of g high).fixed.at)
-  range_item_answers l high i h k q e = subst (λ (at : Pos). Answers g j O IsSame (Adds s.types names exports l) (ItemBreaks l) (spanned_at l high at (meanings_of g high).fixed.at)) (sym (free_at g i))
-      (subst (λ (at : Pos). Answers g j O IsSame (Adds s.types names exports l) (ItemBreaks l) (spanned_at l high (first l.low) at)) (sym (free_at g k))
-      (exact g j lawful O into (λ bits a. out a) fails_in (λ f b. fails_out b) (range_answers g j lawful O (first l.low) (first high) (number_at i h) (number_at k q))))
+  pub range_item_answers : (l : L) (high : Expr) → FixedFound l.low → FixedFound high → l.high ≡ Some high → Answers g j O IsSame (Adds s.types names exports l) (ItemBreaks l) (spanned_at l high (meanings_of g l.low).fixed.at (meanings_of g high).fixed.at)
+  range_item_answers l high h q e = subst (λ (at : Pos). Answers g j O IsSame (Adds s.types names exports l) (ItemBreaks l) (spanned_at l high at (meanings_of g high).fixed.at)) (sym (at_is g l.low))
+      (subst (λ (at : Pos). Answers g j O IsSame (Adds s.types names exports l) (ItemBreaks l) (spanned_at l high (first l.low) at)) (sym (at_is g high))
+      (exact g j lawful O into (λ bits a. out a) fails_in (λ f b. fails_out b) (range_answers g j lawful O (first l.low) (first high) (number_at h) (number_at q))))
     where
       into : (bits : ℕ) → RangeSo l high bits → Adds s.types names exports l bits
       into bits (p, (m, n), ((w, v), ((t, o), c))) = subst (Adds s.types names exports l) (sym c) (rules.range e (has_it p.0 m) (has_it p.1 n) w v t.1 o)
@@ -470,8 +499,8 @@ module _ (g : Gathers) (j : Judges g) (lawful : Lawful g j) (names : Ident → S
       out_of_set f b (p, m, (n, c)) = inl (subst (ItemFails s.types names exports l) (sym c) (rules.no_element b (has_it p m) n))
 
       fails_in : (f : Breach) → RangeBreaks l high f → ItemBreaks l f
-      fails_in f (inl (inl b)) = bound_fails f i h (low_bound refl) b
-      fails_in f (inl (inr b)) = bound_fails f k q (high_bound e) b
+      fails_in f (inl (inl b)) = bound_fails f h (low_bound refl) b
+      fails_in f (inl (inr b)) = bound_fails f q (high_bound e) b
       fails_in f (inr (inl (inl b))) = out_of_set f (low_bound refl) b
       fails_in f (inr (inl (inr b))) = out_of_set f (high_bound e) b
       fails_in f (inr (inr (p, (m, n), inl (t, c)))) = inl (subst (ItemFails s.types names exports l) (sym c) (rules.unlike e (has_it p.0 m) (has_it p.1 n) t))
@@ -505,10 +534,10 @@ module _ (g : Gathers) (j : Judges g) (lawful : Lawful g j) (names : Ident → S
   unfolding meanings_of picks head item
   item_is i = fold_out-Item (Meant g.Reported) (Picks g.Reported) (Meant g.Reported) (ItemAdds g.Reported) (expr_layer g) (selector_layer g) (designator_layer g) (item_layer g) i
 
-  item_at : (i : Item) (o : Option Expr) → (out-Item i).high ≡ o → item g i s ≡ item_layer g (opened_item (record { low = (out-Item i).low; high = o })) s
+  pub item_at : (i : Item) (o : Option Expr) → (out-Item i).high ≡ o → item g i s ≡ item_layer g (opened_item (record { low = (out-Item i).low; high = o })) s
   item_at i o h = ap (λ (m : ItemAdds g.Reported). m s) (item_is i) ∙ ap (λ (o : Option Expr). item_layer g (opened_item (record { low = (out-Item i).low; high = o })) s) h
 
-  abbrev ItemSo : Item → Type 0
+  abbrev pub ItemSo : Item → Type 0
   ItemSo i = Answers g j O IsSame (Adds s.types names exports (out-Item i)) (ItemBreaks (out-Item i)) (item g i s)
 
   abbrev SetBreaks : List Item → Breach → Type 0
@@ -667,54 +696,17 @@ module _ (g : Gathers) (j : Judges g) (lawful : Lawful g j) (names : Ident → S
       out _ (inl (no_constant (rules.an_inner i) m z)) = elim i [ ]
       out f (inr (x, rules.an_inner i, c)) = elim i [ ]
 
-  set_by : (name : Option Ident) (at : Pos) (items : List Item) → ((i : Item) → Among i items → ItemSo i) → SetAnswers name at items
+  pub set_by : (name : Option Ident) (at : Pos) (items : List Item) → ((i : Item) → Among i items → ItemSo i) → SetAnswers name at items
   set_by None at items h = plain_set at items h
   set_by (Some name) at items h = named_set name at items h
 
-  -- ---- all of them
+  pub set_fixed : {e : Expr} (name : Option Ident) (at : Pos) (items : List Item) → out-Expr e ≡ layer.Set name at items → ((i : Item) → Among i items → ItemSo i) → FixedFound e
+  set_fixed name at items h i = fixed_layer (layer.Set name at items) ((expr_layer g (opened g (layer.Set name at items))).fixed.denotes s) h refl (λ t p. elim p [ ]) (set_by name at items i)
 
-  free_operands : {xs : List Operand} → AreCallFreeOperands xs → (x : Operand) → Among x xs → IsCallFree x.of
-  free_operands no_free_operand x m = elim m [ ]
-  free_operands (one_free_operand i r) _ here = i
-  free_operands (one_free_operand i r) x (later m) = free_operands r x m
+  -- ---- each element
 
-  mutual
-    pub fixed : {e : Expr} → IsCallFree e → FixedFound e
-    fixed (free_number {at = at} {n = n} h) = number_fixed at n h
-    fixed (free_character {at = at} {c = c} h) = character_fixed at c h
-    fixed (free_string {at = at} {text = text} h) = string_fixed at text h
-    fixed (free_set {name = name} {at = at} {items = items} h i) = fixed_layer (layer.Set name at items) ((expr_layer g (opened g (layer.Set name at items))).fixed.denotes s) h refl (set_by name at items (λ x m. fixed_item i x m))
-    fixed (free_name {d = d} h) = name_fixed d h
-    fixed (free_not {at = at} {x = x} h i) = not_fixed at x h i (fixed i)
-    fixed (free_brackets {at = at} {x = x} h i) = brackets_fixed at x h i (fixed i)
-    fixed (free_term {x = x} {rest = rest} h i o) = term_fixed x rest h i (fixed i) (free_operands o) (λ y m. fixed_operand o y m)
-    fixed (free_sum {sign = None} {x = x} {rest = rest} h i o) = sum_fixed x rest h i (fixed i) (free_operands o) (λ y m. fixed_operand o y m)
-    fixed (free_sum {sign = Some sign} {x = x} {rest = rest} h i o) = signed_fixed sign x rest h i (fixed i) (free_operands o) (λ y m. fixed_operand o y m)
-    fixed (free_relation {a = a} {b = b} {o = o} h i k) = relation_fixed a o b h i k (fixed i) (fixed k)
+  pub single_so : (i : Item) → FixedFound (out-Item i).low → (out-Item i).high ≡ None → ItemSo i
+  single_so i h n = subst (Answers g j O IsSame (Adds s.types names exports (out-Item i)) (ItemBreaks (out-Item i))) (sym (item_at i None n)) (single_answers (out-Item i) h n)
 
-    fixed_operand : {xs : List Operand} → AreCallFreeOperands xs → (x : Operand) → Among x xs → FixedFound x.of
-    fixed_operand no_free_operand x m = elim m [ ]
-    fixed_operand (one_free_operand i r) _ here = fixed i
-    fixed_operand (one_free_operand i r) x (later m) = fixed_operand r x m
-
-    pub fixed_item : {is : List Item} → AreCallFree is → (i : Item) → Among i is → ItemSo i
-    fixed_item no_free_item i m = elim m [ ]
-    fixed_item (one_free_item l n r) i here = subst (Answers g j O IsSame (Adds s.types names exports (out-Item i)) (ItemBreaks (out-Item i))) (sym (item_at i None n)) (single_answers (out-Item i) l (fixed l) n)
-    fixed_item (one_free_item l n r) i (later m) = fixed_item r i m
-    fixed_item (one_free_range {high = high} l e k r) i here = subst (Answers g j O IsSame (Adds s.types names exports (out-Item i)) (ItemBreaks (out-Item i))) (sym (item_at i (Some high) e)) (range_item_answers (out-Item i) high l (fixed l) k (fixed k) e)
-    fixed_item (one_free_range l e k r) i (later m) = fixed_item r i m
-
-  pub exactly_fixed : (e : Expr) → IsCallFree e → Answers g j O IsConst (λ k. F e (AConstant k)) (BrokenAsConstant s.types names exports e) (constants.constant g s (meanings_of g e).fixed)
-  exactly_fixed e i = exact g j lawful O (λ k m. m) (λ k m. m) into out (const_valued i (fixed i))
-    where
-      into : (f : Breach) → ConstBroken e f → BrokenAsConstant s.types names exports e f
-      into f (inl b) = broken_constant b
-      into f (inr (x, m, (n, q))) = subst (BrokenAsConstant s.types names exports e) (sym q) (not_constant m n)
-
-      out : (f : Breach) → BrokenAsConstant s.types names exports e f → ConstBroken e f
-      out f (broken_constant b) = inl b
-      out _ (not_constant {x = x} m n) = inr (x, m, (n, refl))
-
-  -- braces in bodies
-  pub braces : (name : Option Ident) (at : Pos) (items : List Item) → AreCallFree items → SetAnswers name at items
-  braces name at items i = set_by name at items (fixed_item i)
+  pub range_so : (i : Item) (high : Expr) → FixedFound (out-Item i).low → FixedFound high → (out-Item i).high ≡ Some high → ItemSo i
+  range_so i high h q e = subst (Answers g j O IsSame (Adds s.types names exports (out-Item i)) (ItemBreaks (out-Item i))) (sym (item_at i (Some high) e)) (range_item_answers (out-Item i) high h q e)

@@ -38,19 +38,22 @@ use Rattle.def_typing.specs.Parts as parts
 use Rattle.def_typing.specs.Parts.{first, Operand, factors, addends, Among, here, later}
 use Rattle.def_typing.specs.Expressions.{IsOperand, IsPart, an_operand, an_argument, Reads, Denotes, Selected, Selects, Chain, done, then, Calls, Misselected, SelectionFails, Miscalled, ChainFails, at_once, further, Fails}
 use Rattle.law_typing.specs.Judging.{Judges, Answers, means}
-use Rattle.law_typing.specs.Exact.{IsConst, is_const, IsKind, kind_constant, thing_value, Knows, IsExact, IsPlain, AreCallFree, plain_number, plain_character, plain_string, plain_set, plain_name, plain_call, plain_not, plain_brackets, plain_term, plain_sum, plain_relation, ArePlain, no_expression, one_expression, ArePlainOperands, no_operand, one_operand, ArePlainSelectors, no_selector, a_field, an_index}
+use Rattle.law_typing.specs.Exact.{IsConst, is_const, IsKind, kind_constant, thing_value, Knows, IsExact}
 use Rattle.law_typing.proofs.Combining.{Lawful, exact, both_answer, then_answer, Finds, finds, finds_as, plain_finds}
 use Rattle.law_typing.proofs.Joining.{operated_answers}
 use Rattle.law_typing.proofs.Singles.{signed_answers, negated_answers}
 use Rattle.law_typing.proofs.Selecting.{named_finds, FieldFails, field_finds, NoElements, ElementOf, IndexFails, index_finds}
 use Rattle.law_typing.proofs.Places.{opened, picks_is, head_is, head_at, at_is}
+use Rattle.law_typing.proofs.Trees.{tree, selector_trees, IsTree, tree_number, tree_character, tree_string, tree_set, tree_name, tree_call, tree_not, tree_brackets, tree_term, tree_sum, tree_relation, AreTrees, no_expression, one_expression, AreOperandTrees, no_operand, one_operand, AreSelectorTrees, no_selector, a_field, an_index, AreItemTrees, no_item, one_item, one_range}
 use Rattle.law_typing.proofs.Finding.{Elsewhere, StandsFor, HasKind, IsBroken, IsBrokenValue, IsFound, IsValued, InLayer, by_layer, value_layer, valued, operand_broken, AnyBroken}
 use Rattle.law_typing.proofs.Routines.{calls_answer}
 use Rattle.typed_tree.specs.declared.meaning.Value.{Value as ConstantValue}
 use Rattle.def_typing.specs.Constants as fixed
-use Rattle.def_typing.specs.Constants.{Fixed, AConstant, FixedReads}
+use Rattle.def_typing.specs.Constants.{Fixed, AConstant, Fixes, FixedReads}
+use Rattle.check_const.specs.Parts.{constant}
 use Rattle.law_typing.proofs.Fixing.{as_constant_answers}
-use Rattle.law_typing.proofs.Constants.{FixedIn, braces}
+use Rattle.law_typing.proofs.Constants.{FixedFound, FixedIn, ConstBroken, const_valued, ItemSo, set_by, set_fixed, number_fixed, character_fixed, string_fixed, name_fixed, not_fixed, brackets_fixed, relation_fixed, term_fixed, sum_fixed, signed_fixed, single_so, range_so}
+use Rattle.law_typing.proofs.Applying.{call_fixed}
 
 module _ (g : Gathers) (j : Judges g) (lawful : Lawful g j) (names : Ident → Standing) (exports : ℕ → Ident → Standing) (s : Scope g.Reported) (knows : Knows g j names exports s) where
   abbrev E : Breach → Type 0
@@ -73,6 +76,10 @@ module _ (g : Gathers) (j : Judges g) (lawful : Lawful g j) (names : Ident → S
 
   abbrev Valued : Expr → Type 0
   Valued = IsValued g j lawful names exports s
+
+  -- the same of what has to be constant
+  abbrev Constant' : Expr → Type 0
+  Constant' = FixedFound g j lawful names exports s knows
 
   abbrev R : Expr-F Expr Selector Designator Item → Thing → Type 0
   R = Reads s.types names exports
@@ -130,11 +137,11 @@ module _ (g : Gathers) (j : Judges g) (lawful : Lawful g j) (names : Ident → S
   set_constant (fixed.fixed_set a) = (_, refl)
   set_constant (fixed.fixed_named_set e a) = (_, refl)
 
-  set_found : {e : Expr} (name : Option Ident) (at : Pos) (items : List Item) → out-Expr e ≡ layer.Set name at items → AreCallFree items → Found e
+  set_found : {e : Expr} (name : Option Ident) (at : Pos) (items : List Item) → out-Expr e ≡ layer.Set name at items → ((i : Item) → Among i items → ItemSo g j lawful names exports s knows i) → Found e
   set_found name at items h i = by_layer g j lawful names exports s (layer.Set name at items) ((expr_layer g (opened g (layer.Set name at items))).means s) h refl
       (finds_as g j lawful E (λ y m. made m) (λ y r. reads r) into out
       (plain_finds g j lawful E (then_answer g j lawful E {N = λ k y. y ≡ AValue k} {D = λ k f. ⊥}
-      (then_answer g j lawful E {N = λ x k. x ≡ AConstant k} {D = λ x f. ((k : Kind) → x ≡ AConstant k → ⊥) × (f ≡ spot ! rule.NoConstant)} (braces g j lawful names exports s knows name at items i) (as_constant_answers g j lawful E spot))
+      (then_answer g j lawful E {N = λ x k. x ≡ AConstant k} {D = λ x f. ((k : Kind) → x ≡ AConstant k → ⊥) × (f ≡ spot ! rule.NoConstant)} (set_by g j lawful names exports s knows name at items i) (as_constant_answers g j lawful E spot))
       (λ v k w. means (designated.Value (computed.Constant v)) (AValue k) (thing_value (kind_is w)) refl (λ y e. e) (λ f b. b)))))
     where
       spot : Pos
@@ -163,10 +170,10 @@ module _ (g : Gathers) (j : Judges g) (lawful : Lawful g j) (names : Ident → S
 
   -- ---- NOT and brackets
 
-  not_found : {e : Expr} (at : Pos) (x : Expr) → out-Expr e ≡ layer.Not at x → IsPlain x → Found x → Found e
-  not_found at x h i q = value_layer g j lawful names exports s (layer.Not at x) (negation g at (value_of g s (meanings_of g x))) h refl
+  not_found : {e : Expr} (at : Pos) (x : Expr) → out-Expr e ≡ layer.Not at x → Found x → Found e
+  not_found at x h q = value_layer g j lawful names exports s (layer.Not at x) (negation g at (value_of g s (meanings_of g x))) h refl
       (λ k m. rules.negated m.1 m.2) reads into out
-      (then_answer g j lawful E {N = Negates} {D = λ a f. ((k : Kind) → Negates a k → ⊥) × (f ≡ at ! rule.WrongType)} (valued g j lawful names exports s i q) (λ v k i. negated_answers g j lawful E at i))
+      (then_answer g j lawful E {N = Negates} {D = λ a f. ((k : Kind) → Negates a k → ⊥) × (f ≡ at ! rule.WrongType)} (valued g j lawful names exports s q) (λ v k i. negated_answers g j lawful E at i))
     where
       reads : (y : Thing) → R (layer.Not at x) y → (k : Kind) × ((a : Kind) × H x a × Negates a k) × (y ≡ AValue k)
       reads _ (rules.negated {a = a} {k = k} m n) = (k, (a, m, n), refl)
@@ -180,8 +187,8 @@ module _ (g : Gathers) (j : Judges g) (lawful : Lawful g j) (names : Ident → S
       out _ (inl (rules.not_boolean {a = a} m n)) = inr (a, m, (n, refl))
       out f (inr (y, an_operand (rules.an_inner parts.in_not), b)) = inl (rules.broken b)
 
-  brackets_found : {e : Expr} (at : Pos) (x : Expr) → out-Expr e ≡ layer.Bracketed at x → IsPlain x → Found x → Found e
-  brackets_found at x h i q = value_layer g j lawful names exports s (layer.Bracketed at x) (value_of g s (meanings_of g x)) h refl (λ k m. rules.bracketed m) reads (λ f b. operand_broken g j lawful names exports s (rules.an_inner parts.in_brackets) b) out (valued g j lawful names exports s i q)
+  brackets_found : {e : Expr} (at : Pos) (x : Expr) → out-Expr e ≡ layer.Bracketed at x → Found x → Found e
+  brackets_found at x h q = value_layer g j lawful names exports s (layer.Bracketed at x) (value_of g s (meanings_of g x)) h refl (λ k m. rules.bracketed m) reads (λ f b. operand_broken g j lawful names exports s (rules.an_inner parts.in_brackets) b) out (valued g j lawful names exports s q)
     where
       reads : (y : Thing) → R (layer.Bracketed at x) y → (k : Kind) × H x k × (y ≡ AValue k)
       reads _ (rules.bracketed {k = k} m) = (k, m, refl)
@@ -192,13 +199,13 @@ module _ (g : Gathers) (j : Judges g) (lawful : Lawful g j) (names : Ident → S
 
   -- ---- relations
 
-  relation_found : {e : Expr} (a : Expr) (o : Operator RelOp) (b : Expr) → out-Expr e ≡ layer.Relation a o b → IsPlain a → IsPlain b → Found a → Found b → Found e
-  relation_found a o b h i k p q = value_layer g j lawful names exports s (layer.Relation a o b) (operation_between g s.types (op.Relation o.op) o.pos (meanings_of g a).fixed.at (value_of g s (meanings_of g a)) (meanings_of g b).fixed.at (value_of g s (meanings_of g b))) h refl
+  relation_found : {e : Expr} (a : Expr) (o : Operator RelOp) (b : Expr) → out-Expr e ≡ layer.Relation a o b → Found a → Found b → Found e
+  relation_found a o b h p q = value_layer g j lawful names exports s (layer.Relation a o b) (operation_between g s.types (op.Relation o.op) o.pos (meanings_of g a).fixed.at (value_of g s (meanings_of g a)) (meanings_of g b).fixed.at (value_of g s (meanings_of g b))) h refl
       (λ l m. rules.relation m.1.0 m.1.1 m.2) reads into out
-      (subst (λ (t : Pos). Answers g j E IsKind Related Fails' (operation_between g s.types (op.Relation o.op) o.pos t (value_of g s (meanings_of g a)) (meanings_of g b).fixed.at (value_of g s (meanings_of g b)))) (sym (at_is g i))
-      (subst (λ (t : Pos). Answers g j E IsKind Related Fails' (operation_between g s.types (op.Relation o.op) o.pos (first a) (value_of g s (meanings_of g a)) t (value_of g s (meanings_of g b)))) (sym (at_is g k))
+      (subst (λ (t : Pos). Answers g j E IsKind Related Fails' (operation_between g s.types (op.Relation o.op) o.pos t (value_of g s (meanings_of g a)) (meanings_of g b).fixed.at (value_of g s (meanings_of g b)))) (sym (at_is g a))
+      (subst (λ (t : Pos). Answers g j E IsKind Related Fails' (operation_between g s.types (op.Relation o.op) o.pos (first a) (value_of g s (meanings_of g a)) t (value_of g s (meanings_of g b)))) (sym (at_is g b))
       (then_answer g j lawful E {N = λ c l. Makes s.types (op.Relation o.op) (operand c.0) (operand c.1) l} {D = λ c f. Misused s.types (op.Relation o.op) o.pos (first a) (first b) (operand c.0) (operand c.1) f}
-      (both_answer g j lawful E (valued g j lawful names exports s i p) (valued g j lawful names exports s k q)) (λ v c w. operated_answers g j lawful E s.types (op.Relation o.op) o.pos (first a) (first b) w.0 w.1))))
+      (both_answer g j lawful E (valued g j lawful names exports s p) (valued g j lawful names exports s q)) (λ v c w. operated_answers g j lawful E s.types (op.Relation o.op) o.pos (first a) (first b) w.0 w.1))))
     where
       Related : Kind → Type 0
       Related l = (c : Kind × Kind) × (H a c.0 × H b c.1) × Makes s.types (op.Relation o.op) (operand c.0) (operand c.1) l
@@ -249,10 +256,10 @@ module _ (g : Gathers) (j : Judges g) (lawful : Lawful g j) (names : Ident → S
   abbrev StepFails : (Kind → Type 0) → (Breach → Type 0) → Pos → Operand → Breach → Type 0
   StepFails P Q left x f = (Q f ⊎ V x.of f) ⊎ ((k : Kind × Kind) × (P k.0 × H x.of k.1) × Misused s.types x.op x.spot left (first x.of) (operand k.0) (operand k.1) f)
 
-  step_answers : {P : Kind → Type 0} {Q : Breach → Type 0} {v : Result Computed g.Reported} (left : Pos) (x : Operand) → IsPlain x.of → Found x.of → Answers g j E IsKind P Q v → Answers g j E IsKind (Stepped P x) (StepFails P Q left x) (step left v x)
-  step_answers {P = P} {Q = Q} {v = v} left x i h a = subst (λ (at : Pos). Answers g j E IsKind (Stepped P x) (StepFails P Q left x) (operation_between g s.types x.op x.spot left v at (value_of g s (meanings_of g x.of)))) (sym (at_is g i))
+  step_answers : {P : Kind → Type 0} {Q : Breach → Type 0} {v : Result Computed g.Reported} (left : Pos) (x : Operand) → Found x.of → Answers g j E IsKind P Q v → Answers g j E IsKind (Stepped P x) (StepFails P Q left x) (step left v x)
+  step_answers {P = P} {Q = Q} {v = v} left x h a = subst (λ (at : Pos). Answers g j E IsKind (Stepped P x) (StepFails P Q left x) (operation_between g s.types x.op x.spot left v at (value_of g s (meanings_of g x.of)))) (sym (at_is g x.of))
       (then_answer g j lawful E {N = λ k c. Makes s.types x.op (operand k.0) (operand k.1) c} {D = λ k f. Misused s.types x.op x.spot left (first x.of) (operand k.0) (operand k.1) f}
-      (both_answer g j lawful E a (valued g j lawful names exports s i h)) (λ p k i. operated_answers g j lawful E s.types x.op x.spot left (first x.of) i.0 i.1))
+      (both_answer g j lawful E a (valued g j lawful names exports s h)) (λ p k i. operated_answers g j lawful E s.types x.op x.spot left (first x.of) i.0 i.1))
 
   module _ (P : Kind → Type 0) (Q : Breach → Type 0) where
     chain_of : (x : Operand) (xs : List Operand) (k : Kind) → (c : Kind) × Stepped P x c × Chained c xs k → (a : Kind) × P a × Chained a (x ∷ xs) k
@@ -284,17 +291,17 @@ module _ (g : Gathers) (j : Judges g) (lawful : Lawful g j) (names : Ident → S
     end_of : {a k : Kind} → P a → Chained a [] k → P k
     end_of m done = m
 
-  chain_answers : (xs : List Operand) {P : Kind → Type 0} {Q : Breach → Type 0} {v : Result Computed g.Reported} (left : Pos) → ((x : Operand) → Among x xs → IsPlain x.of) → ((x : Operand) → Among x xs → Found x.of) → Answers g j E IsKind P Q v
+  chain_answers : (xs : List Operand) {P : Kind → Type 0} {Q : Breach → Type 0} {v : Result Computed g.Reported} (left : Pos) → ((x : Operand) → Among x xs → Found x.of) → Answers g j E IsKind P Q v
       → Answers g j E IsKind (λ k. (a : Kind) × P a × Chained a xs k) (InChain P Q left xs) (fold (step left) v xs)
-  chain_answers [] {P = P} {Q = Q} left i h a = exact g j lawful E {N = λ k. (a : Kind) × P a × Chained a [] k} {C = InChain P Q left []} (λ k m. (k, m, done)) (λ k m. end_of P Q m.1 m.2) (λ f b. inl b)
+  chain_answers [] {P = P} {Q = Q} left h a = exact g j lawful E {N = λ k. (a : Kind) × P a × Chained a [] k} {C = InChain P Q left []} (λ k m. (k, m, done)) (λ k m. end_of P Q m.1 m.2) (λ f b. inl b)
       (λ f b. elim b [ inl c ↦ c | inr c ↦ elim c [ inl d ↦ elim d.1 [ ] | inr d ↦ elim d.2 [ ] ] ]) a
-  chain_answers (x ∷ xs) {P = P} {Q = Q} left i h a = exact g j lawful E {N = λ k. (a : Kind) × P a × Chained a (x ∷ xs) k} {C = InChain P Q left (x ∷ xs)} (chain_of P Q x xs) (λ k m. of_chain P Q m.1 m.2) (fails_of P Q left x xs) (of_fails P Q left x xs)
-      (chain_answers xs {P = Stepped P x} {Q = StepFails P Q left x} left (λ y m. i y (later m)) (λ y m. h y (later m)) (step_answers left x (i x here) (h x here) a))
+  chain_answers (x ∷ xs) {P = P} {Q = Q} left h a = exact g j lawful E {N = λ k. (a : Kind) × P a × Chained a (x ∷ xs) k} {C = InChain P Q left (x ∷ xs)} (chain_of P Q x xs) (λ k m. of_chain P Q m.1 m.2) (fails_of P Q left x xs) (of_fails P Q left x xs)
+      (chain_answers xs {P = Stepped P x} {Q = StepFails P Q left x} left (λ y m. h y (later m)) (step_answers left x (h x here) a))
 
-  term_found : {e : Expr} (x : Expr) (rest : List (Operator MulOp × Expr)) → out-Expr e ≡ layer.Term x rest → IsPlain x → Found x → ((y : Operand) → Among y (factors rest) → IsPlain y.of) → ((y : Operand) → Among y (factors rest) → Found y.of) → Found e
-  term_found x rest h i q k p = value_layer g j lawful names exports s (layer.Term x rest) (fold (step (first x)) (value_of g s (meanings_of g x)) (factors rest)) h
-      (ap (λ (r : Result Computed g.Reported). of_computed r) (fold_factors (meanings_of g x).fixed.at rest (value_of g s (meanings_of g x)) ∙ ap (λ (t : Pos). fold (step t) (value_of g s (meanings_of g x)) (factors rest)) (at_is g i)))
-      (λ k m. rules.term m.1 m.2) reads into out (chain_answers (factors rest) (first x) k p (valued g j lawful names exports s i q))
+  term_found : {e : Expr} (x : Expr) (rest : List (Operator MulOp × Expr)) → out-Expr e ≡ layer.Term x rest → Found x → ((y : Operand) → Among y (factors rest) → Found y.of) → Found e
+  term_found x rest h q p = value_layer g j lawful names exports s (layer.Term x rest) (fold (step (first x)) (value_of g s (meanings_of g x)) (factors rest)) h
+      (ap (λ (r : Result Computed g.Reported). of_computed r) (fold_factors (meanings_of g x).fixed.at rest (value_of g s (meanings_of g x)) ∙ ap (λ (t : Pos). fold (step t) (value_of g s (meanings_of g x)) (factors rest)) (at_is g x)))
+      (λ k m. rules.term m.1 m.2) reads into out (chain_answers (factors rest) (first x) p (valued g j lawful names exports s q))
     where
       reads : (y : Thing) → R (layer.Term x rest) y → (k : Kind) × ((a : Kind) × H x a × Chained a (factors rest) k) × (y ≡ AValue k)
       reads _ (rules.term {a = a} {k = k} m c) = (k, (a, m, c), refl)
@@ -311,10 +318,10 @@ module _ (g : Gathers) (j : Judges g) (lawful : Lawful g j) (names : Ident → S
       out f (inr (y, an_operand (rules.an_inner parts.first_factor), b)) = inl (rules.broken b)
       out f (inr (_, an_operand (rules.an_inner (parts.other_factor {x = y} a)), b)) = inr (inl (y, a, rules.broken b))
 
-  sum_found : {e : Expr} (x : Expr) (rest : List (Operator AddOp × Expr)) → out-Expr e ≡ layer.Sum None x rest → IsPlain x → Found x → ((y : Operand) → Among y (addends rest) → IsPlain y.of) → ((y : Operand) → Among y (addends rest) → Found y.of) → Found e
-  sum_found x rest h i q k p = value_layer g j lawful names exports s (layer.Sum None x rest) (fold (step (first x)) (value_of g s (meanings_of g x)) (addends rest)) h
-      (ap (λ (r : Result Computed g.Reported). of_computed r) (fold_addends (meanings_of g x).fixed.at rest (value_of g s (meanings_of g x)) ∙ ap (λ (t : Pos). fold (step t) (value_of g s (meanings_of g x)) (addends rest)) (at_is g i)))
-      (λ k m. rules.sum m.1 m.2) reads into out (chain_answers (addends rest) (first x) k p (valued g j lawful names exports s i q))
+  sum_found : {e : Expr} (x : Expr) (rest : List (Operator AddOp × Expr)) → out-Expr e ≡ layer.Sum None x rest → Found x → ((y : Operand) → Among y (addends rest) → Found y.of) → Found e
+  sum_found x rest h q p = value_layer g j lawful names exports s (layer.Sum None x rest) (fold (step (first x)) (value_of g s (meanings_of g x)) (addends rest)) h
+      (ap (λ (r : Result Computed g.Reported). of_computed r) (fold_addends (meanings_of g x).fixed.at rest (value_of g s (meanings_of g x)) ∙ ap (λ (t : Pos). fold (step t) (value_of g s (meanings_of g x)) (addends rest)) (at_is g x)))
+      (λ k m. rules.sum m.1 m.2) reads into out (chain_answers (addends rest) (first x) p (valued g j lawful names exports s q))
     where
       reads : (y : Thing) → R (layer.Sum None x rest) y → (k : Kind) × ((a : Kind) × H x a × Chained a (addends rest) k) × (y ≡ AValue k)
       reads _ (rules.sum {a = a} {k = k} m c) = (k, (a, m, c), refl)
@@ -337,12 +344,12 @@ module _ (g : Gathers) (j : Judges g) (lawful : Lawful g j) (names : Ident → S
   abbrev SignFails : Operator Sign → Expr → Breach → Type 0
   SignFails sign x f = V x f ⊎ ((a : Kind) × H x a × Misapplied (MaySign sign.op (operand a)) (SignMakes sign.op (operand a)) sign.pos rule.WrongType f)
 
-  signed_found : {e : Expr} (sign : Operator Sign) (x : Expr) (rest : List (Operator AddOp × Expr)) → out-Expr e ≡ layer.Sum (Some sign) x rest → IsPlain x → Found x → ((y : Operand) → Among y (addends rest) → IsPlain y.of) → ((y : Operand) → Among y (addends rest) → Found y.of) → Found e
-  signed_found sign x rest h i q k p = value_layer g j lawful names exports s (layer.Sum (Some sign) x rest) (fold (step sign.pos) (with_sign g sign.op sign.pos (value_of g s (meanings_of g x))) (addends rest)) h
+  signed_found : {e : Expr} (sign : Operator Sign) (x : Expr) (rest : List (Operator AddOp × Expr)) → out-Expr e ≡ layer.Sum (Some sign) x rest → Found x → ((y : Operand) → Among y (addends rest) → Found y.of) → Found e
+  signed_found sign x rest h q p = value_layer g j lawful names exports s (layer.Sum (Some sign) x rest) (fold (step sign.pos) (with_sign g sign.op sign.pos (value_of g s (meanings_of g x))) (addends rest)) h
       (ap (λ (r : Result Computed g.Reported). of_computed r) (fold_addends sign.pos rest (with_sign g sign.op sign.pos (value_of g s (meanings_of g x)))))
       (λ k m. rules.signed_sum m.1.1 m.1.2 m.2) reads into out
-      (chain_answers (addends rest) sign.pos k p (then_answer g j lawful E {N = λ a b. SignMakes sign.op (operand a) b} {D = λ a f. Misapplied (MaySign sign.op (operand a)) (SignMakes sign.op (operand a)) sign.pos rule.WrongType f}
-      (valued g j lawful names exports s i q) (λ v c w. signed_answers g j lawful E sign.op sign.pos w)))
+      (chain_answers (addends rest) sign.pos p (then_answer g j lawful E {N = λ a b. SignMakes sign.op (operand a) b} {D = λ a f. Misapplied (MaySign sign.op (operand a)) (SignMakes sign.op (operand a)) sign.pos rule.WrongType f}
+      (valued g j lawful names exports s q) (λ v c w. signed_answers g j lawful E sign.op sign.pos w)))
     where
       reads : (y : Thing) → R (layer.Sum (Some sign) x rest) y → (k : Kind) × ((b : Kind) × HasSigned sign x b × Chained b (addends rest) k) × (y ≡ AValue k)
       reads _ (rules.signed_sum {a = a} {b = b} {k = k} m t c) = (k, (b, (a, m, t), c), refl)
@@ -433,11 +440,11 @@ module _ (g : Gathers) (j : Judges g) (lawful : Lawful g j) (names : Ident → S
   abbrev IndexOf : (Thing → Type 0) → Expr → (TypeNo × TypeNo) × Kind → Type 0
   IndexOf P e p = ((w : Thing) × P w × Indexes s.types w p.0.0 p.0.1) × H e p.1
 
-  index_one : {P : Thing → Type 0} {Q : Breach → Type 0} {d : Result Designated (Meaningless g.Reported)} (y : Selector) (at : Pos) (e : Expr) → out-Selector y ≡ layer.Index at e → IsPlain e → Found e → Finds g j lawful E P Q d
+  index_one : {P : Thing → Type 0} {Q : Breach → Type 0} {d : Result Designated (Meaningless g.Reported)} (y : Selector) (at : Pos) (e : Expr) → out-Selector y ≡ layer.Index at e → Found e → Finds g j lawful E P Q d
       → Finds g j lawful E (SelectedOf P y) (OneFails P Q y) ((picks g y).picks s d)
-  index_one {P = P} {Q = Q} {d = d} y at e h i q a = subst (Finds g j lawful E (SelectedOf P y) (OneFails P Q y)) (sym (ap (λ (m : Picks g.Reported). m.picks s d) (picks_is g y (layer.Index at e) h)))
+  index_one {P = P} {Q = Q} {d = d} y at e h q a = subst (Finds g j lawful E (SelectedOf P y) (OneFails P Q y)) (sym (ap (λ (m : Picks g.Reported). m.picks s d) (picks_is g y (layer.Index at e) h)))
       (finds_as g j lawful E made by_made into out
-      (subst (λ (t : Pos). Finds g j lawful E Made Fails' (index_at g s.types at d t (value_of g s (meanings_of g e)))) (sym (at_is g i)) (index_finds g j lawful names exports s knows at (first e) a (valued g j lawful names exports s i q))))
+      (subst (λ (t : Pos). Finds g j lawful E Made Fails' (index_at g s.types at d t (value_of g s (meanings_of g e)))) (sym (at_is g e)) (index_finds g j lawful names exports s knows at (first e) a (valued g j lawful names exports s q))))
     where
       Made : Thing → Type 0
       Made z = (p : (TypeNo × TypeNo) × Kind) × IndexOf P e p × ElementOf g j lawful names exports s knows at p z
@@ -510,16 +517,16 @@ module _ (g : Gathers) (j : Judges g) (lawful : Lawful g j) (names : Ident → S
       out f (inr (inl (e, (w, at, a, q), b))) = elim a [ ]
       out f (inr (inr (x, m, z))) = elim z [ ]
 
-  selectors_found : {ss : List Selector} {P : Thing → Type 0} {Q : Breach → Type 0} {d : Result Designated (Meaningless g.Reported)} → ArePlainSelectors ss → ((e : Expr) → IndexIn ss e → Found e) → Finds g j lawful E P Q d
+  selectors_found : {ss : List Selector} {P : Thing → Type 0} {Q : Breach → Type 0} {d : Result Designated (Meaningless g.Reported)} → AreSelectorTrees ss → ((e : Expr) → IndexIn ss e → Found e) → Finds g j lawful E P Q d
       → SelectsAll P Q ss (fold (λ x p. p.picks s x) d (map (picks g) ss))
   selectors_found no_selector h a = selected_none a
   selectors_found {P = P} {Q = Q} {d = d} (a_field {s = y} {ss = ss} {at = at} {name = name} q r) h a = selected_more y ss (selectors_found {ss = ss} {P = SelectedOf P y} {Q = OneFails P Q y} r (λ e x. h e (x.0, x.1, later x.2, x.3)) (field_one y at name q a))
-  selectors_found {P = P} {Q = Q} {d = d} (an_index {s = y} {ss = ss} {at = at} {x = e} q i r) h a = selected_more y ss (selectors_found {ss = ss} {P = SelectedOf P y} {Q = OneFails P Q y} r (λ e x. h e (x.0, x.1, later x.2, x.3)) (index_one y at e q i (h e (y, at, here, q)) a))
+  selectors_found {P = P} {Q = Q} {d = d} (an_index {s = y} {ss = ss} {at = at} {x = e} q i r) h a = selected_more y ss (selectors_found {ss = ss} {P = SelectedOf P y} {Q = OneFails P Q y} r (λ e x. h e (x.0, x.1, later x.2, x.3)) (index_one y at e q (h e (y, at, here, q)) a))
 
   abbrev DesignatorFails : Designator → Breach → Type 0
   DesignatorFails d f = InSelectors (λ x. names (out-Designator d).name ≡ Known x) (Misnamed (out-Designator d).name.pos (names (out-Designator d).name)) (out-Designator d).selectors f
 
-  denoted_finds : (d : Designator) → ArePlainSelectors (out-Designator d).selectors → ((e : Expr) → IndexIn (out-Designator d).selectors e → Found e) → Finds g j lawful E (Denotes s.types names exports d) (DesignatorFails d) ((head g d).means s)
+  denoted_finds : (d : Designator) → AreSelectorTrees (out-Designator d).selectors → ((e : Expr) → IndexIn (out-Designator d).selectors e → Found e) → Finds g j lawful E (Denotes s.types names exports d) (DesignatorFails d) ((head g d).means s)
   denoted_finds d i h = subst (Finds g j lawful E (Denotes s.types names exports d) (DesignatorFails d)) (sym (ap (λ (m : Meant g.Reported). m.means s) (head_is g d)))
       (finds_as g j lawful E (λ x m. rules.named m.1 m.2) (λ x m. parted m) (λ f b. b) (λ f b. b) (selectors_found i h (named_finds g j lawful names exports s knows (out-Designator d).name)))
     where
@@ -539,7 +546,7 @@ module _ (g : Gathers) (j : Judges g) (lawful : Lawful g j) (names : Ident → S
   designator_out f (inl (rules.at_selector {x = x} m z)) = inr (inr (x, m, z))
   designator_out f (inr (x, an_operand (rules.as_index {s = y} {at = at} {e = e} a q), b)) = inr (inl (e, (y, at, a, q), rules.broken b))
 
-  name_found : {e : Expr} (d : Designator) → out-Expr e ≡ layer.Use d None → ArePlainSelectors (out-Designator d).selectors → ((e : Expr) → IndexIn (out-Designator d).selectors e → Found e) → Found e
+  name_found : {e : Expr} (d : Designator) → out-Expr e ≡ layer.Use d None → AreSelectorTrees (out-Designator d).selectors → ((e : Expr) → IndexIn (out-Designator d).selectors e → Found e) → Found e
   name_found d h i q = by_layer g j lawful names exports s (layer.Use d None) ((head g d).means s) h refl (finds_as g j lawful E (λ x m. rules.designated m) (λ x m. parted m) (λ f b. designator_in f b) (λ f b. designator_out f b) (denoted_finds d i q))
     where
       parted : {x : Thing} → R (layer.Use d None) x → Denotes s.types names exports d x
@@ -551,9 +558,9 @@ module _ (g : Gathers) (j : Judges g) (lawful : Lawful g j) (names : Ident → S
   abbrev CallBreaks : Designator → List Expr → Breach → Type 0
   CallBreaks d args f = (DesignatorFails d f ⊎ ((x : Thing) × Denotes s.types names exports d x × Miscalled s.types names exports (out-Designator d).name.pos x args f)) ⊎ AnyBroken g j lawful names exports s args f
 
-  call_found : {e : Expr} (d : Designator) (args : List Expr) → out-Expr e ≡ layer.Use d (Some args) → ArePlainSelectors (out-Designator d).selectors → ((e : Expr) → IndexIn (out-Designator d).selectors e → Found e) → ((x : Expr) → Among x args → IsPlain x) → ((x : Expr) → Among x args → Found x) → Found e
-  call_found d args h i q p a = value_layer g j lawful names exports s (layer.Use d (Some args)) (call_in_expression g s (head g d).fixed.at ((head g d).means s) (map (meanings_of g) args)) h refl (λ k m. rules.called m.1 m.2) reads into out
-      (subst (λ (t : Pos). Answers g j E IsKind (CallOf d args) (CallBreaks d args) (call_in_expression g s t ((head g d).means s) (map (meanings_of g) args))) (sym (head_at g d)) (calls_answer g j lawful names exports s (out-Designator d).name.pos args (denoted_finds d i q) p a))
+  call_found : {e : Expr} (d : Designator) (args : List Expr) → out-Expr e ≡ layer.Use d (Some args) → AreSelectorTrees (out-Designator d).selectors → ((e : Expr) → IndexIn (out-Designator d).selectors e → Found e) → ((x : Expr) → Among x args → Found x) → Found e
+  call_found d args h i q a = value_layer g j lawful names exports s (layer.Use d (Some args)) (call_in_expression g s (head g d).fixed.at ((head g d).means s) (map (meanings_of g) args)) h refl (λ k m. rules.called m.1 m.2) reads into out
+      (subst (λ (t : Pos). Answers g j E IsKind (CallOf d args) (CallBreaks d args) (call_in_expression g s t ((head g d).means s) (map (meanings_of g) args))) (sym (head_at g d)) (calls_answer g j lawful names exports s (out-Designator d).name.pos args (denoted_finds d i q) a))
     where
       reads : (y : Thing) → R (layer.Use d (Some args)) y → (k : Kind) × CallOf d args k × (y ≡ AValue k)
       reads _ (rules.called {x = x} {k = k} m c) = (k, (x, m, c), refl)
@@ -575,54 +582,90 @@ module _ (g : Gathers) (j : Judges g) (lawful : Lawful g j) (names : Ident → S
 
   -- ---- all expressions
 
-  pub plain_all : {xs : List Expr} → ArePlain xs → (x : Expr) → Among x xs → IsPlain x
-  plain_all no_expression x m = elim m [ ]
-  plain_all (one_expression i r) _ here = i
-  plain_all (one_expression i r) x (later m) = plain_all r x m
-
-  plain_operands : {xs : List Operand} → ArePlainOperands xs → (x : Operand) → Among x xs → IsPlain x.of
-  plain_operands no_operand x m = elim m [ ]
-  plain_operands (one_operand i r) _ here = i
-  plain_operands (one_operand i r) x (later m) = plain_operands r x m
-
   not_both : {at at' : Pos} {name : Ident} {e : Expr} (y : Selector) → out-Selector y ≡ layer.Field at name → out-Selector y ≡ layer.Index at' e → ⊥
   not_both y h q = let clash = sym h ∙ q in absurd cc
 
   mutual
-    pub found : {e : Expr} → IsPlain e → Found e
-    found (plain_number {at = at} {n = n} h) = number_found at n h
-    found (plain_character {at = at} {c = c} h) = character_found at c h
-    found (plain_string {at = at} {text = text} h) = string_found at text h
-    found (plain_set {name = name} {at = at} {items = items} h i) = set_found name at items h i
-    found (plain_name {d = d} h i) = name_found d h i (λ e x. found_index i e x.0 x.1 x.2 x.3)
-    found (plain_call {d = d} {args = args} h i a) = call_found d args h i (λ e x. found_index i e x.0 x.1 x.2 x.3) (plain_all a) (λ x m. found_all a x m)
-    found (plain_not {at = at} {x = x} h i) = not_found at x h i (found i)
-    found (plain_brackets {at = at} {x = x} h i) = brackets_found at x h i (found i)
-    found (plain_term {x = x} {rest = rest} h i o) = term_found x rest h i (found i) (plain_operands o) (λ y m. found_operands o y m)
-    found (plain_sum {sign = None} {x = x} {rest = rest} h i o) = sum_found x rest h i (found i) (plain_operands o) (λ y m. found_operands o y m)
-    found (plain_sum {sign = Some sign} {x = x} {rest = rest} h i o) = signed_found sign x rest h i (found i) (plain_operands o) (λ y m. found_operands o y m)
-    found (plain_relation {a = a} {b = b} {o = o} h i k) = relation_found a o b h i k (found i) (found k)
+    found : {e : Expr} → IsTree e → Found e
+    found (tree_number {at = at} {n = n} h) = number_found at n h
+    found (tree_character {at = at} {c = c} h) = character_found at c h
+    found (tree_string {at = at} {text = text} h) = string_found at text h
+    found (tree_set {name = name} {at = at} {items = items} h i) = set_found name at items h (λ x m. fixed_item i x m)
+    found (tree_name {d = d} h i) = name_found d h i (λ e x. found_index i e x.0 x.1 x.2 x.3)
+    found (tree_call {d = d} {args = args} h i a) = call_found d args h i (λ e x. found_index i e x.0 x.1 x.2 x.3) (λ x m. found_all a x m)
+    found (tree_not {at = at} {x = x} h i) = not_found at x h (found i)
+    found (tree_brackets {at = at} {x = x} h i) = brackets_found at x h (found i)
+    found (tree_term {x = x} {rest = rest} h i o) = term_found x rest h (found i) (λ y m. found_operands o y m)
+    found (tree_sum {sign = None} {x = x} {rest = rest} h i o) = sum_found x rest h (found i) (λ y m. found_operands o y m)
+    found (tree_sum {sign = Some sign} {x = x} {rest = rest} h i o) = signed_found sign x rest h (found i) (λ y m. found_operands o y m)
+    found (tree_relation {a = a} {b = b} {o = o} h i k) = relation_found a o b h (found i) (found k)
 
-    pub found_all : {xs : List Expr} → ArePlain xs → (x : Expr) → Among x xs → Found x
+    found_all : {xs : List Expr} → AreTrees xs → (x : Expr) → Among x xs → Found x
     found_all no_expression x m = elim m [ ]
     found_all (one_expression i r) _ here = found i
     found_all (one_expression i r) x (later m) = found_all r x m
 
-    found_operands : {xs : List Operand} → ArePlainOperands xs → (x : Operand) → Among x xs → Found x.of
+    found_operands : {xs : List Operand} → AreOperandTrees xs → (x : Operand) → Among x xs → Found x.of
     found_operands no_operand x m = elim m [ ]
     found_operands (one_operand i r) _ here = found i
     found_operands (one_operand i r) x (later m) = found_operands r x m
 
-    found_index : {ss : List Selector} → ArePlainSelectors ss → (e : Expr) (y : Selector) (at : Pos) → Among y ss → out-Selector y ≡ layer.Index at e → Found e
+    found_index : {ss : List Selector} → AreSelectorTrees ss → (e : Expr) (y : Selector) (at : Pos) → Among y ss → out-Selector y ≡ layer.Index at e → Found e
     found_index no_selector e y at m q = elim m [ ]
     found_index (a_field h r) e y at here q = absurd (not_both y h q)
     found_index (a_field h r) e y at (later m) q = found_index r e y at m q
     found_index (an_index h i r) e y at here q = subst Found (same_index y h q) (found i)
     found_index (an_index h i r) e y at (later m) q = found_index r e y at m q
 
-  pub exactly : (e : Expr) → IsPlain e → IsExact g j names exports s e
-  exactly e i = valued g j lawful names exports s i (found i)
+    -- the same expressions, if they have to be constant
+    fixed_found : {e : Expr} → IsTree e → Constant' e
+    fixed_found (tree_number {at = at} {n = n} h) = number_fixed g j lawful names exports s knows at n h
+    fixed_found (tree_character {at = at} {c = c} h) = character_fixed g j lawful names exports s knows at c h
+    fixed_found (tree_string {at = at} {text = text} h) = string_fixed g j lawful names exports s knows at text h
+    fixed_found (tree_set {name = name} {at = at} {items = items} h i) = set_fixed g j lawful names exports s knows name at items h (λ x m. fixed_item i x m)
+    fixed_found (tree_name {d = d} h i) = name_fixed g j lawful names exports s knows d h
+    fixed_found (tree_call {d = d} {args = args} h i a) = call_fixed g j lawful names exports s knows d args h (λ x m. fixed_all a x m) (λ x m. found_all a x m)
+    fixed_found (tree_not {at = at} {x = x} h i) = not_fixed g j lawful names exports s knows at x h (fixed_found i)
+    fixed_found (tree_brackets {at = at} {x = x} h i) = brackets_fixed g j lawful names exports s knows at x h (fixed_found i)
+    fixed_found (tree_term {x = x} {rest = rest} h i o) = term_fixed g j lawful names exports s knows x rest h (fixed_found i) (λ y m. fixed_operands o y m)
+    fixed_found (tree_sum {sign = None} {x = x} {rest = rest} h i o) = sum_fixed g j lawful names exports s knows x rest h (fixed_found i) (λ y m. fixed_operands o y m)
+    fixed_found (tree_sum {sign = Some sign} {x = x} {rest = rest} h i o) = signed_fixed g j lawful names exports s knows sign x rest h (fixed_found i) (λ y m. fixed_operands o y m)
+    fixed_found (tree_relation {a = a} {b = b} {o = o} h i k) = relation_fixed g j lawful names exports s knows a o b h (fixed_found i) (fixed_found k)
+
+    fixed_all : {xs : List Expr} → AreTrees xs → (x : Expr) → Among x xs → Constant' x
+    fixed_all no_expression x m = elim m [ ]
+    fixed_all (one_expression i r) _ here = fixed_found i
+    fixed_all (one_expression i r) x (later m) = fixed_all r x m
+
+    fixed_operands : {xs : List Operand} → AreOperandTrees xs → (x : Operand) → Among x xs → Constant' x.of
+    fixed_operands no_operand x m = elim m [ ]
+    fixed_operands (one_operand i r) _ here = fixed_found i
+    fixed_operands (one_operand i r) x (later m) = fixed_operands r x m
+
+    fixed_item : {is : List Item} → AreItemTrees is → (i : Item) → Among i is → ItemSo g j lawful names exports s knows i
+    fixed_item no_item i m = elim m [ ]
+    fixed_item (one_item l n r) i here = single_so g j lawful names exports s knows i (fixed_found l) n
+    fixed_item (one_item l n r) i (later m) = fixed_item r i m
+    fixed_item (one_range {high = high} l e k r) i here = range_so g j lawful names exports s knows i high (fixed_found l) (fixed_found k) e
+    fixed_item (one_range l e k r) i (later m) = fixed_item r i m
+
+  pub expression_found : (e : Expr) → Found e
+  expression_found e = found (tree e)
+
+  pub exactly_fixed : (e : Expr) → Answers g j E IsConst (λ k. Fixes s.types names exports e (AConstant k)) (rules.BrokenAsConstant s.types names exports e) (constant g s (meanings_of g e).fixed)
+  exactly_fixed e = exact g j lawful E (λ k m. m) (λ k m. m) into out (const_valued g j lawful names exports s knows (fixed_found (tree e)))
+    where
+      into : (f : Breach) → ConstBroken g j lawful names exports s knows e f → rules.BrokenAsConstant s.types names exports e f
+      into f (inl b) = rules.broken_constant b
+      into f (inr (x, m, (n, q))) = subst (rules.BrokenAsConstant s.types names exports e) (sym q) (rules.not_constant m n)
+
+      out : (f : Breach) → rules.BrokenAsConstant s.types names exports e f → ConstBroken g j lawful names exports s knows e f
+      out f (rules.broken_constant b) = inl b
+      out _ (rules.not_constant {x = x} m n) = inr (x, m, (n, refl))
+
+  pub exactly : (e : Expr) → IsExact g j names exports s e
+  exactly e = valued g j lawful names exports s (expression_found e)
 
   -- a designator, with what is broken in it
-  pub designator_found : (d : Designator) → ArePlainSelectors (out-Designator d).selectors → Finds g j lawful E (Denotes s.types names exports d) (In (layer.Use d None)) ((head g d).means s)
-  designator_found d i = finds_as g j lawful E (λ x m. m) (λ x m. m) (λ f b. designator_in f b) (λ f b. designator_out f b) (denoted_finds d i (λ e x. found_index i e x.0 x.1 x.2 x.3))
+  pub designator_found : (d : Designator) → Finds g j lawful E (Denotes s.types names exports d) (In (layer.Use d None)) ((head g d).means s)
+  designator_found d = finds_as g j lawful E (λ x m. m) (λ x m. m) (λ f b. designator_in f b) (λ f b. designator_out f b) (denoted_finds d (selector_trees d) (λ e x. expression_found e))

@@ -20,7 +20,7 @@ use Rattle.def_typing.specs.Things.{Thing, AValue, Standing, Taken, Mistaken}
 use Rattle.def_typing.specs.Parts.{first, Among, here, later}
 use Rattle.def_typing.specs.Expressions.{IsOperand, IsPart, an_operand, Stands, as_written, Has, taken, Reads, Fails, no_operand, Broken, fails, inside, BrokenAsValue, broken, mistaken}
 use Rattle.law_typing.specs.Judging.{Judges, Answers}
-use Rattle.law_typing.specs.Exact.{IsKind, Repeats, IsPlain}
+use Rattle.law_typing.specs.Exact.{IsKind, Repeats}
 use Rattle.law_typing.proofs.Combining.{Lawful, exact, Finds, finds_as, computed_finds, heading_tells, Tells, silent, tells_as, beside_tells}
 use Rattle.law_typing.proofs.Placing.{value_answers}
 use Rattle.law_typing.proofs.Places.{opened, meant_is, at_is}
@@ -86,10 +86,10 @@ module _ (g : Gathers) (j : Judges g) (lawful : Lawful g j) (names : Ident → S
   broken_value_by f (broken b) = inl b
   broken_value_by f (mistaken {x = x} m t) = inr (x, m, t)
 
-  pub valued : {e : Expr} → IsPlain e → IsFound e → IsValued e
-  valued {e = e} i h = exact g j lawful Elsewhere (λ k m. taken m.1 m.2) (λ k m. has_by m) (λ f b. elim b [ inl x ↦ broken x | inr x ↦ mistaken x.1 x.2 ]) broken_value_by
+  pub valued : {e : Expr} → IsFound e → IsValued e
+  valued {e = e} h = exact g j lawful Elsewhere (λ k m. taken m.1 m.2) (λ k m. has_by m) (λ f b. elim b [ inl x ↦ broken x | inr x ↦ mistaken x.1 x.2 ]) broken_value_by
       (subst (λ (at : Pos). Answers g j Elsewhere IsKind (λ k. (x : Thing) × StandsFor e x × Taken s.types x k) (λ f. IsBroken e f ⊎ ((x : Thing) × StandsFor e x × Mistaken (first e) x f)) (value_standing g s.types at ((meanings_of g e).means s)))
-      (sym (at_is g i)) (value_answers g j lawful Elsewhere s.types (first e) h))
+      (sym (at_is g e)) (value_answers g j lawful Elsewhere s.types (first e) h))
 
   -- an operand's refusals are its layer's
   pub operand_broken : {x : Expr} {y : Expr-F Expr Selector Designator Item} {f : Breach} → IsOperand x y → IsBrokenValue x f → InLayer y f

@@ -1,4 +1,4 @@
--- Constant expressions without calls are answered exactly.
+-- Names, operators and signs in constant expressions are answered exactly.
 use Rattle.std.proofs.Common.{◌≡◌, ℕ, List, [], ◌∷◌, Option, Result, Ok, Err, ◌⊎◌, inl, inr, refl, sym, ap, subst, ◌∙◌}
 use Rattle.std.specs.Prelude.{map, slice_get}
 use Rattle.std.specs.List.{fold}
@@ -37,7 +37,7 @@ use Rattle.check_expr.specs.Meanings.{Meant, Picks, picks, head, selector_layer}
 use Rattle.def_typing.specs.Operators.{◌!◌, Kind, operand, Makes, Misused, Misapplied, MaySign, SignMakes, Negates}
 use Rattle.def_typing.specs.Things.{Thing, Standing, Known, Undeclared, NotExported, Misnamed, undeclared, not_exported}
 use Rattle.def_typing.specs.Constants as rules
-use Rattle.def_typing.specs.Constants.{Fixed, AConstant, AScope, NoConstant, fixed_thing, FixedAs, FixedMisnamed, FixedPicks, FixedMispicks, FixedSelected, FixedSelectionFails, IsFixedPart, Fixes, FixedReads, FixedChain, fixed_done, fixed_then, FixedChainFails, FixedFails, FixedBroken}
+use Rattle.def_typing.specs.Constants.{Fixed, AConstant, AScope, ANamedType, AFunction, NoConstant, fixed_thing, FixedAs, FixedMisnamed, IsUnfixed, unfixed_type, unfixed_function, unfixed_other, FixedPicks, FixedMispicks, FixedSelected, FixedSelectionFails}
 use Rattle.law_typing.specs.Judging.{Judges, Answers, means, refuses}
 use Rattle.law_typing.specs.Exact.{IsConst, is_const, kind_of, IsKind, kind_constant, of_local, standing, Sees, sees, sees_nothing, sees_headless, sees_unknown, Exports, has_exported, has_nothing, Knows, Repeats, of_declaration}
 use Rattle.law_typing.proofs.Combining.{Lawful, declined, exact, then_answer}
@@ -51,10 +51,10 @@ use Rattle.law_typing.proofs.Places.{opened_selector, picks_is, head_is}
 
 pub data IsFixed : Denoted → Fixed → Type 0 where
   fixed_value : {v : ConstantValue} {k : Kind} → IsConst v k → IsFixed (denoted.Value v) (AConstant k)
-  fixed_type : (t : TypeNo) → IsFixed (denoted.Type t) NoConstant
+  fixed_type : (t : TypeNo) → IsFixed (denoted.Type t) (ANamedType t)
   fixed_variable : IsFixed denoted.Variable NoConstant
   fixed_procedure : IsFixed denoted.Procedure NoConstant
-  fixed_standard : (p : Standard) → IsFixed (denoted.Standard p) NoConstant
+  fixed_standard : (p : Standard) → IsFixed (denoted.Standard p) (AFunction p)
   fixed_module : (k : ℕ) → IsFixed (denoted.Module k) (AScope k)
 
 abbrev constant_in : Kind → Fixed → Kind
@@ -170,9 +170,23 @@ module _ (g : Gathers) (j : Judges g) (lawful : Lawful g j) (names : Ident → S
   no_more : {x : Fixed} (l : Selector-F Expr Selector Designator Item) → FixedPicks exports x l NoConstant → ((y : Fixed) → FixedPicks exports x l y → y ≡ NoConstant) → ((f : Breach) → FixedMispicks exports x l f → ⊥) → PicksSo x l (Ok denoted.Variable)
   no_more l p one none = means denoted.Variable NoConstant fixed_variable p one none
 
+  no_field : {at : Pos} {name : Ident} {x y : Fixed} → IsUnfixed x → FixedPicks exports x (layer.Field at name) y → y ≡ NoConstant
+  no_field u (rules.of_module p) = elim u [ ]
+  no_field u (rules.of_field v) = refl
+
+  unpicked : {at : Pos} {name : Ident} {x : Fixed} {f : Breach} → IsUnfixed x → FixedMispicks exports x (layer.Field at name) f → ⊥
+  unpicked u (rules.in_module m) = elim u [ ]
+  unpicked u rules.constant_field = elim u [ ]
+
+  field_of_none : {x : Fixed} (at : Pos) (name : Ident) → IsUnfixed x → PicksSo x (layer.Field at name) (Ok denoted.Variable)
+  field_of_none at name u = no_more (layer.Field at name) (rules.of_field u) (λ y p. no_field u p) (λ f m. unpicked u m)
+
   field_fixes : (at : Pos) (name : Ident) (a : Denoted) (x : Fixed) → IsFixed a x → PicksSo x (layer.Field at name) (constants.field_of g s at name a)
-  field_fixes at name _ _ (fixed_value {k = k} i) = declined g j lawful E at rule.WrongType (λ y p. elim p [ ]) rules.constant_field (λ f m. one m)
+  field_fixes at name _ _ (fixed_value {k = k} i) = declined g j lawful E at rule.WrongType (λ y p. no_pick p) rules.constant_field (λ f m. one m)
     where
+      no_pick : {y : Fixed} → FixedPicks exports (AConstant k) (layer.Field at name) y → ⊥
+      no_pick (rules.of_field u) = elim u [ ]
+
       one : {f : Breach} → FixedMispicks exports (AConstant k) (layer.Field at name) f → f ≡ at ! rule.WrongType
       one rules.constant_field = refl
   field_fixes at name _ _ (fixed_module k) = exact g j lawful E {M = FixedAs (exports k name)} {B = FixedMisnamed name.pos (exports k name)} (λ y p. rules.of_module p) (λ y p. picked p) (λ f m. rules.in_module m) (λ f m. misnamed m)
@@ -180,42 +194,44 @@ module _ (g : Gathers) (j : Judges g) (lawful : Lawful g j) (names : Ident → S
     where
       picked : {y : Fixed} → FixedPicks exports (AScope k) (layer.Field at name) y → FixedAs (exports k name) y
       picked (rules.of_module p) = p
+      picked (rules.of_field u) = elim u [ ]
 
       misnamed : {f : Breach} → FixedMispicks exports (AScope k) (layer.Field at name) f → FixedMisnamed name.pos (exports k name) f
       misnamed (rules.in_module m) = m
-  field_fixes at name _ _ (fixed_type t) = no_more (layer.Field at name) rules.of_field (λ y p. no_field p) (λ f m. elim m [ ])
-    where
-      no_field : {y : Fixed} → FixedPicks exports NoConstant (layer.Field at name) y → y ≡ NoConstant
-      no_field rules.of_field = refl
-  field_fixes at name _ _ fixed_variable = no_more (layer.Field at name) rules.of_field (λ y p. no_field p) (λ f m. elim m [ ])
-    where
-      no_field : {y : Fixed} → FixedPicks exports NoConstant (layer.Field at name) y → y ≡ NoConstant
-      no_field rules.of_field = refl
-  field_fixes at name _ _ fixed_procedure = no_more (layer.Field at name) rules.of_field (λ y p. no_field p) (λ f m. elim m [ ])
-    where
-      no_field : {y : Fixed} → FixedPicks exports NoConstant (layer.Field at name) y → y ≡ NoConstant
-      no_field rules.of_field = refl
-  field_fixes at name _ _ (fixed_standard t) = no_more (layer.Field at name) rules.of_field (λ y p. no_field p) (λ f m. elim m [ ])
-    where
-      no_field : {y : Fixed} → FixedPicks exports NoConstant (layer.Field at name) y → y ≡ NoConstant
-      no_field rules.of_field = refl
+  field_fixes at name _ _ (fixed_type t) = field_of_none at name unfixed_type
+  field_fixes at name _ _ fixed_variable = field_of_none at name unfixed_other
+  field_fixes at name _ _ fixed_procedure = field_of_none at name unfixed_other
+  field_fixes at name _ _ (fixed_standard t) = field_of_none at name unfixed_function
 
-  no_element : {at : Pos} {e : Expr} {y : Fixed} → FixedPicks exports NoConstant (layer.Index at e) y → y ≡ NoConstant
-  no_element rules.of_element = refl
+  no_element : {at : Pos} {e : Expr} {x y : Fixed} → IsUnfixed x → FixedPicks exports x (layer.Index at e) y → y ≡ NoConstant
+  no_element u (rules.of_element v) = refl
+
+  unindexed : {at : Pos} {e : Expr} {x : Fixed} {f : Breach} → IsUnfixed x → FixedMispicks exports x (layer.Index at e) f → ⊥
+  unindexed u rules.constant_element = elim u [ ]
+  unindexed u rules.module_element = elim u [ ]
+
+  element_of_none : {x : Fixed} (at : Pos) (e : Expr) → IsUnfixed x → PicksSo x (layer.Index at e) (Ok denoted.Variable)
+  element_of_none at e u = no_more (layer.Index at e) (rules.of_element u) (λ y p. no_element u p) (λ f m. unindexed u m)
 
   element_fixes : (at : Pos) (e : Expr) (a : Denoted) (x : Fixed) → IsFixed a x → PicksSo x (layer.Index at e) (component g at a)
-  element_fixes at e _ _ (fixed_value {k = k} i) = declined g j lawful E at rule.WrongType (λ y p. elim p [ ]) rules.constant_element (λ f m. one m)
+  element_fixes at e _ _ (fixed_value {k = k} i) = declined g j lawful E at rule.WrongType (λ y p. no_pick p) rules.constant_element (λ f m. one m)
     where
+      no_pick : {y : Fixed} → FixedPicks exports (AConstant k) (layer.Index at e) y → ⊥
+      no_pick (rules.of_element u) = elim u [ ]
+
       one : {f : Breach} → FixedMispicks exports (AConstant k) (layer.Index at e) f → f ≡ at ! rule.WrongType
       one rules.constant_element = refl
-  element_fixes at e _ _ (fixed_module k) = declined g j lawful E at rule.WrongType (λ y p. elim p [ ]) rules.module_element (λ f m. one m)
+  element_fixes at e _ _ (fixed_module k) = declined g j lawful E at rule.WrongType (λ y p. no_pick p) rules.module_element (λ f m. one m)
     where
+      no_pick : {y : Fixed} → FixedPicks exports (AScope k) (layer.Index at e) y → ⊥
+      no_pick (rules.of_element u) = elim u [ ]
+
       one : {f : Breach} → FixedMispicks exports (AScope k) (layer.Index at e) f → f ≡ at ! rule.WrongType
       one rules.module_element = refl
-  element_fixes at e _ _ (fixed_type t) = no_more (layer.Index at e) rules.of_element (λ y p. no_element p) (λ f m. elim m [ ])
-  element_fixes at e _ _ fixed_variable = no_more (layer.Index at e) rules.of_element (λ y p. no_element p) (λ f m. elim m [ ])
-  element_fixes at e _ _ fixed_procedure = no_more (layer.Index at e) rules.of_element (λ y p. no_element p) (λ f m. elim m [ ])
-  element_fixes at e _ _ (fixed_standard p) = no_more (layer.Index at e) rules.of_element (λ y p. no_element p) (λ f m. elim m [ ])
+  element_fixes at e _ _ (fixed_type t) = element_of_none at e unfixed_type
+  element_fixes at e _ _ fixed_variable = element_of_none at e unfixed_other
+  element_fixes at e _ _ fixed_procedure = element_of_none at e unfixed_other
+  element_fixes at e _ _ (fixed_standard p) = element_of_none at e unfixed_function
 
   step_fixes : (l : Selector-F Expr Selector Designator Item) (a : Denoted) (x : Fixed) → IsFixed a x → PicksSo x l ((selector_layer g (opened_selector g l)).fixed s (Ok a))
   step_fixes (layer.Field at name) a x i = field_fixes at name a x i

@@ -26,7 +26,7 @@ use Rattle.def_typing.specs.Constants.{low_bound, high_bound}
 use Rattle.def_typing.specs.Cases as rules
 use Rattle.def_typing.specs.Cases.{IsLabelBound, BrokenLabelBound, IsOfBase, FitsSelector, Misfits, other_base, not_in_base, IsEmpty, is_empty, IsLabel, BrokenLabel}
 use Rattle.law_typing.specs.Judging.{Judges, Answers, means}
-use Rattle.law_typing.specs.Exact.{Knows, Repeats, IsPlain}
+use Rattle.law_typing.specs.Exact.{Knows, Repeats}
 use Rattle.law_typing.proofs.Combining.{Lawful, Decided, decided_as, exact, both_answer, then_answer, Checks, Tests, passes, stopped, checks_as, where_checks, where_also, beside_checks, then_check}
 use Rattle.law_typing.proofs.Deciding.{whole_decided, same_decided, range_decided, TogetherIs, together, apart, common_is}
 use Rattle.law_typing.proofs.Elements.{IsOrdinal, is_ordinal, one_meaning, checks_answer}
@@ -279,12 +279,12 @@ module _ (g : Gathers) (j : Judges g) (lawful : Lawful g j) (names : Ident → S
     broken_two {f = f} (rules.misfits {sort = sort} {n = n} (high_bound e) b m) = inr (inl (inr ((sort, n), subst (λ (x : Expr). Bound x (sort, n)) (same_high e) b, subst (λ (x : Expr). Misfits (first x) base sort n f) (same_high e) m)))
     broken_two (rules.empty {s = s'} {t = t} {n = n} {m = m} e b c o) = inr (inr (((s', n), (t, m)), (b, subst (λ (x : Expr). Bound x (t, m)) (same_high e) c), (o, refl)))
 
-  label_by : IsPlain (out-Item i).low → (high : Option Expr) → (out-Item i).high ≡ high → ((e : Expr) → high ≡ Some e → IsPlain e) → LabelSo (label_between g s base (meanings_of g (out-Item i).low) (meant_if g high))
-  label_by p None h q = subst (λ (at : Pos). LabelSo (single g base at (bound_of g s base at (meanings_of g (out-Item i).low)))) (sym (at_is g p))
-      (exact g j lawful O (one_label h) (λ x z. label_one h z) one_broken (λ f z. broken_one h z) (single_answers g j lawful O {N = Bound (out-Item i).low} {C = BrokenBound (out-Item i).low} base at at (ordinal_answers g j lawful names exports s knows base at (out-Item i).low p) (ordinal_answers g j lawful names exports s knows base at (out-Item i).low p)))
-  label_by p (Some high) h q = subst (λ (at : Pos). LabelSo (label_range g base at (bound_of g s base at (meanings_of g (out-Item i).low)) (meanings_of g high).fixed.at (bound_of g s base at (meanings_of g high)))) (sym (at_is g p))
-      (subst (λ (at' : Pos). LabelSo (label_range g base at (bound_of g s base at (meanings_of g (out-Item i).low)) at' (bound_of g s base at (meanings_of g high)))) (sym (at_is g (q high refl)))
-      (exact g j lawful O (two_label high h) (λ x z. label_two high h z) (two_broken high h) (λ f z. broken_two high h z) (range_answers g j lawful O base at (first high) (ordinal_answers g j lawful names exports s knows base at (out-Item i).low p) (ordinal_answers g j lawful names exports s knows base at high (q high refl)))))
+  label_by : (high : Option Expr) → (out-Item i).high ≡ high → LabelSo (label_between g s base (meanings_of g (out-Item i).low) (meant_if g high))
+  label_by None h = subst (λ (at : Pos). LabelSo (single g base at (bound_of g s base at (meanings_of g (out-Item i).low)))) (sym (at_is g (out-Item i).low))
+      (exact g j lawful O (one_label h) (λ x z. label_one h z) one_broken (λ f z. broken_one h z) (single_answers g j lawful O {N = Bound (out-Item i).low} {C = BrokenBound (out-Item i).low} base at at (ordinal_answers g j lawful names exports s knows base at (out-Item i).low) (ordinal_answers g j lawful names exports s knows base at (out-Item i).low)))
+  label_by (Some high) h = subst (λ (at : Pos). LabelSo (label_range g base at (bound_of g s base at (meanings_of g (out-Item i).low)) (meanings_of g high).fixed.at (bound_of g s base at (meanings_of g high)))) (sym (at_is g (out-Item i).low))
+      (subst (λ (at' : Pos). LabelSo (label_range g base at (bound_of g s base at (meanings_of g (out-Item i).low)) at' (bound_of g s base at (meanings_of g high)))) (sym (at_is g high))
+      (exact g j lawful O (two_label high h) (λ x z. label_two high h z) (two_broken high h) (λ f z. broken_two high h z) (range_answers g j lawful O base at (first high) (ordinal_answers g j lawful names exports s knows base at (out-Item i).low) (ordinal_answers g j lawful names exports s knows base at high))))
 
-  pub label_answers : IsPlain (out-Item i).low → ((e : Expr) → (out-Item i).high ≡ Some e → IsPlain e) → LabelSo (item_label g s base i)
-  label_answers p q = label_by p (out-Item i).high refl q
+  pub label_answers : LabelSo (item_label g s base i)
+  label_answers = label_by (out-Item i).high refl

@@ -1,4 +1,5 @@
 pub mod Order
+pub mod Trees
 pub mod Combining
 pub mod Gathering
 pub mod Deciding
@@ -14,10 +15,11 @@ pub mod Places
 pub mod Finding
 pub mod Calling
 pub mod Routines
-pub mod Expressing
 pub mod Fixing
 pub mod Elements
 pub mod Constants
+pub mod Applying
+pub mod Expressing
 pub mod Assigning
 pub mod Knowing
 pub mod Changing

@@ -44,22 +44,21 @@ use Rattle.def_typing.specs.Amounts as amounts
 use Rattle.def_typing.specs.Operators.{◌!◌, Kind, Scalar, operand}
 use Rattle.def_typing.specs.Things.{Thing, AVariable, Standing, Known, Ahead, Undeclared, Unknown, Misnamed, undeclared, not_yet, SuitsBase, IsAssignable, Misassigned}
 use Rattle.def_typing.specs.Parts.{first}
-use Rattle.def_typing.specs.Constants.{AConstant, Fixes, BrokenAsConstant}
-use Rattle.def_typing.specs.Expressions.{Has, BrokenAsValue}
+use Rattle.def_typing.specs.Constants.{AConstant, Fixes}
+use Rattle.def_typing.specs.Expressions.{Has, BrokenAsValue, BrokenAsConstant}
 use Rattle.def_typing.specs.Loops as rules
 use Rattle.def_typing.specs.Loops.{SuitsLimit, IsOfBase, IsLimit, Mislimits, no_limit, not_in_base, IsWholeConstant, whole_constant, IsStep, is_step, Missteps, no_step, step_zero, IsControl, is_control, BrokenControl, no_name, no_control, HasStep, by_one, by_constant, Runs, runs, BrokenRun}
 use Rattle.law_typing.specs.Judging.{Judges, Answers, means, refuses}
-use Rattle.law_typing.specs.Exact.{IsKind, IsConst, of_local, standing, Sees, sees, sees_nothing, sees_headless, sees_unknown, Knows, Repeats, of_declaration, IsPlain, IsCallFree, is_own_variable, KnowsOwn}
+use Rattle.law_typing.specs.Exact.{IsKind, IsConst, of_local, standing, Sees, sees, sees_nothing, sees_headless, sees_unknown, Knows, Repeats, of_declaration, is_own_variable, KnowsOwn}
 use Rattle.law_typing.proofs.Combining.{Lawful, Decided, holds, fails_it, accounts_as, accounts_one, declined, both_answer, Checks, passes, stops, stopped, checks_as, both_checks, map_checks, then_check}
 use Rattle.law_typing.proofs.Deciding.{range_decided}
 use Rattle.law_typing.proofs.Joining.{IsSide, side_scalar, side_set, side_routine, side_procedure, side_text, side_whole, side_untaken, side_is}
 use Rattle.law_typing.proofs.Placing.{value_suits, base_decided, bases_decided, whole_base}
-use Rattle.law_typing.proofs.Places.{at_is, free_at}
+use Rattle.law_typing.proofs.Places.{at_is}
 use Rattle.law_typing.proofs.Shaping.{class_of, class_is, one_made}
 use Rattle.law_typing.proofs.Selecting.{known_one}
 use Rattle.law_typing.proofs.Elements.{checks_answer, IsOrdinal, is_ordinal, NumberOf, number_answers, one_meaning}
-use Rattle.law_typing.proofs.Constants.{exactly_fixed}
-use Rattle.law_typing.proofs.Expressing.{exactly}
+use Rattle.law_typing.proofs.Expressing.{exactly, exactly_fixed}
 
 -- ---- limits
 
@@ -331,10 +330,10 @@ module _ (g : Gathers) (j : Judges g) (lawful : Lawful g j) (names : Ident → S
     mapped h c (means a k i m u n) = means (h a) k (c a k i) m u n
     mapped h c (refuses r a n) = refuses r a n
 
-    start_checks : (name : Ident) (e : Expr) → IsPlain e → Checks g j lawful E {A = TypedExpr} (Starts name e) (StartFails name e) (start_at g s.types (meanings_of g e).fixed.at (type_of (control_of g s name)) (value_of g s (meanings_of g e)))
-    start_checks name e i = subst (λ (at : Pos). Checks g j lawful E {A = TypedExpr} (Starts name e) (StartFails name e) (start_at g s.types at (type_of (control_of g s name)) (value_of g s (meanings_of g e)))) (sym (at_is g i))
+    start_checks : (name : Ident) (e : Expr) → Checks g j lawful E {A = TypedExpr} (Starts name e) (StartFails name e) (start_at g s.types (meanings_of g e).fixed.at (type_of (control_of g s name)) (value_of g s (meanings_of g e)))
+    start_checks name e = subst (λ (at : Pos). Checks g j lawful E {A = TypedExpr} (Starts name e) (StartFails name e) (start_at g s.types at (type_of (control_of g s name)) (value_of g s (meanings_of g e)))) (sym (at_is g e))
         (then_check g j lawful E {P = λ q. IsAssignable s.types q.0.0 (operand q.1)} {D = λ q f. Misassigned s.types q.0.0 (first e) rule.NotAssignable (operand q.1) f}
-        (both_answer g j lawful E (mapped {Is' = λ t p. t ≡ p.0} (λ c. c.of) (λ c p z. z.0) (control_answers name)) (exactly g j lawful names exports s knows e i))
+        (both_answer g j lawful E (mapped {Is' = λ t p. t ≡ p.0} (λ c. c.of) (λ c p z. z.0) (control_answers name)) (exactly g j lawful names exports s knows e))
         (λ v q m. subst (λ (u : TypeNo). Checks g j lawful E (IsAssignable s.types u (operand q.1)) (Misassigned s.types u (first e) rule.NotAssignable (operand q.1)) (value_suited g rule.NotAssignable s.types v.0 (first e) v.1)) m.0
         (value_suits s.types v.0 g j lawful E rule.NotAssignable (first e) m.1)))
 
@@ -345,10 +344,10 @@ module _ (g : Gathers) (j : Judges g) (lawful : Lawful g j) (names : Ident → S
     abbrev LimitFails : Ident → Expr → Breach → Type 0
     LimitFails name e f = (BC name f ⊎ V e f) ⊎ ((q : (TypeNo × Range) × Kind) × (C name q.0.0 q.0.1 × H e q.1) × Mislimits q.0.1.base (first e) (operand q.1) f)
 
-    limit_checks : (name : Ident) (e : Expr) → IsPlain e → Checks g j lawful E {A = TypedExpr} (Limits name e) (LimitFails name e) (limit_at g (meanings_of g e).fixed.at (base_of (control_of g s name)) (value_of g s (meanings_of g e)))
-    limit_checks name e i = subst (λ (at : Pos). Checks g j lawful E {A = TypedExpr} (Limits name e) (LimitFails name e) (limit_at g at (base_of (control_of g s name)) (value_of g s (meanings_of g e)))) (sym (at_is g i))
+    limit_checks : (name : Ident) (e : Expr) → Checks g j lawful E {A = TypedExpr} (Limits name e) (LimitFails name e) (limit_at g (meanings_of g e).fixed.at (base_of (control_of g s name)) (value_of g s (meanings_of g e)))
+    limit_checks name e = subst (λ (at : Pos). Checks g j lawful E {A = TypedExpr} (Limits name e) (LimitFails name e) (limit_at g at (base_of (control_of g s name)) (value_of g s (meanings_of g e)))) (sym (at_is g e))
         (then_check g j lawful E {P = λ q. IsLimit q.0.1.base (operand q.1)} {D = λ q f. Mislimits q.0.1.base (first e) (operand q.1) f}
-        (both_answer g j lawful E (mapped {Is' = λ b p. b ≡ p.1.base} (λ c. c.base) (λ c p z. z.1) (control_answers name)) (exactly g j lawful names exports s knows e i))
+        (both_answer g j lawful E (mapped {Is' = λ b p. b ≡ p.1.base} (λ c. c.base) (λ c p z. z.1) (control_answers name)) (exactly g j lawful names exports s knows e))
         (λ v q m. subst (λ (u : TypeNo). Checks g j lawful E (IsLimit u (operand q.1)) (Mislimits u (first e) (operand q.1)) (limit_by g v.0 (first e) (side_of v.1))) m.0
         (value_limits g j lawful E v.0 (first e) m.1)))
 
@@ -360,11 +359,11 @@ module _ (g : Gathers) (j : Judges g) (lawful : Lawful g j) (names : Ident → S
       breaks_constant : {e : Expr} {f : Breach} → K e f → StepBreaks (Some e) f
       breaks_step : {e : Expr} {k : Kind} {f : Breach} → F e k → Missteps (first e) (operand k) f → StepBreaks (Some e) f
 
-    step_answer : (step : Option Expr) → ((e : Expr) → step ≡ Some e → IsCallFree e) → Checks g j lawful E {A = ℤ} (Steps step) (StepBreaks step) (step_of g s (meant_if g step))
-    step_answer None i = passes (pos 1) by_one (λ f z. elim z [ ])
-    step_answer (Some e) i = subst (λ (at : Pos). Checks g j lawful E {A = ℤ} (Steps (Some e)) (StepBreaks (Some e)) (constant g s (meanings_of g e).fixed ▷ step_by g at)) (sym (free_at g (i e refl)))
+    step_answer : (step : Option Expr) → Checks g j lawful E {A = ℤ} (Steps step) (StepBreaks step) (step_of g s (meant_if g step))
+    step_answer None = passes (pos 1) by_one (λ f z. elim z [ ])
+    step_answer (Some e) = subst (λ (at : Pos). Checks g j lawful E {A = ℤ} (Steps (Some e)) (StepBreaks (Some e)) (constant g s (meanings_of g e).fixed ▷ step_by g at)) (sym (at_is g e))
         (checks_as g j lawful E (λ z. by_constant z.1 z.2) step_parts (λ f z. elim z [ inl b ↦ breaks_constant b | inr q ↦ breaks_step q.1 q.2 ]) broken_parts
-        (then_check g j lawful E {P = λ k. IsStep (operand k)} {D = λ k f. Missteps (first e) (operand k) f} (exactly_fixed g j lawful names exports s knows e (i e refl)) (λ v k q. step_checks g j lawful E (first e) q)))
+        (then_check g j lawful E {P = λ k. IsStep (operand k)} {D = λ k f. Missteps (first e) (operand k) f} (exactly_fixed g j lawful names exports s knows e) (λ v k q. step_checks g j lawful E (first e) q)))
       where
         step_parts : Steps (Some e) → (k : Kind) × F e k × IsStep (operand k)
         step_parts (by_constant {k = k} h z) = (k, h, z)
@@ -415,8 +414,8 @@ module _ (g : Gathers) (j : Judges g) (lawful : Lawful g j) (names : Ident → S
     breaks_out f (rules.wrong_limit {t = t} {r = r} {k = k} c h m) = inr (inl (inr (((t, r), k), (c, h), m)))
     breaks_out f (rules.wrong_step h m) = inr (inr (breaks_step h m))
 
-    pub run_answers : (name : Ident) (start limit : Expr) (step : Option Expr) → IsPlain start → IsPlain limit → ((e : Expr) → step ≡ Some e → IsCallFree e)
+    pub run_answers : (name : Ident) (start limit : Expr) (step : Option Expr)
         → Answers g j E {A = Course} {K = Unit {0}} (λ v u. Unit {0}) (λ u. R name start limit step) (BR name start limit step) (course_of g s name (meanings_of g start) (meanings_of g limit) (meant_if g step))
-    run_answers name start limit step i k c = checks_answer g j lawful E (checks_as g j lawful E run_in run_out breaks_in breaks_out
+    run_answers name start limit step = checks_answer g j lawful E (checks_as g j lawful E run_in run_out breaks_in breaks_out
         (map_checks g j lawful E (λ (p : (Control × TypedExpr) × (TypedExpr × ℤ)). let q : Course = record { control = p.0.0; start = p.0.1; limit = p.1.0; by = p.1.1 } in q)
-        (both_checks g j lawful E (both_checks g j lawful E (control_checks name) (start_checks name start i)) (both_checks g j lawful E (limit_checks name limit k) (step_answer step c)))))
+        (both_checks g j lawful E (both_checks g j lawful E (control_checks name) (start_checks name start)) (both_checks g j lawful E (limit_checks name limit) (step_answer step)))))

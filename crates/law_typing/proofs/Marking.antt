@@ -29,7 +29,8 @@ use Rattle.def_typing.specs.Parts.{Among, here, later, Named}
 use Rattle.def_typing.specs.TypeExprs.{constants_listed, all_listed, constants_in, constants_in_field}
 use Rattle.def_typing.specs.Declarations.{Declaration, OfConstant, OfType, OfVariables, OfProcedure, names_of, constants_of, declared_by, declarations_of, Declares, AnyDeclares, IsFirst, at_first, later_on, There}
 use Rattle.law_typing.specs.Judging.{Judges}
-use Rattle.law_typing.specs.Exact.{TakenAs, is_taken, awaits, not_taken, IsPlainType, plain_simple, plain_array, plain_record, plain_procedure, ArePlainFields, no_plain_field, one_plain_field, IsPlainLayer, ArePlainDecls, AreOnce}
+use Rattle.law_typing.specs.Exact.{TakenAs, is_taken, awaits, not_taken, AreOnce}
+use Rattle.law_typing.proofs.Trees.{type_tree, IsTypeTree, tree_simple, tree_array, tree_record, tree_procedure, AreFieldTrees, no_field_tree, one_field_tree}
 use Rattle.law_typing.proofs.Combining.{Decided, holds, fails_it}
 use Rattle.law_typing.proofs.Entering.{Compared, are_one, are_two, compared, among_decided, entered_all, once_more}
 use Rattle.law_typing.proofs.TypeReading.{constants_at}
@@ -103,17 +104,20 @@ module _ {T : Type 0} where
   fields_marks f = fold_out-Field (Marks T) (Marks T) marking.type_layer marking.field_layer f
 
   mutual
-    type_marked : (e : TypeExpr) → IsPlainType e → (s : Scope T) → marked_in e s ≡ marked s (constants_in e)
-    type_marked e (plain_simple {x = x} h i) s = ap (λ (m : Marks T). m s) (marks_at e (layer.Simple x) h) ∙ simple_marks x s ∙ sym (ap (λ (xs : List Ident). marked s xs) (constants_at e (layer.Simple x) h))
-    type_marked e (plain_procedure {at = at} {xs = xs} {q = q} h) s = ap (λ (m : Marks T). m s) (marks_at e (layer.Procedure at xs q) h) ∙ sym (ap (λ (xs : List Ident). marked s xs) (constants_at e (layer.Procedure at xs q) h))
-    type_marked e (plain_array {of = of} {at = at} {index = x} h i k) s = ap (λ (m : Marks T). m s) (marks_at e (layer.Array at x of) h) ∙ ap (λ (t : Scope T). marked_in of t) (simple_marks x s) ∙ type_marked of k (marked s (constants_listed x))
+    tree_marked : (e : TypeExpr) → IsTypeTree e → (s : Scope T) → marked_in e s ≡ marked s (constants_in e)
+    tree_marked e (tree_simple {x = x} h) s = ap (λ (m : Marks T). m s) (marks_at e (layer.Simple x) h) ∙ simple_marks x s ∙ sym (ap (λ (xs : List Ident). marked s xs) (constants_at e (layer.Simple x) h))
+    tree_marked e (tree_procedure {at = at} {xs = xs} {q = q} h) s = ap (λ (m : Marks T). m s) (marks_at e (layer.Procedure at xs q) h) ∙ sym (ap (λ (xs : List Ident). marked s xs) (constants_at e (layer.Procedure at xs q) h))
+    tree_marked e (tree_array {of = of} {at = at} {index = x} h k) s = ap (λ (m : Marks T). m s) (marks_at e (layer.Array at x of) h) ∙ ap (λ (t : Scope T). marked_in of t) (simple_marks x s) ∙ tree_marked of k (marked s (constants_listed x))
         ∙ fold_both marked_later s (constants_listed x) (constants_in of) ∙ sym (ap (λ (xs : List Ident). marked s xs) (constants_at e (layer.Array at x of) h))
-    type_marked e (plain_record {at = at} {fields = fs} h i) s = ap (λ (m : Marks T). m s) (marks_at e (layer.Record at fs) h) ∙ fields_marked fs i s ∙ sym (ap (λ (xs : List Ident). marked s xs) (constants_at e (layer.Record at fs) h))
+    tree_marked e (tree_record {at = at} {fields = fs} h i) s = ap (λ (m : Marks T). m s) (marks_at e (layer.Record at fs) h) ∙ fields_marked fs i s ∙ sym (ap (λ (xs : List Ident). marked s xs) (constants_at e (layer.Record at fs) h))
 
-    fields_marked : (fs : List Field) → ArePlainFields fs → (s : Scope T) → fold marking.then_marks s (map marked_field fs) ≡ marked s (all_listed (map constants_in_field fs))
-    fields_marked [] no_plain_field s = refl
-    fields_marked (f ∷ fs) (one_plain_field i k) s = ap (λ (t : Scope T). fold marking.then_marks t (map marked_field fs)) (ap (λ (m : Marks T). m s) (fields_marks f) ∙ type_marked (out-Field f).of i s ∙ ap (λ (xs : List Ident). marked s xs) (sym (field_constants f)))
+    fields_marked : (fs : List Field) → AreFieldTrees fs → (s : Scope T) → fold marking.then_marks s (map marked_field fs) ≡ marked s (all_listed (map constants_in_field fs))
+    fields_marked [] no_field_tree s = refl
+    fields_marked (f ∷ fs) (one_field_tree i k) s = ap (λ (t : Scope T). fold marking.then_marks t (map marked_field fs)) (ap (λ (m : Marks T). m s) (fields_marks f) ∙ tree_marked (out-Field f).of i s ∙ ap (λ (xs : List Ident). marked s xs) (sym (field_constants f)))
         ∙ fields_marked fs k (marked s (constants_in_field f)) ∙ fold_both marked_later s (constants_in_field f) (all_listed (map constants_in_field fs))
+
+  type_marked : (e : TypeExpr) (s : Scope T) → marked_in e s ≡ marked s (constants_in e)
+  type_marked e s = tree_marked e (type_tree e) s
 
 module _ (g : Gathers) (j : Judges g) (exports : ℕ → Ident → Standing) (outside : Ident → Standing) (start : Scope g.Reported) (taken : List ℕ → Bool) (awaited : List ℕ → Option TypeNo) (nested : Bool) (block : List Declaration)
     (takes : (n : List ℕ) → TakenAs g j (taken n) (awaited n) (find_name n start.own)) where
@@ -225,11 +229,11 @@ module _ (g : Gathers) (j : Judges g) (exports : ℕ → Ident → Standing) (ou
   constant_marks : (c : Constant) (M : MarkedNames) (s : Scope g.Reported) → Marking M s → Marking (With M (OfConstant c)) (marked_constant s c)
   constant_marks c M s m = one_with (OfConstant c) c.name refl M s m
 
-  type_marks : (d : TypeDecl) → IsPlainType d.of → (M : MarkedNames) (s : Scope g.Reported) → Marking M s → Marking (With M (OfType d)) (marked_type s d)
-  type_marks d i M s m = subst (Marking (With M (OfType d))) (sym (type_marked d.of i (mark_name d.name known.Later s))) (mark_names (d.name ∷ constants_in d.of) M m)
+  type_marks : (d : TypeDecl) (M : MarkedNames) (s : Scope g.Reported) → Marking M s → Marking (With M (OfType d)) (marked_type s d)
+  type_marks d M s m = subst (Marking (With M (OfType d))) (sym (type_marked d.of (mark_name d.name known.Later s))) (mark_names (d.name ∷ constants_in d.of) M m)
 
-  variable_marks : (v : Variables) → IsPlainType v.of → (M : MarkedNames) (s : Scope g.Reported) → Marking M s → Marking (With M (OfVariables v)) (marked_variables s v)
-  variable_marks v i M s m = subst (Marking (With M (OfVariables v))) (sym (type_marked v.of i (fold marked_later s v.names) ∙ fold_both marked_later s v.names (constants_in v.of))) (mark_names (v.names ++ constants_in v.of) M m)
+  variable_marks : (v : Variables) (M : MarkedNames) (s : Scope g.Reported) → Marking M s → Marking (With M (OfVariables v)) (marked_variables s v)
+  variable_marks v M s m = subst (Marking (With M (OfVariables v))) (sym (type_marked v.of (fold marked_later s v.names) ∙ fold_both marked_later s v.names (constants_in v.of))) (mark_names (v.names ++ constants_in v.of) M m)
 
   -- ---- sections and blocks
 
@@ -270,16 +274,16 @@ module _ (g : Gathers) (j : Judges g) (exports : ℕ → Ident → Standing) (ou
   section_marks f of [] h M s m = marking_as (λ n k p. inl p) (plus_none M) m
   section_marks f of (x ∷ xs) h M s m = marking_as (plus_join M (of x) (map of xs)) (plus_split M (of x) (map of xs)) (section_marks f of xs (λ y n. h y (later n)) (With M (of x)) (f s x) (h x here M s m))
 
-  layer_marks : (y : Decl-F Decl Block) → IsPlainLayer y → (M : MarkedNames) (s : Scope g.Reported) → Marking M s → Marking (Plus M (declared_by y)) (marked_layer s y)
-  layer_marks (decl.Constants cs) i M s m = section_marks marked_constant OfConstant cs (λ c n. constant_marks c) M s m
-  layer_marks (decl.Types ts) i M s m = section_marks marked_type OfType ts (λ d n. type_marks d (i d n)) M s m
-  layer_marks (decl.Variables vs) i M s m = section_marks marked_variables OfVariables vs (λ v n. variable_marks v (i v n)) M s m
-  layer_marks (decl.Procedure h b) i M s m = marking_as (λ n k p. plus_join M (OfProcedure h) [] n k (inl p)) (λ n k p. plus_none (With M (OfProcedure h)) n k (plus_split M (OfProcedure h) [] n k p)) (one_with (OfProcedure h) h.name refl M s m)
+  layer_marks : (y : Decl-F Decl Block) (M : MarkedNames) (s : Scope g.Reported) → Marking M s → Marking (Plus M (declared_by y)) (marked_layer s y)
+  layer_marks (decl.Constants cs) M s m = section_marks marked_constant OfConstant cs (λ c n. constant_marks c) M s m
+  layer_marks (decl.Types ts) M s m = section_marks marked_type OfType ts (λ d n. type_marks d) M s m
+  layer_marks (decl.Variables vs) M s m = section_marks marked_variables OfVariables vs (λ v n. variable_marks v) M s m
+  layer_marks (decl.Procedure h b) M s m = marking_as (λ n k p. plus_join M (OfProcedure h) [] n k (inl p)) (λ n k p. plus_none (With M (OfProcedure h)) n k (plus_split M (OfProcedure h) [] n k p)) (one_with (OfProcedure h) h.name refl M s m)
 
-  all_marks : (ds : List Decl) → ArePlainDecls ds → (M : MarkedNames) (s : Scope g.Reported) (ns : List ℕ) → Marking M s → Marking (Plus M (declarations_of ds)) (fold (with_marks marked_decl) (s, ns) ds).0
-  all_marks [] i M s ns m = marking_as (λ n k p. inl p) (plus_none M) m
-  all_marks (d ∷ ds) i M s ns m = marking_as (plus_append M (declared_by (out-Decl d)) (declarations_of ds)) (append_plus M (declared_by (out-Decl d)) (declarations_of ds))
-      (all_marks ds (λ c n. i c (later n)) (Plus M (declared_by (out-Decl d))) (marked_decl s d) _ (layer_marks (out-Decl d) (i d here) M s m))
+  all_marks : (ds : List Decl) (M : MarkedNames) (s : Scope g.Reported) (ns : List ℕ) → Marking M s → Marking (Plus M (declarations_of ds)) (fold (with_marks marked_decl) (s, ns) ds).0
+  all_marks [] M s ns m = marking_as (λ n k p. inl p) (plus_none M) m
+  all_marks (d ∷ ds) M s ns m = marking_as (plus_append M (declared_by (out-Decl d)) (declarations_of ds)) (append_plus M (declared_by (out-Decl d)) (declarations_of ds))
+      (all_marks ds (Plus M (declared_by (out-Decl d))) (marked_decl s d) _ (layer_marks (out-Decl d) M s m))
 
   -- ---- where the declarations begin
 
@@ -316,6 +320,6 @@ module _ (g : Gathers) (j : Judges g) (exports : ℕ → Ident → Standing) (ou
   known_marked n (is_marked t p) = marked_ahead n t p
   known_marked n (is_unmarked t c) = outer (λ u a. unmarked_outer n c a) (λ t w h. elim h.1 [ ]) (none_at_start (taken n) refl t (takes n))
 
-  pub block_begins : (ds : List Decl) → ArePlainDecls ds → start.withs ≡ [] → declarations_of ds ≡ block → KnowsBlock g j exports outside start taken awaited nested block [] block Th (all_marked marked_decl start ds).0
-  block_begins ds i e q = let m = subst (λ (block : List Declaration). Marking (Plus Nothing block) (all_marked marked_decl start ds).0) q (all_marks ds i Nothing start [] (begins e)) in
+  pub block_begins : (ds : List Decl) → start.withs ≡ [] → declarations_of ds ≡ block → KnowsBlock g j exports outside start taken awaited nested block [] block Th (all_marked marked_decl start ds).0
+  block_begins ds e q = let m = subst (λ (block : List Declaration). Marking (Plus Nothing block) (all_marked marked_decl start ds).0) q (all_marks ds Nothing start [] (begins e)) in
       record { same = m.same; within = λ n a. elim a.1 [ ]; in_block = λ n a. a; left = λ n d k c. k; includes = λ n t. t; own = λ n. known_marked n (m.marks n); once = m.once }

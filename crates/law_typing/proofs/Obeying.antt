@@ -45,9 +45,9 @@ use Rattle.def_typing.specs.Returns.{IsExit, BrokenExit, Returns, BrokenReturn}
 use Rattle.def_typing.specs.Loops.{Runs, BrokenRun}
 use Rattle.def_typing.specs.Statements as rules
 use Rattle.def_typing.specs.Statements.{arguments, labels_of, Spot, inside_loop, Obeys, as_written, IsRight, assignment, call, choice, while_loop, repeat_loop, bare_loop, exit, return, for_loop, with_record, inside_with, AllObey, no_more, one_more, RestObeys, rest_as_written, RestIsRight, elsif, no_else, an_else, Broken, broken_as_written, Breaks, RestBroken, rest_broken, RestBreaks}
-use Rattle.law_typing.specs.Exact as exact
 use Rattle.law_typing.specs.Judging.{Judges, Answers, means, refuses}
-use Rattle.law_typing.specs.Exact.{RepeatsResult, KnowsSpot, IsPlain, ArePlain, ArePlainSelectors, IsThing, thing_value, thing_variable, thing_open, thing_type, thing_procedure, thing_nested, thing_standard, thing_module, IsPlainStmt, plain_with, plain_assignment, plain_action, plain_if, plain_while, plain_repeat, plain_loop, plain_exit, plain_return, plain_for, ArePlainStmts, no_statement, one_statement, IsPlainRest, plain_elsif, plain_end, IsPlainElse, plain_else, ArePlainArms, one_arm, plain_case}
+use Rattle.law_typing.specs.Exact.{RepeatsResult, KnowsSpot, IsThing, thing_value, thing_variable, thing_open, thing_type, thing_procedure, thing_nested, thing_standard, thing_module}
+use Rattle.law_typing.proofs.Trees.{statement_tree, IsStmtTree, tree_assignment, tree_action, tree_if, tree_case, tree_while, tree_repeat, tree_loop, tree_exit, tree_return, tree_for, tree_with, AreStmtTrees, no_statement, one_statement, IsRestTree, tree_elsif, tree_end, IsElseTree, tree_no_else, tree_else, AreArmTrees, no_arm_tree, one_arm_tree}
 use Rattle.law_typing.proofs.Combining.{Lawful, declined, Checks, passes, stops, more_checks, unit_checks, checks_as, both_checks, map_checks, Tells, silent, tells, tells_as, refusal_tells, Finds, finds, finds_headless, finds_nothing, finds_as, sort_answers}
 use Rattle.law_typing.proofs.Elements.{checks_answer}
 use Rattle.law_typing.proofs.Assigning.{condition_answers, assignment_answers}
@@ -307,12 +307,12 @@ module _ (g : Gathers) (j : Judges g) (lawful : Lawful g j) (exports : ℕ → I
     list_checks : (xs : List Stmt) → ((x : Stmt) → Among x xs → StmtSo x (stmt g x s a)) → ListSo xs (all_of g s a (map (stmt g) xs))
     list_checks xs h = checks_as g j lawful (O w s a) (λ p. p.1) (λ p. (tt, p)) (λ f b. elim b [ inl z ↦ absurd z | inr z ↦ z ]) (λ f b. inr b) (list_from xs h {P = Unit {0}} {B = λ f. ⊥} (Ok []) (passes [] tt (λ f b. b)))
 
-    condition_checks : (k : Known w s a) (c : Expr) → IsPlain c → Checks g j lawful (O w s a) {A = TypedExpr} (IsCondition s.types w.names exports c) (BrokenCondition s.types w.names exports c) (condition g s (meanings_of g c))
-    condition_checks k c i = unit_checks g j lawful {M = λ u. IsCondition s.types w.names exports c} (λ f o. inl o) (condition_answers g j lawful w.names exports s k.of_names c i)
+    condition_checks : (k : Known w s a) (c : Expr) → Checks g j lawful (O w s a) {A = TypedExpr} (IsCondition s.types w.names exports c) (BrokenCondition s.types w.names exports c) (condition g s (meanings_of g c))
+    condition_checks k c = unit_checks g j lawful {M = λ u. IsCondition s.types w.names exports c} (λ f o. inl o) (condition_answers g j lawful w.names exports s k.of_names c)
 
-    call_layer : (k : Known w s a) (d : Designator) (args : Option (List Expr)) → ArePlainSelectors (out-Designator d).selectors → ArePlain (arguments args) → LayerSo (layer.Call d args) (stmt_layer g (opened_stmt g (layer.Call d args)) s a)
-    call_layer k d None p q = checks_as g j lawful (O w s a) call (action_of s.types exports) (λ f b. rules.in_call b) (broken_action s.types exports) (unit_checks g j lawful {M = λ u. IsAction s.types w.names exports d []} (λ f o. inl o) (action_answers g j lawful w.names exports s k.of_names d [] p q))
-    call_layer k d (Some args) p q = checks_as g j lawful (O w s a) call (action_of s.types exports) (λ f b. rules.in_call b) (broken_action s.types exports) (unit_checks g j lawful {M = λ u. IsAction s.types w.names exports d args} (λ f o. inl o) (action_answers g j lawful w.names exports s k.of_names d args p q))
+    call_layer : (k : Known w s a) (d : Designator) (args : Option (List Expr)) → LayerSo (layer.Call d args) (stmt_layer g (opened_stmt g (layer.Call d args)) s a)
+    call_layer k d None = checks_as g j lawful (O w s a) call (action_of s.types exports) (λ f b. rules.in_call b) (broken_action s.types exports) (unit_checks g j lawful {M = λ u. IsAction s.types w.names exports d []} (λ f o. inl o) (action_answers g j lawful w.names exports s k.of_names d []))
+    call_layer k d (Some args) = checks_as g j lawful (O w s a) call (action_of s.types exports) (λ f b. rules.in_call b) (broken_action s.types exports) (unit_checks g j lawful {M = λ u. IsAction s.types w.names exports d args} (λ f o. inl o) (action_answers g j lawful w.names exports s k.of_names d args))
 
     exit_layer : (k : Known w s a) (at : Pos) → LayerSo (layer.Exit at) (exit_statement g at a)
     exit_layer k at = checks_as g j lawful (O w s a) (λ m. exit (subst IsExit (sym k.of_loop) m)) (λ m. subst IsExit k.of_loop (exit_of s.types exports m)) (λ f b. rules.at_exit (subst (λ (l : Bool). BrokenExit at l f) (sym k.of_loop) b)) (λ f b. subst (λ (l : Bool). BrokenExit at l f) k.of_loop (exit_out s.types exports f b))
@@ -386,10 +386,10 @@ module _ (g : Gathers) (j : Judges g) (lawful : Lawful g j) (exports : ℕ → I
     finds_more h (finds_headless r o m u n) = finds_headless r (λ f z. h f (o f z)) m u n
     finds_more h (finds_nothing r c n) = finds_nothing r (record { only = λ f m. elim (c.only f m) [ inl b ↦ inl b | inr o ↦ inr (h f o) ]; each = c.each }) n
 
-    record_answers : ArePlainSelectors (out-Designator d).selectors → RecordAnswers (record_of g s (head g d))
-    record_answers i = subst (λ (at : Pos). RecordAnswers (of_sort g at rule.WrongType ((head g d).means s) ▷ record_by g s.types at)) (sym (head_at g d))
+    record_answers : RecordAnswers (record_of g s (head g d))
+    record_answers = subst (λ (at : Pos). RecordAnswers (of_sort g at rule.WrongType ((head g d).means s) ▷ record_by g s.types at)) (sym (head_at g d))
         (sort_answers g j lawful U {N = RecordIs s.types exports} {D = NoRecord s.types exports (out-Designator d).name.pos} (out-Designator d).name.pos rule.WrongType
-        (finds_as g j lawful U (λ x m. m) (λ x m. m) designator_in designator_out (finds_more (λ f o. inl o) (designator_found g j lawful w.names exports s k.of_names d i))) records (no_record_there (λ t fs e m. absurd cc)))
+        (finds_as g j lawful U (λ x m. m) (λ x m. m) designator_in designator_out (finds_more (λ f o. inl o) (designator_found g j lawful w.names exports s k.of_names d))) records (no_record_there (λ t fs e m. absurd cc)))
 
     -- the statements inside
     abbrev Tell : Result (List TypedStmt) g.Reported → Type 0
@@ -436,66 +436,66 @@ module _ (g : Gathers) (j : Judges g) (lawful : Lawful g j) (exports : ℕ → I
     with_layer h (refuses r c n) = checks_as g j lawful U {P = ⊥} (λ z. absurd z) (none_right n) (λ f b. with_in s.types exports f b) (λ f b. with_out s.types exports f b)
         (unit_checks g j lawful {M = λ u. ⊥} (λ f o. o) (refusal_tells g j lawful U {A = TypedStmt} {K = Unit {0}} {Is = λ v u. Unit {0}} c (λ u z. z) (behind_tells h (opened_is g j lawful w.names exports s k.of_names d))))
 
-    with_checks : ArePlainSelectors (out-Designator d).selectors → Bodies → LayerSo w s a (layer.With d body) (stmt_layer g (opened_stmt g (layer.With d body)) s a)
-    with_checks i h = with_layer h (record_answers i)
+    with_checks : Bodies → LayerSo w s a (layer.With d body) (stmt_layer g (opened_stmt g (layer.With d body)) s a)
+    with_checks h = with_layer h record_answers
 
-  case_layer : (w : Spot) (s : Scope g.Reported) (a : Around g.Reported) (k : Known w s a) (e : Expr) (arms : List Arm) (o : Option (List Stmt)) → IsPlain e → exact.ArePlainLabels (labels_of arms) → ((x : Arm) → Among x arms → BodySo g j lawful exports w s a k.of_names x)
+  case_layer : (w : Spot) (s : Scope g.Reported) (a : Around g.Reported) (k : Known w s a) (e : Expr) (arms : List Arm) (o : Option (List Stmt)) → ((x : Arm) → Among x arms → BodySo g j lawful exports w s a k.of_names x)
       → RestLayerSo w s a (layer.Else o) (rest_layer g (opened_rest g (layer.Else o)) s a) → LayerSo w s a (layer.Case e arms o) (stmt_layer g (opened_stmt g (layer.Case e arms o)) s a)
-  case_layer w s a k e arms None i l b q = case_checks g j lawful exports w s a k.of_names e arms None (selector_answers g j lawful w.names exports s k.of_names e i) l b q
-  case_layer w s a k e arms (Some body) i l b q = case_checks g j lawful exports w s a k.of_names e arms (Some body) (selector_answers g j lawful w.names exports s k.of_names e i) l b q
+  case_layer w s a k e arms None b q = case_checks g j lawful exports w s a k.of_names e arms None (selector_answers g j lawful w.names exports s k.of_names e) b q
+  case_layer w s a k e arms (Some body) b q = case_checks g j lawful exports w s a k.of_names e arms (Some body) (selector_answers g j lawful w.names exports s k.of_names e) b q
 
   looping : {w : Spot} {s : Scope g.Reported} {a : Around g.Reported} → Known w s a → Known (inside_loop w) s (in_loop a)
   looping k = record { of_names = k.of_names; of_own = k.of_own; of_result = k.of_result; of_loop = refl }
 
   mutual
-    stmt_checks : {x : Stmt} → IsPlainStmt x → (w : Spot) (s : Scope g.Reported) (a : Around g.Reported) → Known w s a → StmtSo w s a x (stmt g x s a)
-    stmt_checks (plain_assignment {d = d} {e = e} h p i) w s a k = by_layer w s a (layer.Assign d e) h
-        (checks_as g j lawful (O w s a) assignment (assignment_of s.types exports) (λ f b. rules.in_assignment b) (broken_assignment s.types exports) (unit_checks g j lawful {M = λ u. Assigns s.types w.names exports d e} (λ f o. inl o) (assignment_answers g j lawful w.names exports s k.of_names d e p i)))
-    stmt_checks (plain_action {d = d} {args = args} h p i) w s a k = by_layer w s a (layer.Call d args) h (call_layer w s a k d args p i)
-    stmt_checks (plain_if {c = c} {body = body} {rest = r} h i b q) w s a k = by_layer w s a (layer.If c body r) h
+    stmt_checks : {x : Stmt} → IsStmtTree x → (w : Spot) (s : Scope g.Reported) (a : Around g.Reported) → Known w s a → StmtSo w s a x (stmt g x s a)
+    stmt_checks (tree_assignment {d = d} {e = e} h) w s a k = by_layer w s a (layer.Assign d e) h
+        (checks_as g j lawful (O w s a) assignment (assignment_of s.types exports) (λ f b. rules.in_assignment b) (broken_assignment s.types exports) (unit_checks g j lawful {M = λ u. Assigns s.types w.names exports d e} (λ f o. inl o) (assignment_answers g j lawful w.names exports s k.of_names d e)))
+    stmt_checks (tree_action {d = d} {args = args} h) w s a k = by_layer w s a (layer.Call d args) h (call_layer w s a k d args)
+    stmt_checks (tree_if {c = c} {body = body} {rest = r} h b q) w s a k = by_layer w s a (layer.If c body r) h
         (checks_as g j lawful (O w s a) (λ z. choice z.0 z.1.0 z.1.1) (choice_of s.types exports) (if_in s.types exports) (if_out s.types exports)
-        (map_checks g j lawful (O w s a) (λ (p : TypedExpr × (List TypedStmt × Option (List TypedStmt))). typed.If p.0 p.1.0 p.1.1) (both_checks g j lawful (O w s a) (condition_checks w s a k c i) (both_checks g j lawful (O w s a) (list_checks w s a _ (each_checks b w s a k)) (rest_checks q w s a k)))))
-    stmt_checks (plain_case {e = e} {arms = arms} {otherwise = o} h i l b q) w s a k = by_layer w s a (layer.Case e arms o) h
-        (case_layer w s a k e arms o i l (arm_checks b w s a k) (else_checks q w s a k))
-    stmt_checks (plain_while {c = c} {body = body} h i b) w s a k = by_layer w s a (layer.While c body) h
+        (map_checks g j lawful (O w s a) (λ (p : TypedExpr × (List TypedStmt × Option (List TypedStmt))). typed.If p.0 p.1.0 p.1.1) (both_checks g j lawful (O w s a) (condition_checks w s a k c) (both_checks g j lawful (O w s a) (list_checks w s a _ (each_checks b w s a k)) (rest_checks q w s a k)))))
+    stmt_checks (tree_case {e = e} {arms = arms} {otherwise = o} h b q) w s a k = by_layer w s a (layer.Case e arms o) h
+        (case_layer w s a k e arms o (arm_checks b w s a k) (else_checks q w s a k))
+    stmt_checks (tree_while {c = c} {body = body} h b) w s a k = by_layer w s a (layer.While c body) h
         (checks_as g j lawful (O w s a) (λ z. while_loop z.0 z.1) (while_of s.types exports) (while_in s.types exports) (while_out s.types exports)
-        (map_checks g j lawful (O w s a) (λ (p : TypedExpr × List TypedStmt). typed.While p.0 p.1) (both_checks g j lawful (O w s a) (condition_checks w s a k c i) (list_checks w s a _ (each_checks b w s a k)))))
-    stmt_checks (plain_repeat {body = body} {c = c} h b i) w s a k = by_layer w s a (layer.Repeat body c) h
+        (map_checks g j lawful (O w s a) (λ (p : TypedExpr × List TypedStmt). typed.While p.0 p.1) (both_checks g j lawful (O w s a) (condition_checks w s a k c) (list_checks w s a _ (each_checks b w s a k)))))
+    stmt_checks (tree_repeat {body = body} {c = c} h b) w s a k = by_layer w s a (layer.Repeat body c) h
         (checks_as g j lawful (O w s a) (λ z. repeat_loop z.0 z.1) (repeat_of s.types exports) (repeat_in s.types exports) (repeat_out s.types exports)
-        (map_checks g j lawful (O w s a) (λ (p : List TypedStmt × TypedExpr). typed.Repeat p.0 p.1) (both_checks g j lawful (O w s a) (list_checks w s a _ (each_checks b w s a k)) (condition_checks w s a k c i))))
-    stmt_checks (plain_loop {body = body} h b) w s a k = by_layer w s a (layer.Loop body) h
+        (map_checks g j lawful (O w s a) (λ (p : List TypedStmt × TypedExpr). typed.Repeat p.0 p.1) (both_checks g j lawful (O w s a) (list_checks w s a _ (each_checks b w s a k)) (condition_checks w s a k c))))
+    stmt_checks (tree_loop {body = body} h b) w s a k = by_layer w s a (layer.Loop body) h
         (checks_as g j lawful (O w s a) bare_loop (loop_of s.types exports) (loop_in s.types exports) (loop_out s.types exports)
         (map_checks g j lawful (O w s a) (λ (p : List TypedStmt). typed.Loop p) (list_checks (inside_loop w) s (in_loop a) _ (each_checks b (inside_loop w) s (in_loop a) (looping k)))))
-    stmt_checks (plain_exit {at = at} h) w s a k = by_layer w s a (layer.Exit at) h (exit_layer w s a k at)
-    stmt_checks (plain_return {at = at} {e = e} h i) w s a k = by_layer w s a (layer.Return at e) h
-        (checks_as g j lawful (O w s a) return (return_of s.types exports) (λ f b. rules.in_return b) (return_out s.types exports) (unit_checks g j lawful {M = λ u. Returns s.types w.names exports w.gives e} (λ f o. o) (return_answers g j lawful w.names exports s k.of_names at w.gives a.gives e k.of_result i)))
-    stmt_checks (plain_for {name = name} {start = start} {limit = limit} {by = by} {body = body} h i q c b) w s a k = by_layer w s a (layer.For name start limit by body) h
+    stmt_checks (tree_exit {at = at} h) w s a k = by_layer w s a (layer.Exit at) h (exit_layer w s a k at)
+    stmt_checks (tree_return {at = at} {e = e} h) w s a k = by_layer w s a (layer.Return at e) h
+        (checks_as g j lawful (O w s a) return (return_of s.types exports) (λ f b. rules.in_return b) (return_out s.types exports) (unit_checks g j lawful {M = λ u. Returns s.types w.names exports w.gives e} (λ f o. o) (return_answers g j lawful w.names exports s k.of_names at w.gives a.gives e k.of_result)))
+    stmt_checks (tree_for {name = name} {start = start} {limit = limit} {by = by} {body = body} h b) w s a k = by_layer w s a (layer.For name start limit by body) h
         (checks_as g j lawful (O w s a) (λ z. for_loop z.0 z.1) (for_of s.types exports) (for_in s.types exports) (for_out s.types exports)
         (map_checks g j lawful (O w s a) (λ (p : Course × List TypedStmt). typed.For p.0.control.place p.0.control.of p.0.start p.0.limit p.0.by p.1)
-        (both_checks g j lawful (O w s a) (unit_checks g j lawful {M = λ u. Runs s.types w.names exports w.own name start limit by} (λ f o. inl o) (run_answers g j lawful w.names exports w.own s k.of_names k.of_own name start limit by i q c)) (list_checks w s a _ (each_checks b w s a k)))))
-    stmt_checks (plain_with {d = d} {body = body} h i b) w s a k = by_layer w s a (layer.With d body) h (with_checks w s a k d body i (λ v q z. list_checks v q a _ (each_checks b v q a z)))
+        (both_checks g j lawful (O w s a) (unit_checks g j lawful {M = λ u. Runs s.types w.names exports w.own name start limit by} (λ f o. inl o) (run_answers g j lawful w.names exports w.own s k.of_names k.of_own name start limit by)) (list_checks w s a _ (each_checks b w s a k)))))
+    stmt_checks (tree_with {d = d} {body = body} h b) w s a k = by_layer w s a (layer.With d body) h (with_checks w s a k d body (λ v q z. list_checks v q a _ (each_checks b v q a z)))
 
-    each_checks : {xs : List Stmt} → ArePlainStmts xs → (w : Spot) (s : Scope g.Reported) (a : Around g.Reported) → Known w s a → (x : Stmt) → Among x xs → StmtSo w s a x (stmt g x s a)
+    each_checks : {xs : List Stmt} → AreStmtTrees xs → (w : Spot) (s : Scope g.Reported) (a : Around g.Reported) → Known w s a → (x : Stmt) → Among x xs → StmtSo w s a x (stmt g x s a)
     each_checks no_statement w s a k x m = elim m [ ]
     each_checks (one_statement i is) w s a k _ here = stmt_checks i w s a k
     each_checks (one_statement i is) w s a k x (later m) = each_checks is w s a k x m
 
-    rest_checks : {x : Rest} → IsPlainRest x → (w : Spot) (s : Scope g.Reported) (a : Around g.Reported) → Known w s a → RestSo w s a x (rest g x s a)
-    rest_checks (plain_elsif {c = c} {body = body} {rest = r} h i b q) w s a k = by_rest w s a (layer.Elsif c body r) h
+    rest_checks : {x : Rest} → IsRestTree x → (w : Spot) (s : Scope g.Reported) (a : Around g.Reported) → Known w s a → RestSo w s a x (rest g x s a)
+    rest_checks (tree_elsif {c = c} {body = body} {rest = r} h b q) w s a k = by_rest w s a (layer.Elsif c body r) h
         (map_checks g j lawful (O w s a) (λ (x : TypedStmt). Some (x ∷ [])) (checks_as g j lawful (O w s a) (λ z. elsif z.0 z.1.0 z.1.1) (elsif_of s.types exports) (elsif_in s.types exports) (elsif_out s.types exports)
-        (map_checks g j lawful (O w s a) (λ (p : TypedExpr × (List TypedStmt × Option (List TypedStmt))). typed.If p.0 p.1.0 p.1.1) (both_checks g j lawful (O w s a) (condition_checks w s a k c i) (both_checks g j lawful (O w s a) (list_checks w s a _ (each_checks b w s a k)) (rest_checks q w s a k))))))
-    rest_checks (plain_end {otherwise = o} h i) w s a k = by_rest w s a (layer.Else o) h (else_checks i w s a k)
+        (map_checks g j lawful (O w s a) (λ (p : TypedExpr × (List TypedStmt × Option (List TypedStmt))). typed.If p.0 p.1.0 p.1.1) (both_checks g j lawful (O w s a) (condition_checks w s a k c) (both_checks g j lawful (O w s a) (list_checks w s a _ (each_checks b w s a k)) (rest_checks q w s a k))))))
+    rest_checks (tree_end {otherwise = o} h i) w s a k = by_rest w s a (layer.Else o) h (else_checks i w s a k)
 
-    else_checks : {o : Option (List Stmt)} → IsPlainElse o → (w : Spot) (s : Scope g.Reported) (a : Around g.Reported) → Known w s a → RestLayerSo w s a (layer.Else o) (rest_layer g (opened_rest g (layer.Else o)) s a)
-    else_checks exact.no_else w s a k = passes None no_else (no_else_out s.types exports)
-    else_checks (plain_else {body = body} b) w s a k =
+    else_checks : {o : Option (List Stmt)} → IsElseTree o → (w : Spot) (s : Scope g.Reported) (a : Around g.Reported) → Known w s a → RestLayerSo w s a (layer.Else o) (rest_layer g (opened_rest g (layer.Else o)) s a)
+    else_checks tree_no_else w s a k = passes None no_else (no_else_out s.types exports)
+    else_checks (tree_else {body = body} b) w s a k =
         map_checks g j lawful (O w s a) (λ (p : List TypedStmt). Some p) (checks_as g j lawful (O w s a) an_else (else_of s.types exports) (else_in s.types exports) (else_out s.types exports) (list_checks w s a _ (each_checks b w s a k)))
 
-    arm_checks : {xs : List Arm} → ArePlainArms xs → (w : Spot) (s : Scope g.Reported) (a : Around g.Reported) (k : Known w s a) (x : Arm) → Among x xs → BodySo g j lawful exports w s a k.of_names x
-    arm_checks exact.no_arm w s a k x m = elim m [ ]
-    arm_checks (one_arm b bs) w s a k x here = list_checks w s a (out-Arm x).body (each_checks b w s a k)
-    arm_checks (one_arm b bs) w s a k x (later m) = arm_checks bs w s a k x m
+    arm_checks : {xs : List Arm} → AreArmTrees xs → (w : Spot) (s : Scope g.Reported) (a : Around g.Reported) (k : Known w s a) (x : Arm) → Among x xs → BodySo g j lawful exports w s a k.of_names x
+    arm_checks no_arm_tree w s a k x m = elim m [ ]
+    arm_checks (one_arm_tree b bs) w s a k x here = list_checks w s a (out-Arm x).body (each_checks b w s a k)
+    arm_checks (one_arm_tree b bs) w s a k x (later m) = arm_checks bs w s a k x m
 
-  pub statement_answers : (w : Spot) (s : Scope g.Reported) (a : Around g.Reported) → Known w s a → (x : Stmt) → IsPlainStmt x
+  pub statement_answers : (w : Spot) (s : Scope g.Reported) (a : Around g.Reported) → Known w s a → (x : Stmt)
       → Answers g j (O w s a) {A = TypedStmt} {K = Unit {0}} (λ v u. Unit {0}) (λ u. Obeys s.types exports w x) (Broken s.types exports w x) (stmt g x s a)
-  statement_answers w s a k x i = checks_answer g j lawful (O w s a) (stmt_checks i w s a k)
+  statement_answers w s a k x = checks_answer g j lawful (O w s a) (stmt_checks (statement_tree x) w s a k)

@@ -11,7 +11,7 @@ use Rattle.check_scope.specs.Elaborated.{Gathers}
 use Rattle.check_const.specs.Parts.{Adds}
 use Rattle.check_expr.specs.Meanings.{Meant, Picks, expr_layer, selector_layer, designator_layer, item_layer, meanings_of, picks, head, item}
 use Rattle.def_typing.specs.Parts.{first, first_layer}
-use Rattle.law_typing.specs.Exact.{IsPlain, plain_number, plain_character, plain_string, plain_set, plain_name, plain_call, plain_not, plain_brackets, plain_term, plain_sum, plain_relation, IsCallFree, free_number, free_character, free_string, free_set, free_name, free_not, free_brackets, free_term, free_sum, free_relation}
+use Rattle.law_typing.proofs.Trees.{tree, IsTree, tree_number, tree_character, tree_string, tree_set, tree_name, tree_call, tree_not, tree_brackets, tree_term, tree_sum, tree_relation}
 
 -- ---- the layers of the elaboration
 
@@ -87,32 +87,21 @@ module _ (g : Gathers) where
   pub head_at : (d : Designator) → (head g d).fixed.at ≡ (out-Designator d).name.pos
   head_at d = ap (λ (m : Meant g.Reported). m.fixed.at) (head_is g d)
 
-  -- the elaboration has the same places
-  pub at_is : {e : Expr} → IsPlain e → (meanings_of g e).fixed.at ≡ first e
-  at_is {e = e} (plain_number {at = at} {n = n} h) = layer_at e (layer.Number at n) h refl
-  at_is {e = e} (plain_character {at = at} {c = c} h) = layer_at e (layer.Char at c) h refl
-  at_is {e = e} (plain_string {at = at} {text = text} h) = layer_at e (layer.Text at text) h refl
-  at_is {e = e} (plain_set {name = None} {at = at} {items = items} h i) = layer_at e (layer.Set None at items) h refl
-  at_is {e = e} (plain_set {name = Some name} {at = at} {items = items} h i) = layer_at e (layer.Set (Some name) at items) h refl
-  at_is {e = e} (plain_name {d = d} h s) = layer_at e (layer.Use d None) h (head_at d)
-  at_is {e = e} (plain_call {d = d} {args = args} h s a) = layer_at e (layer.Use d (Some args)) h (head_at d)
-  at_is {e = e} (plain_not {at = at} {x = x} h i) = layer_at e (layer.Not at x) h refl
-  at_is {e = e} (plain_brackets {at = at} {x = x} h i) = layer_at e (layer.Bracketed at x) h refl
-  at_is {e = e} (plain_term {x = x} {rest = rest} h i o) = layer_at e (layer.Term x rest) h (at_is i)
-  at_is {e = e} (plain_sum {sign = None} {x = x} {rest = rest} h i o) = layer_at e (layer.Sum None x rest) h (at_is i)
-  at_is {e = e} (plain_sum {sign = Some sign} {x = x} {rest = rest} h i o) = layer_at e (layer.Sum (Some sign) x rest) h refl
-  at_is {e = e} (plain_relation {a = a} {b = b} {o = o} h i k) = layer_at e (layer.Relation a o b) h (at_is i)
+  at_part : {e : Expr} → IsTree e → (meanings_of g e).fixed.at ≡ first e
+  at_part {e = e} (tree_number {at = at} {n = n} h) = layer_at e (layer.Number at n) h refl
+  at_part {e = e} (tree_character {at = at} {c = c} h) = layer_at e (layer.Char at c) h refl
+  at_part {e = e} (tree_string {at = at} {text = text} h) = layer_at e (layer.Text at text) h refl
+  at_part {e = e} (tree_set {name = None} {at = at} {items = items} h i) = layer_at e (layer.Set None at items) h refl
+  at_part {e = e} (tree_set {name = Some name} {at = at} {items = items} h i) = layer_at e (layer.Set (Some name) at items) h refl
+  at_part {e = e} (tree_name {d = d} h s) = layer_at e (layer.Use d None) h (head_at d)
+  at_part {e = e} (tree_call {d = d} {args = args} h s a) = layer_at e (layer.Use d (Some args)) h (head_at d)
+  at_part {e = e} (tree_not {at = at} {x = x} h i) = layer_at e (layer.Not at x) h refl
+  at_part {e = e} (tree_brackets {at = at} {x = x} h i) = layer_at e (layer.Bracketed at x) h refl
+  at_part {e = e} (tree_term {x = x} {rest = rest} h i o) = layer_at e (layer.Term x rest) h (at_part i)
+  at_part {e = e} (tree_sum {sign = None} {x = x} {rest = rest} h i o) = layer_at e (layer.Sum None x rest) h (at_part i)
+  at_part {e = e} (tree_sum {sign = Some sign} {x = x} {rest = rest} h i o) = layer_at e (layer.Sum (Some sign) x rest) h refl
+  at_part {e = e} (tree_relation {a = a} {b = b} {o = o} h i k) = layer_at e (layer.Relation a o b) h (at_part i)
 
-  pub free_at : {e : Expr} → IsCallFree e → (meanings_of g e).fixed.at ≡ first e
-  free_at {e = e} (free_number {at = at} {n = n} h) = layer_at e (layer.Number at n) h refl
-  free_at {e = e} (free_character {at = at} {c = c} h) = layer_at e (layer.Char at c) h refl
-  free_at {e = e} (free_string {at = at} {text = text} h) = layer_at e (layer.Text at text) h refl
-  free_at {e = e} (free_set {name = None} {at = at} {items = items} h i) = layer_at e (layer.Set None at items) h refl
-  free_at {e = e} (free_set {name = Some name} {at = at} {items = items} h i) = layer_at e (layer.Set (Some name) at items) h refl
-  free_at {e = e} (free_name {d = d} h) = layer_at e (layer.Use d None) h (head_at d)
-  free_at {e = e} (free_not {at = at} {x = x} h i) = layer_at e (layer.Not at x) h refl
-  free_at {e = e} (free_brackets {at = at} {x = x} h i) = layer_at e (layer.Bracketed at x) h refl
-  free_at {e = e} (free_term {x = x} {rest = rest} h i o) = layer_at e (layer.Term x rest) h (free_at i)
-  free_at {e = e} (free_sum {sign = None} {x = x} {rest = rest} h i o) = layer_at e (layer.Sum None x rest) h (free_at i)
-  free_at {e = e} (free_sum {sign = Some sign} {x = x} {rest = rest} h i o) = layer_at e (layer.Sum (Some sign) x rest) h refl
-  free_at {e = e} (free_relation {a = a} {b = b} {o = o} h i k) = layer_at e (layer.Relation a o b) h (free_at i)
+  -- the elaboration has the same places
+  pub at_is : (e : Expr) → (meanings_of g e).fixed.at ≡ first e
+  at_is e = at_part (tree e)

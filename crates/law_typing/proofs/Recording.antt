@@ -30,7 +30,8 @@ use Rattle.def_typing.specs.Parts.{Named}
 use Rattle.def_typing.specs.TypeExprs as rules
 use Rattle.def_typing.specs.TypeExprs.{Twice, all_listed, constants_in, constants_in_field, with_types, next_type, Added, nothing_added, type_added, both_added, Setting, behind, field_names, fields_of, record_made, IsTypeOf, AreFields, Adds, FieldsAdd, BrokenType, BrokenFields}
 use Rattle.law_typing.specs.Judging.{Judges, Answers, means, refuses}
-use Rattle.law_typing.specs.Exact.{Knows, Repeats, IsPlainType, plain_simple, plain_array, plain_record, plain_procedure, ArePlainFields, no_plain_field, one_plain_field}
+use Rattle.law_typing.specs.Exact.{Knows, Repeats}
+use Rattle.law_typing.proofs.Trees.{type_tree, IsTypeTree, tree_simple, tree_array, tree_record, tree_procedure, AreFieldTrees, no_field_tree, one_field_tree}
 use Rattle.law_typing.proofs.Combining.{Lawful, Decided, holds, fails_it, decided_as, Checks, passes, stops, checks_as, stopped, beside_checks, then_checked, exact, declined}
 use Rattle.law_typing.proofs.Entering.{entered_all}
 use Rattle.law_typing.proofs.Heading.{nil_right, append_assoc}
@@ -636,12 +637,15 @@ module _ (g : Gathers) (j : Judges g) (lawful : Lawful g j) (exports : ℕ → I
 
 module _ (g : Gathers) (j : Judges g) (lawful : Lawful g j) (exports : ℕ → Ident → Standing) where
   mutual
-    pub type_read : {e : TypeExpr} → IsPlainType e → (s : Scope g.Reported) → s.withs ≡ [] → Read g j lawful exports s e (type_of g e s)
-    type_read {e = e} (plain_simple {x = x} h i) s n = simple_type_read g j lawful exports s e x h i
-    type_read {e = e} (plain_array {of = of} {at = at} {index = x} h i k) s n = let r = simple_read g j lawful exports s x i in array_read g j lawful exports s n e at x of h r (type_read k (scope_with s r.adds.makes r.own) n)
-    type_read {e = e} (plain_record {at = at} {fields = fs} h i) s n = record_read g j lawful exports s n e at fs h (fields_read i s n)
-    type_read {e = e} (plain_procedure {at = at} {xs = xs} {q = q} h) s n = procedure_read g j lawful exports s e at xs q h
+    tree_read : {e : TypeExpr} → IsTypeTree e → (s : Scope g.Reported) → s.withs ≡ [] → Read g j lawful exports s e (type_of g e s)
+    tree_read {e = e} (tree_simple {x = x} h) s n = simple_type_read g j lawful exports s e x h
+    tree_read {e = e} (tree_array {of = of} {at = at} {index = x} h k) s n = let r = simple_read g j lawful exports s x in array_read g j lawful exports s n e at x of h r (tree_read k (scope_with s r.adds.makes r.own) n)
+    tree_read {e = e} (tree_record {at = at} {fields = fs} h i) s n = record_read g j lawful exports s n e at fs h (fields_read i s n)
+    tree_read {e = e} (tree_procedure {at = at} {xs = xs} {q = q} h) s n = procedure_read g j lawful exports s e at xs q h
 
-    fields_read : {fs : List Field} → ArePlainFields fs → (s : Scope g.Reported) → s.withs ≡ [] → FieldsRead g j lawful exports s fs
-    fields_read no_plain_field s n = none_read
-    fields_read (one_plain_field i k) s n = let r = type_read i s n in one_read r (fields_read k (scope_with s r.adds.makes r.own) n)
+    fields_read : {fs : List Field} → AreFieldTrees fs → (s : Scope g.Reported) → s.withs ≡ [] → FieldsRead g j lawful exports s fs
+    fields_read no_field_tree s n = none_read
+    fields_read (one_field_tree i k) s n = let r = tree_read i s n in one_read r (fields_read k (scope_with s r.adds.makes r.own) n)
+
+  pub type_read : (e : TypeExpr) (s : Scope g.Reported) → s.withs ≡ [] → Read g j lawful exports s e (type_of g e s)
+  type_read e s n = tree_read (type_tree e) s n

@@ -21,7 +21,7 @@ use Rattle.def_typing.specs.Expressions.{Has, BrokenAsValue}
 use Rattle.def_typing.specs.Returns as rules
 use Rattle.def_typing.specs.Returns.{Giving, Nothing, AResult, AnyResult, IsFunction, with_type, without_type, IsExit, is_exit, BrokenExit, no_loop, Returns, ends, gives, BrokenReturn, in_value, wrong_value}
 use Rattle.law_typing.specs.Judging.{Judges, Answers, means, refuses}
-use Rattle.law_typing.specs.Exact.{IsKind, Knows, IsPlain, KnowsResult, knows_nothing, knows_type, knows_broken, RepeatsResult, in_result}
+use Rattle.law_typing.specs.Exact.{IsKind, Knows, KnowsResult, knows_nothing, knows_type, knows_broken, RepeatsResult, in_result}
 use Rattle.law_typing.proofs.Combining.{Lawful, declined, exact, both_answer, declined_beside, Checks, passes, stopped, then_check, map_checks, Tells, silent, tells}
 use Rattle.law_typing.proofs.Placing.{value_suits}
 use Rattle.law_typing.proofs.Places.{at_is}
@@ -72,8 +72,8 @@ module _ (g : Gathers) (j : Judges g) (lawful : Lawful g j) (names : Ident → S
     abbrev So : Pos → Giving → Option Expr → Result TypedStmt g.Reported → Type 0
     So at w e r = Answers g j E {A = TypedStmt} {K = Unit {0}} (λ v u. Unit {0}) (λ u. R w e) (BR at w e) r
 
-    valued : (e : Expr) → IsPlain e → Answers g j E IsKind (H e) (V e) (value_of g s (meanings_of g e))
-    valued e i = repeats_more (λ f o. inl o) (exactly g j lawful names exports s knows e i)
+    valued : (e : Expr) → Answers g j E IsKind (H e) (V e) (value_of g s (meanings_of g e))
+    valued e = repeats_more (λ f o. inl o) (exactly g j lawful names exports s knows e)
 
     no_value_there : (at : Pos) (w : Giving) → IsFunction w → So at w None (report g at rule.WrongReturn)
     no_value_there at w i = declined g j lawful E at rule.WrongReturn (λ k m. nothing i m) (rules.no_value i) (λ f z. one z)
@@ -84,8 +84,8 @@ module _ (g : Gathers) (j : Judges g) (lawful : Lawful g j) (names : Ident → S
         one : {w : Giving} {f : Breach} → BR at w None f → f ≡ at ! rule.WrongReturn
         one (rules.no_value i) = refl
 
-    no_value_asked : (at : Pos) (e : Expr) → IsPlain e → So at Nothing (Some e) (reported_beside g at rule.WrongReturn (value_of g s (meanings_of g e) ▷ λ v. Ok tt))
-    no_value_asked at e i = exact g j lawful E {M = λ u. ⊥} (λ k c. absurd c) (λ k m. elim m [ ]) (λ f z. into f z) (λ f z. out f z) (declined_beside g j lawful E at rule.WrongReturn (λ u c. c) (value_tells g j lawful E (valued e i)))
+    no_value_asked : (at : Pos) (e : Expr) → So at Nothing (Some e) (reported_beside g at rule.WrongReturn (value_of g s (meanings_of g e) ▷ λ v. Ok tt))
+    no_value_asked at e = exact g j lawful E {M = λ u. ⊥} (λ k c. absurd c) (λ k m. elim m [ ]) (λ f z. into f z) (λ f z. out f z) (declined_beside g j lawful E at rule.WrongReturn (λ u c. c) (value_tells g j lawful E (valued e)))
       where
         into : (f : Breach) → (f ≡ at ! rule.WrongReturn) ⊎ V e f → BR at Nothing (Some e) f
         into f (inl q) = subst (BR at Nothing (Some e)) (sym q) rules.no_function
@@ -105,10 +105,10 @@ module _ (g : Gathers) (j : Judges g) (lawful : Lawful g j) (names : Ident → S
     abbrev GivenFails : Giving → Expr → Breach → Type 0
     GivenFails w e f = (⊥ ⊎ V e f) ⊎ ((p : TypeNo × Kind) × ((w ≡ AResult p.0) × H e p.1) × Misassigned s.types p.0 (first e) rule.NotAssignable (operand p.1) f)
 
-    value_given : (at : Pos) (w : Giving) (q : Result TypeNo g.Reported) (e : Expr) → IsFunction w → TypeIs w q → IsPlain e → So at w (Some e) (given_back g s.types q (meanings_of g e).fixed.at (value_of g s (meanings_of g e)))
-    value_given at w q e c t i = subst (λ (spot : Pos). So at w (Some e) (given_back g s.types q spot (value_of g s (meanings_of g e)))) (sym (at_is g i))
+    value_given : (at : Pos) (w : Giving) (q : Result TypeNo g.Reported) (e : Expr) → IsFunction w → TypeIs w q → So at w (Some e) (given_back g s.types q (meanings_of g e).fixed.at (value_of g s (meanings_of g e)))
+    value_given at w q e c t = subst (λ (spot : Pos). So at w (Some e) (given_back g s.types q spot (value_of g s (meanings_of g e)))) (sym (at_is g e))
         (exact g j lawful E {M = λ u. Given w e} {B = GivenFails w e} (λ u z. into_return z) (λ u z. out_return z) (λ f z. into f z) (λ f z. out c f z)
-        (checks_answer g j lawful E (then_check g j lawful E {P = λ p. IsAssignable s.types p.0 (operand p.1)} {D = λ p f. Misassigned s.types p.0 (first e) rule.NotAssignable (operand p.1) f} (both_answer g j lawful E t (valued e i))
+        (checks_answer g j lawful E (then_check g j lawful E {P = λ p. IsAssignable s.types p.0 (operand p.1)} {D = λ p f. Misassigned s.types p.0 (first e) rule.NotAssignable (operand p.1) f} (both_answer g j lawful E t (valued e))
         (λ v p m. subst (λ (u : TypeNo). Checks g j lawful E (IsAssignable s.types u (operand p.1)) (Misassigned s.types u (first e) rule.NotAssignable (operand p.1)) (value_suited g rule.NotAssignable s.types v.0 (first e) v.1 ▷ λ x. Ok (statement.Give v.0 x))) m.0
         (map_checks g j lawful E (λ x. statement.Give v.0 x) (value_suits s.types v.0 g j lawful E rule.NotAssignable (first e) m.1))))))
       where
@@ -133,13 +133,13 @@ given_type t (AResult u) = u
 given_type t other = t
 
 module _ (g : Gathers) (j : Judges g) (lawful : Lawful g j) (names : Ident → Standing) (exports : ℕ → Ident → Standing) (s : Scope g.Reported) (knows : Knows g j names exports s) where
-  pub return_answers : (at : Pos) (w : Giving) (result : Option (Result TypeNo g.Reported)) (e : Option Expr) → KnowsResult g j w result → ((x : Expr) → e ≡ Some x → IsPlain x) → So g j lawful names exports s knows result at w e (return_statement g s at result (meant_if g e))
-  return_answers at _ _ None knows_nothing i = checks_answer g j lawful _ (passes statement.Return ends (λ f z. none f z))
+  pub return_answers : (at : Pos) (w : Giving) (result : Option (Result TypeNo g.Reported)) (e : Option Expr) → KnowsResult g j w result → So g j lawful names exports s knows result at w e (return_statement g s at result (meant_if g e))
+  return_answers at _ _ None knows_nothing = checks_answer g j lawful _ (passes statement.Return ends (λ f z. none f z))
     where
       none : (f : Breach) → BrokenReturn s.types names exports at Nothing None f → ⊥
       none _ (rules.no_value c) = elim c [ ]
-  return_answers at _ _ (Some e) knows_nothing i = no_value_asked g j lawful names exports s knows None at e (i e refl)
-  return_answers at _ _ None (knows_type t) i = no_value_there g j lawful names exports s knows _ at _ with_type
-  return_answers at _ _ (Some e) (knows_type t) i = value_given g j lawful names exports s knows (Some (Ok t)) at (AResult t) (Ok t) e with_type (means t t refl refl (λ u q. ap (given_type t) (sym q)) (λ f b. b)) (i e refl)
-  return_answers at _ _ None (knows_broken r) i = no_value_there g j lawful names exports s knows _ at _ without_type
-  return_answers at _ _ (Some e) (knows_broken r) i = value_given g j lawful names exports s knows (Some (Err r)) at AnyResult (Err r) e without_type (refuses r (record { only = λ f m. inr (inr (in_result m)); each = λ f b. absurd b }) (λ u q. absurd cc)) (i e refl)
+  return_answers at _ _ (Some e) knows_nothing = no_value_asked g j lawful names exports s knows None at e
+  return_answers at _ _ None (knows_type t) = no_value_there g j lawful names exports s knows _ at _ with_type
+  return_answers at _ _ (Some e) (knows_type t) = value_given g j lawful names exports s knows (Some (Ok t)) at (AResult t) (Ok t) e with_type (means t t refl refl (λ u q. ap (given_type t) (sym q)) (λ f b. b))
+  return_answers at _ _ None (knows_broken r) = no_value_there g j lawful names exports s knows _ at _ without_type
+  return_answers at _ _ (Some e) (knows_broken r) = value_given g j lawful names exports s knows (Some (Err r)) at AnyResult (Err r) e without_type (refuses r (record { only = λ f m. inr (inr (in_result m)); each = λ f b. absurd b }) (λ u q. absurd cc))

@@ -39,7 +39,7 @@ use Rattle.def_typing.specs.Parts.{first, Among, here, later}
 use Rattle.def_typing.specs.Expressions.{Beside, beside, behind, Stands, Calls, ArePassed, no_more, one_more, Miscalled}
 use Rattle.def_typing.specs.Expressions as rules
 use Rattle.law_typing.specs.Judging.{Judges, Answers, means}
-use Rattle.law_typing.specs.Exact.{IsKind, IsThing, thing_value, thing_variable, thing_open, thing_type, thing_procedure, thing_nested, thing_standard, thing_module, IsPlain}
+use Rattle.law_typing.specs.Exact.{IsKind, IsThing, thing_value, thing_variable, thing_open, thing_type, thing_procedure, thing_nested, thing_standard, thing_module}
 use Rattle.law_typing.proofs.Combining.{Lawful, declined, exact, Checks, passes, checks_as, map_checks, both_checks, then_checked, ahead_answers, heading_answers, Finds}
 use Rattle.law_typing.proofs.Deciding.{some_same}
 use Rattle.law_typing.proofs.Passing.{argument_passes}
@@ -130,17 +130,17 @@ module _ (g : Gathers) (j : Judges g) (lawful : Lawful g j) (names : Ident → S
   passed_parts : {f : Formal} {fs : List Formal} {x : Expr} {xs : List Expr} → Passed (f ∷ fs) (x ∷ xs) → FirstPassed f x × Passed fs xs
   passed_parts (one_more {x = y} m p r) = ((y, m, p), r)
 
-  one_passes : (f : Formal) (x : Expr) → IsPlain x → Found x → Checks g j lawful E (FirstPassed f x) (FirstWrong f x) (argument_by g s.types (Some f) (meanings_of g x).fixed.at ((meanings_of g x).means s))
-  one_passes f x i h = subst (λ (p : Pos). Checks g j lawful E (FirstPassed f x) (FirstWrong f x) (argument_by g s.types (Some f) p ((meanings_of g x).means s))) (sym (at_is g i)) (argument_passes g j lawful E s.types (first x) f h)
+  one_passes : (f : Formal) (x : Expr) → Found x → Checks g j lawful E (FirstPassed f x) (FirstWrong f x) (argument_by g s.types (Some f) (meanings_of g x).fixed.at ((meanings_of g x).means s))
+  one_passes f x h = subst (λ (p : Pos). Checks g j lawful E (FirstPassed f x) (FirstWrong f x) (argument_by g s.types (Some f) p ((meanings_of g x).means s))) (sym (at_is g x)) (argument_passes g j lawful E s.types (first x) f h)
 
-  pub all_pass : (fs : List Formal) (xs : List Expr) {P : Type 0} {B : Breach → Type 0} (so : Result (List Argument) g.Reported) → length fs ≡ length xs → ((y : Expr) → Among y xs → IsPlain y) → ((y : Expr) → Among y xs → Found y) → Checks g j lawful E P B so
+  pub all_pass : (fs : List Formal) (xs : List Expr) {P : Type 0} {B : Breach → Type 0} (so : Result (List Argument) g.Reported) → length fs ≡ length xs → ((y : Expr) → Among y xs → Found y) → Checks g j lawful E P B so
       → PassesAll P B fs xs ((fold (with_actual g s) (fs, so) (map (meanings_of g) xs)).1)
-  all_pass [] [] so e i h c = checks_as g j lawful E (λ p. (p, no_more)) (λ p. p.0) (λ f b. inl b) (λ f b. elim b [ inl z ↦ z | inr z ↦ elim z [ inl a ↦ elim a.1 [ ] | inr w ↦ elim w.3 [ ] ] ]) c
-  all_pass [] (x ∷ xs) so e i h c = absurd cc
-  all_pass (f ∷ fs) [] so e i h c = absurd cc
-  all_pass (f ∷ fs) (x ∷ xs) {P = P} {B = B} so e i h c = checks_as g j lawful E {C = λ h. B h ⊎ (Any (x ∷ xs) h ⊎ Wrong (f ∷ fs) (x ∷ xs) h)} (λ p. (p.0.0, one_more p.0.1.1 p.0.1.2 p.1)) (λ p. let q = passed_parts p.1 in ((p.0, q.0), q.1)) (first_wrong B) (wrong_first B)
-      (all_pass fs xs {P = P × FirstPassed f x} {B = λ h. B h ⊎ FirstWrong f x h} _ (omega (arith, e)) (λ y m. i y (later m)) (λ y m. h y (later m))
-      (map_checks g j lawful E (λ p. p.0 ++ p.1 ∷ []) (both_checks g j lawful E c (one_passes f x (i x here) (h x here)))))
+  all_pass [] [] so e h c = checks_as g j lawful E (λ p. (p, no_more)) (λ p. p.0) (λ f b. inl b) (λ f b. elim b [ inl z ↦ z | inr z ↦ elim z [ inl a ↦ elim a.1 [ ] | inr w ↦ elim w.3 [ ] ] ]) c
+  all_pass [] (x ∷ xs) so e h c = absurd cc
+  all_pass (f ∷ fs) [] so e h c = absurd cc
+  all_pass (f ∷ fs) (x ∷ xs) {P = P} {B = B} so e h c = checks_as g j lawful E {C = λ h. B h ⊎ (Any (x ∷ xs) h ⊎ Wrong (f ∷ fs) (x ∷ xs) h)} (λ p. (p.0.0, one_more p.0.1.1 p.0.1.2 p.1)) (λ p. let q = passed_parts p.1 in ((p.0, q.0), q.1)) (first_wrong B) (wrong_first B)
+      (all_pass fs xs {P = P × FirstPassed f x} {B = λ h. B h ⊎ FirstWrong f x h} _ (omega (arith, e)) (λ y m. h y (later m))
+      (map_checks g j lawful E (λ p. p.0 ++ p.1 ∷ []) (both_checks g j lawful E c (one_passes f x (h x here)))))
 
   -- ---- functions
 
@@ -152,6 +152,7 @@ module _ (g : Gathers) (j : Judges g) (lawful : Lawful g j) (names : Ident → S
   no_function_only at f w n (rules.misapplied i m z) = absurd (no_standard s.types w)
   no_function_only at _ w n (rules.no_type t m z) = absurd (no_standard s.types w)
   no_function_only at f w n (rules.misconverted m z q r) = absurd (no_standard s.types w)
+  no_function_only at f w n (rules.no_array m z) = absurd (no_standard s.types w)
   no_function_only at _ w n (rules.no_open_array m z q) = absurd (no_standard s.types w)
 
   called_function : {x : Thing} {xs : List Expr} {k : Kind} {h : TypeNo} → Heads s.types x h → C x xs k → (n : ℕ) × IsFunctionOf s.types x n
@@ -178,6 +179,7 @@ module _ (g : Gathers) (j : Judges g) (lawful : Lawful g j) (names : Ident → S
   count_wrong at f w m r n (rules.misapplied i z y) = absurd (no_standard s.types w)
   count_wrong at _ w m r n (rules.no_type t z y) = absurd (no_standard s.types w)
   count_wrong at f w m r n (rules.misconverted z y q c) = absurd (no_standard s.types w)
+  count_wrong at f w m r n (rules.no_array z y) = absurd (no_standard s.types w)
   count_wrong at _ w m r n (rules.no_open_array z y q) = absurd (no_standard s.types w)
 
   count_right : {x : Thing} {h t : TypeNo} {p : Signature} {xs : List Expr} (at : Pos) (f : Breach) → Heads s.types x h → IsMade s.types h (shape.Procedure p) → p.result ≡ Some t → length p.formals ≡ length xs → M at x xs f → Wrong p.formals xs f
@@ -189,6 +191,7 @@ module _ (g : Gathers) (j : Judges g) (lawful : Lawful g j) (names : Ident → S
   count_right at f w m r e (rules.misapplied i z y) = absurd (no_standard s.types w)
   count_right at _ w m r e (rules.no_type t z y) = absurd (no_standard s.types w)
   count_right at f w m r e (rules.misconverted z y q c) = absurd (no_standard s.types w)
+  count_right at f w m r e (rules.no_array z y) = absurd (no_standard s.types w)
   count_right at _ w m r e (rules.no_open_array z y q) = absurd (no_standard s.types w)
 
   wrong_right : {x : Thing} {h t : TypeNo} {p : Signature} {xs : List Expr} (at : Pos) (f : Breach) → Heads s.types x h → IsMade s.types h (shape.Procedure p) → p.result ≡ Some t → length p.formals ≡ length xs → Wrong p.formals xs f → M at x xs f
@@ -206,9 +209,9 @@ module _ (g : Gathers) (j : Judges g) (lawful : Lawful g j) (names : Ident → S
   none_is_some e q = let z = sym e ∙ q in absurd cc
 
   counted_by : {x : Thing} {h t : TypeNo} {p : Signature} (at : Pos) (xs : List Expr) (c : Callee) (b : Bool) → (length p.formals == length (map (meanings_of g) xs)) ≡ b → Heads s.types x h → IsMade s.types h (shape.Procedure p) → p.result ≡ Some t
-      → ((y : Expr) → Among y xs → IsPlain y) → ((y : Expr) → Among y xs → Found y)
+      → ((y : Expr) → Among y xs → Found y)
       → So at x xs (ahead g (reported_where g (not b) at rule.ArgumentCount (Ok tt) ▷ λ (u : Unit {0}). Ok t) (breaches_in_all g s (map (meanings_of g) xs)) (λ t. call_given g s.types t c (actuals g s p.formals (map (meanings_of g) xs))))
-  counted_by {x = x} {t = t} {p = p} at xs c false e w m r i h = refused_call g j lawful names exports s at rule.ArgumentCount (λ k z. clash (function_calls w m r z).0) (rules.wrong_count (declared (heading_of s.types w m) r) not_equal) (λ f z. count_wrong at f w m r not_equal z) h
+  counted_by {x = x} {t = t} {p = p} at xs c false e w m r h = refused_call g j lawful names exports s at rule.ArgumentCount (λ k z. clash (function_calls w m r z).0) (rules.wrong_count (declared (heading_of s.types w m) r) not_equal) (λ f z. count_wrong at f w m r not_equal z) h
     where
       same_length : length (map (meanings_of g) xs) ≡ length xs
       same_length = length-map xs (meanings_of g)
@@ -225,11 +228,11 @@ module _ (g : Gathers) (j : Judges g) (lawful : Lawful g j) (names : Ident → S
 
       clash : Passed p.formals xs → ⊥
       clash a = not_equal (passed_length a)
-  counted_by {x = x} {t = t} {p = p} at xs c true e w m r i h = exact g j lawful E {M = λ k. (Unit {0} × Passed p.formals xs) × (k ≡ result_kind s.types t)} {B = λ f. (⊥ ⊎ (Any xs f ⊎ Wrong p.formals xs f)) ⊎ ((Unit {0} × Passed p.formals xs) × ⊥)}
+  counted_by {x = x} {t = t} {p = p} at xs c true e w m r h = exact g j lawful E {M = λ k. (Unit {0} × Passed p.formals xs) × (k ≡ result_kind s.types t)} {B = λ f. (⊥ ⊎ (Any xs f ⊎ Wrong p.formals xs f)) ⊎ ((Unit {0} × Passed p.formals xs) × ⊥)}
       (λ k z. subst (C x xs) (sym z.1) (rules.of_function (heading_of s.types w m) r z.0.1)) (λ k z. let q = function_calls w m r z in ((tt, q.0), q.1))
       (λ f z. elim z [ inl y ↦ elim y [ inl b ↦ absurd b | inr v ↦ elim v [ inl a ↦ inr a | inr q ↦ inl (wrong_right at f w m r equal q) ] ] | inr y ↦ absurd y.1 ])
       (λ f z. elim z [ inl q ↦ inl (inr (inr (count_right at f w m r equal q))) | inr a ↦ inl (inr (inl a)) ])
-      (then_checked g j lawful E (all_pass p.formals xs {P = Unit {0}} {B = λ f. ⊥} (Ok []) equal i h (passes [] tt (λ f b. b)))
+      (then_checked g j lawful E (all_pass p.formals xs {P = Unit {0}} {B = λ f. ⊥} (Ok []) equal h (passes [] tt (λ f b. b)))
       (λ v a. means _ (result_kind s.types t) (given_is s.types t (expr.Call t (call_by v c))) refl (λ l q. q) (λ f b. b)))
     where
       equal : length p.formals ≡ length xs
@@ -239,21 +242,21 @@ module _ (g : Gathers) (j : Judges g) (lawful : Lawful g j) (names : Ident → S
           same a b e = grind (arith, nat_tests)
 
   result_by : {x : Thing} {h : TypeNo} {p : Signature} (at : Pos) (xs : List Expr) (c : Callee) (r : Option TypeNo) → p.result ≡ r → Heads s.types x h → IsMade s.types h (shape.Procedure p)
-      → ((y : Expr) → Among y xs → IsPlain y) → ((y : Expr) → Among y xs → Found y)
+      → ((y : Expr) → Among y xs → Found y)
       → So at x xs (ahead g (function_with g at (length p.formals) (length (map (meanings_of g) xs)) r) (breaches_in_all g s (map (meanings_of g) xs)) (λ t. call_given g s.types t c (actuals g s p.formals (map (meanings_of g) xs))))
-  result_by {x = x} at xs c None e w m i h = refused_call g j lawful names exports s at rule.WrongType (λ k z. let q = called_function w z in proper q.0 q.1) (rules.no_function (not_headless s.types w) proper) (λ f z. no_function_only at f w proper z) h
+  result_by {x = x} at xs c None e w m h = refused_call g j lawful names exports s at rule.WrongType (λ k z. let q = called_function w z in proper q.0 q.1) (rules.no_function (not_headless s.types w) proper) (λ f z. no_function_only at f w proper z) h
     where
       proper : (n : ℕ) → IsFunctionOf s.types x n → ⊥
       proper n q = let z = (function_count w m q).1 in none_is_some e z.1
-  result_by at xs c (Some t) e w m i h = counted_by at xs c _ refl w m e i h
+  result_by at xs c (Some t) e w m h = counted_by at xs c _ refl w m e h
 
-  routine_by : {x : Thing} {h : TypeNo} (at : Pos) (xs : List Expr) (c : Callee) (o : Option Signature) → SignatureIs s.types h o → Heads s.types x h → ((y : Expr) → Among y xs → IsPlain y) → ((y : Expr) → Among y xs → Found y)
+  routine_by : {x : Thing} {h : TypeNo} (at : Pos) (xs : List Expr) (c : Callee) (o : Option Signature) → SignatureIs s.types h o → Heads s.types x h → ((y : Expr) → Among y xs → Found y)
       → So at x xs (ahead g (function_of g at o (length (map (meanings_of g) xs))) (breaches_in_all g s (map (meanings_of g) xs)) (λ t. call_given g s.types t c (actuals g s (formals_of o) (map (meanings_of g) xs))))
-  routine_by {x = x} at xs c _ (no_signature n) w i h = refused_call g j lawful names exports s at rule.WrongType (λ k z. let q = called_function w z in no_signature_calls w n q.1) (rules.no_function (not_headless s.types w) (λ q z. no_signature_calls w n z)) (λ f z. no_function_only at f w (λ q z. no_signature_calls w n z) z) h
-  routine_by at xs c _ (has_signature p m) w i h = result_by at xs c p.result refl w m i h
+  routine_by {x = x} at xs c _ (no_signature n) w h = refused_call g j lawful names exports s at rule.WrongType (λ k z. let q = called_function w z in no_signature_calls w n q.1) (rules.no_function (not_headless s.types w) (λ q z. no_signature_calls w n z)) (λ f z. no_function_only at f w (λ q z. no_signature_calls w n z) z) h
+  routine_by at xs c _ (has_signature p m) w h = result_by at xs c p.result refl w m h
 
-  routine_calls : {x : Thing} {h : TypeNo} (at : Pos) (xs : List Expr) (c : Callee) → Heads s.types x h → ((y : Expr) → Among y xs → IsPlain y) → ((y : Expr) → Among y xs → Found y) → So at x xs (callee_value g s at (map (meanings_of g) xs) (called.Routine h c))
-  routine_calls {h = h} at xs c w i h' = routine_by at xs c (signature_at s.types h) (signature_there s.types h) w i h'
+  routine_calls : {x : Thing} {h : TypeNo} (at : Pos) (xs : List Expr) (c : Callee) → Heads s.types x h → ((y : Expr) → Among y xs → Found y) → So at x xs (callee_value g s at (map (meanings_of g) xs) (called.Routine h c))
+  routine_calls {h = h} at xs c w h' = routine_by at xs c (signature_at s.types h) (signature_there s.types h) w h'
 
   -- ---- what is called
 
@@ -347,23 +350,24 @@ module _ (g : Gathers) (j : Judges g) (lawful : Lawful g j) (names : Ident → S
   uncalled at f n (rules.misapplied {p = p} i m z) = absurd (n (may_standard p))
   uncalled at _ n (rules.no_type {p = p} t m z) = absurd (n (may_standard p))
   uncalled at f n (rules.misconverted m z q r) = absurd (n (may_standard _))
+  uncalled at f n (rules.no_array m z) = absurd (n (may_standard _))
   uncalled at _ n (rules.no_open_array m z q) = absurd (n (may_standard _))
 
-  called_answer : (at : Pos) (xs : List Expr) (c : Called) (x : Thing) → IsCallee c x → ((y : Expr) → Among y xs → IsPlain y) → ((y : Expr) → Among y xs → Found y) → So at x xs (callee_value g s at (map (meanings_of g) xs) c)
-  called_answer at xs _ x (callee_routine c w) i h = routine_calls at xs c w i h
-  called_answer at xs _ _ (callee_standard p) i h = standard_answers g j lawful names exports s p at xs i h
+  called_answer : (at : Pos) (xs : List Expr) (c : Called) (x : Thing) → IsCallee c x → ((y : Expr) → Among y xs → Found y) → So at x xs (callee_value g s at (map (meanings_of g) xs) c)
+  called_answer at xs _ x (callee_routine c w) h = routine_calls at xs c w h
+  called_answer at xs _ _ (callee_standard p) h = standard_answers g j lawful names exports s p at xs h
 
   -- a call of what a designator stands for
-  pub calls_answer : {D : Thing → Type 0} {F : Breach → Type 0} {d : Result Designated (Meaningless g.Reported)} (at : Pos) (xs : List Expr) → Finds g j lawful E D F d → ((y : Expr) → Among y xs → IsPlain y) → ((y : Expr) → Among y xs → Found y)
+  pub calls_answer : {D : Thing → Type 0} {F : Breach → Type 0} {d : Result Designated (Meaningless g.Reported)} (at : Pos) (xs : List Expr) → Finds g j lawful E D F d → ((y : Expr) → Among y xs → Found y)
       → Answers g j E IsKind (λ k. (x : Thing) × D x × C x xs k) (λ f. (F f ⊎ ((x : Thing) × D x × M at x xs f)) ⊎ Any xs f) (call_in_expression g s at d (map (meanings_of g) xs))
-  calls_answer {D = D} {F = F} at xs h i q = exact g j lawful E
+  calls_answer {D = D} {F = F} at xs h q = exact g j lawful E
       {M = λ k. (y : Thing) × ((x : Thing) × D x × (MayCall x × (y ≡ x))) × C y xs k}
       {N = λ k. (x : Thing) × D x × C x xs k}
       {B = λ f. ((F f ⊎ ((x : Thing) × D x × NoCall at x f)) ⊎ ((y : Thing) × ((x : Thing) × D x × (MayCall x × (y ≡ x))) × M at y xs f)) ⊎ Any xs f}
       {C = λ f. (F f ⊎ ((x : Thing) × D x × M at x xs f)) ⊎ Any xs f}
       (λ k z. (z.0, subst D (sym z.1.2.1) z.1.1, z.2)) (λ k z. (z.0, (z.0, z.1, (calls_may z.2, refl)), z.2)) (λ f z. out f z) (λ f z. into f z)
       (ahead_answers g j lawful E {N = λ y k. C y xs k} {D = λ y f. M at y xs f} (heading_answers g j lawful E {N = λ x y. MayCall x × (y ≡ x)} {D = λ x f. NoCall at x f} h (callee_answers at) (λ y m. no_call_of (λ h w. elim w [ ]) (λ p q. absurd cc) m.0) (λ f z. z.1.0 refl))
-      (look_tells g j lawful names exports s xs q) (λ c y e m. called_answer at xs c y e i q))
+      (look_tells g j lawful names exports s xs q) (λ c y e m. called_answer at xs c y e q))
     where
       out : (f : Breach) → ((F f ⊎ ((x : Thing) × D x × NoCall at x f)) ⊎ ((y : Thing) × ((x : Thing) × D x × (MayCall x × (y ≡ x))) × M at y xs f)) ⊎ Any xs f → (F f ⊎ ((x : Thing) × D x × M at x xs f)) ⊎ Any xs f
       out f (inl (inl (inl b))) = inl (inl b)

@@ -30,14 +30,15 @@ use Rattle.check_block.specs.Headings.{standing_of, standing_elaborated}
 use Rattle.check_block.specs.declared.heading.Standing.TheVariants as place
 use Rattle.def_typing.specs.Headings.{procedure_made, IsHeading, BrokenHeading}
 use Rattle.law_typing.proofs.Heading.{heading_answers}
-use Rattle.def_typing.specs.Constants.{AConstant, Fixes, BrokenAsConstant}
+use Rattle.def_typing.specs.Constants.{AConstant, Fixes}
+use Rattle.def_typing.specs.Expressions.{BrokenAsConstant}
 use Rattle.def_typing.specs.Declarations as rules
 use Rattle.def_typing.specs.Declarations.{Declaration, OfConstant, OfType, OfVariables, OfProcedure, Declared, types_behind, setting, procedure, is_variables, without, Means, Says, Misdeclares}
 use Rattle.def_typing.specs.TypeExprs.{next_type, Added, nothing_added, type_added, Setting, IsTypeOf, BrokenType}
 use Rattle.law_typing.specs.Judging.{Judges, Answers, means, refuses}
-use Rattle.law_typing.specs.Exact.{IsConst, is_const, kind_of, standing, is_own_variable, Sees, sees, sees_unknown, sees_headless, Knows, Repeats, IsCallFree}
+use Rattle.law_typing.specs.Exact.{IsConst, is_const, kind_of, standing, is_own_variable, Sees, sees, sees_unknown, sees_headless, Knows, Repeats}
 use Rattle.law_typing.proofs.Combining.{Lawful, Tells, silent, tells}
-use Rattle.law_typing.proofs.Constants.{exactly_fixed}
+use Rattle.law_typing.proofs.Expressing.{exactly_fixed}
 use Rattle.law_typing.proofs.Enumerating.{MadeType}
 use Rattle.law_typing.proofs.Declaring.{All, Elsewhere, Saying}
 
@@ -235,9 +236,9 @@ module _ (g : Gathers) (j : Judges g) (lawful : Lawful g j) (nested : Bool) (typ
       by : (v : Value) (k : Kind) → IsConst v k → ◌≡◌ {A = Saids} (nothing_added, Known (AValue k)) (said_constant v)
       by _ _ (is_const v) = refl
 
-  pub constant_says : (c : Constant) → IsCallFree c.value → So said_constant (OfConstant c) (constant g s (part g c.value))
-  constant_says c i = by_part {Is = IsConst} said_constant (OfConstant c) const_says (λ l z. const_parts z) (λ f b. rules.in_constant b) constant_fails
-      (subst (λ (types : Types). Answers g j R IsConst (λ k. Fixes types names exports c.value (AConstant k)) (BrokenAsConstant types names exports c.value) (constant g s (part g c.value))) same (exactly_fixed g j lawful names exports s knows c.value i))
+  pub constant_says : (c : Constant) → So said_constant (OfConstant c) (constant g s (part g c.value))
+  constant_says c = by_part {Is = IsConst} said_constant (OfConstant c) const_says (λ l z. const_parts z) (λ f b. rules.in_constant b) constant_fails
+      (subst (λ (types : Types). Answers g j R IsConst (λ k. Fixes types names exports c.value (AConstant k)) (BrokenAsConstant types names exports c.value) (constant g s (part g c.value))) same (exactly_fixed g j lawful names exports s knows c.value))
 
   -- ---- types
 

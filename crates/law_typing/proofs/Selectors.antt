@@ -24,7 +24,7 @@ use Rattle.def_typing.specs.Parts.{first}
 use Rattle.def_typing.specs.Expressions.{Has, BrokenAsValue}
 use Rattle.def_typing.specs.Cases.{SelectsIn, constant_type, value_type, negative, not_negative, IsSelector, is_selector, BrokenSelector, in_selector, no_scalar}
 use Rattle.law_typing.specs.Judging.{Judges, Answers, means}
-use Rattle.law_typing.specs.Exact.{Knows, Repeats, IsPlain}
+use Rattle.law_typing.specs.Exact.{Knows, Repeats}
 use Rattle.law_typing.proofs.Combining.{Lawful, declined, exact, then_answer}
 use Rattle.law_typing.proofs.Joining.{IsSide, side_scalar, side_set, side_routine, side_procedure, side_text, side_whole, side_untaken, side_is}
 use Rattle.law_typing.proofs.Places.{at_is}
@@ -80,10 +80,10 @@ module _ (g : Gathers) (j : Judges g) (lawful : Lawful g j) (names : Ident → S
   abbrev E : Breach → Type 0
   E = Repeats g j names s
 
-  pub selector_answers : (e : Expr) → IsPlain e → Answers g j E (λ (v : TypeNo × TypedExpr) (t : TypeNo). v.0 ≡ t) (IsSelector s.types names exports e) (BrokenSelector s.types names exports e) (case_selector g s (meanings_of g e))
-  selector_answers e i = subst (λ (at : Pos). Answers g j E (λ (v : TypeNo × TypedExpr) (t : TypeNo). v.0 ≡ t) (IsSelector s.types names exports e) (BrokenSelector s.types names exports e) (value_of g s (meanings_of g e) ▷ λ v. selector_of g at (side_of v))) (sym (at_is g i))
+  pub selector_answers : (e : Expr) → Answers g j E (λ (v : TypeNo × TypedExpr) (t : TypeNo). v.0 ≡ t) (IsSelector s.types names exports e) (BrokenSelector s.types names exports e) (case_selector g s (meanings_of g e))
+  selector_answers e = subst (λ (at : Pos). Answers g j E (λ (v : TypeNo × TypedExpr) (t : TypeNo). v.0 ≡ t) (IsSelector s.types names exports e) (BrokenSelector s.types names exports e) (value_of g s (meanings_of g e) ▷ λ v. selector_of g at (side_of v))) (sym (at_is g e))
       (exact g j lawful E (λ t m. is_selector m.1 m.2.1 m.2.2) parts into out
-      (then_answer g j lawful E {N = λ k t. Selecting g j lawful E (first e) (operand k) t} {D = λ k f. NoScalar g j lawful E (first e) (operand k) f} (exactly g j lawful names exports s knows e i) (λ v k q. side_selects g j lawful E (first e) (side_is q))))
+      (then_answer g j lawful E {N = λ k t. Selecting g j lawful E (first e) (operand k) t} {D = λ k f. NoScalar g j lawful E (first e) (operand k) f} (exactly g j lawful names exports s knows e) (λ v k q. side_selects g j lawful E (first e) (side_is q))))
     where
       parts : (t : TypeNo) → IsSelector s.types names exports e t → (k : Kind) × Has s.types names exports e k × Selecting g j lawful E (first e) (operand k) t
       parts t (is_selector {k = k} {a = a} h q m) = (k, h, (a, q, m))

@@ -33,19 +33,20 @@ use Rattle.def_typing.specs.Amounts.{Constant, IsWhole, whole, GoTogether, Suits
 use Rattle.def_typing.specs.Operators.{◌!◌, Kind, Scalar, operand}
 use Rattle.def_typing.specs.Things.{Standing}
 use Rattle.def_typing.specs.Parts.{first}
-use Rattle.def_typing.specs.Constants.{AConstant, Fixes, BrokenAsConstant}
+use Rattle.def_typing.specs.Constants.{AConstant, Fixes}
+use Rattle.def_typing.specs.Expressions.{BrokenAsConstant}
 use Rattle.def_typing.specs.Cases.{SelectsIn, constant_type, negative, not_negative, IsOfBase, IsEmpty, is_empty}
 use Rattle.def_typing.specs.TypeNames.{NamesType, BrokenTypeName}
 use Rattle.def_typing.specs.Subranges as rules
 use Rattle.def_typing.specs.Subranges.{IsUnder, Exceeds, IsTypeBound, is_type_bound, BrokenTypeBound, NamesRange, names_range, IsSubrange, BrokenSubrange}
 use Rattle.law_typing.specs.Judging.{Judges, Answers, means}
-use Rattle.law_typing.specs.Exact.{IsConst, is_const, Knows, Repeats, IsCallFree}
+use Rattle.law_typing.specs.Exact.{IsConst, is_const, Knows, Repeats}
 use Rattle.law_typing.proofs.Combining.{Lawful, Decided, exact, fine, declined, both_answer, then_answer, then_checked, Checks, Tests, passes, stopped, checks_as, where_checks, where_also, beside_checks, then_check}
 use Rattle.law_typing.proofs.Deciding.{within_decided, TogetherIs, together, apart, common_is}
 use Rattle.law_typing.proofs.Singles.{IsConstantOperand, constant_scalar, constant_set, constant_text, constant_is}
 use Rattle.law_typing.proofs.Elements.{IsOrdinal, is_ordinal, one_meaning, checks_answer}
-use Rattle.law_typing.proofs.Places.{free_at}
-use Rattle.law_typing.proofs.Constants.{exactly_fixed}
+use Rattle.law_typing.proofs.Places.{at_is}
+use Rattle.law_typing.proofs.Expressing.{exactly_fixed}
 use Rattle.law_typing.proofs.Heading.{place_same}
 use Rattle.law_typing.proofs.Labelling.{Number, base_decided, suits_decided}
 use Rattle.law_typing.proofs.Shaping.{scalar_of, scalar_is}
@@ -347,9 +348,9 @@ module _ (g : Gathers) (j : Judges g) (lawful : Lawful g j) (names : Ident → S
   fails_bound f (inl b) = rules.in_type_bound b
   fails_bound {e = e} f (inr (k, m, (n, q))) = subst (BrokenBound e) (sym q) (rules.no_ordinal m n)
 
-  bound_is : (e : Expr) → IsCallFree e → Answers g j R IsOrdinal (Bound e) (BrokenBound e) (bound_of g (first e) (constant g s (part g e)))
-  bound_is e i = exact g j lawful R (λ p z. is_type_bound z.1 z.2) (λ p z. bound_parts z) fails_bound bound_fails
-      (then_answer g j lawful R {N = λ k p. OrdinalOf g j lawful R (operand k) p} {D = λ k f. NoOrdinal g j lawful R (first e) (operand k) f} (exactly_fixed g j lawful names exports s knows e i) (λ v k q. ordinal_answers g j lawful R (first e) v k q))
+  bound_is : (e : Expr) → Answers g j R IsOrdinal (Bound e) (BrokenBound e) (bound_of g (first e) (constant g s (part g e)))
+  bound_is e = exact g j lawful R (λ p z. is_type_bound z.1 z.2) (λ p z. bound_parts z) fails_bound bound_fails
+      (then_answer g j lawful R {N = λ k p. OrdinalOf g j lawful R (operand k) p} {D = λ k f. NoOrdinal g j lawful R (first e) (operand k) f} (exactly_fixed g j lawful names exports s knows e) (λ v k q. ordinal_answers g j lawful R (first e) v k q))
 
   -- the range of a name
 
@@ -390,7 +391,7 @@ module _ (g : Gathers) (j : Judges g) (lawful : Lawful g j) (names : Ident → S
 
   -- ---- both sorts
 
-  module _ (low high : Expr) (i : IsCallFree low) (k : IsCallFree high) where
+  module _ (low high : Expr) where
     abbrev Sub : Option Qualified → Range → Type 0
     Sub = IsSubrange s.types names exports low high
 
@@ -427,10 +428,10 @@ module _ (g : Gathers) (j : Judges g) (lawful : Lawful g j) (names : Ident → S
 
     module _ (q : Qualified) where
       abbrev HeldIs : Range → Type 0
-      HeldIs r = UnderIs g j lawful R (first low) (first high) (range_named q) (bound_is low i) (bound_is high k) r
+      HeldIs r = UnderIs g j lawful R (first low) (first high) (range_named q) (bound_is low) (bound_is high) r
 
       abbrev HeldFails : Breach → Type 0
-      HeldFails f = UnderFails g j lawful R (first low) (first high) (range_named q) (bound_is low i) (bound_is high k) f
+      HeldFails f = UnderFails g j lawful R (first low) (first high) (range_named q) (bound_is low) (bound_is high) f
 
       range_parts : {r : Range} → NamesRange s.types names exports q r → Named q r
       range_parts (names_range {t = t} n m) = (t, n, m)
@@ -468,10 +469,10 @@ module _ (g : Gathers) (j : Judges g) (lawful : Lawful g j) (names : Ident → S
 
     sub_by : (q : Option Qualified) (at at' : Pos) → first low ≡ at → first high ≡ at' → SubSo q (by_places q at at')
     sub_by None at at' e f = subst (λ (x : Pos). SubSo None (subrange_between g x (bound_of g x (constant g s (part g low))) at' (bound_of g at' (constant g s (part g high))))) e (subst (λ (y : Pos). SubSo None (subrange_between g (first low) (bound_of g (first low) (constant g s (part g low))) y (bound_of g y (constant g s (part g high))))) f
-        (exact g j lawful R free_in (λ r z. free_out z) free_broken (λ f z. broken_free z) (unnamed_answers g j lawful R (first low) (first high) (bound_is low i) (bound_is high k))))
+        (exact g j lawful R free_in (λ r z. free_out z) free_broken (λ f z. broken_free z) (unnamed_answers g j lawful R (first low) (first high) (bound_is low) (bound_is high))))
     sub_by (Some q) at at' e f = subst (λ (x : Pos). SubSo (Some q) (under g (scalar_named g s q) x (bound_of g x (constant g s (part g low))) at' (bound_of g at' (constant g s (part g high))))) e (subst (λ (y : Pos). SubSo (Some q) (under g (scalar_named g s q) (first low) (bound_of g (first low) (constant g s (part g low))) y (bound_of g y (constant g s (part g high))))) f
-        (exact g j lawful R (held_in q) (λ r z. held_out q z) (held_broken q) (λ f z. broken_held q z) (under_answers g j lawful R (first low) (first high) (range_named q) (bound_is low i) (bound_is high k))))
+        (exact g j lawful R (held_in q) (λ r z. held_out q z) (held_broken q) (λ f z. broken_held q z) (under_answers g j lawful R (first low) (first high) (range_named q) (bound_is low) (bound_is high))))
 
     pub subrange_answers : (q : Option Qualified) → SubSo q (subrange g s q (part g low) (part g high))
-    subrange_answers None = sub_by None (part g low).at (part g high).at (sym (free_at g i)) (sym (free_at g k))
-    subrange_answers (Some q) = sub_by (Some q) (part g low).at (part g high).at (sym (free_at g i)) (sym (free_at g k))
+    subrange_answers None = sub_by None (part g low).at (part g high).at (sym (at_is g low)) (sym (at_is g high))
+    subrange_answers (Some q) = sub_by (Some q) (part g low).at (part g high).at (sym (at_is g low)) (sym (at_is g high))

@@ -6,7 +6,6 @@ use Rattle.m2_rule.specs.declared.breach.Breach.{Breach}
 use Rattle.m2_rule.specs.declared.rule.Rule.TheVariants as rule
 use Rattle.m2_tree.specs.declared.pos.Pos.{Pos}
 use Rattle.m2_tree.specs.declared.name.Ident.{Ident}
-use Rattle.m2_tree.specs.declared.expr.Expr.{Expr}
 use Rattle.m2_tree.specs.declared.expr.Item.{Item, out-Item}
 use Rattle.typed_tree.specs.declared.types.TypeNo.{TypeNo}
 use Rattle.typed_tree.specs.declared.statement.Label.{Label}
@@ -17,16 +16,15 @@ use Rattle.check_stmt_parts.specs.Lists.{with_next}
 use Rattle.check_stmt_parts.specs.Labels.{Labels, with_label, with_item, labels_in, item_label}
 use Rattle.def_typing.specs.Operators.{◌!◌}
 use Rattle.def_typing.specs.Things.{Standing}
-use Rattle.def_typing.specs.Parts.{first, here, later}
+use Rattle.def_typing.specs.Parts.{first}
 use Rattle.def_typing.specs.Cases as rules
 use Rattle.def_typing.specs.Cases.{Meets, IsLabel, BrokenLabel, IsTwice, AreLabels, BrokenLabels}
 use Rattle.law_typing.specs.Judging.{Judges, Answers, means, refuses}
-use Rattle.law_typing.specs.Exact.{Knows, Repeats, IsPlain, ArePlainLabels}
+use Rattle.law_typing.specs.Exact.{Knows, Repeats}
 use Rattle.law_typing.proofs.Combining.{Lawful, Decided, holds, fails_it, decided_as, accounts_as, Checks, passes, stops, stopped, checks_as, both_checks, map_checks}
 use Rattle.law_typing.proofs.Meeting.{Met, met_decided, Filled, inserted, insert_parts, parts_insert, new_start}
 use Rattle.law_typing.proofs.Labelling.{IsSpan, is_span, label_answers}
 use Rattle.law_typing.proofs.Places.{at_is}
-use Rattle.def_typing.specs.Constants.{IsBound as Bounds, low_bound, high_bound}
 
 -- labels in front of others, the nearest first
 abbrev pub behind : List Item → List Item → List Item
@@ -120,9 +118,9 @@ module _ (g : Gathers) (j : Judges g) (lawful : Lawful g j) (names : Ident → S
       labelled (means _ _ (is_span l) m u n) = new_by l m u n (is_met l.low l.high rs) (twice_decided k (l.low, l.high))
       labelled (refuses r a n) = (keeps_same k (λ x b l q w. n x l), listed c (stops r (accounts_as g j lawful O (λ f b. inl b) (λ f z. elim z [ inl b ↦ b | inr q ↦ absurd (n q.0 q.1) ]) a) (λ z. n z.0 z.1)))
 
-      item_checks : ((e : Expr) → Bounds e (out-Item i) → IsPlain e) → After P B (with_item g s base (rs, so) i)
-      item_checks p = subst (λ (x : Pos). After P B (with_label g x (rs, so) (item_label g s base i))) (sym (at_is g (p (out-Item i).low (low_bound refl))))
-          (labelled (label_answers g j lawful names exports s knows base i (p (out-Item i).low (low_bound refl)) (λ e h. p e (high_bound h))))
+      item_checks : After P B (with_item g s base (rs, so) i)
+      item_checks = subst (λ (x : Pos). After P B (with_label g x (rs, so) (item_label g s base i))) (sym (at_is g (out-Item i).low))
+          (labelled (label_answers g j lawful names exports s knows base i))
 
   -- ---- all labels
 
@@ -151,19 +149,19 @@ module _ (g : Gathers) (j : Judges g) (lawful : Lawful g j) (names : Ident → S
   abbrev Behind : List Item → List Item → (P : Type 0) → (Breach → Type 0) → Labels g.Reported → Type 0
   Behind front is P B q = Keeps (behind is front) q.0 × Checks g j lawful O {A = List Label} (P × AL front is) (λ f. B f ⊎ BLs front is f) q.1
 
-  labels_from : (is : List Item) → ArePlainLabels is → (front : List Item) {rs : List (ℤ × ℤ)} → Keeps front rs → {P : Type 0} {B : Breach → Type 0} {so : Result (List Label) g.Reported} → Checks g j lawful O {A = List Label} P B so
+  labels_from : (is : List Item) → (front : List Item) {rs : List (ℤ × ℤ)} → Keeps front rs → {P : Type 0} {B : Breach → Type 0} {so : Result (List Label) g.Reported} → Checks g j lawful O {A = List Label} P B so
       → Behind front is P B (fold (with_item g s base) (rs, so) is)
-  labels_from [] p front k c = (k, checks_as g j lawful O (λ q. (q, rules.no_label)) (λ q. q.0) (λ f b. inl b) (λ f z. elim z [ inl b ↦ b | inr b ↦ elim b [ ] ]) c)
-  labels_from (i ∷ is) p front k {P = P} {B = B} c = let q = item_checks front i k c (p i here) in let r = labels_from is (λ x m. p x (later m)) (i ∷ front) q.0 q.1 in (
+  labels_from [] front k c = (k, checks_as g j lawful O (λ q. (q, rules.no_label)) (λ q. q.0) (λ f b. inl b) (λ f z. elim z [ inl b ↦ b | inr b ↦ elim b [ ] ]) c)
+  labels_from (i ∷ is) front k {P = P} {B = B} c = let q = item_checks front i k c in let r = labels_from is (i ∷ front) q.0 q.1 in (
     r.0,
     checks_as g j lawful O (λ z. (z.0.0, label_more z.0.1 z.1)) (λ z. let y = label_parts z.1 in ((z.0, y.0), y.1))
         (λ f z. elim z [ inl y ↦ elim y [ inl b ↦ inl b | inr w ↦ inr (broken_more f (inl w)) ] | inr b ↦ inr (broken_more f (inr b)) ])
         (λ f z. elim z [ inl b ↦ inl (inl b) | inr b ↦ elim (broken_parts b) [ inl w ↦ inl (inr w) | inr d ↦ inr d ] ]) r.1,
   )
 
-  pub labels_check : (is : List Item) → ArePlainLabels is → (front : List Item) {rs : List (ℤ × ℤ)} → Keeps front rs
+  pub labels_check : (is : List Item) → (front : List Item) {rs : List (ℤ × ℤ)} → Keeps front rs
       → Keeps (behind is front) (labels_in g s base rs is).0 × Checks g j lawful O {A = List Label} (AL front is) (BLs front is) (labels_in g s base rs is).1
-  labels_check is p front k = let q = labels_from is p front k {P = Unit {0}} {B = λ f. ⊥} (passes [] tt (λ f b. b)) in
+  labels_check is front k = let q = labels_from is front k {P = Unit {0}} {B = λ f. ⊥} (passes [] tt (λ f b. b)) in
       (q.0, checks_as g j lawful O (λ z. z.1) (λ z. (tt, z)) (λ f z. elim z [ inl b ↦ absurd b | inr b ↦ b ]) (λ f b. inr b) q.1)
 
   -- labels of two lists

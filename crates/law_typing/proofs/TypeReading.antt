@@ -37,7 +37,7 @@ use Rattle.def_typing.specs.Subranges.{IsSubrange, BrokenSubrange}
 use Rattle.def_typing.specs.TypeExprs as rules
 use Rattle.def_typing.specs.TypeExprs.{constants_listed, constants_layer, constants_of_field, constants_in, constants_in_field, with_types, next_type, range_made, Added, nothing_added, type_added, both_added, array_added, Setting, behind, IsIndex, values_in, size_of, array_made, place_of, IsSimpleType, SimpleAdds, BrokenSimpleType, IsTypeOf, is_simple, Adds, BrokenType, in_simple}
 use Rattle.law_typing.specs.Judging.{Judges, Answers, means, refuses}
-use Rattle.law_typing.specs.Exact.{Knows, Repeats, IsPlainSimple}
+use Rattle.law_typing.specs.Exact.{Knows, Repeats}
 use Rattle.law_typing.proofs.Combining.{Lawful, Decided, holds, fails_it, decided_as, declined, exact, both_answer, then_answer, where_answers}
 use Rattle.m2_tree.specs.declared.decl.Parameter.{Parameter}
 use Rattle.typed_tree.specs.declared.shape.Signature.{Signature}
@@ -186,8 +186,8 @@ module _ (g : Gathers) (j : Judges g) (lawful : Lawful g j) (exports : ℕ → I
   enumeration_only : {w : Setting} {at : Pos} {xs : List Ident} {a : Added} → SimpleAdds exports w (simple.Enumeration at xs) a → a ≡ rules.enumeration_added (next_type w.types) xs
   enumeration_only rules.an_enumeration = refl
 
-  pub simple_read : (x : Simple) → IsPlainSimple x → SimpleRead x (simple_type g s x)
-  simple_read (simple.Named q) i = record {
+  pub simple_read : (x : Simple) → SimpleRead x (simple_type g s x)
+  simple_read (simple.Named q) = record {
     adds = nothing_added;
     own = s.own;
     is = no_made s;
@@ -197,7 +197,7 @@ module _ (g : Gathers) (j : Judges g) (lawful : Lawful g j) (exports : ℕ → I
     added = λ names there k f. rules.a_name;
     only = λ names there k f a z. name_adds z;
   }
-  simple_read (simple.Enumeration at xs) i = record {
+  simple_read (simple.Enumeration at xs) = record {
     adds = enumeration_adds g j lawful exports s at xs;
     own = own_behind g j lawful exports s at xs;
     is = scope_behind g j lawful exports s at xs;
@@ -207,7 +207,7 @@ module _ (g : Gathers) (j : Judges g) (lawful : Lawful g j) (exports : ℕ → I
     added = λ names there k f. rules.an_enumeration;
     only = λ names there k f a z. enumeration_only z;
   }
-  simple_read (simple.Subrange of at low high) i = range_read of at low high (subrange g s of (part g low) (part g high)) (λ names there k. subrange_answers g j lawful names exports s k low high i.0 i.1 of)
+  simple_read (simple.Subrange of at low high) = range_read of at low high (subrange g s of (part g low) (part g high)) (λ names there k. subrange_answers g j lawful names exports s k low high of)
 
   -- ---- all types
 
@@ -254,8 +254,8 @@ module _ (g : Gathers) (j : Judges g) (lawful : Lawful g j) (exports : ℕ → I
     adds_out (rules.no_procedure q n) = let z = sym h ∙ q in absurd cc
     adds_out (rules.fields_add q n m) = let z = sym h ∙ q in absurd cc
 
-  pub simple_type_read : (e : TypeExpr) (x : Simple) → out-TypeExpr e ≡ layer.Simple x → IsPlainSimple x → Read e (type_of g e s)
-  simple_type_read e x h i = let q = simple_read x i in
+  pub simple_type_read : (e : TypeExpr) (x : Simple) → out-TypeExpr e ≡ layer.Simple x → Read e (type_of g e s)
+  simple_type_read e x h = let q = simple_read x in
       subst (λ (m : Makes g). Read e (m s)) (sym (type_at e (layer.Simple x) h))
       (record {
         adds = q.adds;

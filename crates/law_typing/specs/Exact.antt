@@ -3,32 +3,10 @@ use Rattle.std.specs.Prelude.{◌≡◌, ◌⊎◌, ◌&&◌, ◌==◌, Bool, tr
 use Rattle.m2_rule.specs.declared.rule.Rule.TheVariants as rule
 use Rattle.m2_tree.specs.declared.pos.Pos.{Pos}
 use Rattle.m2_tree.specs.declared.name.Ident.{Ident}
-use Rattle.m2_tree.specs.declared.expr.MulOp.{MulOp}
-use Rattle.m2_tree.specs.declared.expr.AddOp.{AddOp}
-use Rattle.m2_tree.specs.declared.expr.RelOp.{RelOp}
-use Rattle.m2_tree.specs.declared.expr.Sign.{Sign}
-use Rattle.m2_tree.specs.declared.expr.Operator.{Operator}
-use Rattle.m2_tree.specs.declared.expr.Expr.{Expr, out-Expr}
-use Rattle.m2_tree.specs.declared.expr.Expr.TheOpen as layer
-use Rattle.m2_tree.specs.declared.expr.Selector.{Selector, out-Selector}
-use Rattle.m2_tree.specs.declared.expr.Designator.{Designator, out-Designator}
-use Rattle.m2_tree.specs.declared.expr.Item.{Item, out-Item}
-use Rattle.m2_tree.specs.declared.stmt.Stmt.{Stmt, out-Stmt}
-use Rattle.m2_tree.specs.declared.decl.Constant.{Constant as ConstantDecl}
-use Rattle.m2_tree.specs.declared.decl.TypeDecl.{TypeDecl}
-use Rattle.m2_tree.specs.declared.decl.Variables.{Variables}
-use Rattle.m2_tree.specs.declared.decl.Parameter.{Parameter}
-use Rattle.m2_tree.specs.declared.decl.Simple.{Simple}
-use Rattle.m2_tree.specs.declared.decl.Simple.TheVariants as simple
-use Rattle.m2_tree.specs.declared.decl.TypeExpr.{TypeExpr, out-TypeExpr}
-use Rattle.m2_tree.specs.declared.decl.TypeExpr.TheOpen as type_layer
-use Rattle.m2_tree.specs.declared.decl.Field.{Field, out-Field}
-use Rattle.m2_tree.specs.declared.decl.Decl.{Decl, Decl-F, out-Decl}
-use Rattle.m2_tree.specs.declared.decl.Decl.TheOpen as decl_layer
-use Rattle.m2_tree.specs.declared.decl.Block.{Block}
-use Rattle.m2_tree.specs.declared.stmt.Arm.{Arm, out-Arm}
-use Rattle.m2_tree.specs.declared.stmt.Rest.{Rest, out-Rest}
-use Rattle.m2_tree.specs.declared.stmt.Rest.TheOpen as step
+use Rattle.m2_tree.specs.declared.expr.Expr.{Expr}
+use Rattle.m2_tree.specs.declared.expr.Designator.{Designator}
+use Rattle.m2_tree.specs.declared.stmt.Stmt.{Stmt}
+use Rattle.m2_tree.specs.declared.decl.Decl.{Decl}
 use Rattle.typed_tree.specs.declared.types.TypeNo.{TypeNo}
 use Rattle.typed_tree.specs.declared.computed.TypedExpr.{TypedExpr}
 use Rattle.typed_tree.specs.declared.computed.LocalProcedure.{LocalProcedure}
@@ -62,7 +40,7 @@ use Rattle.check_operator.specs.Suits.{value_suited}
 use Rattle.check_call.specs.Effects.{target_at, assignment_of}
 use Rattle.typed_tree.specs.declared.statement.TypedStmt.{TypedStmt}
 use Rattle.typed_tree.specs.Types.{boolean}
-use Rattle.def_typing.specs.Constants.{IsBound, AConstant, Fixes, BrokenAsConstant}
+use Rattle.def_typing.specs.Constants.{AConstant, Fixes}
 use Rattle.check_expr.specs.Effects.{call_statement}
 use Rattle.def_typing.specs.Actions.{IsAction, BrokenAction}
 use Rattle.def_typing.specs.Assignments.{Assigns, BrokenAssignment, IsCondition, BrokenCondition}
@@ -90,15 +68,14 @@ use Rattle.typed_tree.specs.Names.{find_name}
 use Rattle.check_block.specs.Declarations.{declared_block, reported_of_lack}
 use Rattle.check_block.specs.Headings.{standing_from}
 use Rattle.check_block.specs.declared.heading.Standing.TheVariants as heading
-use Rattle.def_typing.specs.Declarations.{Declared as Resolved, declarations_of, in_order, IsHeaded, types_behind, AllStand, IsOwn, AllAdded, Lacks, BrokenIn}
+use Rattle.def_typing.specs.Declarations.{AnyDeclares, Declared as Resolved, declarations_of, in_order, IsHeaded, types_behind, AllStand, IsOwn, AllAdded, Lacks, BrokenIn}
 use Rattle.check_stmt.specs.Statements.{stmt}
-use Rattle.def_typing.specs.Statements.{arguments, labels_of, Spot, Obeys, Broken}
+use Rattle.def_typing.specs.Statements.{Spot, Obeys, Broken}
 use Rattle.check_expr.specs.Meanings.{meanings_of, head, part, value_of}
 use Rattle.def_typing.specs.Amounts.{Constant, Value}
 use Rattle.def_typing.specs.Operators.{◌!◌, Kind, Scalar, Set, Text, Routine, Procedure, Whole, Untaken}
 use Rattle.def_typing.specs.Things.{Thing, AValue, AVariable, AnOpenArray, AType, AProcedure, ANested, AStandard, AModule, Headless, Standing, Known, Ahead, Undeclared, NotExported, Unknown}
-use Rattle.def_typing.specs.Parts.{Operand, factors, addends, Among}
-use Rattle.def_typing.specs.Expressions.{Has, BrokenAsValue}
+use Rattle.def_typing.specs.Expressions.{Has, BrokenAsValue, BrokenAsConstant}
 use Rattle.law_typing.specs.Judging.{Judges, Answers, Reports}
 
 -- ---- what is elaborated
@@ -220,174 +197,7 @@ module _ (g : Gathers) (j : Judges g) where
       Answers g j (Repeats names s) IsKind (Has s.types names exports e)
       (BrokenAsValue s.types names exports e) (value_of g s (meanings_of g e))
 
--- ---- expressions in whose braces nothing is called
-
-mutual
-  pub data IsCallFree : Expr → Type 0 where
-    free_number : {e : Expr} {at : Pos} {n : ℕ} → out-Expr e ≡ layer.Number at n → IsCallFree e
-    free_character : {e : Expr} {at : Pos} {c : ℕ} → out-Expr e ≡ layer.Char at c → IsCallFree e
-    free_string : {e : Expr} {at : Pos} {text : List ℕ} → out-Expr e ≡ layer.Text at text
-        → IsCallFree e
-    free_set : {e : Expr} {name : Option Ident} {at : Pos} {items : List Item}
-        → out-Expr e ≡ layer.Set name at items → AreCallFree items → IsCallFree e
-    free_name : {e : Expr} {d : Designator} → out-Expr e ≡ layer.Use d None → IsCallFree e
-    free_not : {e : Expr} {at : Pos} {x : Expr} → out-Expr e ≡ layer.Not at x → IsCallFree x
-        → IsCallFree e
-    free_brackets : {e : Expr} {at : Pos} {x : Expr} → out-Expr e ≡ layer.Bracketed at x
-        → IsCallFree x → IsCallFree e
-    free_term : {e : Expr} {x : Expr} {rest : List (Operator MulOp × Expr)}
-        → out-Expr e ≡ layer.Term x rest → IsCallFree x → AreCallFreeOperands (factors rest)
-        → IsCallFree e
-    free_sum : {e : Expr} {sign : Option (Operator Sign)} {x : Expr}
-        {rest : List (Operator AddOp × Expr)} → out-Expr e ≡ layer.Sum sign x rest → IsCallFree x
-        → AreCallFreeOperands (addends rest) → IsCallFree e
-    free_relation : {e : Expr} {a b : Expr} {o : Operator RelOp}
-        → out-Expr e ≡ layer.Relation a o b → IsCallFree a → IsCallFree b → IsCallFree e
-
-  pub data AreCallFreeOperands : List Operand → Type 0 where
-    no_free_operand : AreCallFreeOperands []
-    one_free_operand : {x : Operand} {xs : List Operand} → IsCallFree x.of
-        → AreCallFreeOperands xs → AreCallFreeOperands (x ∷ xs)
-
-  pub data AreCallFree : List Item → Type 0 where
-    no_free_item : AreCallFree []
-    one_free_item : {i : Item} {is : List Item} → IsCallFree (out-Item i).low
-        → (out-Item i).high ≡ None → AreCallFree is → AreCallFree (i ∷ is)
-    one_free_range : {i : Item} {is : List Item} {high : Expr} → IsCallFree (out-Item i).low
-        → (out-Item i).high ≡ Some high → IsCallFree high → AreCallFree is → AreCallFree (i ∷ is)
-
-mutual
-  pub data IsPlain : Expr → Type 0 where
-    plain_number : {e : Expr} {at : Pos} {n : ℕ} → out-Expr e ≡ layer.Number at n → IsPlain e
-    plain_character : {e : Expr} {at : Pos} {c : ℕ} → out-Expr e ≡ layer.Char at c → IsPlain e
-    plain_string : {e : Expr} {at : Pos} {text : List ℕ} → out-Expr e ≡ layer.Text at text
-        → IsPlain e
-    plain_set : {e : Expr} {name : Option Ident} {at : Pos} {items : List Item}
-        → out-Expr e ≡ layer.Set name at items → AreCallFree items → IsPlain e
-    plain_name : {e : Expr} {d : Designator} → out-Expr e ≡ layer.Use d None
-        → ArePlainSelectors (out-Designator d).selectors → IsPlain e
-    plain_call :
-        {e : Expr} {d : Designator} {args : List Expr} → out-Expr e ≡ layer.Use d (Some args)
-        → ArePlainSelectors (out-Designator d).selectors → ArePlain args → IsPlain e
-    plain_not : {e : Expr} {at : Pos} {x : Expr} → out-Expr e ≡ layer.Not at x → IsPlain x
-        → IsPlain e
-    plain_brackets : {e : Expr} {at : Pos} {x : Expr} → out-Expr e ≡ layer.Bracketed at x
-        → IsPlain x → IsPlain e
-    plain_term : {e : Expr} {x : Expr} {rest : List (Operator MulOp × Expr)}
-        → out-Expr e ≡ layer.Term x rest → IsPlain x → ArePlainOperands (factors rest) → IsPlain e
-    plain_sum : {e : Expr} {sign : Option (Operator Sign)} {x : Expr}
-        {rest : List (Operator AddOp × Expr)}
-        → out-Expr e ≡ layer.Sum sign x rest
-        → IsPlain x
-        → ArePlainOperands (addends rest)
-        → IsPlain e
-    plain_relation : {e : Expr} {a b : Expr} {o : Operator RelOp}
-        → out-Expr e ≡ layer.Relation a o b → IsPlain a → IsPlain b → IsPlain e
-
-  pub data ArePlain : List Expr → Type 0 where
-    no_expression : ArePlain []
-    one_expression : {x : Expr} {xs : List Expr} → IsPlain x → ArePlain xs → ArePlain (x ∷ xs)
-
-  pub data ArePlainOperands : List Operand → Type 0 where
-    no_operand : ArePlainOperands []
-    one_operand : {x : Operand} {xs : List Operand} → IsPlain x.of → ArePlainOperands xs
-        → ArePlainOperands (x ∷ xs)
-
-  pub data ArePlainSelectors : List Selector → Type 0 where
-    no_selector : ArePlainSelectors []
-    a_field : {s : Selector} {ss : List Selector} {at : Pos} {name : Ident}
-        → out-Selector s ≡ layer.Field at name → ArePlainSelectors ss → ArePlainSelectors (s ∷ ss)
-    an_index : {s : Selector} {ss : List Selector} {at : Pos} {x : Expr}
-        → out-Selector s ≡ layer.Index at x → IsPlain x → ArePlainSelectors ss
-        → ArePlainSelectors (s ∷ ss)
-
--- ---- statements of which this is known
-
-abbrev pub ArePlainLabels : List Item → Type 0
-ArePlainLabels items = (i : Item) → Among i items → (e : Expr) → IsBound e (out-Item i) → IsPlain e
-
-mutual
-  pub data IsPlainStmt : Stmt → Type 0 where
-    plain_assignment : {x : Stmt} {d : Designator} {e : Expr} → out-Stmt x ≡ step.Assign d e
-        → ArePlainSelectors (out-Designator d).selectors → IsPlain e → IsPlainStmt x
-    plain_action : {x : Stmt} {d : Designator} {args : Option (List Expr)}
-        → out-Stmt x ≡ step.Call d args → ArePlainSelectors (out-Designator d).selectors
-        → ArePlain (arguments args) → IsPlainStmt x
-    plain_if : {x : Stmt} {c : Expr} {body : List Stmt} {rest : Rest}
-        → out-Stmt x ≡ step.If c body rest → IsPlain c → ArePlainStmts body → IsPlainRest rest
-        → IsPlainStmt x
-    plain_case : {x : Stmt} {e : Expr} {arms : List Arm} {otherwise : Option (List Stmt)}
-        → out-Stmt x ≡ step.Case e arms otherwise → IsPlain e → ArePlainLabels (labels_of arms)
-        → ArePlainArms arms → IsPlainElse otherwise → IsPlainStmt x
-    plain_while : {x : Stmt} {c : Expr} {body : List Stmt} → out-Stmt x ≡ step.While c body
-        → IsPlain c → ArePlainStmts body → IsPlainStmt x
-    plain_repeat : {x : Stmt} {body : List Stmt} {c : Expr} → out-Stmt x ≡ step.Repeat body c
-        → ArePlainStmts body → IsPlain c → IsPlainStmt x
-    plain_loop : {x : Stmt} {body : List Stmt} → out-Stmt x ≡ step.Loop body → ArePlainStmts body
-        → IsPlainStmt x
-    plain_exit : {x : Stmt} {at : Pos} → out-Stmt x ≡ step.Exit at → IsPlainStmt x
-    plain_return : {x : Stmt} {at : Pos} {e : Option Expr} → out-Stmt x ≡ step.Return at e
-        → ((v : Expr) → e ≡ Some v → IsPlain v) → IsPlainStmt x
-    plain_for : {x : Stmt} {name : Ident} {start limit : Expr} {by : Option Expr}
-        {body : List Stmt} → out-Stmt x ≡ step.For name start limit by body → IsPlain start
-        → IsPlain limit → ((v : Expr) → by ≡ Some v → IsCallFree v) → ArePlainStmts body
-        → IsPlainStmt x
-    plain_with : {x : Stmt} {d : Designator} {body : List Stmt} → out-Stmt x ≡ step.With d body
-        → ArePlainSelectors (out-Designator d).selectors → ArePlainStmts body → IsPlainStmt x
-
-  pub data ArePlainStmts : List Stmt → Type 0 where
-    no_statement : ArePlainStmts []
-    one_statement : {x : Stmt} {xs : List Stmt} → IsPlainStmt x → ArePlainStmts xs
-        → ArePlainStmts (x ∷ xs)
-
-  pub data IsPlainRest : Rest → Type 0 where
-    plain_elsif : {r : Rest} {c : Expr} {body : List Stmt} {rest : Rest}
-        → out-Rest r ≡ step.Elsif c body rest → IsPlain c → ArePlainStmts body → IsPlainRest rest
-        → IsPlainRest r
-    plain_end : {r : Rest} {otherwise : Option (List Stmt)} → out-Rest r ≡ step.Else otherwise
-        → IsPlainElse otherwise → IsPlainRest r
-
-  pub data IsPlainElse : Option (List Stmt) → Type 0 where
-    no_else : IsPlainElse None
-    plain_else : {body : List Stmt} → ArePlainStmts body → IsPlainElse (Some body)
-
-  pub data ArePlainArms : List Arm → Type 0 where
-    no_arm : ArePlainArms []
-    one_arm : {x : Arm} {xs : List Arm} → ArePlainStmts (out-Arm x).body → ArePlainArms xs
-        → ArePlainArms (x ∷ xs)
-
--- ---- declarations of which this is known: constants and bounds call nothing
-
-abbrev pub IsPlainSimple : Simple → Type 0
-IsPlainSimple (simple.Named q) = Unit {0}
-IsPlainSimple (simple.Enumeration at names) = Unit {0}
-IsPlainSimple (simple.Subrange of at low high) = IsCallFree low × IsCallFree high
-
-mutual
-  pub data IsPlainType : TypeExpr → Type 0 where
-    plain_simple : {e : TypeExpr} {x : Simple} → out-TypeExpr e ≡ type_layer.Simple x
-        → IsPlainSimple x → IsPlainType e
-    plain_array : {e of : TypeExpr} {at : Pos} {index : Simple}
-        → out-TypeExpr e ≡ type_layer.Array at index of → IsPlainSimple index → IsPlainType of
-        → IsPlainType e
-    plain_record : {e : TypeExpr} {at : Pos} {fields : List Field}
-        → out-TypeExpr e ≡ type_layer.Record at fields → ArePlainFields fields → IsPlainType e
-    plain_procedure : {e : TypeExpr} {at : Pos} {xs : List Parameter} {q : Option Qualified}
-        → out-TypeExpr e ≡ type_layer.Procedure at xs q → IsPlainType e
-
-  pub data ArePlainFields : List Field → Type 0 where
-    no_plain_field : ArePlainFields []
-    one_plain_field : {f : Field} {fs : List Field} → IsPlainType (out-Field f).of
-        → ArePlainFields fs → ArePlainFields (f ∷ fs)
-
-abbrev pub IsPlainLayer : Decl-F Decl Block → Type 0
-IsPlainLayer (decl_layer.Constants cs) = (c : ConstantDecl) → Among c cs → IsCallFree c.value
-IsPlainLayer (decl_layer.Types ts) = (d : TypeDecl) → Among d ts → IsPlainType d.of
-IsPlainLayer (decl_layer.Variables vs) = (v : Variables) → Among v vs → IsPlainType v.of
-IsPlainLayer (decl_layer.Procedure h b) = Unit {0}
-
-abbrev pub ArePlainDecls : List Decl → Type 0
-ArePlainDecls ds = (d : Decl) → Among d ds → IsPlainLayer (out-Decl d)
+-- ---- declarations
 
 -- in a procedure
 abbrev pub is_nested : {T : Type 0} → Scope T → Bool
@@ -414,6 +224,14 @@ pub data AreOnce {V : Type 0} : List (List ℕ × V) → Type 0 where
   no_names : AreOnce []
   one_name : {e : List ℕ × V} {es : List (List ℕ × V)} → find_name e.0 es ≡ None → AreOnce es
       → AreOnce (e ∷ es)
+
+-- what is known of a name that a block does not declare, before its declarations and behind them
+pub data IsAsBefore {T : Type 0} : Option (KnownName T) → Option (KnownName T) → Type 0 where
+  as_before : {k : Option (KnownName T)} → IsAsBefore k k
+  -- A procedure of the definition has its heading.
+  has_heading : (p : ModuleProcedure)
+      → IsAsBefore (Some (Declared Here (Ok (meaning.Procedure p))))
+      (Some (Headed (Ok (meaning.Procedure p))))
 
 -- what is known behind the declarations of a block
 pub record IsBlockExact (g : Gathers) (j : Judges g) (exports : ℕ → Ident → Standing)
@@ -449,6 +267,17 @@ pub record IsBlockExact (g : Gathers) (j : Judges g) (exports : ℕ → Ident �
       → AllStand s.types exports outside taken awaited (is_nested s) (declarations_of ds) whole
       names
       → Knows g j names exports (declared_block g ends (s, Ok tt) first ds).0
+  -- What is known of a name that they do not declare stays.
+  pub others : (n : List ℕ) → (taken n ≡ false → AnyDeclares (declarations_of ds) n → ⊥)
+      → IsAsBefore (find_name n s.own)
+      (find_name n (declared_block g ends (s, Ok tt) first ds).0.own)
+  -- What the use of a name repeats behind them is broken in them, or repeated from outside.
+  pub repeated : (names : Ident → Standing)
+      → AllStand s.types exports outside taken awaited (is_nested s) (declarations_of ds) whole
+      names
+      → (f : Breach) → Repeats g j names (declared_block g ends (s, Ok tt) first ds).0 f
+      → Repeats g j outside s f
+      ⊎ BrokenIn s.types exports outside taken awaited (is_nested s) (declarations_of ds) whole f
   -- It is known which variables count as own ones.
   pub own : (outer : Ident → Bool) → KnowsOwn g j outer s
       → (own : Ident → Bool) × AllOwn outer s exports outside taken awaited ds whole own
@@ -470,13 +299,13 @@ pub record IsBlockExact (g : Gathers) (j : Judges g) (exports : ℕ → Ident �
 abbrev pub ExpressionsAreExact : (g : Gathers) → Judges g → Type 0
 ExpressionsAreExact g j =
     (names : Ident → Standing) (exports : ℕ → Ident → Standing) (s : Scope g.Reported)
-    → Knows g j names exports s → (e : Expr) → IsPlain e → IsExact g j names exports s e
+    → Knows g j names exports s → (e : Expr) → IsExact g j names exports s e
 
--- Constant expressions without calls are answered exactly.
+-- Constant expressions are answered exactly.
 abbrev pub ConstantsAreExact : (g : Gathers) → Judges g → Type 0
 ConstantsAreExact g j =
     (names : Ident → Standing) (exports : ℕ → Ident → Standing) (s : Scope g.Reported)
-    → Knows g j names exports s → (e : Expr) → IsCallFree e
+    → Knows g j names exports s → (e : Expr)
     → Answers g j (Repeats g j names s) IsConst
     (λ k. Fixes s.types names exports e (AConstant k)) (BrokenAsConstant s.types names exports e)
     (constant g s (part g e))
@@ -485,7 +314,7 @@ ConstantsAreExact g j =
 abbrev pub ConditionsAreExact : (g : Gathers) → Judges g → Type 0
 ConditionsAreExact g j =
     (names : Ident → Standing) (exports : ℕ → Ident → Standing) (s : Scope g.Reported)
-    → Knows g j names exports s → (e : Expr) → IsPlain e
+    → Knows g j names exports s → (e : Expr)
     → Answers g j (Repeats g j names s) {A = TypedExpr} {K = Unit {0}} (λ v u. Unit {0})
     (λ u. IsCondition s.types names exports e) (BrokenCondition s.types names exports e)
     (value_of g s (meanings_of g e)
@@ -496,7 +325,6 @@ abbrev pub AssignmentsAreExact : (g : Gathers) → Judges g → Type 0
 AssignmentsAreExact g j =
     (names : Ident → Standing) (exports : ℕ → Ident → Standing) (s : Scope g.Reported)
     → Knows g j names exports s → (d : Designator) (e : Expr)
-    → ArePlainSelectors (out-Designator d).selectors → IsPlain e
     → Answers g j (Repeats g j names s) {A = TypedStmt} {K = Unit {0}} (λ v u. Unit {0})
     (λ u. Assigns s.types names exports d e) (BrokenAssignment s.types names exports d e)
     (assignment_of g s.types (target_at g (head g d).fixed.at ((head g d).means s))
@@ -507,7 +335,6 @@ abbrev pub ActionsAreExact : (g : Gathers) → Judges g → Type 0
 ActionsAreExact g j =
     (names : Ident → Standing) (exports : ℕ → Ident → Standing) (s : Scope g.Reported)
     → Knows g j names exports s → (d : Designator) (args : List Expr)
-    → ArePlainSelectors (out-Designator d).selectors → ArePlain args
     → Answers g j (Repeats g j names s) {A = TypedStmt} {K = Unit {0}} (λ v u. Unit {0})
     (λ u. IsAction s.types names exports d args) (BrokenAction s.types names exports d args)
     (call_statement g s (head g d) (map (meanings_of g) args))
@@ -519,7 +346,6 @@ ReturnsAreExact g j =
     → Knows g j names exports s
     → (at : Pos) (w : Giving) (result : Option (Result TypeNo g.Reported)) (e : Option Expr)
     → KnowsResult g j w result
-    → ((x : Expr) → e ≡ Some x → IsPlain x)
     → Answers g j (RepeatsResult g j names s result) {A = TypedStmt} {K = Unit {0}}
     (λ v u. Unit {0}) (λ u. Returns s.types names exports w e)
     (BrokenReturn s.types names exports at w e) (return_statement g s at result (meant_if g e))
@@ -538,7 +364,6 @@ RunsAreExact g j =
     (s : Scope g.Reported)
     → Knows g j names exports s → KnowsOwn g j own s
     → (name : Ident) (start limit : Expr) (step : Option Expr)
-    → IsPlain start → IsPlain limit → ((e : Expr) → step ≡ Some e → IsCallFree e)
     → Answers g j (Repeats g j names s) {A = Course} {K = Unit {0}} (λ v u. Unit {0})
     (λ u. Runs s.types names exports own name start limit step)
     (BrokenRun s.types names exports own name start limit step)
@@ -548,7 +373,7 @@ RunsAreExact g j =
 abbrev pub SelectorsAreExact : (g : Gathers) → Judges g → Type 0
 SelectorsAreExact g j =
     (names : Ident → Standing) (exports : ℕ → Ident → Standing) (s : Scope g.Reported)
-    → Knows g j names exports s → (e : Expr) → IsPlain e
+    → Knows g j names exports s → (e : Expr)
     → Answers g j (Repeats g j names s) (λ (v : TypeNo × TypedExpr) (t : TypeNo). v.0 ≡ t)
     (IsSelector s.types names exports e) (BrokenSelector s.types names exports e)
     (case_selector g s (meanings_of g e))
@@ -559,7 +384,6 @@ BoundsAreExact g j =
     (names : Ident → Standing) (exports : ℕ → Ident → Standing) (s : Scope g.Reported)
     → Knows g j names exports s
     → (base : Option TypeNo) (label : Pos) (e : Expr)
-    → IsPlain e
     → Answers g j (Repeats g j names s)
     (λ (a : Ordinal) (p : Option TypeNo × ℤ). (a.sort ≡ p.0) × (a.number ≡ p.1))
     (λ p. IsLabelBound s.types names exports e p.0 p.1)
@@ -582,11 +406,11 @@ HeadingsAreExact g j =
     → Answers g j (Repeats g j names s) (λ (m : Made) (x : Signature). m ≡ procedure_made x)
     (IsHeading s.types names exports h) (BrokenHeading s.types names exports h) (heading_of g s h)
 
--- Subranges whose bounds call nothing are answered exactly.
+-- Subranges are answered exactly.
 abbrev pub SubrangesAreExact : (g : Gathers) → Judges g → Type 0
 SubrangesAreExact g j =
     (names : Ident → Standing) (exports : ℕ → Ident → Standing) (s : Scope g.Reported)
-    → Knows g j names exports s → (low high : Expr) → IsCallFree low → IsCallFree high
+    → Knows g j names exports s → (low high : Expr)
     → (q : Option Qualified)
     → Answers g j (Repeats g j names s) (λ (a r : Range). a ≡ r)
     (IsSubrange s.types names exports low high q) (BrokenSubrange s.types names exports low high q)
@@ -598,7 +422,6 @@ StatementsAreExact g j =
     (exports : ℕ → Ident → Standing) (w : Spot) (s : Scope g.Reported) (a : Around g.Reported)
     → KnowsSpot g j exports w s a
     → (x : Stmt)
-    → IsPlainStmt x
     → Answers g j (RepeatsResult g j w.names s a.gives) {A = TypedStmt} {K = Unit {0}}
     (λ v u. Unit {0}) (λ u. Obeys s.types exports w x) (Broken s.types exports w x) (stmt g x s a)
 
@@ -609,7 +432,7 @@ BlocksAreExact g j =
     (taken : List ℕ → Bool) (awaited : List ℕ → Option TypeNo)
     → Knows g j outside exports s → s.withs ≡ []
     → ((n : List ℕ) → TakenAs g j (taken n) (awaited n) (find_name n s.own))
-    → (ends : List ℕ) (first : ℕ) (ds : List Decl) → ArePlainDecls ds
+    → (ends : List ℕ) (first : ℕ) (ds : List Decl)
     → IsBlockExact g j exports outside s taken awaited ends first ds
 
 -- For each scope there are standings that it knows, and variables that are own ones.

@@ -2,8 +2,7 @@
 //! expressions, conditions, and all statements.
 //!
 //! `def_typing` has the rules: what an expression has, and which rules are broken in it. These laws hold of the elaboration in
-//! `check_stmt` and below, of all that it gathers and of the least refusal alike. They are not proved of all: what stands in
-//! braces calls nothing (`IsPlain`), and constant expressions call nothing (`IsCallFree`).
+//! `check_stmt` and below, of all that it gathers and of the least refusal alike.
 //!
 //! - `specs/Judging` says what it is to answer exactly, and `specs/Exact` what is elaborated, when names stand for what a
 //!   scope knows of them, and what is proved.
@@ -11,34 +10,36 @@
 //! - `proofs/Deciding` and `proofs/Shaping` say what tests decide, and what is seen of types.
 //! - `proofs/Operating` and `proofs/Joining` have operators, `proofs/Singles` signs, NOT and functions of one value.
 //! - `proofs/Placing`, `proofs/Selecting` and `proofs/Passing` have values at places, names with components, and arguments.
-//! - `proofs/Fixing`, `proofs/Elements` and `proofs/Constants` have constant expressions.
+//! - `proofs/Fixing`, `proofs/Elements` and `proofs/Constants` have constant expressions, and `proofs/Applying` calls in them.
 //! - `proofs/Calling` and `proofs/Routines` have calls, `proofs/Places` and `proofs/Finding` the layers of the tree,
-//!   `proofs/Expressing` the induction, `proofs/Assigning` conditions and assignments, `proofs/Changing` standard procedures
-//!   that are statements, `proofs/Acting` all calls that are, and `proofs/Knowing` the names of scopes.
+//!   `proofs/Trees` what inductions go over, `proofs/Expressing` the induction over expressions of both sorts,
+//!   `proofs/Assigning` conditions and assignments, `proofs/Changing` standard procedures that are statements, `proofs/Acting`
+//!   all calls that are, and `proofs/Knowing` the names of scopes.
 //! - `proofs/Returning` has RETURN and EXIT, `proofs/Looping` what stands before the statements of a FOR, `proofs/Selectors`
 //!   the selector of a CASE, `proofs/Bounds` the bounds of its labels, `proofs/Labelling` each label, `proofs/Meeting` and
 //!   `proofs/Twice` labels that are there twice, `proofs/Choosing` all of a CASE, `proofs/Opening` what a WITH opens,
 //!   `proofs/Inside` what is known inside, and `proofs/Obeying` the induction over statements.
 //! - `proofs/TypeNaming` has names of types, `proofs/Heading` headings of procedures, `proofs/Agreeing` whether one agrees with
-//!   the heading of the definition, `proofs/Subranges` subranges, `proofs/Enumerating` enumerations, `proofs/TypeReading` other types as they are written but records, and
-//!   `proofs/Recording` records and all types. `proofs/Declaring` says what a scope knows of the names of a block, and
-//!   `proofs/Marking`, `proofs/Beginning` and `proofs/Sayings` that it does before the declarations, inside them and behind
-//!   each. `proofs/Blocks` goes from one to the next, and `proofs/Lacking` finds procedures that lack a heading.
+//!   the heading of the definition, `proofs/Subranges` subranges, `proofs/Enumerating` enumerations, `proofs/TypeReading` other
+//!   types as they are written but records, and `proofs/Recording` records and all types. `proofs/Declaring` says what a scope
+//!   knows of the names of a block, and `proofs/Marking`, `proofs/Beginning` and `proofs/Sayings` that it does before the
+//!   declarations, inside them and behind each. `proofs/Blocks` goes from one to the next, and `proofs/Lacking` finds
+//!   procedures that lack a heading.
 #![tactic(auto)]
 
 ghost use Rattle.check_scope.specs.Elaborated.{every, least};
 ghost use Rattle.law_typing.specs.Judging.{all_of_them, the_least};
 ghost use Rattle.law_typing.specs.Exact.{ExpressionsAreExact, ConstantsAreExact, ConditionsAreExact, AssignmentsAreExact, ActionsAreExact, ReturnsAreExact, ExitsAreExact, RunsAreExact, SelectorsAreExact, BoundsAreExact, StatementsAreExact, TypeNamesAreExact, HeadingsAreExact, SubrangesAreExact, BlocksAreExact, ScopesAreKnown};
 
-/// An expression in whose braces nothing is called has a value exactly if no rule is broken in it, and the value stands for
-/// what the rules say that it has. Else all that is gathered are broken rules, here or in a declaration, and each that is
-/// broken is gathered; and the least refusal is a broken rule, and no broken rule is less, by place and then by number.
+/// An expression has a value exactly if no rule is broken in it, and the value stands for what the rules say that it has. Else
+/// all that is gathered are broken rules, here or in a declaration, and each that is broken is gathered; and the least refusal
+/// is a broken rule, and no broken rule is less, by place and then by number.
 pub fn expression_laws()
     ensures every_rule { ExpressionsAreExact every all_of_them }
     ensures least_rule { ExpressionsAreExact least the_least }
 {}
 
-/// The same of an expression that calls nothing and has to be constant.
+/// The same of an expression that has to be constant.
 pub fn constant_laws()
     ensures every_rule { ConstantsAreExact every all_of_them }
     ensures least_rule { ConstantsAreExact least the_least }
@@ -74,7 +75,7 @@ pub fn exit_laws()
     ensures least_rule { ExitsAreExact least the_least }
 {}
 
-/// The same of what stands before the statements of a FOR, if the step calls nothing.
+/// The same of what stands before the statements of a FOR.
 pub fn run_laws()
     ensures every_rule { RunsAreExact every all_of_them }
     ensures least_rule { RunsAreExact least the_least }
@@ -110,16 +111,16 @@ pub fn heading_laws()
     ensures least_rule { HeadingsAreExact least the_least }
 {}
 
-/// The same of a subrange whose bounds call nothing, under a type or not.
+/// The same of a subrange, under a type or not.
 pub fn subrange_laws()
     ensures every_rule { SubrangesAreExact every all_of_them }
     ensures least_rule { SubrangesAreExact least the_least }
 {}
 
 /// What is reported of the declarations of a block are exactly the rules that are broken in them, and what is known of names
-/// behind them is what the rules say: constants that call nothing, types whose bounds call nothing, variables of these, and
-/// headings of procedures. If the module's own definition awaits a heading, it has to agree with the definition's, and the
-/// procedure is the definition's, with its number. It is reported exactly if a procedure of the definition lacks a heading.
+/// behind them is what the rules say: constants, types, variables, and headings of procedures. If the module's own definition
+/// awaits a heading, it has to agree with the definition's, and the procedure is the definition's, with its number. It is
+/// reported exactly if a procedure of the definition lacks a heading.
 pub fn block_laws()
     ensures every_rule { BlocksAreExact every all_of_them }
     ensures least_rule { BlocksAreExact least the_least }

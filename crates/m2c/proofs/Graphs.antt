@@ -43,6 +43,7 @@ use Rattle.law_modules.proofs.Placed.{modules_link}
 use Rattle.law_graph.proofs.Outcomes.{graph_or_refused}
 use Rattle.law_programs.proofs.Links.{slots_few, link_valid}
 use Rattle.m2c.proofs.Least.{all_least}
+use Rattle.m2c.proofs.Ruled.{all_ruled}
 use Rattle.m2c.proofs.Readings.{files_are_read}
 use Rattle.m2c.proofs.Valid.{all_valid}
 use Rattle.m2c.proofs.Programs.{AreBuilt}
@@ -173,6 +174,7 @@ module _ (files : List SourceFile) (fs : List (List ℕ × Module)) (numbers : L
         starts = starts;
         graph = have;
         least = all_least fs;
+        ruled = all_ruled fs numbers jobs starts have.is_graph;
         none = none;
         program = p;
         typed = its.typed;
@@ -201,6 +203,7 @@ module _ (files : List SourceFile) (fs : List (List ℕ × Module)) (numbers : L
     starts = starts;
     graph = have;
     least = all_least fs;
+    ruled = all_ruled fs numbers jobs starts have.is_graph;
     none = none;
     program = its.program;
     typed = its.typed;

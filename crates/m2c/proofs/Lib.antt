@@ -3,6 +3,7 @@ pub mod Bodies
 pub mod Two
 pub mod EachOnce
 pub mod Unrefused
+mod Ruled
 pub mod Programs
 pub mod Linked
 pub mod Valid

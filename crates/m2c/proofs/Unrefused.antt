@@ -116,7 +116,7 @@ module _ (fs : List (List ℕ × Module)) (numbers : List ℕ) (jobs : List (Lis
   abbrev pub one : ℕ → Compiled
   one n = compile_at (modules fs) numbers n (needed n)
 
-  many : (n : ℕ) → length (below n) ≡ n
+  pub many : (n : ℕ) → length (below n) ≡ n
   many n = results-length jobs (compile_at (modules fs) numbers) n
 
   at_below : (n j : ℕ) → j < n → slice_get (below n) j ≡ Some (one j)

@@ -34,6 +34,7 @@ use Rattle.build_jobs.specs.declared.reading.Read.TheVariants as read
 use Rattle.build_jobs.specs.declared.outcome.Compiled.{Compiled}
 use Rattle.build_jobs.specs.declared.outcome.Compiled.TheVariants as jobs
 use Rattle.m2c.specs.Least.{IsLeastReported}
+use Rattle.m2c.specs.Ruled.{AreRuled}
 use Rattle.m2c.specs.Order.{AreInOrder}
 use Rattle.build_jobs.specs.Reading.{AreRead}
 use Rattle.build_jobs.specs.Jobs.{all_compiled}
@@ -182,6 +183,7 @@ pub record HaveGraph (files : List SourceFile) (trees : List (List ℕ × Module
   pub each : CompileEach (number_files 0 trees) numbers
 
 -- Modules break rules. The least of them is reported of each module, by place and then by number.
+-- Which are broken the rules of the language decide.
 pub record AreUncompiled (files : List SourceFile) (refusals : List Refusal) : Type 0 where
   pub trees : List (List ℕ × Module)
   pub numbers : List ℕ
@@ -189,6 +191,7 @@ pub record AreUncompiled (files : List SourceFile) (refusals : List Refusal) : T
   pub starts : List ℕ
   pub graph : HaveGraph files trees numbers all_jobs starts
   pub least : All (λ f. IsLeastReported f.1) trees
+  pub ruled : AreRuled (modules trees) numbers all_jobs
   pub some : refused_by trees numbers all_jobs ≢ []
   pub reported : AreReported (refused_by trees numbers all_jobs) refusals
 
@@ -214,6 +217,7 @@ pub record IsTooLarge (files : List SourceFile) (pages : ℕ) (refusals : List R
   pub starts : List ℕ
   pub graph : HaveGraph files trees numbers all_jobs starts
   pub least : All (λ f. IsLeastReported f.1) trees
+  pub ruled : AreRuled (modules trees) numbers all_jobs
   pub none : refused_by trees numbers all_jobs ≡ []
   pub program : Modules
   pub typed : AreTyped (modules trees) numbers all_jobs starts program
@@ -234,6 +238,7 @@ pub record IsProgram (files : List SourceFile) (pages : ℕ) (link : List ℕ)
   pub starts : List ℕ
   pub graph : HaveGraph files trees numbers all_jobs starts
   pub least : All (λ f. IsLeastReported f.1) trees
+  pub ruled : AreRuled (modules trees) numbers all_jobs
   pub none : refused_by trees numbers all_jobs ≡ []
   pub program : Modules
   pub typed : AreTyped (modules trees) numbers all_jobs starts program

@@ -1,7 +1,7 @@
 use Rattle.check_scope.specs.Elaborated.{every, least}
 use Rattle.law_typing.specs.Judging.{all_of_them, the_least}
 use Rattle.law_typing.proofs.Gathering.{all_lawful, least_lawful}
-use Rattle.law_typing.proofs.Constants.{exactly_fixed}
+use Rattle.law_typing.proofs.Expressing.{exactly_fixed}
 use Rattle.law_typing.proofs.constant_laws.Goals as goal
 
 pub returns-clause-every_rule : goal.returns-clause-every_rule

@@ -1,0 +1,16 @@
+pub mod Keeping
+pub mod Layers
+pub mod Extending
+pub mod Reading
+pub mod Seeing
+pub mod Formals
+pub mod Refusing
+pub mod Placing
+pub mod Owning
+pub mod Entering
+pub mod Stating
+pub mod Whole
+pub mod Moduling
+pub mod Outside
+pub mod Programs
+pub mod Implementing

@@ -1,0 +1,108 @@
+-- That the rules of the language decide what is answered of a module.
+use Rattle.std.specs.Prelude.{◌≡◌, ℕ, Bool, List, [], ◌∷◌, ◌++◌, None}
+use Rattle.m2_rule.specs.declared.rule.Rule.TheVariants as rule
+use Rattle.m2_tree.specs.declared.name.Ident.{Ident}
+use Rattle.m2_tree.specs.declared.decl.Block.{Block}
+use Rattle.m2_tree.specs.declared.decl.Def.{Def}
+use Rattle.m2_tree.specs.declared.decl.Contents.TheVariants as contents
+use Rattle.m2_tree.specs.declared.decl.Module.{Module}
+use Rattle.typed_tree.specs.declared.table.Table.{Table}
+use Rattle.check_scope.specs.Elaborated.{least}
+use Rattle.check_definition.specs.Predeclared.{console, first_scope}
+use Rattle.check_body.specs.Own.{implementation_scope}
+use Rattle.check_body.specs.Checks.{body_module}
+use Rattle.def_typing.specs.Operators.{◌!◌}
+use Rattle.def_typing.specs.Things.{Standing}
+use Rattle.def_typing.specs.Parts.{Among}
+use Rattle.def_typing.specs.Imports.{all_imported}
+use Rattle.law_typing.specs.Judging.{the_least}
+use Rattle.law_typing.specs.Exact.{Knows}
+use Rattle.law_importing.specs.Exact.{StandsFor}
+use Rattle.law_defining.specs.Exact.{none, IsTaken, AreSound, IsDefinitionExact}
+use Rattle.law_defining.specs.Importers.{IsTableOf, CanBeImported}
+use Rattle.law_bodies.specs.Exact.{declares, IsTakenBy, IsAnswered, IsProgramExact, IsImplementationExact}
+
+-- the tables that a module is checked with: the table of Console is always there
+abbrev pub with_console : List Table → List Table
+with_console imported = imported ++ console ∷ []
+
+-- The tables are those of definitions of other modules.
+abbrev pub AreImported : (home : ℕ) → List Table → Type 0
+AreImported home imported = (t : Table) → Among t imported → CanBeImported least home t
+
+-- What names stand for in a definition is known by the rules: outside, and behind its imports. It
+-- has a table exactly if no rule is broken in it, and else the least of the broken ones is
+-- reported.
+pub record IsDefinitionRuled (home : ℕ) (m : Module) (imported : List Table) (defs : List Def)
+    : Type 0 where
+  pub exports : ℕ → Ident → Standing
+  pub outside : Ident → Standing
+  pub names : Ident → Standing
+  pub taken : List ℕ → Bool
+  pub known : Knows least the_least outside exports (first_scope home (with_console imported))
+  pub sound : AreSound outside
+  pub stand : (name : Ident)
+      → StandsFor (with_console imported) none (all_imported m.imports) outside name (names name)
+  pub takes : (n : List ℕ) → IsTaken (with_console imported) (all_imported m.imports) n (taken n)
+  pub exact : IsDefinitionExact least the_least home m imported (with_console imported) exports
+      names taken defs
+
+-- The same of a program and its typed module.
+pub record IsProgramRuled (home : ℕ) (m : Module) (imported : List Table) (b : Block)
+    : Type 0 where
+  pub exports : ℕ → Ident → Standing
+  pub outside : Ident → Standing
+  pub names : Ident → Standing
+  pub taken : List ℕ → Bool
+  pub known : Knows least the_least outside exports (first_scope home (with_console imported))
+  pub sound : AreSound outside
+  pub stand : (name : Ident)
+      → StandsFor (with_console imported) none (all_imported m.imports) outside name (names name)
+  pub takes : (n : List ℕ) → IsTaken (with_console imported) (all_imported m.imports) n (taken n)
+  pub exact : IsProgramExact least the_least home m imported (with_console imported) exports names
+      taken b
+
+-- The same of an implementation, by the table of its definition.
+pub record IsImplementationRuled (own : Table) (m : Module) (imported : List Table) (b : Block)
+    : Type 0 where
+  pub exports : ℕ → Ident → Standing
+  pub outside : Ident → Standing
+  pub names : Ident → Standing
+  pub taken : List ℕ → Bool
+  pub known : Knows least the_least outside exports
+      (implementation_scope own (with_console imported))
+  pub sound : AreSound outside
+  pub stand : (name : Ident)
+      → StandsFor (with_console imported) (declares own) (all_imported m.imports) outside name
+      (names name)
+  pub takes : (n : List ℕ)
+      → IsTakenBy (with_console imported) (declares own) (all_imported m.imports) n (taken n)
+  pub exact : IsImplementationExact least the_least own m imported (with_console imported) exports
+      names taken b
+
+-- An implementation without a definition is refused.
+abbrev pub IsLonely : (home : ℕ) → Module → List Table → Type 0
+IsLonely home m imported =
+    IsAnswered least the_least (λ t. ⊥) (λ f. f ≡ m.name.pos ! rule.LonelyModule)
+    (body_module least home m None imported)
+
+abbrev pub DefinitionsAreRuled : Type 0
+DefinitionsAreRuled =
+    (home : ℕ) (m : Module) (imported : List Table) (defs : List Def)
+    → m.contents ≡ contents.Definition defs → IsDefinitionRuled home m imported defs
+
+abbrev pub ProgramsAreRuled : Type 0
+ProgramsAreRuled =
+    (home : ℕ) (m : Module) (imported : List Table) → AreImported home imported → (b : Block)
+    → m.contents ≡ contents.Program b → IsProgramRuled home m imported b
+
+abbrev pub ImplementationsAreRuled : Type 0
+ImplementationsAreRuled =
+    (own : Table) (m : Module) (imported : List Table) → IsTableOf least own.number own
+    → AreImported own.number imported → (b : Block) → m.contents ≡ contents.Implementation b
+    → IsImplementationRuled own m imported b
+
+abbrev pub LonelyAreRefused : Type 0
+LonelyAreRefused =
+    (home : ℕ) (m : Module) (imported : List Table) (b : Block)
+    → m.contents ≡ contents.Implementation b → IsLonely home m imported
