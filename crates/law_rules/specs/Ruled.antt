@@ -13,13 +13,13 @@ use Rattle.check_body.specs.Own.{implementation_scope}
 use Rattle.check_body.specs.Checks.{body_module}
 use Rattle.def_typing.specs.Operators.{◌!◌}
 use Rattle.def_typing.specs.Things.{Standing}
-use Rattle.def_typing.specs.Parts.{Among}
+pub use Rattle.def_typing.specs.Parts.{Among, here, later}
 use Rattle.def_typing.specs.Imports.{all_imported}
 use Rattle.law_typing.specs.Judging.{the_least}
 use Rattle.law_typing.specs.Exact.{Knows}
 use Rattle.law_importing.specs.Exact.{StandsFor}
 use Rattle.law_defining.specs.Exact.{none, IsTaken, AreSound, IsDefinitionExact}
-use Rattle.law_defining.specs.Importers.{IsTableOf, CanBeImported}
+pub use Rattle.law_defining.specs.Importers.{IsTableOf, is_answered, CanBeImported, of_definition}
 use Rattle.law_bodies.specs.Exact.{declares, IsTakenBy, IsAnswered, IsProgramExact, IsImplementationExact}
 
 -- the tables that a module is checked with: the table of Console is always there

@@ -12,8 +12,7 @@ ghost use Rattle.m2_tree.specs.declared.decl.Block.{Block};
 ghost use Rattle.m2_tree.specs.declared.decl.Contents.TheVariants as contents;
 ghost use Rattle.check_scope.specs.Elaborated.{least};
 ghost use Rattle.check_body.specs.Checks.{body_module};
-ghost use Rattle.law_defining.specs.Importers.{IsTableOf};
-ghost use Rattle.law_rules.specs.Ruled.{AreImported, IsProgramRuled, IsImplementationRuled};
+ghost use Rattle.law_rules.specs.Ruled.{IsTableOf, AreImported, IsProgramRuled, IsImplementationRuled};
 
 use check_scope::Elaborated;
 use m2_tree::Module;

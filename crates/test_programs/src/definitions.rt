@@ -2,11 +2,11 @@
 
 use crate::count::Count;
 use anyhow::{Context, Result, bail};
+use check_definition::compile_definition;
 use check_scope::Elaborated;
 use m2_parse::parse;
 use m2_scan::scan;
 use m2_tree::Module;
-use m2_types::compile_definition;
 use std::alloc::Global;
 use std::fs;
 use tree_parts::{Items, Shared};
