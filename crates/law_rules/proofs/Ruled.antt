@@ -3,16 +3,16 @@ use Rattle.std.proofs.Common.{refl, sym, subst}
 use Rattle.check_scope.specs.Elaborated.{least}
 use Rattle.law_typing.specs.Judging.{the_least}
 use Rattle.law_typing.proofs.Gathering.{least_lawful}
-use Rattle.law_importing.proofs.Following.{least_associates}
-use Rattle.law_defining.proofs.Outside.{definitions_known}
-use Rattle.law_defining.proofs.Finding.{least_finds}
-use Rattle.law_defining.proofs.Starting.{definitions_answer}
-use Rattle.law_bodies.proofs.Programs as bodies
-use Rattle.law_bodies.proofs.Programs.{programs_answer}
-use Rattle.law_bodies.specs.Exact.{HasNoDefinition, an_implementation}
-use Rattle.law_bodies.proofs.Implementing.{implementations_answer, implementations_known, lonely_refused}
+use Rattle.law_rules.proofs.Following.{least_associates}
+use Rattle.law_rules.proofs.Outside.{definitions_known}
+use Rattle.law_rules.proofs.Finding.{least_finds}
+use Rattle.law_rules.proofs.Starting.{definitions_answer}
+use Rattle.law_rules.proofs.Programs as bodies
+use Rattle.law_rules.proofs.Programs.{programs_answer}
+use Rattle.law_rules.specs.Bodies.{HasNoDefinition, an_implementation}
+use Rattle.law_rules.proofs.BodiesImplementing.{implementations_answer, implementations_known, lonely_refused}
 use Rattle.law_rules.specs.Ruled.{with_console, DefinitionsAreRuled, ProgramsAreRuled, ImplementationsAreRuled, LonelyAreRefused}
-use Rattle.law_rules.proofs.Tables.{tables_foreign, own_defined}
+use Rattle.law_rules.proofs.ModulesTables.{tables_foreign, own_defined}
 
 pub definitions_ruled : DefinitionsAreRuled
 definitions_ruled home m imported defs is =

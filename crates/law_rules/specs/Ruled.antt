@@ -17,10 +17,10 @@ pub use Rattle.def_typing.specs.Parts.{Among, here, later}
 use Rattle.def_typing.specs.Imports.{all_imported}
 use Rattle.law_typing.specs.Judging.{the_least}
 use Rattle.law_typing.specs.Exact.{Knows}
-use Rattle.law_importing.specs.Exact.{StandsFor}
-use Rattle.law_defining.specs.Exact.{none, IsTaken, AreSound, IsDefinitionExact}
-pub use Rattle.law_defining.specs.Importers.{IsTableOf, is_answered, CanBeImported, of_definition}
-use Rattle.law_bodies.specs.Exact.{declares, IsTakenBy, IsAnswered, IsProgramExact, IsImplementationExact}
+use Rattle.law_rules.specs.Importing.{StandsFor}
+use Rattle.law_rules.specs.Defining.{none, IsTaken, AreSound, IsDefinitionExact}
+pub use Rattle.law_rules.specs.Importers.{IsTableOf, is_answered, CanBeImported, of_definition}
+use Rattle.law_rules.specs.Bodies.{declares, IsTakenBy, IsAnswered, IsProgramExact, IsImplementationExact}
 
 -- the tables that a module is checked with: the table of Console is always there
 abbrev pub with_console : List Table → List Table

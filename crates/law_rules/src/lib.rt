@@ -1,13 +1,29 @@
 //! Laws alone: the rules of the language decide what is answered of a module.
 //!
-//! `def_typing` has the rules. `law_typing`, `law_importing`, `law_defining` and `law_bodies` prove that the checker answers each
-//! construct by them. Here stands what follows for whole modules, and `build` cites it.
+//! `def_typing` has the rules. `law_typing` proves that the checker answers expressions, statements and the declarations of a block
+//! by them. Here this is proved of imports, of definitions with what they export, and of blocks with all procedures inside; and
+//! then of whole modules, which `build` cites.
 //!
-//! - `specs/Ruled` says what is known of a module by the rules, and what is answered of it.
-//! - `proofs/Tables` says what tables of definitions do not export, and `proofs/Ruled` puts the laws together.
+//! - `specs/Importing`, `Defining`, `Exports`, `Importers` and `Bodies` say what is answered of each of them, and `specs/Ruled`
+//!   what is known of a module by the rules, and what is answered of it.
+//! - `importing`, `defining` and `bodies` say which files of `proofs` have what.
+//! - `proofs/ModulesTables` says what tables of definitions do not export, and `proofs/Ruled` puts the laws together.
 #![tactic(auto)]
 
+mod bodies;
+mod defining;
+mod importing;
+
 ghost use Rattle.law_rules.specs.Ruled.{DefinitionsAreRuled, ProgramsAreRuled, ImplementationsAreRuled, LonelyAreRefused};
+
+pub use bodies::{implementation_laws, implementation_scope_laws, inner_block_laws, program_laws};
+pub use defining::{
+    agreeing_name_laws, definition_laws, definition_scope_laws, foreign_table_laws, own_name_laws,
+};
+pub use importing::{
+    definition_import_laws, first_import_laws, following_block_laws, implementation_import_laws,
+    import_laws,
+};
 
 /// A definition has a table exactly if no rule is broken in it, and a program or an implementation has a typed module exactly if
 /// no rule is broken in it. Else the least of the broken rules is reported, by place and then by number. The tables that a body

@@ -23,7 +23,7 @@ use Rattle.check_scope.specs.Elaborated.{least}
 use Rattle.check_definition.specs.Compiled.{definition_table}
 use Rattle.layout_storage.specs.Layouts.{too_large}
 use Rattle.law_rules.specs.Ruled.{Among, here, later, IsTableOf, is_answered, of_definition as imported_from, AreImported}
-use Rattle.law_rules.proofs.Tables.{number_is}
+use Rattle.law_rules.proofs.ModulesTables.{number_is}
 use Rattle.law_rules.proofs.Ruled.{definitions_ruled, programs_ruled, implementations_ruled, lonely_ruled}
 use Rattle.build_jobs.specs.declared.outcome.Compiled.{Compiled}
 use Rattle.build_jobs.specs.declared.outcome.Compiled.TheVariants.{Defined, Built, Refused, Blocked}

@@ -1,6 +1,0 @@
-pub mod Tables
-pub mod Importing
-pub mod Behind
-pub mod Defining
-pub mod Implementing
-pub mod Following

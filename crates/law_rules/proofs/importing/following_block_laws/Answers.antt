@@ -1,0 +1,11 @@
+use Rattle.check_scope.specs.Elaborated.{every, least}
+use Rattle.law_typing.specs.Judging.{all_of_them, the_least}
+use Rattle.law_typing.proofs.Gathering.{all_lawful, least_lawful}
+use Rattle.law_rules.proofs.Following.{all_associate, least_associates, following_answers}
+use Rattle.law_rules.proofs.importing.following_block_laws.Goals as goal
+
+pub returns-clause-every_rule : goal.returns-clause-every_rule
+returns-clause-every_rule c = following_answers every all_of_them all_lawful all_associate
+
+pub returns-clause-least_rule : goal.returns-clause-least_rule
+returns-clause-least_rule c = following_answers least the_least least_lawful least_associates

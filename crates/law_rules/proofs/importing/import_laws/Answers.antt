@@ -1,0 +1,11 @@
+use Rattle.check_scope.specs.Elaborated.{every, least}
+use Rattle.law_typing.specs.Judging.{all_of_them, the_least}
+use Rattle.law_typing.proofs.Gathering.{all_lawful, least_lawful}
+use Rattle.law_rules.proofs.Behind.{imports_answer}
+use Rattle.law_rules.proofs.importing.import_laws.Goals as goal
+
+pub returns-clause-every_rule : goal.returns-clause-every_rule
+returns-clause-every_rule c = λ own s owns imports. imports_answer every all_of_them all_lawful own s owns imports
+
+pub returns-clause-least_rule : goal.returns-clause-least_rule
+returns-clause-least_rule c = λ own s owns imports. imports_answer least the_least least_lawful own s owns imports
