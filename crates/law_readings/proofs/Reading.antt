@@ -1,5 +1,6 @@
 -- Two readings of a block are alike, with all procedures inside.
 use Rattle.std.proofs.Common.{◌≡◌, ℕ, Bool, List, [], ◌∷◌, ◌++◌, Option, inl, inr, refl, sym, ap, subst, ◌∙◌}
+use Rattle.std.specs.Prelude.{◌↔◌}
 use Rattle.std.proofs.Math.Path.{fun_ext}
 use Rattle.m2_rule.specs.declared.breach.Breach.{Breach}
 use Rattle.m2_tree.specs.declared.pos.Pos.{Pos}
@@ -21,7 +22,7 @@ use Rattle.def_typing.specs.Declarations.{Declaration, AnyDeclares, Declared, in
 use Rattle.def_typing.specs.Statements.{Broken}
 use Rattle.def_typing.specs.Bodies as rules
 use Rattle.def_typing.specs.Bodies.{formal, SeenAs, InsideAs, BodyGives, Place, module_variables, in_procedure, statements_in, body_spot, IsNoProcedure, Reads, reads, ReadsBodies, BrokenBlock, BrokenBodies, LacksHeading}
-use Rattle.law_readings.specs.Alike.{Both, ReadingsAreAlike}
+use Rattle.law_readings.specs.Alike.{ReadingsAreAlike}
 use Rattle.law_readings.proofs.Computing.{both, some_one}
 use Rattle.law_readings.proofs.Typing.{names_one, gives_back_one}
 use Rattle.law_readings.proofs.Declaring.{IsWithin, all_one, owns_one, whole_one}
@@ -105,14 +106,14 @@ module _ (exports : ℕ → Ident → Standing) where
   record SameBlock {p o : Place} {types end last : Types} {b c : Block}
       (r : Reads exports p types b end) (q : Reads exports o types c last) : Type 0 where
     same_end : end ≡ last
-    same_rules : (f : Breach) → Both (BrokenBlock exports r f) (BrokenBlock exports q f)
+    same_rules : (f : Breach) → BrokenBlock exports r f ↔ BrokenBlock exports q f
 
   record SameBodies {p : Place} {block front : List Declaration} {names others : Ident → Standing}
       {own owns : Ident → Bool} {from to end last : Types} {ds : List Decl}
       (r : ReadsBodies exports p block names own front from ds end)
       (q : ReadsBodies exports p block others owns front to ds last) : Type 0 where
     same_end : end ≡ last
-    same_rules : (f : Breach) → Both (BrokenBodies exports r f) (BrokenBodies exports q f)
+    same_rules : (f : Breach) → BrokenBodies exports r f ↔ BrokenBodies exports q f
 
   block_as : {p o : Place} {types end last : Types} {b c : Block}
       → p ≡ o
@@ -239,24 +240,24 @@ module _ (exports : ℕ → Ident → Standing) where
         (λ q. bodies_alike bodies q) inner in
         record {
           same_end = z.same_end;
-          same_rules = λ f. record {
-            there = λ x. elim x [
+          same_rules = λ f. (
+            (λ x. elim x [
               | inl k ↦
                   inl (subst (λ (whole : List Declared). Breaks p types b whole f) w k)
               | inr y ↦ elim y [
-                | inl k ↦ inr (inl ((z.same_rules f).there k))
+                | inl k ↦ inr (inl ((z.same_rules f).0 k))
                 | inr k ↦ inr (inr (stating_as p b z.same_end e o k))
               ]
-            ];
-            back = λ x. elim x [
+            ]),
+            (λ x. elim x [
               | inl k ↦ inl
                   (subst (λ (whole : List Declared). Breaks p types b whole f) (sym w) k)
               | inr y ↦ elim y [
-                | inl k ↦ inr (inl ((z.same_rules f).back k))
+                | inl k ↦ inr (inl ((z.same_rules f).1 k))
                 | inr k ↦ inr (inr (stating_as p b (sym z.same_end) (sym e) (sym o) k))
               ]
-            ];
-          };
+            ]),
+          );
         }
 
     bodies_alike : {p : Place} {block front : List Declaration} {names : Ident → Standing}
@@ -265,7 +266,7 @@ module _ (exports : ℕ → Ident → Standing) where
         (q : ReadsBodies exports p block names own front types ds last)
         → SameBodies r q
     bodies_alike rules.no_more rules.no_more =
-        record { same_end = refl; same_rules = λ f. record { there = λ b. b; back = λ b. b } }
+        record { same_end = refl; same_rules = λ f. ((λ b. b), (λ b. b)) }
     bodies_alike (rules.no_body n r) (rules.no_body m q) =
         let z = bodies_alike r q in record { same_end = z.same_end; same_rules = z.same_rules }
     bodies_alike (rules.no_body n r) (rules.a_body seen inside gives e s i g c q) =
@@ -274,13 +275,13 @@ module _ (exports : ℕ → Ident → Standing) where
         absurd (subst IsNoProcedure e m)
     bodies_alike {p = p} {block = block} {own = own} {types = types}
         (rules.a_body {h = h} {b = b} seen inside gives e s i g c r)
-        (rules.a_body {h = k} {b = a} sees within gave f t j v d q) =
+        (rules.a_body {h = k} {b = a} sees indoors gave f t j v d q) =
         let eh = same_heading e f in
         let es : seen ≡ sees = fun_ext (λ name. seen_one (s name) (t name)) in
-        let ei : inside ≡ within = fun_ext (λ name.
+        let ei : inside ≡ indoors = fun_ext (λ name.
         inside_one exports seen h (i name)
-        (subst (λ (h : Heading). InsideAs exports seen h name (within name)) (sym eh)
-        (subst (λ (seen : Ident → Standing). InsideAs exports seen k name (within name)) (sym es)
+        (subst (λ (h : Heading). InsideAs exports seen h name (indoors name)) (sym eh)
+        (subst (λ (seen : Ident → Standing). InsideAs exports seen k name (indoors name)) (sym es)
         (j name)))) in
         let eg : gives ≡ gave = gives_one exports seen h g
         (subst (λ (h : Heading). BodyGives exports seen h types gave) (sym eh)
@@ -294,37 +295,36 @@ module _ (exports : ℕ → Ident → Standing) where
         let z = bodies_as refl refl y.same_end r (λ q. bodies_alike r q) q in
         record {
           same_end = z.same_end;
-          same_rules = λ x. record {
-            there = λ w. elim w [
-              | inl k ↦ inl ((y.same_rules x).there k)
-              | inr k ↦ inr ((z.same_rules x).there k)
-            ];
-            back = λ w. elim w [
-              | inl k ↦ inl ((y.same_rules x).back k)
-              | inr k ↦ inr ((z.same_rules x).back k)
-            ];
-          };
+          same_rules = λ x. (
+            (λ w. elim w [
+              | inl k ↦ inl ((y.same_rules x).0 k)
+              | inr k ↦ inr ((z.same_rules x).0 k)
+            ]),
+            (λ w. elim w [
+              | inl k ↦ inl ((y.same_rules x).1 k)
+              | inr k ↦ inr ((z.same_rules x).1 k)
+            ]),
+          );
         }
 
   headings_alike : {p : Place} {types end last : Types} {b : Block}
       (r : Reads exports p types b end) (q : Reads exports p types b last) (at : Pos) (f : Breach)
-      → Both (LacksHeading exports r at f) (LacksHeading exports q at f)
+      → LacksHeading exports r at f ↔ LacksHeading exports q at f
   headings_alike {p = p} {types = types} {b = b}
       (reads whole names own order added stand owned bodies)
       (reads others named owns follow adds stood owners_of inner) at f =
-      let w = wholes p types b order follow added adds in
-      record {
-        there = λ x.
+      let w = wholes p types b order follow added adds in (
+        (λ x.
             subst
             (λ (whole : List Declared).
             Lacks types exports p.names p.taken p.awaited p.nested (Ds p types b) at whole f)
-            w x;
-        back = λ x.
+            w x),
+        (λ x.
             subst
             (λ (whole : List Declared).
             Lacks types exports p.names p.taken p.awaited p.nested (Ds p types b) at whole f)
-            (sym w) x;
-      }
+            (sym w) x),
+      )
 
 pub readings_alike : ReadingsAreAlike
 readings_alike exports p types end last b r q =
