@@ -1,0 +1,5 @@
+pub mod Computing
+pub mod Fixing
+pub mod Typing
+pub mod Declaring
+pub mod Reading
