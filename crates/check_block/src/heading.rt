@@ -227,8 +227,7 @@ fn headed_as(
 }
 
 /// Declares the procedure of a heading. The number is the number of a procedure in a procedure. A name that is declared
-/// is
-/// 31. A procedure of the module's definition has its heading there; one that differs is 50.
+/// is 31. A procedure of the module's definition has its heading there; one that differs is 50.
 pub fn with_heading(
     alloc: Global,
     scope: &mut Scope<Breach>,

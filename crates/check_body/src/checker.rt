@@ -36,10 +36,8 @@ impl Statements for Checker {
     }
 }
 
-/// Checks a program module or an implementation module, from the tables of the definitions that it
-/// imports and, for an implementation, from the table of its own definition. It answers the module
-/// if no rule is broken, and else the least rule that is, by place and then by number. The only
-/// error is that memory ran out.
+/// The typed module of a body, or the least rule that it breaks. Users call that of m2_check. The only error is that memory
+/// ran out.
 pub fn check(
     alloc: Global,
     number: u32,

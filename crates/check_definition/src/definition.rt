@@ -99,14 +99,8 @@ fn of_definition(
     table_or(alloc, tree, &modules, scope, elaborated)
 }
 
-/// The table of a definition, whose module has this number, from the tables of the definitions that it imports. It
-/// answers the table if no rule is broken, and else the least rule that is, by place and then by number:
-///
-/// 30 a name that is not declared, 31 declared twice, 32 not exported, 33 a name of no type that may stand there, 34 no
-/// constant, 35 an empty range, 36 an index type, 37 an enumeration of more than 256 constants, 38 a type of more than
-/// 131072 cells, 40 an operand's type, 42 the number of arguments, 43 an argument's type, 52 a constant out of range. A
-/// module whose table is not given is 20 at its name, and what is no definition module is 24. The only error is that
-/// memory ran out.
+/// The table of a definition, or the least rule that it breaks. Users call that of m2_types, which lists the rules. The only
+/// error is that memory ran out.
 pub fn compile_definition(
     alloc: Global,
     number: u32,
