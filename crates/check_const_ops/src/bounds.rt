@@ -2,8 +2,7 @@
 
 ghost use Rattle.std.specs.Prelude.{◌≡◌};
 ghost use Rattle.check_scope.specs.Elaborated.{least, ◌▷◌};
-ghost use Rattle.check_const_ops.specs.Common.{common};
-ghost use Rattle.check_const_ops.specs.Bounds.{ordinal_in, is_of_base, fits_base, bounds_in_order, ordered_if, are_ordered};
+ghost use Rattle.check_const_ops.specs.Bounds.{ordinal_in, is_of_base, fits_base, bounds_in_order, are_ordered};
 
 use crate::number::fits;
 use crate::operand::{Operand, Ordinal};
@@ -59,21 +58,15 @@ pub fn bounds_in_order(at: Pos, low: i64, high: i64) -> Elaborated<()>
     Ok(())
 }
 
-fn ordered_if(at: Pos, low: Ordinal, high: Ordinal) -> Elaborated<()>
-    ensures { result ≡ ordered_if least at low high (common low.sort high.sort) }
-{
-    match common(low.sort, high.sort) {
-        None => Ok(()),
-        Some(_) => bounds_in_order(at, low.number, high.number),
-    }
-}
-
 /// The order of two bounds that go together. Bounds that do not are reported elsewhere.
 pub fn are_ordered(at: Pos, low: Elaborated<Ordinal>, high: Elaborated<Ordinal>) -> Elaborated<()>
     ensures { result ≡ are_ordered least at low high }
 {
     match both(low, high) {
         Err(breach) => Err(breach),
-        Ok((a, b)) => ordered_if(at, a, b),
+        Ok((a, b)) => match common(a.sort, b.sort) {
+            None => Ok(()),
+            Some(_) => bounds_in_order(at, a.number, b.number),
+        },
     }
 }

@@ -2,7 +2,7 @@
 
 ghost use Rattle.std.specs.Prelude.{◌≡◌};
 ghost use Rattle.check_scope.specs.Elaborated.{least};
-ghost use Rattle.check_const_ops.specs.Sets.{ordinal_or_refusal, set_element, is_element, single, is_unlike, in_set, alike_in_order, related_bounds, span_of};
+ghost use Rattle.check_const_ops.specs.Sets.{set_element, is_element, single, in_set, related_bounds, span_of};
 
 use crate::bounds::bounds_in_order;
 use crate::operand::Ordinal;
@@ -14,20 +14,14 @@ use m2_rule::Rule;
 use m2_tree::Pos;
 use typed_tree::Value;
 
-fn ordinal_or_refusal(at: Pos, x: Option<Ordinal>) -> Elaborated<Ordinal>
-    ensures { result ≡ ordinal_or_refusal least at x }
-{
-    match x {
-        None => report(at, Rule::WrongType),
-        Some(a) => Ok(a),
-    }
-}
-
 /// The number of an element, which is an INTEGER, a CARDINAL or a number without a type.
 pub fn set_element(at: Pos, value: &Value) -> Elaborated<Ordinal>
     ensures { result ≡ set_element least at value.now }
 {
-    ordinal_or_refusal(at, whole_number(value))
+    match whole_number(value) {
+        None => report(at, Rule::WrongType),
+        Some(a) => Ok(a),
+    }
 }
 
 fn is_element(at: Pos, a: Ordinal) -> Elaborated<()>
@@ -52,15 +46,6 @@ pub fn single(at: Pos, value: &Value) -> Elaborated<u32>
     }
 }
 
-fn is_unlike(a: Ordinal, b: Ordinal) -> bool
-    ensures { result ≡ is_unlike a b }
-{
-    match common(a.sort, b.sort) {
-        None => true,
-        Some(_) => false,
-    }
-}
-
 fn in_set(at: Pos, a: Elaborated<Ordinal>) -> Elaborated<()>
     ensures { result ≡ in_set least at a }
 {
@@ -68,15 +53,6 @@ fn in_set(at: Pos, a: Elaborated<Ordinal>) -> Elaborated<()>
         Err(breach) => Err(breach),
         Ok(a) => is_element(at, a),
     }
-}
-
-fn alike_in_order(at: Pos, high_at: Pos, a: Ordinal, b: Ordinal) -> Elaborated<()>
-    ensures { result ≡ alike_in_order least at high_at a b }
-{
-    if is_unlike(a, b) {
-        return report(high_at, Rule::WrongType);
-    }
-    bounds_in_order(at, a.number, b.number)
 }
 
 fn related_bounds(
@@ -89,7 +65,10 @@ fn related_bounds(
 {
     match both(low, high) {
         Err(breach) => Err(breach),
-        Ok((a, b)) => alike_in_order(at, high_at, a, b),
+        Ok((a, b)) => match common(a.sort, b.sort) {
+            None => report(high_at, Rule::WrongType),
+            Some(_) => bounds_in_order(at, a.number, b.number),
+        },
     }
 }
 

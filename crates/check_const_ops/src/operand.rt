@@ -1,7 +1,7 @@
 //! Constants as operators see them.
 
 ghost use Rattle.std.specs.Prelude.{◌≡◌};
-ghost use Rattle.check_const_ops.specs.Operands.{letter, letter_operand, operand_of, number_value, truth, is_number, is_truth};
+ghost use Rattle.check_const_ops.specs.Operands.{operand_of, number_value, truth, is_number, is_truth};
 
 use typed_tree::{BOOLEAN, CHAR, ScalarValue, TypeNo, Value, are_same, is_numeric};
 
@@ -20,28 +20,6 @@ pub enum Operand {
     Set(u32),
 }
 
-fn letter(text: &[u8]) -> Option<u8>
-    ensures { result ≡ letter text.now }
-{
-    match text {
-        [] => None,
-        [code] => Some(*code),
-        [_, _, ..] => None,
-    }
-}
-
-fn letter_operand(letter: Option<u8>) -> Option<Operand>
-    ensures { result ≡ letter_operand letter }
-{
-    match letter {
-        None => None,
-        Some(code) => Some(Operand::Scalar(Ordinal {
-            sort: Some(CHAR),
-            number: i64::from(code),
-        })),
-    }
-}
-
 /// A constant as operators see it. A string of length 1 is a character, and no other string is an operand.
 pub fn operand_of(value: &Value) -> Option<Operand>
     ensures { result ≡ operand_of value.now }
@@ -56,7 +34,13 @@ pub fn operand_of(value: &Value) -> Option<Operand>
             number: scalar.number,
         })),
         Value::Set(bits) => Some(Operand::Set(*bits)),
-        Value::Text(text) => letter_operand(letter(text.get().as_bytes())),
+        Value::Text(text) => match text.get().as_bytes() {
+            [code] => Some(Operand::Scalar(Ordinal {
+                sort: Some(CHAR),
+                number: i64::from(*code),
+            })),
+            [] | [_, _, ..] => None,
+        },
     }
 }
 

@@ -3,7 +3,7 @@
 ghost use Rattle.std.specs.Prelude.{◌≡◌, Ok};
 ghost use Rattle.check_scope.specs.Elaborated.{least, ◌▷◌};
 ghost use Rattle.check_const_ops.specs.Common.{common};
-ghost use Rattle.check_const_ops.specs.Operate.{takes, holds_between, ordinal_result, divisor, is_misfit, fitting, ordinal_operation, on_scalars, binary, constant_operation, is_signed, signed_scalar, signed_value, with_sign, negated_value, negation};
+ghost use Rattle.check_const_ops.specs.Operate.{takes, holds_between, ordinal_result, divisor, fitting, on_scalars, binary, constant_operation, is_signed, signed_scalar, with_sign, negation};
 
 use crate::number::{evaluated_at, fits, number_at, quotient, remainder};
 use crate::operand::{Operand, Ordinal, is_number, is_truth, number_value, operand_of, truth};
@@ -93,47 +93,14 @@ pub fn divisor(op: BinaryOp, spot: Pos, y: i64) -> Elaborated<()>
     Ok(())
 }
 
-fn is_misfit(wanted: Option<TypeNo>, a: Ordinal) -> bool
-    ensures { result ≡ is_misfit wanted a.sort a.number }
-{
-    match wanted {
-        None => false,
-        Some(_) => match a.sort {
-            Some(_) => false,
-            None => !fits(wanted, a.number),
-        },
-    }
-}
-
 /// The rule that a number without a type is one of the other operand's type.
 pub fn fitting(wanted: Option<TypeNo>, at: Pos, a: Ordinal) -> Elaborated<()>
     ensures { result ≡ fitting least wanted at a }
 {
-    if is_misfit(wanted, a) {
+    if wanted.is_some() && a.sort.is_none() && !fits(wanted, a.number) {
         return report(at, Rule::OutOfRange);
     }
     Ok(())
-}
-
-fn ordinal_operation(
-    op: BinaryOp,
-    spot: Pos,
-    sort: Option<TypeNo>,
-    at: Pos,
-    a: Ordinal,
-    other_at: Pos,
-    b: Ordinal,
-) -> Elaborated<Value>
-    ensures { result ≡ ordinal_operation least op spot sort at a other_at b }
-{
-    if !takes(op, sort) {
-        return report(spot, Rule::WrongType);
-    }
-    let fit = beside(fitting(sort, at, a), fitting(sort, other_at, b));
-    match beside(divisor(op, spot, b.number), fit) {
-        Err(breach) => Err(breach),
-        Ok(()) => ordinal_result(op, spot, sort, a.number, b.number),
-    }
 }
 
 fn on_scalars(
@@ -146,9 +113,16 @@ fn on_scalars(
 ) -> Elaborated<Value>
     ensures { result ≡ on_scalars least op spot at a other_at b (common a.sort b.sort) }
 {
-    match common(a.sort, b.sort) {
-        None => report(spot, Rule::WrongType),
-        Some(sort) => ordinal_operation(op, spot, sort, at, a, other_at, b),
+    let Some(sort) = common(a.sort, b.sort) else {
+        return report(spot, Rule::WrongType);
+    };
+    if !takes(op, sort) {
+        return report(spot, Rule::WrongType);
+    }
+    let fit = beside(fitting(sort, at, a), fitting(sort, other_at, b));
+    match beside(divisor(op, spot, b.number), fit) {
+        Err(breach) => Err(breach),
+        Ok(()) => ordinal_result(op, spot, sort, a.number, b.number),
     }
 }
 
@@ -193,16 +167,6 @@ pub fn constant_operation(
     }
 }
 
-fn signed_value(sign: Sign, spot: Pos, x: Option<Operand>) -> Elaborated<Value>
-    ensures { result ≡ signed_value least sign spot x }
-{
-    match x {
-        None => report(spot, Rule::WrongType),
-        Some(Operand::Set(_)) => report(spot, Rule::WrongType),
-        Some(Operand::Scalar(a)) => signed_scalar(sign, spot, a),
-    }
-}
-
 fn is_signed(sort: Option<TypeNo>) -> bool
     ensures { result ≡ is_signed sort }
 {
@@ -237,22 +201,10 @@ pub fn with_sign(sign: Sign, spot: Pos, x: Elaborated<Value>) -> Elaborated<Valu
 {
     match x {
         Err(breach) => Err(breach),
-        Ok(value) => signed_value(sign, spot, operand_of(&value)),
-    }
-}
-
-fn negated_value(spot: Pos, x: Option<Operand>) -> Elaborated<Value>
-    ensures { result ≡ negated_value least spot x }
-{
-    match x {
-        None => report(spot, Rule::WrongType),
-        Some(Operand::Set(_)) => report(spot, Rule::WrongType),
-        Some(Operand::Scalar(a)) => {
-            if !is_truth(a.sort) {
-                return report(spot, Rule::WrongType);
-            }
-            Ok(truth(!(a.number > 0)))
-        }
+        Ok(value) => match operand_of(&value) {
+            None | Some(Operand::Set(_)) => report(spot, Rule::WrongType),
+            Some(Operand::Scalar(a)) => signed_scalar(sign, spot, a),
+        },
     }
 }
 
@@ -262,6 +214,14 @@ pub fn negation(spot: Pos, x: Elaborated<Value>) -> Elaborated<Value>
 {
     match x {
         Err(breach) => Err(breach),
-        Ok(value) => negated_value(spot, operand_of(&value)),
+        Ok(value) => match operand_of(&value) {
+            None | Some(Operand::Set(_)) => report(spot, Rule::WrongType),
+            Some(Operand::Scalar(a)) => {
+                if !is_truth(a.sort) {
+                    return report(spot, Rule::WrongType);
+                }
+                Ok(truth(!(a.number > 0)))
+            }
+        },
     }
 }

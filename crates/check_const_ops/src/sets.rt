@@ -2,7 +2,7 @@
 
 ghost use Rattle.std.specs.Prelude.{◌≡◌, ◌<◌};
 ghost use Rattle.check_scope.specs.Elaborated.{least};
-ghost use Rattle.check_const_ops.specs.Sets.{without, set_related, on_sets, place, has, up_to, with_span, member, membership_value};
+ghost use Rattle.check_const_ops.specs.Sets.{without, on_sets, place, has, up_to, with_span, member};
 
 use crate::operand::{Ordinal, is_number, truth};
 use crate::operator::BinaryOp;
@@ -18,18 +18,6 @@ fn without(a: u32, b: u32) -> u32
     a & (b ^ 4_294_967_295)
 }
 
-fn set_related(spot: Pos, relation: RelOp, a: u32, b: u32) -> Elaborated<Value>
-    ensures { result ≡ set_related least spot relation a b }
-{
-    match relation {
-        RelOp::Equal => Ok(truth(a == b)),
-        RelOp::Unequal => Ok(truth(!(a == b))),
-        RelOp::AtMost => Ok(truth(without(a, b) == 0)),
-        RelOp::AtLeast => Ok(truth(without(b, a) == 0)),
-        RelOp::Less | RelOp::Greater | RelOp::In => report(spot, Rule::WrongType),
-    }
-}
-
 /// An operator between two sets.
 pub fn on_sets(op: BinaryOp, spot: Pos, a: u32, b: u32) -> Elaborated<Value>
     ensures { result ≡ on_sets least op spot a b }
@@ -39,11 +27,15 @@ pub fn on_sets(op: BinaryOp, spot: Pos, a: u32, b: u32) -> Elaborated<Value>
         BinaryOp::Minus => Ok(Value::Set(without(a, b))),
         BinaryOp::Times => Ok(Value::Set(a & b)),
         BinaryOp::Over => Ok(Value::Set(a ^ b)),
-        BinaryOp::Relation(relation) => set_related(spot, relation, a, b),
-        BinaryOp::Div | BinaryOp::Mod | BinaryOp::And | BinaryOp::Or => report(
-            spot,
-            Rule::WrongType,
-        ),
+        BinaryOp::Relation(RelOp::Equal) => Ok(truth(a == b)),
+        BinaryOp::Relation(RelOp::Unequal) => Ok(truth(!(a == b))),
+        BinaryOp::Relation(RelOp::AtMost) => Ok(truth(without(a, b) == 0)),
+        BinaryOp::Relation(RelOp::AtLeast) => Ok(truth(without(b, a) == 0)),
+        BinaryOp::Relation(RelOp::Less | RelOp::Greater | RelOp::In)
+        | BinaryOp::Div
+        | BinaryOp::Mod
+        | BinaryOp::And
+        | BinaryOp::Or => report(spot, Rule::WrongType),
     }
 }
 
@@ -84,7 +76,15 @@ pub fn member(op: BinaryOp, spot: Pos, at: Pos, x: Ordinal, bits: u32) -> Elabor
     ensures { result ≡ member least op spot at x bits }
 {
     match op {
-        BinaryOp::Relation(RelOp::In) => membership_value(spot, at, x, bits),
+        BinaryOp::Relation(RelOp::In) => {
+            if !is_number(x.sort) {
+                return report(spot, Rule::WrongType);
+            }
+            if !(0 <= x.number && x.number <= 31) {
+                return report(at, Rule::OutOfRange);
+            }
+            Ok(truth(has(bits, x.number)))
+        }
         BinaryOp::Relation(_)
         | BinaryOp::Plus
         | BinaryOp::Minus
@@ -95,16 +95,4 @@ pub fn member(op: BinaryOp, spot: Pos, at: Pos, x: Ordinal, bits: u32) -> Elabor
         | BinaryOp::And
         | BinaryOp::Or => report(spot, Rule::WrongType),
     }
-}
-
-fn membership_value(spot: Pos, at: Pos, x: Ordinal, bits: u32) -> Elaborated<Value>
-    ensures { result ≡ membership_value least spot at x bits }
-{
-    if !is_number(x.sort) {
-        return report(spot, Rule::WrongType);
-    }
-    if !(0 <= x.number && x.number <= 31) {
-        return report(at, Rule::OutOfRange);
-    }
-    Ok(truth(has(bits, x.number)))
 }

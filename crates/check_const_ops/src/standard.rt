@@ -2,7 +2,7 @@
 
 ghost use Rattle.std.specs.Prelude.{◌≡◌};
 ghost use Rattle.check_scope.specs.Elaborated.{least};
-ghost use Rattle.check_const_ops.specs.Standards.{scalar_part, whole_number, absolute_part, absolute, upper, is_char, capital_part, capital, character_part, character, odd_part, is_odd, ordinal_part, ordinal_of, converted_part, conversion_of, bound_of};
+ghost use Rattle.check_const_ops.specs.Standards.{scalar_part, whole_number, absolute, upper, is_char, capital, character, is_odd, ordinal_of, conversion_of, bound_of};
 
 use crate::number::{evaluated_at, number_at};
 use crate::operand::{Operand, Ordinal, is_number, number_value, operand_of, truth};
@@ -32,10 +32,11 @@ pub fn whole_number(value: &Value) -> Option<Ordinal>
     }
 }
 
-fn absolute_part(at: Pos, a: Option<Ordinal>) -> Elaborated<Value>
-    ensures { result ≡ absolute_part least at a }
+/// ABS of a constant at a place.
+pub fn absolute(at: Pos, value: &Value) -> Elaborated<Value>
+    ensures { result ≡ absolute least at value.now }
 {
-    match a {
+    match whole_number(value) {
         None => report(at, Rule::WrongArgument),
         Some(a) => {
             if a.number < 0 {
@@ -45,13 +46,6 @@ fn absolute_part(at: Pos, a: Option<Ordinal>) -> Elaborated<Value>
             }
         }
     }
-}
-
-/// ABS of a constant at a place.
-pub fn absolute(at: Pos, value: &Value) -> Elaborated<Value>
-    ensures { result ≡ absolute least at value.now }
-{
-    absolute_part(at, whole_number(value))
 }
 
 fn upper(code: i64) -> i64
@@ -74,10 +68,11 @@ pub fn is_char(sort: Option<TypeNo>) -> bool
     }
 }
 
-fn capital_part(at: Pos, a: Option<Ordinal>) -> Elaborated<Value>
-    ensures { result ≡ capital_part least at a }
+/// CAP of a constant at a place.
+pub fn capital(at: Pos, value: &Value) -> Elaborated<Value>
+    ensures { result ≡ capital least at value.now }
 {
-    match a {
+    match scalar_part(operand_of(value)) {
         None => report(at, Rule::WrongArgument),
         Some(a) => {
             if !is_char(a.sort) {
@@ -88,17 +83,11 @@ fn capital_part(at: Pos, a: Option<Ordinal>) -> Elaborated<Value>
     }
 }
 
-/// CAP of a constant at a place.
-pub fn capital(at: Pos, value: &Value) -> Elaborated<Value>
-    ensures { result ≡ capital least at value.now }
+/// CHR of a constant at a place.
+pub fn character(at: Pos, value: &Value) -> Elaborated<Value>
+    ensures { result ≡ character least at value.now }
 {
-    capital_part(at, scalar_part(operand_of(value)))
-}
-
-fn character_part(at: Pos, a: Option<Ordinal>) -> Elaborated<Value>
-    ensures { result ≡ character_part least at a }
-{
-    match a {
+    match whole_number(value) {
         None => report(at, Rule::WrongArgument),
         Some(a) => {
             if !(0 <= a.number && a.number <= 255) {
@@ -109,35 +98,13 @@ fn character_part(at: Pos, a: Option<Ordinal>) -> Elaborated<Value>
     }
 }
 
-/// CHR of a constant at a place.
-pub fn character(at: Pos, value: &Value) -> Elaborated<Value>
-    ensures { result ≡ character least at value.now }
-{
-    character_part(at, whole_number(value))
-}
-
-fn odd_part(at: Pos, a: Option<Ordinal>) -> Elaborated<Value>
-    ensures { result ≡ odd_part least at a }
-{
-    match a {
-        None => report(at, Rule::WrongArgument),
-        Some(a) => Ok(truth(0 < a.number.rem_euclid(2))),
-    }
-}
-
 /// ODD of a constant at a place.
 pub fn is_odd(at: Pos, value: &Value) -> Elaborated<Value>
     ensures { result ≡ is_odd least at value.now }
 {
-    odd_part(at, whole_number(value))
-}
-
-fn ordinal_part(at: Pos, a: Option<Ordinal>) -> Elaborated<Value>
-    ensures { result ≡ ordinal_part least at a }
-{
-    match a {
+    match whole_number(value) {
         None => report(at, Rule::WrongArgument),
-        Some(a) => number_at(at, Some(CARDINAL), a.number),
+        Some(a) => Ok(truth(0 < a.number.rem_euclid(2))),
     }
 }
 
@@ -145,13 +112,17 @@ fn ordinal_part(at: Pos, a: Option<Ordinal>) -> Elaborated<Value>
 pub fn ordinal_of(at: Pos, value: &Value) -> Elaborated<Value>
     ensures { result ≡ ordinal_of least at value.now }
 {
-    ordinal_part(at, scalar_part(operand_of(value)))
+    match scalar_part(operand_of(value)) {
+        None => report(at, Rule::WrongArgument),
+        Some(a) => number_at(at, Some(CARDINAL), a.number),
+    }
 }
 
-fn converted_part(t: TypeNo, to: Scalar, at: Pos, a: Option<Ordinal>) -> Elaborated<Value>
-    ensures { result ≡ converted_part least t to at a }
+/// VAL of a constant at a place, to a scalar type.
+pub fn conversion_of(t: TypeNo, to: Scalar, at: Pos, value: &Value) -> Elaborated<Value>
+    ensures { result ≡ conversion_of least t to at value.now }
 {
-    match a {
+    match whole_number(value) {
         None => report(at, Rule::WrongArgument),
         Some(a) => {
             if !(to.low <= a.number && a.number <= to.high) {
@@ -160,13 +131,6 @@ fn converted_part(t: TypeNo, to: Scalar, at: Pos, a: Option<Ordinal>) -> Elabora
             Ok(bound_of(t, to, a.number))
         }
     }
-}
-
-/// VAL of a constant at a place, to a scalar type.
-pub fn conversion_of(t: TypeNo, to: Scalar, at: Pos, value: &Value) -> Elaborated<Value>
-    ensures { result ≡ conversion_of least t to at value.now }
-{
-    converted_part(t, to, at, whole_number(value))
 }
 
 /// A constant of a scalar type by its ordinal number.
