@@ -2,7 +2,7 @@
 
 ghost use Rattle.std.specs.Prelude.{◌≡◌};
 ghost use Rattle.check_scope.specs.Elaborated.{least, ◌▷◌};
-ghost use Rattle.check_const.specs.Calls.{sort_of, scalar_type, type_in, named_scalar, type_argument, unary_of, unary, bound_by, bound, conversion_call};
+ghost use Rattle.check_const.specs.Calls.{sort_of, scalar_type, type_in, type_argument, unary_of, unary, bound_by, bound, conversion_call};
 
 use crate::denoted::Denoted;
 use check_const_ops::{absolute, bound_of, capital, character, conversion_of, is_odd, ordinal_of};
@@ -68,15 +68,6 @@ pub fn type_in(denoted: Denoted) -> Option<TypeNo>
     }
 }
 
-fn named_scalar(types: &Types, at: Pos, named: Option<TypeNo>) -> Elaborated<(TypeNo, Scalar)>
-    ensures { result ≡ named_scalar least types.now at named }
-{
-    match named {
-        None => report(at, Rule::NoType),
-        Some(t) => scalar_type(at, t, scalar_of(types, t)),
-    }
-}
-
 /// An argument that names a scalar type: 33 at it if it does not.
 pub fn type_argument(
     types: &Types,
@@ -87,7 +78,8 @@ pub fn type_argument(
 {
     match named {
         Err(breach) => Err(breach),
-        Ok(named) => named_scalar(types, at, named),
+        Ok(None) => report(at, Rule::NoType),
+        Ok(Some(t)) => scalar_type(at, t, scalar_of(types, t)),
     }
 }
 

@@ -2,7 +2,7 @@
 
 ghost use Rattle.std.specs.Prelude.{◌≡◌};
 ghost use Rattle.check_scope.specs.Elaborated.{least, ◌▷◌};
-ghost use Rattle.check_const.specs.Denote.{denoted_by, denoted_of, as_constant, constant_by, is_bitset, component, of_value};
+ghost use Rattle.check_const.specs.Denote.{denoted_by, denoted_of, constant_by, is_bitset, component, of_value};
 
 use check_scope::{Elaborated, Meaningless, Sought, report};
 use m2_rule::Rule;
@@ -51,26 +51,18 @@ pub fn denoted_of(sought: Sought<Meaning>) -> Elaborated<Denoted>
     }
 }
 
-fn as_constant(at: Pos, denoted: Denoted) -> Elaborated<Value>
-    ensures { result ≡ as_constant least at denoted }
-{
-    match denoted {
-        Denoted::Value(value) => Ok(value),
-        Denoted::Type(_) => report(at, Rule::NoConstant),
-        Denoted::Variable => report(at, Rule::NoConstant),
-        Denoted::Procedure => report(at, Rule::NoConstant),
-        Denoted::Standard(_) => report(at, Rule::NoConstant),
-        Denoted::Module(_) => report(at, Rule::NoConstant),
-    }
-}
-
 /// What stands at a place, taken as a constant.
 pub fn constant_by(at: Pos, denoted: Elaborated<Denoted>) -> Elaborated<Value>
     ensures { result ≡ constant_by least at denoted }
 {
     match denoted {
         Err(breach) => Err(breach),
-        Ok(denoted) => as_constant(at, denoted),
+        Ok(Denoted::Value(value)) => Ok(value),
+        Ok(Denoted::Type(_)) => report(at, Rule::NoConstant),
+        Ok(Denoted::Variable) => report(at, Rule::NoConstant),
+        Ok(Denoted::Procedure) => report(at, Rule::NoConstant),
+        Ok(Denoted::Standard(_)) => report(at, Rule::NoConstant),
+        Ok(Denoted::Module(_)) => report(at, Rule::NoConstant),
     }
 }
 

@@ -4,7 +4,7 @@ ghost use Rattle.std.specs.Prelude.{◌≡◌, IfOk};
 ghost use Rattle.check_scope.specs.Elaborated.{least, ◌▷◌};
 ghost use Rattle.typed_tree.specs.declared.meaning.Value.TheVariants as value;
 ghost use Rattle.check_const.specs.Denote.{component};
-ghost use Rattle.check_const.specs.Parts.{relation_value, sign_place, signed_first, field_of, set_place, set_type, set_of, joined_bits, value_at, first_name, named_type, name_in_module, single_of, element_of};
+ghost use Rattle.check_const.specs.Parts.{relation_value, sign_place, signed_first, field_of, set_place, set_type, set_of, joined_bits, value_at, first_name, named_type, single_of, element_of};
 
 use crate::call::type_in;
 use crate::denoted::{Denoted, component, denoted_by, denoted_of, is_bitset, of_value};
@@ -109,37 +109,6 @@ pub fn first_name(scope: &Scope<Breach>, name: &Ident) -> Result<Elaborated<Deno
     Ok(denoted_of(looked_up(scope, name)?))
 }
 
-fn name_in_module(
-    scope: &Scope<Breach>,
-    place: usize,
-    name: &Ident,
-) -> Result<Elaborated<Denoted>, AllocError>
-    ensures { IfOk result (λ d. d ≡ name_in_module least scope.now place name.now) }
-{
-    match exported_meaning(scope, place, name)? {
-        Err(breach) => Ok(Err(breach)),
-        Ok(meaning) => Ok(Ok(denoted_by(meaning))),
-    }
-}
-
-fn field_of(
-    scope: &Scope<Breach>,
-    at: Pos,
-    name: &Ident,
-    denoted: Denoted,
-) -> Result<Elaborated<Denoted>, AllocError>
-    ensures { IfOk result (λ d. d ≡ field_of least scope.now at name.now denoted) }
-{
-    match denoted {
-        Denoted::Module(place) => name_in_module(scope, place, name),
-        Denoted::Variable => Ok(component(at, Denoted::Variable)),
-        Denoted::Value(value) => Ok(component(at, Denoted::Value(value))),
-        Denoted::Type(t) => Ok(component(at, Denoted::Type(t))),
-        Denoted::Procedure => Ok(component(at, Denoted::Procedure)),
-        Denoted::Standard(standard) => Ok(component(at, Denoted::Standard(standard))),
-    }
-}
-
 /// A name of a module, or a component.
 pub fn field_in(
     scope: &Scope<Breach>,
@@ -151,7 +120,11 @@ pub fn field_in(
 {
     match from {
         Err(breach) => Ok(Err(breach)),
-        Ok(denoted) => field_of(scope, at, name, denoted),
+        Ok(Denoted::Module(place)) => match exported_meaning(scope, place, name)? {
+            Err(breach) => Ok(Err(breach)),
+            Ok(meaning) => Ok(Ok(denoted_by(meaning))),
+        },
+        Ok(denoted) => Ok(component(at, denoted)),
     }
 }
 

@@ -3,11 +3,11 @@
 ghost use Rattle.std.specs.Prelude.{◌≡◌, IfOk};
 ghost use Rattle.std.specs.Option.{option_copied};
 ghost use Rattle.check_scope.specs.Elaborated.{least};
-ghost use Rattle.check_const.specs.Denote.{exported_by, export_of, exported_meaning};
+ghost use Rattle.check_const.specs.Denote.{exported_by, exported_meaning};
 
 use check_scope::{Elaborated, Scope, report};
 use m2_rule::{Breach, Rule};
-use m2_tree::{Ident, Pos};
+use m2_tree::Ident;
 use std::alloc::AllocError;
 use tree_parts::Shared;
 use typed_tree::{Meaning, Table};
@@ -21,15 +21,6 @@ fn exported_by<'a>(table: Option<&'a Shared<Table>>, name: &[u8]) -> Option<&'a 
     }
 }
 
-fn export_of(at: Pos, meaning: Option<&Meaning>) -> Result<Elaborated<Meaning>, AllocError>
-    ensures { IfOk result (λ m. m ≡ export_of least at (option_copied meaning.entry)) }
-{
-    match meaning {
-        None => Ok(report(at, Rule::NotExported)),
-        Some(meaning) => Ok(Ok(meaning.copy()?)),
-    }
-}
-
 /// What a name of a module means. The module is known by the place of its table.
 pub fn exported_meaning(
     scope: &Scope<Breach>,
@@ -38,8 +29,8 @@ pub fn exported_meaning(
 ) -> Result<Elaborated<Meaning>, AllocError>
     ensures { IfOk result (λ m. m ≡ exported_meaning least scope.now.tables place name.now) }
 {
-    export_of(
-        name.pos,
-        exported_by(scope.tables.get(place), name.name.as_bytes()),
-    )
+    match exported_by(scope.tables.get(place), name.name.as_bytes()) {
+        None => Ok(report(name.pos, Rule::NotExported)),
+        Some(meaning) => Ok(Ok(meaning.copy()?)),
+    }
 }
