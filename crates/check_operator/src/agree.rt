@@ -1,11 +1,10 @@
 //! Headings that agree.
 
 ghost use Rattle.std.specs.Prelude.{◌≡◌};
-ghost use Rattle.std.specs.Option.{option_copied};
-ghost use Rattle.check_operator.specs.Agreement.{is_alike, formal_agrees, formals_agree, result_agrees, signatures_agree, headings_agree};
+ghost use Rattle.check_operator.specs.Agreement.{is_alike, formal_agrees, formals_agree, result_agrees, headings_agree};
 
 use crate::class::signature_of;
-use typed_tree::{Formal, Signature, TypeNo, Types, are_same};
+use typed_tree::{Formal, TypeNo, Types, are_same};
 
 fn is_alike(first: bool, second: bool) -> bool
     ensures { result ≡ is_alike first second }
@@ -53,24 +52,15 @@ fn result_agrees(first: Option<TypeNo>, second: Option<TypeNo>) -> bool
     }
 }
 
-fn signatures_agree(first: Option<&Signature>, second: Option<&Signature>) -> bool
-    ensures { result ≡ signatures_agree (option_copied first.entry) (option_copied second.entry) }
-{
-    match first {
-        None => false,
-        Some(first) => match second {
-            None => false,
-            Some(second) => {
-                formals_agree(first.formals.as_slice(), second.formals.as_slice())
-                    && result_agrees(first.result, second.result)
-            }
-        },
-    }
-}
-
 /// Whether two procedure types agree in kinds and types of formals and in the result.
 pub fn headings_agree(types: &Types, first: TypeNo, second: TypeNo) -> bool
     ensures { result ≡ headings_agree types.now first second }
 {
-    signatures_agree(signature_of(types, first), signature_of(types, second))
+    match (signature_of(types, first), signature_of(types, second)) {
+        (Some(first), Some(second)) => {
+            formals_agree(first.formals.as_slice(), second.formals.as_slice())
+                && result_agrees(first.result, second.result)
+        }
+        (Some(_), None) | (None, _) => false,
+    }
 }

@@ -2,9 +2,9 @@
 
 ghost use Rattle.std.specs.Prelude.{◌≡◌};
 ghost use Rattle.std.specs.Option.{option_copied};
-ghost use Rattle.check_operator.specs.Classes.{class_made, class_range, class_at, signature_made, signature_at, array_made, array_at};
+ghost use Rattle.check_operator.specs.Classes.{class_at, signature_at, array_at};
 
-use typed_tree::{Home, Made, Scalar, Shape, Signature, TypeNo, Types, made_of, scalar_of};
+use typed_tree::{Home, Scalar, Shape, Signature, TypeNo, Types, made_of, scalar_of};
 
 /// What a type is.
 #[derive(Clone, Copy)]
@@ -18,43 +18,32 @@ pub enum Class {
     Whole,
 }
 
-fn class_made(made: Option<&Made>) -> Class
-    ensures { result ≡ class_made (option_copied made.entry) }
-{
-    match made {
-        None => Class::Whole,
-        Some(made) => match &made.shape {
-            Shape::Scalar(scalar) => Class::Scalar(*scalar),
-            Shape::Set => Class::Set,
-            Shape::Procedure(_) => Class::Procedure,
-            Shape::Array(_, _) | Shape::Record(_) | Shape::Open(_) => Class::Whole,
-        },
-    }
-}
-
-fn class_range(scalar: Option<Scalar>) -> Class
-    ensures { result ≡ class_range scalar }
-{
-    match scalar {
-        None => Class::Set,
-        Some(scalar) => Class::Scalar(scalar),
-    }
-}
-
 /// What a type is.
 pub fn class_of(types: &Types, t: TypeNo) -> Class
     ensures { result ≡ class_at types.now t }
 {
     match t.home {
-        Home::Predeclared => class_range(scalar_of(types, t)),
-        Home::Module(_) => class_made(made_of(types, t)),
+        Home::Predeclared => match scalar_of(types, t) {
+            None => Class::Set,
+            Some(scalar) => Class::Scalar(scalar),
+        },
+        Home::Module(_) => match made_of(types, t) {
+            None => Class::Whole,
+            Some(made) => match &made.shape {
+                Shape::Scalar(scalar) => Class::Scalar(*scalar),
+                Shape::Set => Class::Set,
+                Shape::Procedure(_) => Class::Procedure,
+                Shape::Array(_, _) | Shape::Record(_) | Shape::Open(_) => Class::Whole,
+            },
+        },
     }
 }
 
-fn signature_made(made: Option<&Made>) -> Option<&Signature>
-    ensures { option_copied result ≡ signature_made (option_copied made.entry) }
+/// The formals and the result of a procedure type.
+pub fn signature_of(types: &Types, t: TypeNo) -> Option<&Signature>
+    ensures { option_copied result ≡ signature_at types.now t }
 {
-    match made {
+    match made_of(types, t) {
         None => None,
         Some(made) => match &made.shape {
             Shape::Procedure(signature) => Some(signature),
@@ -67,17 +56,11 @@ fn signature_made(made: Option<&Made>) -> Option<&Signature>
     }
 }
 
-/// The formals and the result of a procedure type.
-pub fn signature_of(types: &Types, t: TypeNo) -> Option<&Signature>
-    ensures { option_copied result ≡ signature_at types.now t }
+/// The index and the elements of an array type.
+pub fn array_of(types: &Types, t: TypeNo) -> Option<(TypeNo, TypeNo)>
+    ensures { result ≡ array_at types.now t }
 {
-    signature_made(made_of(types, t))
-}
-
-fn array_made(made: Option<&Made>) -> Option<(TypeNo, TypeNo)>
-    ensures { result ≡ array_made (option_copied made.entry) }
-{
-    match made {
+    match made_of(types, t) {
         None => None,
         Some(made) => match &made.shape {
             Shape::Array(index, element) => Some((*index, *element)),
@@ -88,11 +71,4 @@ fn array_made(made: Option<&Made>) -> Option<(TypeNo, TypeNo)>
             | Shape::Open(_) => None,
         },
     }
-}
-
-/// The index and the elements of an array type.
-pub fn array_of(types: &Types, t: TypeNo) -> Option<(TypeNo, TypeNo)>
-    ensures { result ≡ array_at types.now t }
-{
-    array_made(made_of(types, t))
 }

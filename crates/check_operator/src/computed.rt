@@ -2,7 +2,7 @@
 
 ghost use Rattle.std.specs.Prelude.{◌≡◌, IfOk};
 ghost use Rattle.check_scope.specs.Elaborated.{least};
-ghost use Rattle.check_operator.specs.Values.{slot_of, local_by, opened_by, nested_by, designated_by, function_result, variable_value, value_at_place};
+ghost use Rattle.check_operator.specs.Values.{slot_of, local_by, designated_by, function_result, variable_value, value_at_place};
 
 use crate::class::{Class, class_of};
 use check_scope::{Elaborated, report};
@@ -10,8 +10,8 @@ use m2_rule::Rule;
 use m2_tree::Pos;
 use std::alloc::{AllocError, Global};
 use typed_tree::{
-    Component, LocalKind, LocalProcedure, LocalVariable, Meaning, NestedProcedure, OpenedField,
-    Place, Procedure, Root, Slot, Standard, TypeNo, TypedExpr, Types, Value, behind, root_place,
+    Component, LocalKind, LocalProcedure, LocalVariable, Meaning, Place, Procedure, Root, Slot,
+    Standard, TypeNo, TypedExpr, Types, Value, behind, root_place,
 };
 
 /// The value of an expression.
@@ -73,24 +73,6 @@ fn local_by(alloc: Global, level: usize, variable: LocalVariable) -> Designated
     }
 }
 
-fn opened_by(alloc: Global, field: OpenedField) -> Result<Designated, AllocError>
-    ensures { IfOk result (λ d. d ≡ opened_by field) }
-{
-    let record = root_place(alloc, Root::With(field.with));
-    let place = behind(record, Component::Field(field.whole, field.number))?;
-    Ok(Designated::Variable(field.of, place))
-}
-
-fn nested_by(level: usize, procedure: NestedProcedure) -> LocalProcedure
-    ensures { result ≡ nested_by level procedure }
-{
-    LocalProcedure {
-        up: level.saturating_sub(procedure.level),
-        number: procedure.number,
-        heading: procedure.heading,
-    }
-}
-
 /// What a name stands for, this many procedures deep. A procedure whose heading was not met yet is not declared yet:
 /// 30.
 pub fn designated_by(
@@ -109,11 +91,17 @@ pub fn designated_by(
             Ok(Ok(Designated::Variable(variable.of, place)))
         }
         Meaning::Local(variable) => Ok(Ok(local_by(alloc, level, variable))),
-        Meaning::Field(field) => Ok(Ok(opened_by(alloc, field)?)),
-        Meaning::Procedure(procedure) => Ok(Ok(Designated::Procedure(procedure))),
-        Meaning::LocalProcedure(procedure) => {
-            Ok(Ok(Designated::Nested(nested_by(level, procedure))))
+        Meaning::Field(field) => {
+            let record = root_place(alloc, Root::With(field.with));
+            let place = behind(record, Component::Field(field.whole, field.number))?;
+            Ok(Ok(Designated::Variable(field.of, place)))
         }
+        Meaning::Procedure(procedure) => Ok(Ok(Designated::Procedure(procedure))),
+        Meaning::LocalProcedure(procedure) => Ok(Ok(Designated::Nested(LocalProcedure {
+            up: level.saturating_sub(procedure.level),
+            number: procedure.number,
+            heading: procedure.heading,
+        }))),
         Meaning::Ahead => Ok(report(at, Rule::Undeclared)),
         Meaning::Standard(standard) => Ok(Ok(Designated::Standard(standard))),
         Meaning::Module(place) => Ok(Ok(Designated::Module(place))),

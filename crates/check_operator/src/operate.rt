@@ -4,7 +4,7 @@ ghost use Rattle.std.specs.Prelude.{◌≡◌, Ok, IfOk};
 ghost use Rattle.check_scope.specs.Elaborated.{least, ◌▷◌};
 ghost use Rattle.check_const_ops.specs.Common.{common};
 ghost use Rattle.check_operator.specs.Sides.{sort_of};
-ghost use Rattle.check_operator.specs.Operations.{relation_step, step_of, relation_set_step, set_step_of, equality_of, is_in, step_result, fitting_of, divisor_of, fitting_both, step_or_refusal, on_amounts, element_fits, member, set_built, on_sets, on_procedures, with_scalar, set_in, with_set, partner_of, routine_of, with_partner, between, constant_result, by_known, operation_on, operation_between};
+ghost use Rattle.check_operator.specs.Operations.{step_of, set_step_of, equality_of, step_result, fitting_of, fitting_both, on_amounts, element_fits, member, set_built, with_scalar, set_in, with_set, partner_of, routine_of, with_partner, between, operation_between};
 
 use crate::agree::headings_agree;
 use crate::computed::Computed;
@@ -37,20 +37,6 @@ pub enum SetStep {
     Include(Inclusion),
 }
 
-fn relation_step(relation: RelOp) -> Option<Step>
-    ensures { result ≡ relation_step relation }
-{
-    match relation {
-        RelOp::Equal => Some(Step::Compare(Comparison::Equal)),
-        RelOp::Unequal => Some(Step::Compare(Comparison::Unequal)),
-        RelOp::Less => Some(Step::Compare(Comparison::Less)),
-        RelOp::AtMost => Some(Step::Compare(Comparison::AtMost)),
-        RelOp::Greater => Some(Step::Compare(Comparison::Greater)),
-        RelOp::AtLeast => Some(Step::Compare(Comparison::AtLeast)),
-        RelOp::In => None,
-    }
-}
-
 fn step_of(op: BinaryOp) -> Option<Step>
     ensures { result ≡ step_of op }
 {
@@ -58,24 +44,17 @@ fn step_of(op: BinaryOp) -> Option<Step>
         BinaryOp::Plus => Some(Step::Arithmetic(Arithmetic::Add)),
         BinaryOp::Minus => Some(Step::Arithmetic(Arithmetic::Subtract)),
         BinaryOp::Times => Some(Step::Arithmetic(Arithmetic::Multiply)),
-        BinaryOp::Over => None,
         BinaryOp::Div => Some(Step::Arithmetic(Arithmetic::Divide)),
         BinaryOp::Mod => Some(Step::Arithmetic(Arithmetic::Remainder)),
         BinaryOp::And => Some(Step::And),
         BinaryOp::Or => Some(Step::Or),
-        BinaryOp::Relation(relation) => relation_step(relation),
-    }
-}
-
-fn relation_set_step(relation: RelOp) -> Option<SetStep>
-    ensures { result ≡ relation_set_step relation }
-{
-    match relation {
-        RelOp::Equal => Some(SetStep::Compare(Comparison::Equal)),
-        RelOp::Unequal => Some(SetStep::Compare(Comparison::Unequal)),
-        RelOp::AtMost => Some(SetStep::Include(Inclusion::Within)),
-        RelOp::AtLeast => Some(SetStep::Include(Inclusion::Around)),
-        RelOp::Less | RelOp::Greater | RelOp::In => None,
+        BinaryOp::Relation(RelOp::Equal) => Some(Step::Compare(Comparison::Equal)),
+        BinaryOp::Relation(RelOp::Unequal) => Some(Step::Compare(Comparison::Unequal)),
+        BinaryOp::Relation(RelOp::Less) => Some(Step::Compare(Comparison::Less)),
+        BinaryOp::Relation(RelOp::AtMost) => Some(Step::Compare(Comparison::AtMost)),
+        BinaryOp::Relation(RelOp::Greater) => Some(Step::Compare(Comparison::Greater)),
+        BinaryOp::Relation(RelOp::AtLeast) => Some(Step::Compare(Comparison::AtLeast)),
+        BinaryOp::Over | BinaryOp::Relation(RelOp::In) => None,
     }
 }
 
@@ -87,8 +66,15 @@ fn set_step_of(op: BinaryOp) -> Option<SetStep>
         BinaryOp::Minus => Some(SetStep::Combine(SetOperator::Difference)),
         BinaryOp::Times => Some(SetStep::Combine(SetOperator::Intersection)),
         BinaryOp::Over => Some(SetStep::Combine(SetOperator::SymmetricDifference)),
-        BinaryOp::Div | BinaryOp::Mod | BinaryOp::And | BinaryOp::Or => None,
-        BinaryOp::Relation(relation) => relation_set_step(relation),
+        BinaryOp::Relation(RelOp::Equal) => Some(SetStep::Compare(Comparison::Equal)),
+        BinaryOp::Relation(RelOp::Unequal) => Some(SetStep::Compare(Comparison::Unequal)),
+        BinaryOp::Relation(RelOp::AtMost) => Some(SetStep::Include(Inclusion::Within)),
+        BinaryOp::Relation(RelOp::AtLeast) => Some(SetStep::Include(Inclusion::Around)),
+        BinaryOp::Relation(RelOp::Less | RelOp::Greater | RelOp::In)
+        | BinaryOp::Div
+        | BinaryOp::Mod
+        | BinaryOp::And
+        | BinaryOp::Or => None,
     }
 }
 
@@ -108,23 +94,6 @@ fn equality_of(op: BinaryOp) -> Option<Comparison>
         | BinaryOp::Mod
         | BinaryOp::And
         | BinaryOp::Or => None,
-    }
-}
-
-fn is_in(op: BinaryOp) -> bool
-    ensures { result ≡ is_in op }
-{
-    match op {
-        BinaryOp::Relation(RelOp::In) => true,
-        BinaryOp::Relation(_)
-        | BinaryOp::Plus
-        | BinaryOp::Minus
-        | BinaryOp::Times
-        | BinaryOp::Over
-        | BinaryOp::Div
-        | BinaryOp::Mod
-        | BinaryOp::And
-        | BinaryOp::Or => false,
     }
 }
 
@@ -161,15 +130,6 @@ fn fitting_of(sort: Option<TypeNo>, at: Pos, a: &Amount) -> Elaborated<()>
     }
 }
 
-fn divisor_of(op: BinaryOp, spot: Pos, b: &Amount) -> Elaborated<()>
-    ensures { result ≡ divisor_of least op spot b.now }
-{
-    match b {
-        Amount::Known(b) => divisor(op, spot, b.number),
-        Amount::Run(_, _) => Ok(()),
-    }
-}
-
 fn fitting_both(
     op: BinaryOp,
     spot: Pos,
@@ -185,25 +145,9 @@ fn fitting_both(
         return report(spot, Rule::WrongType);
     }
     let fit = beside(fitting_of(sort, at, a), fitting_of(sort, other_at, b));
-    beside(divisor_of(op, spot, b), fit)
-}
-
-fn step_or_refusal(
-    alloc: Global,
-    spot: Pos,
-    sort: Option<TypeNo>,
-    a: Amount,
-    b: Amount,
-    step: Option<Step>,
-) -> Result<Elaborated<Computed>, AllocError>
-    ensures { IfOk result (λ v. v ≡ step_or_refusal least spot sort a b step) }
-{
-    match step {
-        None => Ok(report(spot, Rule::WrongType)),
-        Some(step) => {
-            let t = or_cardinal(sort);
-            Ok(Ok(step_result(alloc, step, t, run_of(t, a), run_of(t, b))?))
-        }
+    match b {
+        Amount::Known(b) => beside(divisor(op, spot, b.number), fit),
+        Amount::Run(_, _) => fit,
     }
 }
 
@@ -224,7 +168,13 @@ fn on_amounts(
         None => Ok(report(spot, Rule::WrongType)),
         Some(sort) => match fitting_both(op, spot, sort, at, &a, other_at, &b) {
             Err(breach) => Ok(Err(breach)),
-            Ok(()) => step_or_refusal(alloc, spot, sort, a, b, step_of(op)),
+            Ok(()) => match step_of(op) {
+                None => Ok(report(spot, Rule::WrongType)),
+                Some(step) => {
+                    let t = or_cardinal(sort);
+                    Ok(Ok(step_result(alloc, step, t, run_of(t, a), run_of(t, b))?))
+                }
+            },
         },
     }
 }
@@ -256,7 +206,7 @@ fn member(
     ensures { IfOk result (λ v. v ≡ member least op spot at a set) }
 {
     let sort = sort_of(&a);
-    if !(is_in(op) && is_number(sort)) {
+    if !(matches!(op, BinaryOp::Relation(RelOp::In)) && is_number(sort)) {
         return Ok(report(spot, Rule::WrongType));
     }
     match element_fits(at, &a) {
@@ -291,45 +241,6 @@ fn set_built(
     }
 }
 
-/// An operator between two sets.
-fn on_sets(
-    alloc: Global,
-    spot: Pos,
-    x: TypedExpr,
-    y: TypedExpr,
-    step: Option<SetStep>,
-) -> Result<Elaborated<Computed>, AllocError>
-    ensures { IfOk result (λ v. v ≡ on_sets least spot x y step) }
-{
-    match step {
-        None => Ok(report(spot, Rule::WrongType)),
-        Some(step) => Ok(Ok(set_built(alloc, step, x, y)?)),
-    }
-}
-
-/// An operator between two values of procedure types, of which it is known whether they go together.
-fn on_procedures(
-    alloc: Global,
-    spot: Pos,
-    fit: bool,
-    x: TypedExpr,
-    y: TypedExpr,
-    comparison: Option<Comparison>,
-) -> Result<Elaborated<Computed>, AllocError>
-    ensures { IfOk result (λ v. v ≡ on_procedures least spot fit x y comparison) }
-{
-    match comparison {
-        None => Ok(report(spot, Rule::WrongType)),
-        Some(comparison) => {
-            if !fit {
-                return Ok(report(spot, Rule::WrongType));
-            }
-            let (first, second) = boxes_of(alloc, x, y)?;
-            Ok(Ok(truth_of(TypedExpr::Compare(comparison, first, second))))
-        }
-    }
-}
-
 fn with_scalar(
     alloc: Global,
     op: BinaryOp,
@@ -350,31 +261,24 @@ fn with_scalar(
     }
 }
 
-/// A set, if the value is one.
-fn set_in(y: Option<Side>) -> Option<TypedExpr>
-    ensures { result ≡ set_in y }
-{
-    match y {
-        None => None,
-        Some(Side::Scalar(_)) => None,
-        Some(Side::Set(set)) => Some(set),
-        Some(Side::Routine(_, _)) => None,
-        Some(Side::Procedure(_)) => None,
-    }
-}
-
 fn with_set(
     alloc: Global,
     op: BinaryOp,
     spot: Pos,
     x: TypedExpr,
-    y: Option<TypedExpr>,
+    y: Option<Side>,
 ) -> Result<Elaborated<Computed>, AllocError>
-    ensures { IfOk result (λ v. v ≡ with_set least op spot x y) }
+    ensures { IfOk result (λ v. v ≡ with_set least op spot x (set_in y)) }
 {
     match y {
         None => Ok(report(spot, Rule::WrongType)),
-        Some(set) => on_sets(alloc, spot, x, set, set_step_of(op)),
+        Some(Side::Scalar(_)) => Ok(report(spot, Rule::WrongType)),
+        Some(Side::Set(set)) => match set_step_of(op) {
+            None => Ok(report(spot, Rule::WrongType)),
+            Some(step) => Ok(Ok(set_built(alloc, step, x, set)?)),
+        },
+        Some(Side::Routine(_, _)) => Ok(report(spot, Rule::WrongType)),
+        Some(Side::Procedure(_)) => Ok(report(spot, Rule::WrongType)),
     }
 }
 
@@ -418,7 +322,16 @@ fn with_partner(
 {
     match partner {
         None => Ok(report(spot, Rule::WrongType)),
-        Some((fit, y)) => on_procedures(alloc, spot, fit, x, y, comparison),
+        Some((fit, y)) => match comparison {
+            None => Ok(report(spot, Rule::WrongType)),
+            Some(comparison) => {
+                if !fit {
+                    return Ok(report(spot, Rule::WrongType));
+                }
+                let (first, second) = boxes_of(alloc, x, y)?;
+                Ok(Ok(truth_of(TypedExpr::Compare(comparison, first, second))))
+            }
+        },
     }
 }
 
@@ -438,7 +351,7 @@ fn between(
     match x {
         None => Ok(report(spot, Rule::WrongType)),
         Some(Side::Scalar(a)) => with_scalar(alloc, op, spot, at, a, other_at, y),
-        Some(Side::Set(e)) => with_set(alloc, op, spot, e, set_in(y)),
+        Some(Side::Set(e)) => with_set(alloc, op, spot, e, y),
         Some(Side::Routine(t, e)) => {
             with_partner(alloc, spot, e, equality_of(op), partner_of(types, t, y))
         }
@@ -452,41 +365,6 @@ fn between(
                 routine_of(types, procedure, y),
             )
         }
-    }
-}
-
-fn constant_result(
-    op: BinaryOp,
-    spot: Pos,
-    at: Pos,
-    a: Operand,
-    other_at: Pos,
-    b: Operand,
-) -> Elaborated<Computed>
-    ensures { result ≡ constant_result least op spot at a other_at b }
-{
-    of_value(binary(op, spot, at, Some(a), other_at, Some(b)))
-}
-
-/// An operator at a place, between two values at theirs.
-fn operation_on(
-    alloc: Global,
-    types: &Types,
-    op: BinaryOp,
-    spot: Pos,
-    at: Pos,
-    x: Computed,
-    other_at: Pos,
-    y: Computed,
-) -> Result<Elaborated<Computed>, AllocError>
-    ensures { IfOk result (λ v. v ≡ operation_on least types.now op spot at x other_at y) }
-{
-    match known_of(&x) {
-        None => between(alloc, types, op, spot, at, side_of(x), other_at, side_of(y)),
-        Some(a) => match known_of(&y) {
-            None => between(alloc, types, op, spot, at, side_of(x), other_at, side_of(y)),
-            Some(b) => Ok(constant_result(op, spot, at, a, other_at, b)),
-        },
     }
 }
 
@@ -507,6 +385,11 @@ pub fn operation_between(
 {
     match both(x, y) {
         Err(breach) => Ok(Err(breach)),
-        Ok((a, b)) => operation_on(alloc, types, op, spot, at, a, other_at, b),
+        Ok((x, y)) => match (known_of(&x), known_of(&y)) {
+            (Some(a), Some(b)) => Ok(of_value(binary(op, spot, at, Some(a), other_at, Some(b)))),
+            (Some(_), None) | (None, _) => {
+                between(alloc, types, op, spot, at, side_of(x), other_at, side_of(y))
+            }
+        },
     }
 }

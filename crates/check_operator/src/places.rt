@@ -2,13 +2,12 @@
 
 ghost use Rattle.std.specs.Prelude.{◌≡◌, length, IfOk};
 ghost use Rattle.check_scope.specs.Elaborated.{least};
-ghost use Rattle.check_operator.specs.Suits.{bases_suit, sort_suits, known_suited, run_suited, scalar_suited, set_suited, procedure_suited, value_suited, text_within, text_fits_in, text_fits, text_suited, whole_suited, of_expr, value_for_place};
+ghost use Rattle.check_operator.specs.Suits.{bases_suit, sort_suits, scalar_suited, set_suited, procedure_suited, value_suited, text_within, text_fits, whole_suited, value_for_place};
 
 use crate::agree::headings_agree;
 use crate::class::{Class, array_of, class_of};
 use crate::computed::Computed;
 use crate::side::{Amount, Side, side_of};
-use check_const_ops::Ordinal;
 use check_scope::{Elaborated, report};
 use m2_rule::Rule;
 use m2_tree::{Pos, Quoted};
@@ -45,39 +44,6 @@ pub fn sort_suits(asked: TypeNo, sort: Option<TypeNo>) -> bool
     }
 }
 
-fn known_suited(
-    broken: Rule,
-    t: TypeNo,
-    scalar: Scalar,
-    at: Pos,
-    a: Ordinal,
-) -> Elaborated<TypedExpr>
-    ensures { result ≡ known_suited least broken t scalar at a }
-{
-    if !sort_suits(scalar.base, a.sort) {
-        return report(at, broken);
-    }
-    if !(scalar.low <= a.number && a.number <= scalar.high) {
-        return report(at, Rule::OutOfRange);
-    }
-    Ok(TypedExpr::Constant(t, a.number))
-}
-
-fn run_suited(
-    broken: Rule,
-    scalar: Scalar,
-    at: Pos,
-    base: TypeNo,
-    e: TypedExpr,
-) -> Elaborated<TypedExpr>
-    ensures { result ≡ run_suited least broken scalar at base e }
-{
-    if !bases_suit(scalar.base, base) {
-        return report(at, broken);
-    }
-    Ok(e)
-}
-
 fn scalar_suited(
     broken: Rule,
     t: TypeNo,
@@ -89,8 +55,21 @@ fn scalar_suited(
 {
     match x {
         None => report(at, broken),
-        Some(Side::Scalar(Amount::Known(a))) => known_suited(broken, t, scalar, at, a),
-        Some(Side::Scalar(Amount::Run(base, e))) => run_suited(broken, scalar, at, base, e),
+        Some(Side::Scalar(Amount::Known(a))) => {
+            if !sort_suits(scalar.base, a.sort) {
+                return report(at, broken);
+            }
+            if !(scalar.low <= a.number && a.number <= scalar.high) {
+                return report(at, Rule::OutOfRange);
+            }
+            Ok(TypedExpr::Constant(t, a.number))
+        }
+        Some(Side::Scalar(Amount::Run(base, e))) => {
+            if !bases_suit(scalar.base, base) {
+                return report(at, broken);
+            }
+            Ok(e)
+        }
         Some(Side::Set(_)) => report(at, broken),
         Some(Side::Routine(_, _)) => report(at, broken),
         Some(Side::Procedure(_)) => report(at, broken),
@@ -168,42 +147,14 @@ fn text_within(length: usize, index: Option<Scalar>) -> bool
     }
 }
 
-fn text_fits_in(types: &Types, length: usize, array: Option<(TypeNo, TypeNo)>) -> bool
-    ensures { result ≡ text_fits_in types.now length array }
-{
-    match array {
-        None => false,
-        Some((index, element)) => {
-            are_same(element, CHAR) && text_within(length, scalar_of(types, index))
-        }
-    }
-}
-
 /// Whether a type is an array of CHAR with at least `length` elements.
 pub fn text_fits(types: &Types, t: TypeNo, length: usize) -> bool
     ensures { result ≡ text_fits types.now t length }
 {
-    text_fits_in(types, length, array_of(types, t))
-}
-
-fn text_suited(
-    broken: Rule,
-    types: &Types,
-    t: TypeNo,
-    at: Pos,
-    value: Value,
-) -> Elaborated<Accepted>
-    ensures { result ≡ text_suited least broken types.now t at value }
-{
-    match value {
-        Value::Number(_) => report(at, broken),
-        Value::Scalar(_) => report(at, broken),
-        Value::Set(_) => report(at, broken),
-        Value::Text(text) => {
-            if !text_fits(types, t, text.get().as_bytes().len()) {
-                return report(at, broken);
-            }
-            Ok(Accepted::Text(text))
+    match array_of(types, t) {
+        None => false,
+        Some((index, element)) => {
+            are_same(element, CHAR) && text_within(length, scalar_of(types, index))
         }
     }
 }
@@ -218,7 +169,15 @@ fn whole_suited(
     ensures { result ≡ whole_suited least broken types.now t at x }
 {
     match x {
-        Computed::Constant(value) => text_suited(broken, types, t, at, value),
+        Computed::Constant(Value::Text(text)) => {
+            if !text_fits(types, t, text.get().as_bytes().len()) {
+                return report(at, broken);
+            }
+            Ok(Accepted::Text(text))
+        }
+        Computed::Constant(Value::Number(_)) => report(at, broken),
+        Computed::Constant(Value::Scalar(_)) => report(at, broken),
+        Computed::Constant(Value::Set(_)) => report(at, broken),
         Computed::Whole(u, place) => {
             if !are_same(u, t) {
                 return report(at, broken);
@@ -230,15 +189,6 @@ fn whole_suited(
         Computed::Routine(_, _) => report(at, broken),
         Computed::Procedure(_) => report(at, broken),
         Computed::Untaken => report(at, broken),
-    }
-}
-
-fn of_expr(e: Elaborated<TypedExpr>) -> Elaborated<Accepted>
-    ensures { result ≡ of_expr e }
-{
-    match e {
-        Err(breach) => Err(breach),
-        Ok(e) => Ok(Accepted::Value(e)),
     }
 }
 
@@ -254,9 +204,12 @@ pub fn value_for_place(
     ensures { result ≡ value_for_place least broken types.now t at x }
 {
     match class_of(types, t) {
-        Class::Scalar(_) => of_expr(value_suited(broken, types, t, at, x)),
-        Class::Set => of_expr(value_suited(broken, types, t, at, x)),
-        Class::Procedure => of_expr(value_suited(broken, types, t, at, x)),
         Class::Whole => whole_suited(broken, types, t, at, x),
+        Class::Scalar(_) | Class::Set | Class::Procedure => {
+            match value_suited(broken, types, t, at, x) {
+                Err(breach) => Err(breach),
+                Ok(e) => Ok(Accepted::Value(e)),
+            }
+        }
     }
 }

@@ -1,9 +1,8 @@
 //! Components of variables.
 
 ghost use Rattle.std.specs.Prelude.{◌≡◌, IfOk};
-ghost use Rattle.std.specs.Option.{option_copied};
 ghost use Rattle.check_scope.specs.Elaborated.{least};
-ghost use Rattle.check_operator.specs.Selection.{numbered_field, field_named, record_field, component, field, array_indexed, indices, index_type, element_of_array, with_index, element_at_index};
+ghost use Rattle.check_operator.specs.Selection.{numbered_field, component, field, indices, index_type, element_of_array, element_at_index};
 
 use crate::class::array_of;
 use crate::computed::{Computed, Designated};
@@ -26,28 +25,6 @@ fn numbered_field(fields: &Dictionary<TypeNo>, name: &[u8]) -> Option<(usize, Ty
     Some((number, *of))
 }
 
-fn field_named(at: Pos, found: Option<(usize, TypeNo)>) -> Elaborated<(usize, TypeNo)>
-    ensures { result ≡ field_named least at found }
-{
-    match found {
-        None => report(at, Rule::Undeclared),
-        Some(found) => Ok(found),
-    }
-}
-
-fn record_field(
-    at: Pos,
-    name: &Ident,
-    fields: Option<&Dictionary<TypeNo>>,
-) -> Elaborated<(usize, TypeNo)>
-    ensures { result ≡ record_field least at name.now (option_copied fields.entry) }
-{
-    match fields {
-        None => report(at, Rule::WrongType),
-        Some(fields) => field_named(name.pos, numbered_field(fields, name.name.as_bytes())),
-    }
-}
-
 fn component(
     types: &Types,
     at: Pos,
@@ -57,13 +34,14 @@ fn component(
 ) -> Result<Elaborated<Designated>, AllocError>
     ensures { IfOk result (λ d. d ≡ component least types.now at name.now t place) }
 {
-    match record_field(at, name, fields_of(types, t)) {
-        Err(breach) => Ok(Err(breach)),
-        Ok((number, of)) => {
-            let place = behind(place, Component::Field(t, number))?;
-            Ok(Ok(Designated::Variable(of, place)))
-        }
-    }
+    let Some(fields) = fields_of(types, t) else {
+        return Ok(report(at, Rule::WrongType));
+    };
+    let Some((number, of)) = numbered_field(fields, name.name.as_bytes()) else {
+        return Ok(report(name.pos, Rule::Undeclared));
+    };
+    let place = behind(place, Component::Field(t, number))?;
+    Ok(Ok(Designated::Variable(of, place)))
 }
 
 /// A field of what stands before a point: 40 at the point if that is no record, and 30 at a name that it lacks.
@@ -99,26 +77,15 @@ pub enum Subscripted {
     Open(TypeNo, Slot),
 }
 
-fn array_indexed(
-    at: Pos,
-    t: TypeNo,
-    place: Place,
-    array: Option<(TypeNo, TypeNo)>,
-) -> Elaborated<Subscripted>
-    ensures { result ≡ array_indexed least at t place array }
-{
-    match array {
-        None => report(at, Rule::WrongType),
-        Some((index, element)) => Ok(Subscripted::Array(t, index, element, place)),
-    }
-}
-
 /// What stands before a bracket: 40 at the bracket if that is no array.
 pub fn indices(types: &Types, at: Pos, from: Designated) -> Elaborated<Subscripted>
     ensures { result ≡ indices least types.now at from }
 {
     match from {
-        Designated::Variable(t, place) => array_indexed(at, t, place, array_of(types, t)),
+        Designated::Variable(t, place) => match array_of(types, t) {
+            None => report(at, Rule::WrongType),
+            Some((index, element)) => Ok(Subscripted::Array(t, index, element, place)),
+        },
         Designated::Open(t, slot) => Ok(Subscripted::Open(t, slot)),
         Designated::Value(value) => {
             drop(value);
@@ -161,21 +128,6 @@ fn element_of_array(
     }
 }
 
-fn with_index(
-    alloc: Global,
-    types: &Types,
-    at: Pos,
-    array: Subscripted,
-    index: Computed,
-) -> Result<Elaborated<Designated>, AllocError>
-    ensures { IfOk result (λ d. d ≡ with_index least types.now at array index) }
-{
-    match value_suited(Rule::NotAssignable, types, index_type(&array), at, index) {
-        Err(breach) => Ok(Err(breach)),
-        Ok(e) => Ok(Ok(element_of_array(alloc, array, e)?)),
-    }
-}
-
 /// An element of an array, by an index at a place. An index that is not assignment compatible is 41, and a constant one
 /// that the array does not have is 52, both at the index.
 pub fn element_at_index(
@@ -189,6 +141,11 @@ pub fn element_at_index(
 {
     match both(array, index) {
         Err(breach) => Ok(Err(breach)),
-        Ok((array, index)) => with_index(alloc, types, at, array, index),
+        Ok((array, index)) => {
+            match value_suited(Rule::NotAssignable, types, index_type(&array), at, index) {
+                Err(breach) => Ok(Err(breach)),
+                Ok(e) => Ok(Ok(element_of_array(alloc, array, e)?)),
+            }
+        }
     }
 }

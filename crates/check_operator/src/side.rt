@@ -1,7 +1,7 @@
 //! Values as operators see them.
 
 ghost use Rattle.std.specs.Prelude.{◌≡◌};
-ghost use Rattle.check_operator.specs.Sides.{known_of, constant_side, side_of, sort_of, or_cardinal, run_of};
+ghost use Rattle.check_operator.specs.Sides.{known_of, side_of, sort_of, or_cardinal, run_of};
 
 use crate::computed::Computed;
 use check_const_ops::{Operand, Ordinal, operand_of};
@@ -42,24 +42,18 @@ pub fn known_of(value: &Computed) -> Option<Operand>
     }
 }
 
-fn constant_side(operand: Option<Operand>) -> Option<Side>
-    ensures { result ≡ constant_side operand }
-{
-    match operand {
-        None => None,
-        Some(Operand::Scalar(a)) => Some(Side::Scalar(Amount::Known(a))),
-        Some(Operand::Set(bits)) => {
-            Some(Side::Set(TypedExpr::Constant(BITSET, i64::from(bits))))
-        }
-    }
-}
-
 /// A value as operators see it. Arrays, records and strings whose length is not 1 are no operands.
 pub fn side_of(value: Computed) -> Option<Side>
     ensures { result ≡ side_of value }
 {
     match value {
-        Computed::Constant(value) => constant_side(operand_of(&value)),
+        Computed::Constant(value) => match operand_of(&value) {
+            None => None,
+            Some(Operand::Scalar(a)) => Some(Side::Scalar(Amount::Known(a))),
+            Some(Operand::Set(bits)) => {
+                Some(Side::Set(TypedExpr::Constant(BITSET, i64::from(bits))))
+            }
+        },
         Computed::Scalar(_, base, e) => Some(Side::Scalar(Amount::Run(base, e))),
         Computed::Set(e) => Some(Side::Set(e)),
         Computed::Routine(t, e) => Some(Side::Routine(t, e)),

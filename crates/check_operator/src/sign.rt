@@ -2,7 +2,7 @@
 
 ghost use Rattle.std.specs.Prelude.{◌≡◌, Ok, IfOk};
 ghost use Rattle.check_scope.specs.Elaborated.{least, ◌▷◌};
-ghost use Rattle.check_operator.specs.Signs.{signed_scalar, signed_value, with_sign, negated_scalar, negated_value, negation};
+ghost use Rattle.check_operator.specs.Signs.{signed_scalar, with_sign, negation};
 
 use crate::computed::Computed;
 use crate::pieces::{of_value, truth_of};
@@ -40,29 +40,6 @@ fn signed_scalar(
     }
 }
 
-fn signed_value(
-    alloc: Global,
-    sign: Sign,
-    spot: Pos,
-    value: Computed,
-) -> Result<Elaborated<Computed>, AllocError>
-    ensures { IfOk result (λ v. v ≡ signed_value least sign spot value) }
-{
-    match value {
-        Computed::Constant(value) => Ok(of_value(check_const_ops::with_sign(
-            sign,
-            spot,
-            Ok(value),
-        ))),
-        Computed::Scalar(_, base, e) => signed_scalar(alloc, sign, spot, base, e),
-        Computed::Set(_) => Ok(report(spot, Rule::WrongType)),
-        Computed::Routine(_, _) => Ok(report(spot, Rule::WrongType)),
-        Computed::Procedure(_) => Ok(report(spot, Rule::WrongType)),
-        Computed::Whole(_, _) => Ok(report(spot, Rule::WrongType)),
-        Computed::Untaken => Ok(report(spot, Rule::WrongType)),
-    }
-}
-
 /// A sign at a place, before a term: 40 if it does not take the term.
 pub fn with_sign(
     alloc: Global,
@@ -74,40 +51,17 @@ pub fn with_sign(
 {
     match x {
         Err(breach) => Ok(Err(breach)),
-        Ok(value) => signed_value(alloc, sign, spot, value),
-    }
-}
-
-fn negated_scalar(
-    alloc: Global,
-    spot: Pos,
-    base: TypeNo,
-    e: TypedExpr,
-) -> Result<Elaborated<Computed>, AllocError>
-    ensures { IfOk result (λ v. v ≡ negated_scalar least spot base e) }
-{
-    if !are_same(base, BOOLEAN) {
-        return Ok(report(spot, Rule::WrongType));
-    }
-    let operand = Boxed::new(alloc, e)?;
-    Ok(Ok(truth_of(TypedExpr::Not(operand))))
-}
-
-fn negated_value(
-    alloc: Global,
-    spot: Pos,
-    value: Computed,
-) -> Result<Elaborated<Computed>, AllocError>
-    ensures { IfOk result (λ v. v ≡ negated_value least spot value) }
-{
-    match value {
-        Computed::Constant(value) => Ok(of_value(check_const_ops::negation(spot, Ok(value)))),
-        Computed::Scalar(_, base, e) => negated_scalar(alloc, spot, base, e),
-        Computed::Set(_) => Ok(report(spot, Rule::WrongType)),
-        Computed::Routine(_, _) => Ok(report(spot, Rule::WrongType)),
-        Computed::Procedure(_) => Ok(report(spot, Rule::WrongType)),
-        Computed::Whole(_, _) => Ok(report(spot, Rule::WrongType)),
-        Computed::Untaken => Ok(report(spot, Rule::WrongType)),
+        Ok(Computed::Constant(value)) => Ok(of_value(check_const_ops::with_sign(
+            sign,
+            spot,
+            Ok(value),
+        ))),
+        Ok(Computed::Scalar(_, base, e)) => signed_scalar(alloc, sign, spot, base, e),
+        Ok(Computed::Set(_)) => Ok(report(spot, Rule::WrongType)),
+        Ok(Computed::Routine(_, _)) => Ok(report(spot, Rule::WrongType)),
+        Ok(Computed::Procedure(_)) => Ok(report(spot, Rule::WrongType)),
+        Ok(Computed::Whole(_, _)) => Ok(report(spot, Rule::WrongType)),
+        Ok(Computed::Untaken) => Ok(report(spot, Rule::WrongType)),
     }
 }
 
@@ -121,6 +75,20 @@ pub fn negation(
 {
     match x {
         Err(breach) => Ok(Err(breach)),
-        Ok(value) => negated_value(alloc, spot, value),
+        Ok(Computed::Constant(value)) => {
+            Ok(of_value(check_const_ops::negation(spot, Ok(value))))
+        }
+        Ok(Computed::Scalar(_, base, e)) => {
+            if !are_same(base, BOOLEAN) {
+                return Ok(report(spot, Rule::WrongType));
+            }
+            let operand = Boxed::new(alloc, e)?;
+            Ok(Ok(truth_of(TypedExpr::Not(operand))))
+        }
+        Ok(Computed::Set(_)) => Ok(report(spot, Rule::WrongType)),
+        Ok(Computed::Routine(_, _)) => Ok(report(spot, Rule::WrongType)),
+        Ok(Computed::Procedure(_)) => Ok(report(spot, Rule::WrongType)),
+        Ok(Computed::Whole(_, _)) => Ok(report(spot, Rule::WrongType)),
+        Ok(Computed::Untaken) => Ok(report(spot, Rule::WrongType)),
     }
 }
