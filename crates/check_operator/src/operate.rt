@@ -4,7 +4,7 @@ ghost use Rattle.std.specs.Prelude.{◌≡◌, Ok, IfOk};
 ghost use Rattle.check_scope.specs.Elaborated.{least, ◌▷◌};
 ghost use Rattle.check_const_ops.specs.Common.{common};
 ghost use Rattle.check_operator.specs.Sides.{sort_of};
-ghost use Rattle.check_operator.specs.Operations.{step_of, set_step_of, equality_of, step_result, fitting_of, fitting_both, on_amounts, element_fits, member, set_built, with_scalar, set_in, with_set, partner_of, routine_of, with_partner, between, operation_between};
+ghost use Rattle.check_operator.specs.Operations.{step_of, set_step_of, equality_of, step_result, fitting_of, fitting_both, on_amounts, element_fits, member, set_built, set_in, with_set, partner_of, routine_of, with_partner, between, operation_between};
 
 use crate::agree::headings_agree;
 use crate::computed::Computed;
@@ -241,26 +241,6 @@ fn set_built(
     }
 }
 
-fn with_scalar(
-    alloc: Global,
-    op: BinaryOp,
-    spot: Pos,
-    at: Pos,
-    a: Amount,
-    other_at: Pos,
-    y: Option<Side>,
-) -> Result<Elaborated<Computed>, AllocError>
-    ensures { IfOk result (λ v. v ≡ with_scalar least op spot at a other_at y) }
-{
-    match y {
-        None => Ok(report(spot, Rule::WrongType)),
-        Some(Side::Scalar(b)) => on_amounts(alloc, op, spot, at, a, other_at, b),
-        Some(Side::Set(set)) => member(alloc, op, spot, at, a, set),
-        Some(Side::Routine(_, _)) => Ok(report(spot, Rule::WrongType)),
-        Some(Side::Procedure(_)) => Ok(report(spot, Rule::WrongType)),
-    }
-}
-
 fn with_set(
     alloc: Global,
     op: BinaryOp,
@@ -271,14 +251,11 @@ fn with_set(
     ensures { IfOk result (λ v. v ≡ with_set least op spot x (set_in y)) }
 {
     match y {
-        None => Ok(report(spot, Rule::WrongType)),
-        Some(Side::Scalar(_)) => Ok(report(spot, Rule::WrongType)),
         Some(Side::Set(set)) => match set_step_of(op) {
             None => Ok(report(spot, Rule::WrongType)),
             Some(step) => Ok(Ok(set_built(alloc, step, x, set)?)),
         },
-        Some(Side::Routine(_, _)) => Ok(report(spot, Rule::WrongType)),
-        Some(Side::Procedure(_)) => Ok(report(spot, Rule::WrongType)),
+        _ => Ok(report(spot, Rule::WrongType)),
     }
 }
 
@@ -287,14 +264,12 @@ fn partner_of(types: &Types, t: TypeNo, y: Option<Side>) -> Option<(bool, TypedE
     ensures { result ≡ partner_of types.now t y }
 {
     match y {
-        None => None,
-        Some(Side::Scalar(_)) => None,
-        Some(Side::Set(_)) => None,
         Some(Side::Routine(u, e)) => Some((are_same(t, u), e)),
         Some(Side::Procedure(procedure)) => Some((
             headings_agree(types, t, procedure.heading),
             TypedExpr::Procedure(procedure),
         )),
+        _ => None,
     }
 }
 
@@ -303,11 +278,8 @@ fn routine_of(types: &Types, procedure: Procedure, y: Option<Side>) -> Option<(b
     ensures { result ≡ routine_of types.now procedure y }
 {
     match y {
-        None => None,
-        Some(Side::Scalar(_)) => None,
-        Some(Side::Set(_)) => None,
         Some(Side::Routine(t, e)) => Some((headings_agree(types, t, procedure.heading), e)),
-        Some(Side::Procedure(_)) => None,
+        _ => None,
     }
 }
 
@@ -350,7 +322,11 @@ fn between(
 {
     match x {
         None => Ok(report(spot, Rule::WrongType)),
-        Some(Side::Scalar(a)) => with_scalar(alloc, op, spot, at, a, other_at, y),
+        Some(Side::Scalar(a)) => match y {
+            Some(Side::Scalar(b)) => on_amounts(alloc, op, spot, at, a, other_at, b),
+            Some(Side::Set(set)) => member(alloc, op, spot, at, a, set),
+            _ => Ok(report(spot, Rule::WrongType)),
+        },
         Some(Side::Set(e)) => with_set(alloc, op, spot, e, y),
         Some(Side::Routine(t, e)) => {
             with_partner(alloc, spot, e, equality_of(op), partner_of(types, t, y))

@@ -2,7 +2,7 @@
 
 ghost use Rattle.std.specs.Prelude.{◌≡◌, length, IfOk};
 ghost use Rattle.check_scope.specs.Elaborated.{least};
-ghost use Rattle.check_operator.specs.Suits.{bases_suit, sort_suits, scalar_suited, set_suited, procedure_suited, value_suited, text_within, text_fits, whole_suited, value_for_place};
+ghost use Rattle.check_operator.specs.Suits.{bases_suit, sort_suits, scalar_suited, procedure_suited, value_suited, text_within, text_fits, whole_suited, value_for_place};
 
 use crate::agree::headings_agree;
 use crate::class::{Class, array_of, class_of};
@@ -54,7 +54,6 @@ fn scalar_suited(
     ensures { result ≡ scalar_suited least broken t scalar at x }
 {
     match x {
-        None => report(at, broken),
         Some(Side::Scalar(Amount::Known(a))) => {
             if !sort_suits(scalar.base, a.sort) {
                 return report(at, broken);
@@ -70,21 +69,7 @@ fn scalar_suited(
             }
             Ok(e)
         }
-        Some(Side::Set(_)) => report(at, broken),
-        Some(Side::Routine(_, _)) => report(at, broken),
-        Some(Side::Procedure(_)) => report(at, broken),
-    }
-}
-
-fn set_suited(broken: Rule, at: Pos, x: Option<Side>) -> Elaborated<TypedExpr>
-    ensures { result ≡ set_suited least broken at x }
-{
-    match x {
-        None => report(at, broken),
-        Some(Side::Scalar(_)) => report(at, broken),
-        Some(Side::Set(e)) => Ok(e),
-        Some(Side::Routine(_, _)) => report(at, broken),
-        Some(Side::Procedure(_)) => report(at, broken),
+        _ => report(at, broken),
     }
 }
 
@@ -98,9 +83,6 @@ fn procedure_suited(
     ensures { result ≡ procedure_suited least broken types.now t at x }
 {
     match x {
-        None => report(at, broken),
-        Some(Side::Scalar(_)) => report(at, broken),
-        Some(Side::Set(_)) => report(at, broken),
         Some(Side::Routine(u, e)) => {
             if !are_same(u, t) {
                 return report(at, broken);
@@ -113,6 +95,7 @@ fn procedure_suited(
             }
             Ok(TypedExpr::Procedure(procedure))
         }
+        _ => report(at, broken),
     }
 }
 
@@ -129,7 +112,10 @@ pub fn value_suited(
 {
     match class_of(types, t) {
         Class::Scalar(scalar) => scalar_suited(broken, t, scalar, at, side_of(x)),
-        Class::Set => set_suited(broken, at, side_of(x)),
+        Class::Set => match side_of(x) {
+            Some(Side::Set(e)) => Ok(e),
+            _ => report(at, broken),
+        },
         Class::Procedure => procedure_suited(broken, types, t, at, side_of(x)),
         Class::Whole => report(at, broken),
     }
@@ -175,20 +161,13 @@ fn whole_suited(
             }
             Ok(Accepted::Text(text))
         }
-        Computed::Constant(Value::Number(_)) => report(at, broken),
-        Computed::Constant(Value::Scalar(_)) => report(at, broken),
-        Computed::Constant(Value::Set(_)) => report(at, broken),
         Computed::Whole(u, place) => {
             if !are_same(u, t) {
                 return report(at, broken);
             }
             Ok(Accepted::Whole(place))
         }
-        Computed::Scalar(_, _, _) => report(at, broken),
-        Computed::Set(_) => report(at, broken),
-        Computed::Routine(_, _) => report(at, broken),
-        Computed::Procedure(_) => report(at, broken),
-        Computed::Untaken => report(at, broken),
+        _ => report(at, broken),
     }
 }
 

@@ -2,7 +2,7 @@
 
 ghost use Rattle.std.specs.Prelude.{◌≡◌, IfOk};
 ghost use Rattle.check_scope.specs.Elaborated.{least};
-ghost use Rattle.check_operator.specs.Selection.{numbered_field, component, field, indices, index_type, element_of_array, element_at_index};
+ghost use Rattle.check_operator.specs.Selection.{numbered_field, field, indices, index_type, element_of_array, element_at_index};
 
 use crate::class::array_of;
 use crate::computed::{Computed, Designated};
@@ -25,25 +25,6 @@ fn numbered_field(fields: &Dictionary<TypeNo>, name: &[u8]) -> Option<(usize, Ty
     Some((number, *of))
 }
 
-fn component(
-    types: &Types,
-    at: Pos,
-    name: &Ident,
-    t: TypeNo,
-    place: Place,
-) -> Result<Elaborated<Designated>, AllocError>
-    ensures { IfOk result (λ d. d ≡ component least types.now at name.now t place) }
-{
-    let Some(fields) = fields_of(types, t) else {
-        return Ok(report(at, Rule::WrongType));
-    };
-    let Some((number, of)) = numbered_field(fields, name.name.as_bytes()) else {
-        return Ok(report(name.pos, Rule::Undeclared));
-    };
-    let place = behind(place, Component::Field(t, number))?;
-    Ok(Ok(Designated::Variable(of, place)))
-}
-
 /// A field of what stands before a point: 40 at the point if that is no record, and 30 at a name that it lacks.
 pub fn field(
     types: &Types,
@@ -53,19 +34,17 @@ pub fn field(
 ) -> Result<Elaborated<Designated>, AllocError>
     ensures { IfOk result (λ d. d ≡ field least types.now at name.now from) }
 {
-    match from {
-        Designated::Variable(t, place) => component(types, at, name, t, place),
-        Designated::Value(value) => {
-            drop(value);
-            Ok(report(at, Rule::WrongType))
-        }
-        Designated::Open(_, _) => Ok(report(at, Rule::WrongType)),
-        Designated::Type(_) => Ok(report(at, Rule::WrongType)),
-        Designated::Procedure(_) => Ok(report(at, Rule::WrongType)),
-        Designated::Nested(_) => Ok(report(at, Rule::WrongType)),
-        Designated::Standard(_) => Ok(report(at, Rule::WrongType)),
-        Designated::Module(_) => Ok(report(at, Rule::WrongType)),
-    }
+    let Designated::Variable(t, place) = from else {
+        return Ok(report(at, Rule::WrongType));
+    };
+    let Some(fields) = fields_of(types, t) else {
+        return Ok(report(at, Rule::WrongType));
+    };
+    let Some((number, of)) = numbered_field(fields, name.name.as_bytes()) else {
+        return Ok(report(name.pos, Rule::Undeclared));
+    };
+    let place = behind(place, Component::Field(t, number))?;
+    Ok(Ok(Designated::Variable(of, place)))
 }
 
 /// What takes an index.
@@ -87,15 +66,7 @@ pub fn indices(types: &Types, at: Pos, from: Designated) -> Elaborated<Subscript
             Some((index, element)) => Ok(Subscripted::Array(t, index, element, place)),
         },
         Designated::Open(t, slot) => Ok(Subscripted::Open(t, slot)),
-        Designated::Value(value) => {
-            drop(value);
-            report(at, Rule::WrongType)
-        }
-        Designated::Type(_) => report(at, Rule::WrongType),
-        Designated::Procedure(_) => report(at, Rule::WrongType),
-        Designated::Nested(_) => report(at, Rule::WrongType),
-        Designated::Standard(_) => report(at, Rule::WrongType),
-        Designated::Module(_) => report(at, Rule::WrongType),
+        _ => report(at, Rule::WrongType),
     }
 }
 

@@ -57,11 +57,7 @@ pub fn with_sign(
             Ok(value),
         ))),
         Ok(Computed::Scalar(_, base, e)) => signed_scalar(alloc, sign, spot, base, e),
-        Ok(Computed::Set(_)) => Ok(report(spot, Rule::WrongType)),
-        Ok(Computed::Routine(_, _)) => Ok(report(spot, Rule::WrongType)),
-        Ok(Computed::Procedure(_)) => Ok(report(spot, Rule::WrongType)),
-        Ok(Computed::Whole(_, _)) => Ok(report(spot, Rule::WrongType)),
-        Ok(Computed::Untaken) => Ok(report(spot, Rule::WrongType)),
+        Ok(_) => Ok(report(spot, Rule::WrongType)),
     }
 }
 
@@ -85,10 +81,6 @@ pub fn negation(
             let operand = Boxed::new(alloc, e)?;
             Ok(Ok(truth_of(TypedExpr::Not(operand))))
         }
-        Ok(Computed::Set(_)) => Ok(report(spot, Rule::WrongType)),
-        Ok(Computed::Routine(_, _)) => Ok(report(spot, Rule::WrongType)),
-        Ok(Computed::Procedure(_)) => Ok(report(spot, Rule::WrongType)),
-        Ok(Computed::Whole(_, _)) => Ok(report(spot, Rule::WrongType)),
-        Ok(Computed::Untaken) => Ok(report(spot, Rule::WrongType)),
+        Ok(_) => Ok(report(spot, Rule::WrongType)),
     }
 }
