@@ -2,7 +2,7 @@
 
 ghost use Rattle.std.specs.Prelude.{◌≡◌, IfOk};
 ghost use Rattle.check_scope.specs.Elaborated.{least};
-ghost use Rattle.check_call.specs.Actuals.{starts_at_zero, elements_suit_in, elements_suit, variable_passed, open_passed, text_argument, text_passed, open_value, whole_passed, simple_passed, value_passed, actual, next_formal, with_argument};
+ghost use Rattle.check_call.specs.Actuals.{elements_suit, variable_passed, open_passed, open_value, whole_passed, value_passed, actual, next_formal, with_argument};
 
 use check_operator::{
     Class, Computed, Designated, array_of, class_of, value_at_place, value_suited,
@@ -12,33 +12,19 @@ use m2_rule::Rule;
 use m2_tree::Pos;
 use std::alloc::AllocError;
 use tree_parts::Items;
-use typed_tree::{Argument, CHAR, Formal, Scalar, TypeNo, Types, Value, are_same, scalar_of};
-
-fn starts_at_zero(index: Option<Scalar>) -> bool
-    ensures { result ≡ starts_at_zero index }
-{
-    match index {
-        None => false,
-        Some(index) => 0 <= index.low && index.low <= 0,
-    }
-}
-
-fn elements_suit_in(types: &Types, t: TypeNo, array: Option<(TypeNo, TypeNo)>) -> bool
-    ensures { result ≡ elements_suit_in types.now t array }
-{
-    match array {
-        None => false,
-        Some((index, element)) => {
-            are_same(element, t) && starts_at_zero(scalar_of(types, index))
-        }
-    }
-}
+use typed_tree::{Argument, CHAR, Formal, TypeNo, Types, Value, are_same, scalar_of};
 
 /// Whether a type is an array of these elements whose least index has number 0.
 fn elements_suit(types: &Types, t: TypeNo, array: TypeNo) -> bool
     ensures { result ≡ elements_suit types.now t array }
 {
-    elements_suit_in(types, t, array_of(types, array))
+    let Some((index, element)) = array_of(types, array) else {
+        return false;
+    };
+    let Some(index) = scalar_of(types, index) else {
+        return false;
+    };
+    are_same(element, t) && index.low == 0
 }
 
 /// An argument for a VAR formal of this type.
@@ -94,36 +80,6 @@ fn open_passed(types: &Types, t: TypeNo, at: Pos, designated: Designated) -> Ela
     }
 }
 
-fn text_argument(t: TypeNo, at: Pos, value: Value) -> Elaborated<Argument>
-    ensures { result ≡ text_argument least t at value }
-{
-    match value {
-        Value::Text(text) => {
-            if !are_same(t, CHAR) {
-                return report(at, Rule::WrongArgument);
-            }
-            Ok(Argument::Text(text))
-        }
-        Value::Number(_) => report(at, Rule::WrongArgument),
-        Value::Scalar(_) => report(at, Rule::WrongArgument),
-        Value::Set(_) => report(at, Rule::WrongArgument),
-    }
-}
-
-fn text_passed(t: TypeNo, at: Pos, value: Computed) -> Elaborated<Argument>
-    ensures { result ≡ text_passed least t at value }
-{
-    match value {
-        Computed::Constant(value) => text_argument(t, at, value),
-        Computed::Scalar(_, _, _) => report(at, Rule::WrongArgument),
-        Computed::Set(_) => report(at, Rule::WrongArgument),
-        Computed::Routine(_, _) => report(at, Rule::WrongArgument),
-        Computed::Procedure(_) => report(at, Rule::WrongArgument),
-        Computed::Whole(_, _) => report(at, Rule::WrongArgument),
-        Computed::Untaken => report(at, Rule::WrongArgument),
-    }
-}
-
 /// An argument for a value formal ARRAY OF these elements.
 fn open_value(types: &Types, t: TypeNo, at: Pos, designated: Designated) -> Elaborated<Argument>
     ensures { result ≡ open_value least types.now t at designated }
@@ -141,12 +97,15 @@ fn open_value(types: &Types, t: TypeNo, at: Pos, designated: Designated) -> Elab
             }
             Ok(Argument::Open(slot))
         }
-        Designated::Value(value) => text_passed(t, at, value),
-        Designated::Type(_) => report(at, Rule::WrongType),
-        Designated::Procedure(_) => report(at, Rule::WrongArgument),
-        Designated::Nested(_) => report(at, Rule::NoProcedureValue),
-        Designated::Standard(_) => report(at, Rule::NoProcedureValue),
-        Designated::Module(_) => report(at, Rule::WrongType),
+        Designated::Value(Computed::Constant(Value::Text(text))) => {
+            if !are_same(t, CHAR) {
+                return report(at, Rule::WrongArgument);
+            }
+            Ok(Argument::Text(text))
+        }
+        Designated::Value(_) | Designated::Procedure(_) => report(at, Rule::WrongArgument),
+        Designated::Type(_) | Designated::Module(_) => report(at, Rule::WrongType),
+        Designated::Nested(_) | Designated::Standard(_) => report(at, Rule::NoProcedureValue),
     }
 }
 
@@ -174,27 +133,17 @@ fn whole_passed(t: TypeNo, at: Pos, designated: Designated) -> Elaborated<Argume
     }
 }
 
-fn simple_passed(types: &Types, t: TypeNo, at: Pos, designated: Designated) -> Elaborated<Argument>
-    ensures { result ≡ simple_passed least types.now t at designated }
-{
-    match value_at_place(types, at, designated) {
-        Err(breach) => Err(breach),
-        Ok(value) => match value_suited(Rule::WrongArgument, types, t, at, value) {
-            Err(breach) => Err(breach),
-            Ok(e) => Ok(Argument::Value(t, e)),
-        },
-    }
-}
-
 /// An argument for a value formal of this type.
 fn value_passed(types: &Types, t: TypeNo, at: Pos, designated: Designated) -> Elaborated<Argument>
     ensures { result ≡ value_passed least types.now t at designated }
 {
     match class_of(types, t) {
-        Class::Scalar(_) => simple_passed(types, t, at, designated),
-        Class::Set => simple_passed(types, t, at, designated),
-        Class::Procedure => simple_passed(types, t, at, designated),
         Class::Whole => whole_passed(t, at, designated),
+        Class::Scalar(_) | Class::Set | Class::Procedure => {
+            let value = value_at_place(types, at, designated)?;
+            let e = value_suited(Rule::WrongArgument, types, t, at, value)?;
+            Ok(Argument::Value(t, e))
+        }
     }
 }
 

@@ -3,8 +3,7 @@
 ghost use Rattle.std.specs.Prelude.{◌≡◌};
 ghost use Rattle.std.specs.Option.{option_copied};
 ghost use Rattle.check_scope.specs.Elaborated.{least};
-ghost use Rattle.check_operator.specs.Classes.{class_at};
-ghost use Rattle.check_call.specs.Callees.{callee_in_variable, callee_of, count_check, function_of, proper_of, call_by};
+ghost use Rattle.check_call.specs.Callees.{callee_of, count_check, function_of, proper_of, call_by};
 
 use check_operator::{Class, Designated, class_of};
 use check_scope::{Elaborated, report};
@@ -32,17 +31,6 @@ pub enum Called {
     Standard(Standard),
 }
 
-fn callee_in_variable(types: &Types, at: Pos, t: TypeNo, place: Place) -> Elaborated<Called>
-    ensures { result ≡ callee_in_variable least at t place (class_at types.now t) }
-{
-    match class_of(types, t) {
-        Class::Procedure => Ok(Called::Routine(t, Callee::Variable(t, place))),
-        Class::Scalar(_) => report(at, Rule::WrongType),
-        Class::Set => report(at, Rule::WrongType),
-        Class::Whole => report(at, Rule::WrongType),
-    }
-}
-
 /// What is called by a designator at a place: 40 if that is no procedure.
 pub fn callee_of(types: &Types, at: Pos, designated: Designated) -> Elaborated<Called>
     ensures { result ≡ callee_of least types.now at designated }
@@ -50,15 +38,12 @@ pub fn callee_of(types: &Types, at: Pos, designated: Designated) -> Elaborated<C
     match designated {
         Designated::Procedure(p) => Ok(Called::Routine(p.heading, Callee::Module(p))),
         Designated::Nested(p) => Ok(Called::Routine(p.heading, Callee::Nested(p))),
-        Designated::Variable(t, place) => callee_in_variable(types, at, t, place),
+        Designated::Variable(t, place) => match class_of(types, t) {
+            Class::Procedure => Ok(Called::Routine(t, Callee::Variable(t, place))),
+            Class::Scalar(_) | Class::Set | Class::Whole => report(at, Rule::WrongType),
+        },
         Designated::Standard(standard) => Ok(Called::Standard(standard)),
-        Designated::Value(value) => {
-            drop(value);
-            report(at, Rule::WrongType)
-        }
-        Designated::Open(_, _) => report(at, Rule::WrongType),
-        Designated::Type(_) => report(at, Rule::WrongType),
-        Designated::Module(_) => report(at, Rule::WrongType),
+        _ => report(at, Rule::WrongType),
     }
 }
 

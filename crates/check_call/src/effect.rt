@@ -2,7 +2,7 @@
 
 ghost use Rattle.std.specs.Prelude.{◌≡◌};
 ghost use Rattle.check_scope.specs.Elaborated.{least};
-ghost use Rattle.check_call.specs.Effects.{target_of, target_at, store_statement, assignment_to, assignment_of, change_target_as, change_target, set_as, set_variable, type_of_number, known_amount, amount, element_known, set_element, change_by, membership_of, put};
+ghost use Rattle.check_call.specs.Effects.{target_at, assignment_of, change_target, set_variable, type_of_number, amount, set_element, change_by, membership_of, put};
 
 use check_const_ops::{Ordinal, whole_number};
 use check_operator::{
@@ -24,59 +24,15 @@ pub enum Target {
     Open,
 }
 
-fn target_of(at: Pos, designated: Designated) -> Elaborated<Target>
-    ensures { result ≡ target_of least at designated }
-{
-    match designated {
-        Designated::Variable(t, place) => Ok(Target::Variable(t, place)),
-        Designated::Open(_, _) => Ok(Target::Open),
-        Designated::Value(value) => {
-            drop(value);
-            report(at, Rule::WrongType)
-        }
-        Designated::Type(_) => report(at, Rule::WrongType),
-        Designated::Procedure(_) => report(at, Rule::WrongType),
-        Designated::Nested(_) => report(at, Rule::WrongType),
-        Designated::Standard(_) => report(at, Rule::WrongType),
-        Designated::Module(_) => report(at, Rule::WrongType),
-    }
-}
-
 /// The left side of an assignment at a place: 40 if it is no variable.
 pub fn target_at(at: Pos, designated: Sought<Designated>) -> Elaborated<Target>
     ensures { result ≡ target_at least at designated }
 {
     match of_sort(at, Rule::WrongType, designated) {
         Err(breach) => Err(breach),
-        Ok(designated) => target_of(at, designated),
-    }
-}
-
-fn store_statement(t: TypeNo, place: Place, accepted: Accepted) -> TypedStmt
-    ensures { result ≡ store_statement t place accepted }
-{
-    match accepted {
-        Accepted::Value(e) => TypedStmt::Assign(place, t, e),
-        Accepted::Whole(from) => TypedStmt::Copy(place, from, t),
-        Accepted::Text(text) => TypedStmt::CopyText(place, t, text),
-    }
-}
-
-fn assignment_to(types: &Types, target: Target, at: Pos, value: Computed) -> Elaborated<TypedStmt>
-    ensures { result ≡ assignment_to least types.now target at value }
-{
-    match target {
-        Target::Open => report(at, Rule::NotAssignable),
-        Target::Variable(t, place) => match value_for_place(
-            Rule::NotAssignable,
-            types,
-            t,
-            at,
-            value,
-        ) {
-            Err(breach) => Err(breach),
-            Ok(accepted) => Ok(store_statement(t, place, accepted)),
-        },
+        Ok(Designated::Variable(t, place)) => Ok(Target::Variable(t, place)),
+        Ok(Designated::Open(_, _)) => Ok(Target::Open),
+        Ok(_) => report(at, Rule::WrongType),
     }
 }
 
@@ -89,20 +45,14 @@ pub fn assignment_of(
 ) -> Elaborated<TypedStmt>
     ensures { result ≡ assignment_of least types.now target at value }
 {
-    match both(target, value) {
-        Err(breach) => Err(breach),
-        Ok((target, value)) => assignment_to(types, target, at, value),
-    }
-}
-
-fn change_target_as(at: Pos, t: TypeNo, place: Place, class: Class) -> Elaborated<(TypeNo, Place)>
-    ensures { result ≡ change_target_as least at t place class }
-{
-    match class {
-        Class::Scalar(_) => Ok((t, place)),
-        Class::Set => report(at, Rule::NoVariable),
-        Class::Procedure => report(at, Rule::NoVariable),
-        Class::Whole => report(at, Rule::NoVariable),
+    let (target, value) = both(target, value)?;
+    let Target::Variable(t, place) = target else {
+        return report(at, Rule::NotAssignable);
+    };
+    match value_for_place(Rule::NotAssignable, types, t, at, value)? {
+        Accepted::Value(e) => Ok(TypedStmt::Assign(place, t, e)),
+        Accepted::Whole(from) => Ok(TypedStmt::Copy(place, from, t)),
+        Accepted::Text(text) => Ok(TypedStmt::CopyText(place, t, text)),
     }
 }
 
@@ -111,28 +61,11 @@ pub fn change_target(types: &Types, at: Pos, designated: Designated) -> Elaborat
     ensures { result ≡ change_target least types.now at designated }
 {
     match designated {
-        Designated::Variable(t, place) => change_target_as(at, t, place, class_of(types, t)),
-        Designated::Value(value) => {
-            drop(value);
-            report(at, Rule::NoVariable)
-        }
-        Designated::Open(_, _) => report(at, Rule::NoVariable),
-        Designated::Type(_) => report(at, Rule::NoVariable),
-        Designated::Procedure(_) => report(at, Rule::NoVariable),
-        Designated::Nested(_) => report(at, Rule::NoVariable),
-        Designated::Standard(_) => report(at, Rule::NoVariable),
-        Designated::Module(_) => report(at, Rule::NoVariable),
-    }
-}
-
-fn set_as(at: Pos, place: Place, class: Class) -> Elaborated<Place>
-    ensures { result ≡ set_as least at place class }
-{
-    match class {
-        Class::Set => Ok(place),
-        Class::Scalar(_) => report(at, Rule::NoVariable),
-        Class::Procedure => report(at, Rule::NoVariable),
-        Class::Whole => report(at, Rule::NoVariable),
+        Designated::Variable(t, place) => match class_of(types, t) {
+            Class::Scalar(_) => Ok((t, place)),
+            _ => report(at, Rule::NoVariable),
+        },
+        _ => report(at, Rule::NoVariable),
     }
 }
 
@@ -141,17 +74,11 @@ pub fn set_variable(types: &Types, at: Pos, designated: Designated) -> Elaborate
     ensures { result ≡ set_variable least types.now at designated }
 {
     match designated {
-        Designated::Variable(t, place) => set_as(at, place, class_of(types, t)),
-        Designated::Value(value) => {
-            drop(value);
-            report(at, Rule::NoVariable)
-        }
-        Designated::Open(_, _) => report(at, Rule::NoVariable),
-        Designated::Type(_) => report(at, Rule::NoVariable),
-        Designated::Procedure(_) => report(at, Rule::NoVariable),
-        Designated::Nested(_) => report(at, Rule::NoVariable),
-        Designated::Standard(_) => report(at, Rule::NoVariable),
-        Designated::Module(_) => report(at, Rule::NoVariable),
+        Designated::Variable(t, place) => match class_of(types, t) {
+            Class::Set => Ok(place),
+            _ => report(at, Rule::NoVariable),
+        },
+        _ => report(at, Rule::NoVariable),
     }
 }
 
@@ -165,46 +92,22 @@ pub fn type_of_number(a: Ordinal) -> TypeNo
     }
 }
 
-fn known_amount(at: Pos, a: Option<Ordinal>) -> Elaborated<TypedExpr>
-    ensures { result ≡ known_amount least at a }
-{
-    match a {
-        None => report(at, Rule::WrongArgument),
-        Some(a) => Ok(TypedExpr::Constant(type_of_number(a), a.number)),
-    }
-}
-
 /// An INTEGER, a CARDINAL or a number at a place, else 43.
 pub fn amount(at: Pos, value: Computed) -> Elaborated<TypedExpr>
     ensures { result ≡ amount least at value }
 {
     match value {
-        Computed::Constant(value) => known_amount(at, whole_number(&value)),
+        Computed::Constant(value) => match whole_number(&value) {
+            None => report(at, Rule::WrongArgument),
+            Some(a) => Ok(TypedExpr::Constant(type_of_number(a), a.number)),
+        },
         Computed::Scalar(_, base, e) => {
             if !is_numeric(base) {
                 return report(at, Rule::WrongArgument);
             }
             Ok(e)
         }
-        Computed::Set(_) => report(at, Rule::WrongArgument),
-        Computed::Routine(_, _) => report(at, Rule::WrongArgument),
-        Computed::Procedure(_) => report(at, Rule::WrongArgument),
-        Computed::Whole(_, _) => report(at, Rule::WrongArgument),
-        Computed::Untaken => report(at, Rule::WrongArgument),
-    }
-}
-
-fn element_known(at: Pos, a: Option<Ordinal>) -> Elaborated<TypedExpr>
-    ensures { result ≡ element_known least at a }
-{
-    match a {
-        None => report(at, Rule::WrongArgument),
-        Some(a) => {
-            if !(0 <= a.number && a.number <= 31) {
-                return report(at, Rule::OutOfRange);
-            }
-            Ok(TypedExpr::Constant(type_of_number(a), a.number))
-        }
+        _ => report(at, Rule::WrongArgument),
     }
 }
 
@@ -213,18 +116,22 @@ pub fn set_element(at: Pos, value: Computed) -> Elaborated<TypedExpr>
     ensures { result ≡ set_element least at value }
 {
     match value {
-        Computed::Constant(value) => element_known(at, whole_number(&value)),
+        Computed::Constant(value) => match whole_number(&value) {
+            None => report(at, Rule::WrongArgument),
+            Some(a) => {
+                if !(0 <= a.number && a.number <= 31) {
+                    return report(at, Rule::OutOfRange);
+                }
+                Ok(TypedExpr::Constant(type_of_number(a), a.number))
+            }
+        },
         Computed::Scalar(_, base, e) => {
             if !is_numeric(base) {
                 return report(at, Rule::WrongArgument);
             }
             Ok(e)
         }
-        Computed::Set(_) => report(at, Rule::WrongArgument),
-        Computed::Routine(_, _) => report(at, Rule::WrongArgument),
-        Computed::Procedure(_) => report(at, Rule::WrongArgument),
-        Computed::Whole(_, _) => report(at, Rule::WrongArgument),
-        Computed::Untaken => report(at, Rule::WrongArgument),
+        _ => report(at, Rule::WrongArgument),
     }
 }
 

@@ -2,7 +2,7 @@
 
 ghost use Rattle.std.specs.Prelude.{◌≡◌, IfOk};
 ghost use Rattle.check_scope.specs.Elaborated.{least};
-ghost use Rattle.check_call.specs.Functions.{form_of, unary_takes, unary_built, unary_scalar, unary_at, type_named, bound_at, converted_scalar, converted_value, conversion_at, high_of};
+ghost use Rattle.check_call.specs.Functions.{form_of, unary_takes, unary_built, unary_at, type_named, bound_at, conversion_at, high_of};
 
 use check_const::{bound_by, scalar_type, unary_of};
 use check_const_ops::conversion_of;
@@ -86,21 +86,6 @@ fn unary_built(function: Unary, base: TypeNo, e: Boxed<TypedExpr>) -> Computed
     }
 }
 
-fn unary_scalar(
-    alloc: Global,
-    function: Unary,
-    at: Pos,
-    base: TypeNo,
-    e: TypedExpr,
-) -> Result<Elaborated<Computed>, AllocError>
-    ensures { IfOk result (λ v. v ≡ unary_scalar least function at base e) }
-{
-    if !unary_takes(function, base) {
-        return Ok(report(at, Rule::WrongArgument));
-    }
-    Ok(Ok(unary_built(function, base, Boxed::new(alloc, e)?)))
-}
-
 /// A standard function of one value at a place: 43 if it does not take the value, and 52 if a constant is out of range.
 pub fn unary_at(
     alloc: Global,
@@ -113,12 +98,13 @@ pub fn unary_at(
 {
     match value {
         Computed::Constant(value) => Ok(of_value(unary_of(standard, at, &value))),
-        Computed::Scalar(_, base, e) => unary_scalar(alloc, function, at, base, e),
-        Computed::Set(_) => Ok(report(at, Rule::WrongArgument)),
-        Computed::Routine(_, _) => Ok(report(at, Rule::WrongArgument)),
-        Computed::Procedure(_) => Ok(report(at, Rule::WrongArgument)),
-        Computed::Whole(_, _) => Ok(report(at, Rule::WrongArgument)),
-        Computed::Untaken => Ok(report(at, Rule::WrongArgument)),
+        Computed::Scalar(_, base, e) => {
+            if !unary_takes(function, base) {
+                return Ok(report(at, Rule::WrongArgument));
+            }
+            Ok(Ok(unary_built(function, base, Boxed::new(alloc, e)?)))
+        }
+        _ => Ok(report(at, Rule::WrongArgument)),
     }
 }
 
@@ -151,43 +137,6 @@ pub fn bound_at(standard: Standard, argument: Elaborated<(TypeNo, Scalar)>) -> E
     }
 }
 
-fn converted_scalar(
-    alloc: Global,
-    t: TypeNo,
-    to: Scalar,
-    at: Pos,
-    base: TypeNo,
-    e: TypedExpr,
-) -> Result<Elaborated<Computed>, AllocError>
-    ensures { IfOk result (λ v. v ≡ converted_scalar least t to at base e) }
-{
-    if !is_numeric(base) {
-        return Ok(report(at, Rule::WrongArgument));
-    }
-    let operand = Boxed::new(alloc, e)?;
-    Ok(Ok(Computed::Scalar(t, to.base, TypedExpr::Val(t, operand))))
-}
-
-fn converted_value(
-    alloc: Global,
-    t: TypeNo,
-    to: Scalar,
-    at: Pos,
-    value: Computed,
-) -> Result<Elaborated<Computed>, AllocError>
-    ensures { IfOk result (λ v. v ≡ converted_value least t to at value) }
-{
-    match value {
-        Computed::Constant(value) => Ok(of_value(conversion_of(t, to, at, &value))),
-        Computed::Scalar(_, base, e) => converted_scalar(alloc, t, to, at, base, e),
-        Computed::Set(_) => Ok(report(at, Rule::WrongArgument)),
-        Computed::Routine(_, _) => Ok(report(at, Rule::WrongArgument)),
-        Computed::Procedure(_) => Ok(report(at, Rule::WrongArgument)),
-        Computed::Whole(_, _) => Ok(report(at, Rule::WrongArgument)),
-        Computed::Untaken => Ok(report(at, Rule::WrongArgument)),
-    }
-}
-
 /// VAL of a type and of a value at a place: 43 if the value is no number, and 52 if the type does not have a constant.
 pub fn conversion_at(
     alloc: Global,
@@ -199,7 +148,17 @@ pub fn conversion_at(
 {
     match both(to, value) {
         Err(breach) => Ok(Err(breach)),
-        Ok(((t, scalar), value)) => converted_value(alloc, t, scalar, at, value),
+        Ok(((t, scalar), Computed::Constant(value))) => {
+            Ok(of_value(conversion_of(t, scalar, at, &value)))
+        }
+        Ok(((t, scalar), Computed::Scalar(_, base, e))) => {
+            if !is_numeric(base) {
+                return Ok(report(at, Rule::WrongArgument));
+            }
+            let operand = Boxed::new(alloc, e)?;
+            Ok(Ok(Computed::Scalar(t, scalar.base, TypedExpr::Val(t, operand))))
+        }
+        Ok(_) => Ok(report(at, Rule::WrongArgument)),
     }
 }
 
