@@ -2,7 +2,7 @@
 
 ghost use Rattle.std.specs.Prelude.{◌≡◌, length, IfOk};
 ghost use Rattle.check_scope.specs.Elaborated.{least};
-ghost use Rattle.check_operator.specs.Suits.{bases_suit, sort_suits, scalar_suited, procedure_suited, value_suited, text_within, text_fits, whole_suited, value_for_place};
+ghost use Rattle.check_operator.specs.Suits.{bases_suit, sort_suits, scalar_suited, procedure_suited, value_suited, text_fits, whole_suited, value_for_place};
 
 use crate::agree::headings_agree;
 use crate::class::{Class, array_of, class_of};
@@ -121,28 +121,18 @@ pub fn value_suited(
     }
 }
 
-fn text_within(length: usize, index: Option<Scalar>) -> bool
-    ensures { result ≡ text_within length index }
-{
-    match index {
-        None => false,
-        Some(index) => {
-            let distance = index.high.abs_diff(index.low);
-            !(distance < (length as u64).saturating_sub(1))
-        }
-    }
-}
-
 /// Whether a type is an array of CHAR with at least `length` elements.
 pub fn text_fits(types: &Types, t: TypeNo, length: usize) -> bool
     ensures { result ≡ text_fits types.now t length }
 {
-    match array_of(types, t) {
-        None => false,
-        Some((index, element)) => {
-            are_same(element, CHAR) && text_within(length, scalar_of(types, index))
-        }
-    }
+    let Some((index, element)) = array_of(types, t) else {
+        return false;
+    };
+    let Some(index) = scalar_of(types, index) else {
+        return false;
+    };
+    let distance = index.high.abs_diff(index.low);
+    are_same(element, CHAR) && !(distance < (length as u64).saturating_sub(1))
 }
 
 fn whole_suited(
