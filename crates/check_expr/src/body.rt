@@ -6,7 +6,7 @@ ghost use Rattle.check_scope.specs.Elaborated.{least};
 ghost use Rattle.check_const.specs.Calls.{sort_of};
 ghost use Rattle.check_const.specs.Parts as constants;
 ghost use Rattle.check_call.specs.Functions.{form_of};
-ghost use Rattle.check_expr.specs.Meanings.{part, meanings_of, picks, head, item, as_constant, value_of, actual_in, look_in, breaches_in_all, wrong_count, routine_called, unary, bound, conversion, high, by_form, callee_value, call_in_expression, factor_in, term_in, pick_in, constant_factor_in, constant_term_in, item_in};
+ghost use Rattle.check_expr.specs.Meanings.{part, meanings_of, picks, head, item, as_constant, value_of, actual_in, look_in, breaches_in_all, wrong_count, routine_called, unary, bound, conversion, high, by_form, call_in_expression, factor_in, term_in, pick_in, constant_factor_in, constant_term_in, item_in};
 
 use crate::fixed::denotation;
 use crate::pieces::{
@@ -340,26 +340,10 @@ fn call_in_expression(
             let rest = breaches_in_all(alloc, scope, args)?;
             Ok(refusal_beside(breach, rest))
         }
-        Ok(called) => callee_value(alloc, scope, at, args, called),
-    }
-}
-
-#[cycle(body)]
-fn callee_value(
-    alloc: Global,
-    scope: &Scope<Breach>,
-    at: Pos,
-    args: &[Expr],
-    called: Called,
-) -> Result<Elaborated<Computed>, AllocError>
-    ensures { IfOk result (λ v.
-        v ≡ callee_value least scope.now at (map (meanings_of least) args.now) called) }
-{
-    match called {
-        Called::Routine(heading, callee) => {
+        Ok(Called::Routine(heading, callee)) => {
             routine_called(alloc, scope, at, heading, callee, args)
         }
-        Called::Standard(standard) => by_form(alloc, scope, at, standard, args),
+        Ok(Called::Standard(standard)) => by_form(alloc, scope, at, standard, args),
     }
 }
 
@@ -699,28 +683,8 @@ fn constant_call(
 {
     match callee {
         Err(breach) => Ok(Err(breach)),
-        Ok(denoted) => constant_call_of(alloc, scope, at, denoted, args),
-    }
-}
-
-#[cycle(body)]
-fn constant_call_of(
-    alloc: Global,
-    scope: &Scope<Breach>,
-    at: Pos,
-    callee: Denoted,
-    args: &[Expr],
-) -> Result<Elaborated<Value>, AllocError>
-    ensures { IfOk result (λ v.
-        v ≡ constants.standard_call_value least scope.now at callee (map (part least) args.now)) }
-{
-    match callee {
-        Denoted::Standard(standard) => by_sort(alloc, scope, at, standard, args),
-        Denoted::Value(_) => Ok(report(at, Rule::NoConstant)),
-        Denoted::Type(_) => Ok(report(at, Rule::NoConstant)),
-        Denoted::Variable => Ok(report(at, Rule::NoConstant)),
-        Denoted::Procedure => Ok(report(at, Rule::NoConstant)),
-        Denoted::Module(_) => Ok(report(at, Rule::NoConstant)),
+        Ok(Denoted::Standard(standard)) => by_sort(alloc, scope, at, standard, args),
+        Ok(_) => Ok(report(at, Rule::NoConstant)),
     }
 }
 

@@ -4,7 +4,7 @@ ghost use Rattle.std.specs.Prelude.{◌≡◌, IfOk, map};
 ghost use Rattle.check_scope.specs.Elaborated.{least, ◌▷◌};
 ghost use Rattle.check_call.specs.Effects.{amount, change_by, set_element, membership_of};
 ghost use Rattle.check_expr.specs.Meanings.{meanings_of, head, value_of, wrong_count};
-ghost use Rattle.check_expr.specs.Effects.{call_done, routine_done, change_target_in, change_statement, set_in, member_by, halt_statement, put_by, function_done, standard_done, callee_statement, call_statement};
+ghost use Rattle.check_expr.specs.Effects.{routine_done, change_target_in, change_statement, set_in, member_by, put_by, standard_done, call_statement};
 
 use crate::body::{actuals, breaches_in_all, designation, stands_for, value_of};
 use crate::pieces::{first_of, formals_of, place_of};
@@ -17,19 +17,7 @@ use check_scope::{Elaborated, Scope, of_heading, of_sort, refusal_beside, report
 use m2_rule::{Breach, Rule};
 use m2_tree::{Designator, Expr, Pos};
 use std::alloc::{AllocError, Global};
-use tree_parts::Items;
-use typed_tree::{
-    Argument, CARDINAL, Change, Membership, Place, Standard, TypeNo, TypedExpr, TypedStmt,
-};
-
-fn call_done(callee: Callee, arguments: Elaborated<Items<Argument>>) -> Elaborated<TypedStmt>
-    ensures { result ≡ call_done callee arguments }
-{
-    match arguments {
-        Err(breach) => Err(breach),
-        Ok(arguments) => Ok(TypedStmt::Call(call_by(callee, arguments))),
-    }
-}
+use typed_tree::{CARDINAL, Change, Membership, Place, Standard, TypeNo, TypedExpr, TypedStmt};
 
 /// A call of a procedure with this heading.
 #[tactic(auto, using(crate::proofs::Variants::actuals_is, crate::proofs::Variants::count_is))]
@@ -50,10 +38,10 @@ fn routine_done(
             let rest = breaches_in_all(alloc, scope, args)?;
             Ok(refusal_beside(breach, rest))
         }
-        Ok(()) => {
-            let arguments = actuals(alloc, scope, formals_of(signature), args)?;
-            Ok(call_done(callee, arguments))
-        }
+        Ok(()) => match actuals(alloc, scope, formals_of(signature), args)? {
+            Err(breach) => Ok(Err(breach)),
+            Ok(arguments) => Ok(Ok(TypedStmt::Call(call_by(callee, arguments)))),
+        },
     }
 }
 
@@ -87,22 +75,6 @@ fn change_target_at(
     }
 }
 
-/// The amount of INC or DEC.
-fn amount_at(
-    alloc: Global,
-    scope: &Scope<Breach>,
-    arg: &Expr,
-) -> Result<Elaborated<TypedExpr>, AllocError>
-    ensures { IfOk result
-        (λ j. j ≡ (value_of least scope.now (meanings_of least arg.now)
-        ▷ amount least (meanings_of least arg.now).fixed.at)) }
-{
-    match value_of(alloc, scope, arg)? {
-        Err(breach) => Ok(Err(breach)),
-        Ok(value) => Ok(amount(place_of(arg), value)),
-    }
-}
-
 /// INC and DEC by an amount.
 fn changed_by_amount(
     alloc: Global,
@@ -118,8 +90,11 @@ fn changed_by_amount(
         ▷ amount least (meanings_of least by.now).fixed.at)) }
 {
     let place = change_target_at(alloc, scope, variable)?;
-    let amount = amount_at(alloc, scope, by)?;
-    Ok(change_by(change, place, amount))
+    let step = match value_of(alloc, scope, by)? {
+        Err(breach) => Err(breach),
+        Ok(value) => amount(place_of(by), value),
+    };
+    Ok(change_by(change, place, step))
 }
 
 /// INC and DEC.
@@ -156,22 +131,6 @@ fn set_at(alloc: Global, scope: &Scope<Breach>, arg: &Expr) -> Result<Elaborated
     }
 }
 
-/// The element of INCL or EXCL.
-fn element_at(
-    alloc: Global,
-    scope: &Scope<Breach>,
-    arg: &Expr,
-) -> Result<Elaborated<TypedExpr>, AllocError>
-    ensures { IfOk result
-        (λ j. j ≡ (value_of least scope.now (meanings_of least arg.now)
-        ▷ set_element least (meanings_of least arg.now).fixed.at)) }
-{
-    match value_of(alloc, scope, arg)? {
-        Err(breach) => Ok(Err(breach)),
-        Ok(value) => Ok(set_element(place_of(arg), value)),
-    }
-}
-
 /// INCL and EXCL of an element.
 fn member_of(
     alloc: Global,
@@ -187,7 +146,10 @@ fn member_of(
         ▷ set_element least (meanings_of least arg.now).fixed.at)) }
 {
     let place = set_at(alloc, scope, set)?;
-    let element = element_at(alloc, scope, arg)?;
+    let element = match value_of(alloc, scope, arg)? {
+        Err(breach) => Err(breach),
+        Ok(value) => set_element(place_of(arg), value),
+    };
     Ok(membership_of(membership, place, element))
 }
 
@@ -210,35 +172,6 @@ fn member_by(
     }
 }
 
-fn halt_statement(
-    alloc: Global,
-    scope: &Scope<Breach>,
-    at: Pos,
-    args: &[Expr],
-) -> Result<Elaborated<TypedStmt>, AllocError>
-    ensures { IfOk result (λ j.
-        j ≡ halt_statement least scope.now at (map (meanings_of least) args.now)) }
-{
-    match args {
-        [] => Ok(Ok(TypedStmt::Halt)),
-        [_, ..] => wrong_count(alloc, scope, at, args),
-    }
-}
-
-/// A function is no statement.
-fn function_done(
-    alloc: Global,
-    scope: &Scope<Breach>,
-    at: Pos,
-    args: &[Expr],
-) -> Result<Elaborated<TypedStmt>, AllocError>
-    ensures { IfOk result (λ j.
-        j ≡ function_done least scope.now at (map (meanings_of least) args.now)) }
-{
-    let rest = breaches_in_all(alloc, scope, args)?;
-    Ok(reported_beside(at, Rule::WrongType, rest))
-}
-
 /// `Console.Put`.
 fn put_by(
     alloc: Global,
@@ -258,7 +191,7 @@ fn put_by(
     }
 }
 
-/// A call of a standard procedure.
+/// A call of a standard procedure. A function is no statement.
 fn standard_done(
     alloc: Global,
     scope: &Scope<Breach>,
@@ -274,7 +207,10 @@ fn standard_done(
         Standard::Dec => change_statement(alloc, scope, at, Change::Decrease, args),
         Standard::Incl => member_by(alloc, scope, at, Membership::Include, args),
         Standard::Excl => member_by(alloc, scope, at, Membership::Exclude, args),
-        Standard::Halt => halt_statement(alloc, scope, at, args),
+        Standard::Halt => match args {
+            [] => Ok(Ok(TypedStmt::Halt)),
+            [_, ..] => wrong_count(alloc, scope, at, args),
+        },
         Standard::Put => put_by(alloc, scope, at, args),
         Standard::Abs
         | Standard::Cap
@@ -284,25 +220,10 @@ fn standard_done(
         | Standard::Min
         | Standard::Odd
         | Standard::Ord
-        | Standard::Val => function_done(alloc, scope, at, args),
-    }
-}
-
-fn callee_statement(
-    alloc: Global,
-    scope: &Scope<Breach>,
-    at: Pos,
-    args: &[Expr],
-    called: Called,
-) -> Result<Elaborated<TypedStmt>, AllocError>
-    ensures { IfOk result (λ j.
-        j ≡ callee_statement least scope.now at (map (meanings_of least) args.now) called) }
-{
-    match called {
-        Called::Routine(heading, callee) => {
-            routine_done(alloc, scope, at, heading, callee, args)
+        | Standard::Val => {
+            let rest = breaches_in_all(alloc, scope, args)?;
+            Ok(reported_beside(at, Rule::WrongType, rest))
         }
-        Called::Standard(standard) => standard_done(alloc, scope, at, args, standard),
     }
 }
 
@@ -329,6 +250,9 @@ pub fn call_statement(
             let rest = breaches_in_all(alloc, scope, args)?;
             Ok(refusal_beside(breach, rest))
         }
-        Ok(called) => callee_statement(alloc, scope, at, args, called),
+        Ok(Called::Routine(heading, callee)) => {
+            routine_done(alloc, scope, at, heading, callee, args)
+        }
+        Ok(Called::Standard(standard)) => standard_done(alloc, scope, at, args, standard),
     }
 }

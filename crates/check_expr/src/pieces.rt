@@ -5,7 +5,7 @@ ghost use Rattle.std.specs.Option.{option_copied};
 ghost use Rattle.check_scope.specs.Elaborated.{least, of_sort, of_heading, ◌▷◌};
 ghost use Rattle.check_const.specs.Parts as constants;
 ghost use Rattle.check_call.specs.Functions.{type_named, high_of, unary_at};
-ghost use Rattle.check_expr.specs.Meanings.{part, meanings_of, head, of_computed, signed_first, relation_value, first_name, name_in_module, field_of, field_at, index_at, formals_of, passed_for, argument_by, call_given, type_in, type_of};
+ghost use Rattle.check_expr.specs.Meanings.{part, meanings_of, head, of_computed, signed_first, relation_value, first_name, field_of, field_at, index_at, formals_of, argument_by, call_given, type_of};
 ghost use Rattle.m2_rule.specs.declared.rule.Rule.TheVariants as rule;
 
 use check_call::{Callee, Unary, actual, call_by, high_of, type_named, unary_at};
@@ -120,20 +120,6 @@ pub fn first_name(
     }
 }
 
-fn name_in_module(
-    alloc: Global,
-    scope: &Scope<Breach>,
-    place: usize,
-    name: &Ident,
-) -> Result<Elaborated<Designated>, AllocError>
-    ensures { IfOk result (λ d. d ≡ name_in_module least scope.now place name.now) }
-{
-    match exported_meaning(scope, place, name)? {
-        Err(breach) => Ok(Err(breach)),
-        Ok(meaning) => designated_by(alloc, scope.level, name.pos, meaning),
-    }
-}
-
 /// A name of a module, or a field of a record, of what stands before it.
 pub fn field_of(
     alloc: Global,
@@ -145,22 +131,11 @@ pub fn field_of(
     ensures { IfOk result (λ d. d ≡ field_of least scope.now at name.now from) }
 {
     match from {
-        Designated::Module(place) => name_in_module(alloc, scope, place, name),
-        Designated::Value(value) => { field(&scope.types, at, name, Designated::Value(value)) }
-        Designated::Variable(t, place) => {
-            field(&scope.types, at, name, Designated::Variable(t, place))
-        }
-        Designated::Open(t, slot) => { field(&scope.types, at, name, Designated::Open(t, slot)) }
-        Designated::Type(t) => field(&scope.types, at, name, Designated::Type(t)),
-        Designated::Procedure(procedure) => {
-            field(&scope.types, at, name, Designated::Procedure(procedure))
-        }
-        Designated::Nested(procedure) => {
-            field(&scope.types, at, name, Designated::Nested(procedure))
-        }
-        Designated::Standard(standard) => {
-            field(&scope.types, at, name, Designated::Standard(standard))
-        }
+        Designated::Module(place) => match exported_meaning(scope, place, name)? {
+            Err(breach) => Ok(Err(breach)),
+            Ok(meaning) => designated_by(alloc, scope.level, name.pos, meaning),
+        },
+        from => field(&scope.types, at, name, from),
     }
 }
 
@@ -198,31 +173,14 @@ pub fn index_at(
     Ok(plain(element_at_index(alloc, types, array, other_at, index)?))
 }
 
-fn type_in(designated: Designated) -> Option<TypeNo>
-    ensures { result ≡ type_in designated }
-{
-    match designated {
-        Designated::Type(t) => Some(t),
-        Designated::Value(value) => {
-            drop(value);
-            None
-        }
-        Designated::Variable(_, _) => None,
-        Designated::Open(_, _) => None,
-        Designated::Procedure(_) => None,
-        Designated::Nested(_) => None,
-        Designated::Standard(_) => None,
-        Designated::Module(_) => None,
-    }
-}
-
 /// The type that stands at a place, if it is one.
 pub fn type_of(at: Pos, designated: Sought<Designated>) -> Elaborated<Option<TypeNo>>
     ensures { result ≡ type_of least at designated }
 {
     match of_sort(at, Rule::NoType, designated) {
         Err(breach) => Err(breach),
-        Ok(designated) => Ok(type_in(designated)),
+        Ok(Designated::Type(t)) => Ok(Some(t)),
+        Ok(_) => Ok(None),
     }
 }
 
@@ -236,18 +194,7 @@ pub fn formals_of(signature: Option<&Signature>) -> &[Formal]
     }
 }
 
-/// What stands at a place, for a formal. For a VAR formal it counts that a procedure is no variable.
-fn passed_for(formal: Formal, at: Pos, designated: Sought<Designated>) -> Elaborated<Designated>
-    ensures { result ≡ passed_for least formal at designated }
-{
-    if formal.is_var {
-        of_sort(at, Rule::NoVariable, designated)
-    } else {
-        of_heading(designated)
-    }
-}
-
-/// An argument at a place, for a formal.
+/// An argument at a place, for a formal. For a VAR formal it counts that a procedure is no variable.
 pub fn argument_by(
     types: &Types,
     formal: Option<Formal>,
@@ -258,10 +205,14 @@ pub fn argument_by(
 {
     match formal {
         None => report(at, Rule::ArgumentCount),
-        Some(formal) => match passed_for(formal, at, designated) {
-            Err(breach) => Err(breach),
-            Ok(designated) => actual(types, formal, at, designated),
-        },
+        Some(formal) => {
+            let passed = if formal.is_var {
+                of_sort(at, Rule::NoVariable, designated)?
+            } else {
+                of_heading(designated)?
+            };
+            actual(types, formal, at, passed)
+        }
     }
 }
 
