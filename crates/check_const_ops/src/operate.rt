@@ -3,7 +3,7 @@
 ghost use Rattle.std.specs.Prelude.{◌≡◌, Ok};
 ghost use Rattle.check_scope.specs.Elaborated.{least, ◌▷◌};
 ghost use Rattle.check_const_ops.specs.Common.{common};
-ghost use Rattle.check_const_ops.specs.Operate.{takes, holds_between, ordinal_result, divisor, fitting, on_scalars, binary, constant_operation, is_signed, signed_scalar, with_sign, negation};
+ghost use Rattle.check_const_ops.specs.Operate.{takes, holds_between, ordinal_result, divisor, fitting, on_scalars, binary, constant_operation, is_signed, with_sign, negation};
 
 use crate::number::{evaluated_at, fits, number_at, quotient, remainder};
 use crate::operand::{Operand, Ordinal, is_number, is_truth, number_value, operand_of, truth};
@@ -176,9 +176,13 @@ fn is_signed(sort: Option<TypeNo>) -> bool
     }
 }
 
-fn signed_scalar(sign: Sign, spot: Pos, a: Ordinal) -> Elaborated<Value>
-    ensures { result ≡ signed_scalar least sign spot a }
+/// A sign at a place, before a term.
+pub fn with_sign(sign: Sign, spot: Pos, x: Elaborated<Value>) -> Elaborated<Value>
+    ensures { result ≡ with_sign least sign spot x }
 {
+    let Some(Operand::Scalar(a)) = operand_of(&x?) else {
+        return report(spot, Rule::WrongType);
+    };
     match sign {
         Sign::Plus => {
             if !is_number(a.sort) {
@@ -195,33 +199,15 @@ fn signed_scalar(sign: Sign, spot: Pos, a: Ordinal) -> Elaborated<Value>
     }
 }
 
-/// A sign at a place, before a term.
-pub fn with_sign(sign: Sign, spot: Pos, x: Elaborated<Value>) -> Elaborated<Value>
-    ensures { result ≡ with_sign least sign spot x }
-{
-    match x {
-        Err(breach) => Err(breach),
-        Ok(value) => match operand_of(&value) {
-            None | Some(Operand::Set(_)) => report(spot, Rule::WrongType),
-            Some(Operand::Scalar(a)) => signed_scalar(sign, spot, a),
-        },
-    }
-}
-
 /// NOT at a place.
 pub fn negation(spot: Pos, x: Elaborated<Value>) -> Elaborated<Value>
     ensures { result ≡ negation least spot x }
 {
-    match x {
-        Err(breach) => Err(breach),
-        Ok(value) => match operand_of(&value) {
-            None | Some(Operand::Set(_)) => report(spot, Rule::WrongType),
-            Some(Operand::Scalar(a)) => {
-                if !is_truth(a.sort) {
-                    return report(spot, Rule::WrongType);
-                }
-                Ok(truth(!(a.number > 0)))
-            }
-        },
+    let Some(Operand::Scalar(a)) = operand_of(&x?) else {
+        return report(spot, Rule::WrongType);
+    };
+    if !is_truth(a.sort) {
+        return report(spot, Rule::WrongType);
     }
+    Ok(truth(!(a.number > 0)))
 }
