@@ -10,7 +10,7 @@ use crate::agree::headings_agree;
 use crate::computed::Computed;
 use crate::pieces::{boxes_of, of_value, truth_of};
 use crate::side::{Amount, Side, known_of, or_cardinal, run_of, side_of, sort_of};
-use check_const_ops::{BinaryOp, Operand, binary, common, divisor, fitting, is_number, takes};
+use check_const_ops::{BinaryOp, binary, common, divisor, fitting, is_number, takes};
 use check_scope::{Elaborated, beside, both, report};
 use m2_rule::Rule;
 use m2_tree::{Pos, RelOp};
