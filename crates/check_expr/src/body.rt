@@ -38,7 +38,7 @@ use m2_rule::{Breach, Rule};
 use m2_tree::{AddOp, Designator, Expr, Item, MulOp, Operator, Pos, Selector};
 use std::alloc::{AllocError, Global};
 use tree_parts::Items;
-use typed_tree::{Argument, CHAR, Formal, Scalar, Standard, TypeNo, Value};
+use typed_tree::{Argument, CHAR, Formal, Standard, TypeNo, Value};
 
 /// What an expression stands for. Most are a name or a constant, and a function pays at entry for all that it may hold: so
 /// what the others need stands apart.
@@ -701,76 +701,25 @@ fn by_sort(
         (λ v. v ≡ constants.by_sort least scope.now at standard (map (part least) args.now)
         (sort_of standard)) }
 {
-    match sort_of(standard) {
-        Sort::Unary => Ok(unary_constant(standard, one(alloc, scope, at, args)?)),
-        Sort::Bound => Ok(bound_of(standard, type_only(alloc, scope, at, args)?)),
-        Sort::Conversion => constant_conversion(alloc, scope, at, args),
-        Sort::Never => Ok(report(at, Rule::NoConstant)),
-    }
-}
-
-/// The one argument, with its place.
-#[cycle(body)]
-fn one(
-    alloc: Global,
-    scope: &Scope<Breach>,
-    at: Pos,
-    args: &[Expr],
-) -> Result<Elaborated<(Pos, Value)>, AllocError>
-    ensures { IfOk result (λ x. x ≡ constants.one least scope.now at (map (part least) args.now)) }
-{
-    match args {
-        [] => Ok(report(at, Rule::ArgumentCount)),
-        [argument] => {
+    match (sort_of(standard), args) {
+        (Sort::Unary, [argument]) => {
             let value = constant_of(alloc, scope, argument)?;
-            Ok(value_at(place_of(argument), value))
+            Ok(unary_constant(standard, value_at(place_of(argument), value)))
         }
-        [_, _, ..] => Ok(report(at, Rule::ArgumentCount)),
-    }
-}
-
-/// The one argument, which names a scalar type.
-#[cycle(body)]
-fn type_only(
-    alloc: Global,
-    scope: &Scope<Breach>,
-    at: Pos,
-    args: &[Expr],
-) -> Result<Elaborated<(TypeNo, Scalar)>, AllocError>
-    ensures { IfOk result
-        (λ x. x ≡ constants.type_only least scope.now at (map (part least) args.now)) }
-{
-    match args {
-        [] => Ok(report(at, Rule::ArgumentCount)),
-        [argument] => {
+        (Sort::Bound, [argument]) => {
             let named = type_named(alloc, scope, argument)?;
-            Ok(type_argument(&scope.types, place_of(argument), named))
+            let t = type_argument(&scope.types, place_of(argument), named);
+            Ok(bound_of(standard, t))
         }
-        [_, _, ..] => Ok(report(at, Rule::ArgumentCount)),
-    }
-}
-
-/// VAL of a type and a constant.
-#[cycle(body)]
-fn constant_conversion(
-    alloc: Global,
-    scope: &Scope<Breach>,
-    at: Pos,
-    args: &[Expr],
-) -> Result<Elaborated<Value>, AllocError>
-    ensures { IfOk result
-        (λ v. v ≡ constants.conversion least scope.now at (map (part least) args.now)) }
-{
-    match args {
-        [] => Ok(report(at, Rule::ArgumentCount)),
-        [_] => Ok(report(at, Rule::ArgumentCount)),
-        [to, argument] => {
+        (Sort::Conversion, [to, argument]) => {
             let named = type_named(alloc, scope, to)?;
             let t = type_argument(&scope.types, place_of(to), named);
             let value = constant_of(alloc, scope, argument)?;
             Ok(conversion_call(t, place_of(argument), value))
         }
-        [_, _, _, ..] => Ok(report(at, Rule::ArgumentCount)),
+        (Sort::Never, _) => Ok(report(at, Rule::NoConstant)),
+        (Sort::Unary | Sort::Bound, [] | [_, _, ..])
+        | (Sort::Conversion, [] | [_] | [_, _, _, ..]) => Ok(report(at, Rule::ArgumentCount)),
     }
 }
 
