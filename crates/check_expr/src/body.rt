@@ -6,7 +6,7 @@ ghost use Rattle.check_scope.specs.Elaborated.{least};
 ghost use Rattle.check_const.specs.Calls.{sort_of};
 ghost use Rattle.check_const.specs.Parts as constants;
 ghost use Rattle.check_call.specs.Functions.{form_of};
-ghost use Rattle.check_expr.specs.Meanings.{part, meanings_of, picks, head, item, as_constant, value_of, actual_in, look_in, breaches_in_all, wrong_count, routine_called, unary, bound, conversion, high, by_form, call_in_expression, factor_in, term_in, pick_in, constant_factor_in, constant_term_in, item_in};
+ghost use Rattle.check_expr.specs.Meanings.{part, meanings_of, picks, head, item, as_constant, value_of, actual_in, look_in, breaches_in_all, wrong_count, routine_called, by_form, call_in_expression, factor_in, term_in, pick_in, constant_factor_in, constant_term_in, item_in};
 
 use crate::fixed::denotation;
 use crate::pieces::{
@@ -15,8 +15,8 @@ use crate::pieces::{
     unary_of,
 };
 use check_call::{
-    Called, Callee, Form, Unary, bound_at, callee_of, conversion_at, form_of, function_of,
-    next_formal, with_argument,
+    Called, Callee, Form, bound_at, callee_of, conversion_at, form_of, function_of, next_formal,
+    with_argument,
 };
 use check_const::{
     Denoted, Sort, bound as bound_of, constant_by, conversion_call, element_of, joined_bits,
@@ -445,104 +445,31 @@ fn by_form(
         ≡ by_form least scope.now at standard (map (meanings_of least) args.now)
         (form_of standard)) }
 {
-    match form_of(standard) {
-        Form::Unary(function) => unary(alloc, scope, at, standard, function, args),
-        Form::Bound => bound(alloc, scope, at, standard, args),
-        Form::Conversion => conversion(alloc, scope, at, args),
-        Form::High => high(alloc, scope, at, args),
-        Form::Proper => {
-            let rest = breaches_in_all(alloc, scope, args)?;
-            Ok(reported_beside(at, Rule::WrongType, rest))
-        }
-    }
-}
-
-/// A standard function of one value.
-#[cycle(body)]
-fn unary(
-    alloc: Global,
-    scope: &Scope<Breach>,
-    at: Pos,
-    standard: Standard,
-    function: Unary,
-    args: &[Expr],
-) -> Result<Elaborated<Computed>, AllocError>
-    ensures { IfOk result
-        (λ v. v ≡ unary least scope.now at standard function (map (meanings_of least) args.now)) }
-{
-    match args {
-        [] => wrong_count(alloc, scope, at, args),
-        [arg] => {
+    match (form_of(standard), args) {
+        (Form::Unary(function), [arg]) => {
             let value = value_of(alloc, scope, arg)?;
             unary_of(alloc, standard, function, place_of(arg), value)
         }
-        [_, _, ..] => wrong_count(alloc, scope, at, args),
-    }
-}
-
-/// MIN and MAX.
-#[cycle(body)]
-fn bound(
-    alloc: Global,
-    scope: &Scope<Breach>,
-    at: Pos,
-    standard: Standard,
-    args: &[Expr],
-) -> Result<Elaborated<Computed>, AllocError>
-    ensures { IfOk result (λ v.
-        v ≡ bound least scope.now at standard (map (meanings_of least) args.now)) }
-{
-    match args {
-        [] => wrong_count(alloc, scope, at, args),
-        [arg] => {
+        (Form::Bound, [arg]) => {
             let designated = stands_for(alloc, scope, arg)?;
             Ok(bound_at(standard, type_at(&scope.types, place_of(arg), designated)))
         }
-        [_, _, ..] => wrong_count(alloc, scope, at, args),
-    }
-}
-
-/// VAL.
-#[cycle(body)]
-fn conversion(
-    alloc: Global,
-    scope: &Scope<Breach>,
-    at: Pos,
-    args: &[Expr],
-) -> Result<Elaborated<Computed>, AllocError>
-    ensures { IfOk result (λ v.
-        v ≡ conversion least scope.now at (map (meanings_of least) args.now)) }
-{
-    match args {
-        [] => wrong_count(alloc, scope, at, args),
-        [_] => wrong_count(alloc, scope, at, args),
-        [to, arg] => {
+        (Form::Conversion, [to, arg]) => {
             let designated = stands_for(alloc, scope, to)?;
             let t = type_at(&scope.types, place_of(to), designated);
             let value = value_of(alloc, scope, arg)?;
             conversion_at(alloc, t, place_of(arg), value)
         }
-        [_, _, _, ..] => wrong_count(alloc, scope, at, args),
-    }
-}
-
-/// HIGH.
-#[cycle(body)]
-fn high(
-    alloc: Global,
-    scope: &Scope<Breach>,
-    at: Pos,
-    args: &[Expr],
-) -> Result<Elaborated<Computed>, AllocError>
-    ensures { IfOk result (λ v. v ≡ high least scope.now at (map (meanings_of least) args.now)) }
-{
-    match args {
-        [] => wrong_count(alloc, scope, at, args),
-        [arg] => {
+        (Form::High, [arg]) => {
             let designated = stands_for(alloc, scope, arg)?;
             Ok(high_at(place_of(arg), designated))
         }
-        [_, _, ..] => wrong_count(alloc, scope, at, args),
+        (Form::Proper, _) => {
+            let rest = breaches_in_all(alloc, scope, args)?;
+            Ok(reported_beside(at, Rule::WrongType, rest))
+        }
+        (Form::Unary(_) | Form::Bound | Form::High, [] | [_, _, ..])
+        | (Form::Conversion, [] | [_] | [_, _, _, ..]) => wrong_count(alloc, scope, at, args),
     }
 }
 
