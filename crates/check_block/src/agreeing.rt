@@ -3,7 +3,7 @@
 ghost use Rattle.std.specs.Prelude.{◌≡◌};
 ghost use Rattle.std.specs.Option.{option_copied};
 ghost use Rattle.std.specs.Cmp.Lexicographic.{pointwise};
-ghost use Rattle.check_block.specs.Agreeing.{same_formal, same_result, agrees, signature_in, signature_of, agree};
+ghost use Rattle.check_block.specs.Agreeing.{same_formal, same_result, signature_of, agree};
 
 use typed_tree::{Formal, Made, Shape, Signature, TypeNo, are_same};
 
@@ -38,33 +38,20 @@ fn same_result(first: Option<TypeNo>, second: Option<TypeNo>) -> bool
     }
 }
 
-fn agrees(first: &Signature, second: &Signature) -> bool
-    ensures { result ≡ agrees first.now second.now }
-{
-    same_formals(first.formals.as_slice(), second.formals.as_slice())
-        && same_result(first.result, second.result)
-}
-
-fn signature_in(shape: &Shape) -> Option<&Signature>
-    ensures { option_copied result ≡ signature_in shape.now }
-{
-    match shape {
-        Shape::Procedure(signature) => Some(signature),
-        Shape::Scalar(_) => None,
-        Shape::Set => None,
-        Shape::Array(_, _) => None,
-        Shape::Record(_) => None,
-        Shape::Open(_) => None,
-    }
-}
-
 /// What is asked of a procedure and what it gives, if the type is a procedure's.
 pub fn signature_of(made: Option<&Made>) -> Option<&Signature>
     ensures { option_copied result ≡ signature_of (option_copied made.entry) }
 {
     match made {
         None => None,
-        Some(made) => signature_in(&made.shape),
+        Some(made) => match &made.shape {
+            Shape::Procedure(signature) => Some(signature),
+            Shape::Scalar(_)
+            | Shape::Set
+            | Shape::Array(_, _)
+            | Shape::Record(_)
+            | Shape::Open(_) => None,
+        },
     }
 }
 
@@ -76,7 +63,10 @@ pub fn agree(first: Option<&Signature>, second: Option<&Signature>) -> bool
         None => false,
         Some(h) => match second {
             None => false,
-            Some(k) => agrees(h, k),
+            Some(k) => {
+                same_formals(h.formals.as_slice(), k.formals.as_slice())
+                    && same_result(h.result, k.result)
+            }
         },
     }
 }

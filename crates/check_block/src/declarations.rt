@@ -6,8 +6,7 @@ ghost use Rattle.std.specs.Option.{option_map};
 ghost use Rattle.check_scope.specs.Elaborated.{least};
 ghost use Rattle.check_definition.specs.Steps.{if_some};
 ghost use Rattle.check_definition.specs.Declare.{with_constant, with_type};
-ghost use Rattle.check_block.specs.Nesting.{number_behind};
-ghost use Rattle.check_block.specs.Declarations.{local_meaning, finished_local, with_locals, with_variables_of, with_procedure, with_decl, declared_block, is_awaited, or_awaited, lacks, reported_of_lack, declared_module};
+ghost use Rattle.check_block.specs.Declarations.{finished_local, with_locals, with_procedure, with_decl, declared_block, or_awaited, lacks, declared_module};
 
 use crate::heading::{Standing, standing_known, with_heading};
 use crate::naming::mark_decls;
@@ -17,26 +16,12 @@ use check_definition::{
 use check_scope::{Elaborated, Known, Scope, beside, finish, report};
 use check_type_expr::{nothing_of, type_of};
 use m2_rule::{Breach, Rule};
-use m2_tree::{Decl, Heading, Ident, Module, Pos, Variables};
+use m2_tree::{Decl, Heading, Ident, Module, Variables};
 use std::alloc::{AllocError, Global};
 use tree_parts::Items;
 use typed_tree::{Dictionary, LocalKind, LocalVariable, Meaning, TypeNo};
 
 // ---- variables of procedures
-
-fn local_meaning(level: usize, number: usize, t: Elaborated<TypeNo>) -> Elaborated<Meaning>
-    ensures { result ≡ local_meaning level number t }
-{
-    match t {
-        Err(breach) => Err(breach),
-        Ok(of) => Ok(Meaning::Local(LocalVariable {
-            level,
-            number,
-            kind: LocalKind::Variable,
-            of,
-        })),
-    }
-}
 
 fn finish_local(
     alloc: Global,
@@ -46,7 +31,15 @@ fn finish_local(
 ) -> Result<(), AllocError>
     ensures { OnOk result (scope.new ≡ finished_local t scope.old name.now) }
 {
-    let means = local_meaning(scope.level, scope.variables.len(), t);
+    let means = match t {
+        Err(breach) => Err(breach),
+        Ok(of) => Ok(Meaning::Local(LocalVariable {
+            level: scope.level,
+            number: scope.variables.len(),
+            kind: LocalKind::Variable,
+            of,
+        })),
+    };
     with_variable_type(scope, t)?;
     finish(alloc, scope, name, means)
 }
@@ -96,31 +89,7 @@ fn declare_locals(
     Ok(elaborated)
 }
 
-fn with_variables_of(
-    alloc: Global,
-    scope: &mut Scope<Breach>,
-    before: Elaborated<()>,
-    list: &[Variables],
-) -> Result<Elaborated<()>, AllocError>
-    ensures { IfOk result (λ j.
-        (scope.new, j) ≡ with_variables_of least (scope.old, before) list.now) }
-{
-    if scope.level == 0 {
-        return declare_variables(alloc, scope, before, list);
-    }
-    declare_locals(alloc, scope, before, list)
-}
-
 // ---- declarations, in order
-
-fn number_behind(ends: &[usize], number: usize) -> usize
-    ensures { result ≡ number_behind ends.now number }
-{
-    match ends.get(number) {
-        None => number,
-        Some(end) => *end,
-    }
-}
 
 fn with_procedure(
     alloc: Global,
@@ -135,7 +104,10 @@ fn with_procedure(
         ≡ with_procedure least ends.now (scope.old, before, next.old) heading.now) }
 {
     let one = with_heading(alloc, scope, *next, heading)?;
-    *next = number_behind(ends, *next);
+    *next = match ends.get(*next) {
+        None => *next,
+        Some(end) => *end,
+    };
     Ok(beside(before, one))
 }
 
@@ -154,28 +126,14 @@ fn with_decl(
     match decl {
         Decl::Constants(list) => declare_constants(alloc, scope, before, list.as_slice()),
         Decl::Types(list) => declare_types(alloc, scope, before, list.as_slice()),
-        Decl::Variables(list) => with_variables_of(alloc, scope, before, list.as_slice()),
+        Decl::Variables(list) => {
+            if scope.level == 0 {
+                return declare_variables(alloc, scope, before, list.as_slice());
+            }
+            declare_locals(alloc, scope, before, list.as_slice())
+        }
         Decl::Procedure(heading, _) => with_procedure(alloc, scope, ends, next, before, heading),
     }
-}
-
-fn with_decls(
-    alloc: Global,
-    scope: &mut Scope<Breach>,
-    ends: &[usize],
-    next: &mut usize,
-    before: Elaborated<()>,
-    decls: &[Decl],
-) -> Result<Elaborated<()>, AllocError>
-    ensures { IfOk result (λ j.
-        (scope.new, j, next.new)
-        ≡ fold (with_decl least ends.now) (scope.old, before, next.old) decls.now) }
-{
-    let mut elaborated = before;
-    for decl in decls {
-        elaborated = with_decl(alloc, scope, ends, next, elaborated, decl)?;
-    }
-    Ok(elaborated)
 }
 
 /// Declares what a block declares, in order, and answers what is reported, and how many names of the block stand before
@@ -194,21 +152,14 @@ pub fn declare_block(
 {
     let seen = mark_decls(alloc, scope, decls)?;
     let mut next = first;
-    let elaborated = with_decls(alloc, scope, ends, &mut next, before, decls)?;
+    let mut elaborated = before;
+    for decl in decls {
+        elaborated = with_decl(alloc, scope, ends, &mut next, elaborated, decl)?;
+    }
     Ok((elaborated, seen))
 }
 
 // ---- modules
-
-fn is_awaited(standing: Standing) -> bool
-    ensures { result ≡ is_awaited standing }
-{
-    match standing {
-        Standing::Free => false,
-        Standing::Awaited(_) => true,
-        Standing::Taken => false,
-    }
-}
 
 fn or_awaited_if(so_far: bool, entry: Option<(&[u8], &Known<Breach>)>) -> bool
     ensures { result
@@ -216,7 +167,10 @@ fn or_awaited_if(so_far: bool, entry: Option<(&[u8], &Known<Breach>)>) -> bool
 {
     match entry {
         None => so_far,
-        Some((_, known)) => so_far || is_awaited(standing_known(known)),
+        Some((_, known)) => match standing_known(known) {
+            Standing::Awaited(_) => true,
+            Standing::Free | Standing::Taken => so_far,
+        },
     }
 }
 
@@ -229,15 +183,6 @@ fn lacks(own: &Dictionary<Known<Breach>>) -> bool
         found = or_awaited_if(found, own.get(place));
     }
     found
-}
-
-fn reported_of_lack(at: Pos, scope: &Scope<Breach>) -> Elaborated<()>
-    ensures { result ≡ reported_of_lack least at scope.now }
-{
-    if lacks(&scope.own) {
-        return report(at, Rule::MissingProcedure);
-    }
-    Ok(())
 }
 
 /// Declares what a module imports and what its block declares, and answers what is reported, and how many names stand
@@ -256,8 +201,10 @@ pub fn declare_module(
 {
     let imported = import_all(alloc, scope, modules, tree.imports.as_slice())?;
     let (elaborated, seen) = declare_block(alloc, scope, ends, imported, 0, decls)?;
-    Ok((
-        beside(elaborated, reported_of_lack(tree.name.pos, scope)),
-        seen,
-    ))
+    let lack = if lacks(&scope.own) {
+        report(tree.name.pos, Rule::MissingProcedure)
+    } else {
+        Ok(())
+    };
+    Ok((beside(elaborated, lack), seen))
 }

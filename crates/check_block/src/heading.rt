@@ -1,9 +1,8 @@
 //! Headings of procedures in blocks.
 
 ghost use Rattle.std.specs.Prelude.{◌≡◌, Ok, IfOk, OnOk};
-ghost use Rattle.std.specs.Option.{option_copied};
 ghost use Rattle.check_scope.specs.Elaborated.{least, ◌▷◌};
-ghost use Rattle.check_block.specs.Headings.{standing_of, standing_elaborated, standing_from, standing_known, name_standing, nested_meaning, set_heading, module_procedure, new_procedure, with_new, reported_of_other, with_awaited, nothing_made, headed_as, with_heading};
+ghost use Rattle.check_block.specs.Headings.{standing_elaborated, standing_known, set_heading, new_procedure, reported_of_other, with_awaited, headed_as, with_heading};
 
 use crate::agreeing::{agree, signature_of};
 use check_definition::{procedure_meaning, with_procedure_type};
@@ -25,39 +24,23 @@ pub enum Standing {
     Taken,
 }
 
-fn standing_of(meaning: &Meaning) -> Standing
-    ensures { result ≡ standing_of meaning.now }
-{
-    match meaning {
-        Meaning::Procedure(procedure) => Standing::Awaited(*procedure),
-        Meaning::Constant(_) => Standing::Taken,
-        Meaning::Type(_, _) => Standing::Taken,
-        Meaning::Variable(_) => Standing::Taken,
-        Meaning::Local(_) => Standing::Taken,
-        Meaning::Field(_) => Standing::Taken,
-        Meaning::LocalProcedure(_) => Standing::Taken,
-        Meaning::Ahead => Standing::Taken,
-        Meaning::Standard(_) => Standing::Taken,
-        Meaning::Module(_) => Standing::Taken,
-    }
-}
-
 fn standing_elaborated(means: &Elaborated<Meaning>) -> Standing
     ensures { result ≡ standing_elaborated means.now }
 {
     match means {
         Err(_) => Standing::Taken,
-        Ok(meaning) => standing_of(meaning),
-    }
-}
-
-fn standing_from(origin: Origin, means: &Elaborated<Meaning>) -> Standing
-    ensures { result ≡ standing_from origin means.now }
-{
-    match origin {
-        Origin::Here => standing_elaborated(means),
-        Origin::Module(_) => Standing::Taken,
-        Origin::Export(_) => Standing::Taken,
+        Ok(meaning) => match meaning {
+            Meaning::Procedure(procedure) => Standing::Awaited(*procedure),
+            Meaning::Constant(_)
+            | Meaning::Type(_, _)
+            | Meaning::Variable(_)
+            | Meaning::Local(_)
+            | Meaning::Field(_)
+            | Meaning::LocalProcedure(_)
+            | Meaning::Ahead
+            | Meaning::Standard(_)
+            | Meaning::Module(_) => Standing::Taken,
+        },
     }
 }
 
@@ -70,33 +53,15 @@ pub fn standing_known(known: &Known<Breach>) -> Standing
         Known::Ahead => Standing::Free,
         Known::Begun => Standing::Taken,
         Known::Headed(_) => Standing::Taken,
-        Known::Declared(origin, means) => standing_from(*origin, means),
-    }
-}
-
-fn name_standing(known: Option<&Known<Breach>>) -> Standing
-    ensures { result ≡ name_standing (option_copied known.entry) }
-{
-    match known {
-        None => Standing::Free,
-        Some(known) => standing_known(known),
+        Known::Declared(origin, means) => match origin {
+            Origin::Here => standing_elaborated(means),
+            Origin::Module(_) => Standing::Taken,
+            Origin::Export(_) => Standing::Taken,
+        },
     }
 }
 
 // ---- procedures of the block itself
-
-fn nested_meaning(level: usize, number: usize, t: Elaborated<TypeNo>) -> Elaborated<Meaning>
-    ensures { result ≡ nested_meaning level number t }
-{
-    match t {
-        Err(breach) => Err(breach),
-        Ok(heading) => Ok(Meaning::LocalProcedure(NestedProcedure {
-            level,
-            number,
-            heading,
-        })),
-    }
-}
 
 fn head(
     alloc: Global,
@@ -109,19 +74,6 @@ fn head(
     scope.own.enter(alloc, name, Known::Headed(means))
 }
 
-fn module_procedure(
-    alloc: Global,
-    scope: &mut Scope<Breach>,
-    name: &[u8],
-    t: Elaborated<TypeNo>,
-) -> Result<(), AllocError>
-    ensures { OnOk result (scope.new ≡ module_procedure scope.old name.now t) }
-{
-    let means = procedure_meaning(scope.types.home, scope.procedures.len(), t);
-    with_procedure_type(scope, t)?;
-    head(alloc, scope, name, means)
-}
-
 fn new_procedure(
     alloc: Global,
     scope: &mut Scope<Breach>,
@@ -132,37 +84,22 @@ fn new_procedure(
     ensures { OnOk result (scope.new ≡ new_procedure scope.old name.now number t) }
 {
     if scope.level == 0 {
-        return module_procedure(alloc, scope, name, t);
+        let means = procedure_meaning(scope.types.home, scope.procedures.len(), t);
+        with_procedure_type(scope, t)?;
+        return head(alloc, scope, name, means);
     }
-    let means = nested_meaning(scope.level, number, t);
+    let means = match t {
+        Err(breach) => Err(breach),
+        Ok(heading) => Ok(Meaning::LocalProcedure(NestedProcedure {
+            level: scope.level,
+            number,
+            heading,
+        })),
+    };
     head(alloc, scope, name, means)
 }
 
-fn with_new(
-    alloc: Global,
-    scope: &mut Scope<Breach>,
-    name: &[u8],
-    number: usize,
-    made: Elaborated<Made>,
-) -> Result<Elaborated<()>, AllocError>
-    ensures { IfOk result (λ j. (scope.new, j) ≡ with_new scope.old name.now number made) }
-{
-    let t = with_made(scope, made)?;
-    new_procedure(alloc, scope, name, number, t)?;
-    Ok(nothing_of(t))
-}
-
 // ---- procedures of the module's definition
-
-fn reported_of_other(types: &Types, at: Pos, procedure: Procedure, made: &Made) -> Elaborated<()>
-    ensures { result ≡ reported_of_other least types.now at procedure made.now }
-{
-    let awaited = made_of(types, procedure.heading);
-    if !agree(signature_of(Some(made)), signature_of(awaited)) {
-        return report(at, Rule::OtherHeading);
-    }
-    Ok(())
-}
 
 fn reported_of_heading(
     types: &Types,
@@ -174,7 +111,13 @@ fn reported_of_heading(
 {
     match made {
         Err(breach) => Err(*breach),
-        Ok(made) => reported_of_other(types, at, procedure, made),
+        Ok(made) => {
+            let awaited = made_of(types, procedure.heading);
+            if !agree(signature_of(Some(made)), signature_of(awaited)) {
+                return report(at, Rule::OtherHeading);
+            }
+            Ok(())
+        }
     }
 }
 
@@ -196,15 +139,6 @@ fn with_awaited(
 
 // ---- all of them
 
-fn nothing_made(made: &Elaborated<Made>) -> Elaborated<()>
-    ensures { result ≡ nothing_made made.now }
-{
-    match made {
-        Err(breach) => Err(*breach),
-        Ok(_) => Ok(()),
-    }
-}
-
 fn headed_as(
     alloc: Global,
     scope: &mut Scope<Breach>,
@@ -217,12 +151,19 @@ fn headed_as(
         (scope.new, j) ≡ headed_as least scope.old heading.now number made standing) }
 {
     match standing {
-        Standing::Free => with_new(alloc, scope, heading.name.name.as_bytes(), number, made),
+        Standing::Free => {
+            let t = with_made(scope, made)?;
+            new_procedure(alloc, scope, heading.name.name.as_bytes(), number, t)?;
+            Ok(nothing_of(t))
+        }
         Standing::Awaited(procedure) => with_awaited(alloc, scope, heading, procedure, &made),
-        Standing::Taken => Ok(beside(
-            nothing_made(&made),
-            report(heading.name.pos, Rule::DeclaredTwice),
-        )),
+        Standing::Taken => {
+            let taken = report(heading.name.pos, Rule::DeclaredTwice);
+            match &made {
+                Err(breach) => Ok(beside(Err(*breach), taken)),
+                Ok(_) => Ok(taken),
+            }
+        }
     }
 }
 
@@ -238,7 +179,10 @@ pub fn with_heading(
 {
     let names = names_of(alloc, heading)?;
     let made = heading_of(alloc, scope, heading)?;
-    let standing = name_standing(scope.own.find(heading.name.name.as_bytes()));
+    let standing = match scope.own.find(heading.name.name.as_bytes()) {
+        None => Standing::Free,
+        Some(known) => standing_known(known),
+    };
     let one = headed_as(alloc, scope, heading, number, made, standing)?;
     Ok(beside(names, one))
 }

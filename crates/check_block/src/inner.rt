@@ -1,9 +1,8 @@
 //! From a block into a procedure, and back.
 
 ghost use Rattle.std.specs.Prelude.{◌≡◌, ◌∷◌, [], IfOk, OnOk};
-ghost use Rattle.std.specs.List.{fold};
 ghost use Rattle.check_scope.specs.Elaborated.{least};
-ghost use Rattle.check_block.specs.Inner.{inwards, outside, formal_kind, formal_meaning, unless_found, with_formal_type, with_formal, with_section, formals_in, entered_in, entered_procedure, split_last, pop_block, left_procedure};
+ghost use Rattle.check_block.specs.Inner.{outside, formal_kind, formal_meaning, with_formal, with_section, formals_in, entered_in, entered_procedure, split_last, pop_block, left_procedure};
 
 use check_scope::{Block, Elaborated, Known, Origin, Scope};
 use check_type_expr::{formal_of, result_of};
@@ -28,17 +27,6 @@ pub struct Entered {
     pub outside: Outside,
     /// What the procedure gives, if it gives something.
     pub result: Elaborated<Option<TypeNo>>,
-}
-
-fn inwards(alloc: Global, scope: &mut Scope<Breach>, seen: usize) -> Result<Outside, AllocError>
-    ensures within { OnOk result (scope.new ≡ inwards scope.old seen) }
-    ensures around { IfOk result (λ o. o ≡ outside scope.old) }
-{
-    let names = mem::replace(&mut scope.own, Dictionary::new(alloc));
-    let variables = mem::replace(&mut scope.variables, Items::new(alloc));
-    let level = mem::replace(&mut scope.level, scope.outer.len());
-    scope.outer.push(Block { names, seen })?;
-    Ok(Outside { level, variables })
 }
 
 // ---- formals
@@ -69,29 +57,6 @@ fn formal_meaning(level: usize, number: usize, formal: Elaborated<Formal>) -> El
     }
 }
 
-fn unless_found(
-    alloc: Global,
-    names: &mut Dictionary<Known<Breach>>,
-    name: &[u8],
-    known: Known<Breach>,
-) -> Result<(), AllocError>
-    ensures { OnOk result (names.new ≡ unless_found name.now known names.old) }
-{
-    if names.find(name).is_some() {
-        return Ok(());
-    }
-    names.enter(alloc, name, known)
-}
-
-fn with_formal_type(types: &mut Items<TypeNo>, formal: Elaborated<Formal>) -> Result<(), AllocError>
-    ensures { OnOk result (types.new ≡ with_formal_type types.old formal) }
-{
-    match formal {
-        Err(_) => Ok(()),
-        Ok(formal) => types.push(formal.of),
-    }
-}
-
 fn with_formal(
     alloc: Global,
     names: &mut Dictionary<Known<Breach>>,
@@ -104,30 +69,17 @@ fn with_formal(
         ((names.new, types.new) ≡ with_formal level formal (names.old, types.old) name.now) }
 {
     let means = formal_meaning(level, types.len(), formal);
-    unless_found(
-        alloc,
-        names,
-        name.name.as_bytes(),
-        Known::Declared(Origin::Here, means),
-    )?;
-    with_formal_type(types, formal)
-}
-
-fn with_names(
-    alloc: Global,
-    names: &mut Dictionary<Known<Breach>>,
-    types: &mut Items<TypeNo>,
-    level: usize,
-    formal: Elaborated<Formal>,
-    list: &[Ident],
-) -> Result<(), AllocError>
-    ensures { OnOk result
-        ((names.new, types.new) ≡ fold (with_formal level formal) (names.old, types.old) list.now) }
-{
-    for name in list {
-        with_formal(alloc, names, types, level, formal, name)?;
+    if names.find(name.name.as_bytes()).is_none() {
+        names.enter(
+            alloc,
+            name.name.as_bytes(),
+            Known::Declared(Origin::Here, means),
+        )?;
     }
-    Ok(())
+    match formal {
+        Err(_) => Ok(()),
+        Ok(formal) => types.push(formal.of),
+    }
 }
 
 fn with_section(
@@ -141,28 +93,8 @@ fn with_section(
         ((names.new, types.new) ≡ with_section least scope.now (names.old, types.old) section.now) }
 {
     let formal = formal_of(scope, section.is_var, &section.of)?;
-    with_names(
-        alloc,
-        names,
-        types,
-        scope.level,
-        formal,
-        section.names.as_slice(),
-    )
-}
-
-fn with_sections(
-    alloc: Global,
-    scope: &Scope<Breach>,
-    names: &mut Dictionary<Known<Breach>>,
-    types: &mut Items<TypeNo>,
-    list: &[Section],
-) -> Result<(), AllocError>
-    ensures { OnOk result ((names.new, types.new)
-        ≡ fold (with_section least scope.now) (names.old, types.old) list.now) }
-{
-    for section in list {
-        with_section(alloc, scope, names, types, section)?;
+    for name in section.names.as_slice() {
+        with_formal(alloc, names, types, scope.level, formal, name)?;
     }
     Ok(())
 }
@@ -177,13 +109,9 @@ fn enter_in(
     let result = result_of(scope, &heading.result)?;
     let mut names = Dictionary::new(alloc);
     let mut types = Items::new(alloc);
-    with_sections(
-        alloc,
-        scope,
-        &mut names,
-        &mut types,
-        heading.formals.as_slice(),
-    )?;
+    for section in heading.formals.as_slice() {
+        with_section(alloc, scope, &mut names, &mut types, section)?;
+    }
     scope.own = names;
     scope.variables = types;
     Ok(result)
@@ -202,9 +130,15 @@ pub fn enter(
         (scope.new, e.result) ≡ entered_procedure least scope.old seen heading.now) }
     ensures around { IfOk result (λ e. e.outside ≡ outside scope.old) }
 {
-    let outside = inwards(alloc, scope, seen)?;
+    let names = mem::replace(&mut scope.own, Dictionary::new(alloc));
+    let variables = mem::replace(&mut scope.variables, Items::new(alloc));
+    let level = mem::replace(&mut scope.level, scope.outer.len());
+    scope.outer.push(Block { names, seen })?;
     let result = enter_in(alloc, scope, heading)?;
-    Ok(Entered { outside, result })
+    Ok(Entered {
+        outside: Outside { level, variables },
+        result,
+    })
 }
 
 /// Takes the names of the innermost block around a place.

@@ -3,7 +3,7 @@
 ghost use Rattle.std.specs.Prelude.{◌≡◌, Ok, IfOk, OnOk};
 ghost use Rattle.std.specs.List.{fold};
 ghost use Rattle.check_scope.specs.Elaborated.{least};
-ghost use Rattle.check_definition.specs.Declare.{constant_meaning, nothing_reported, with_constant, brings_simple, brings_with, type_meaning, with_type, begun_name, variable_meaning, with_variable_type, finished_variable, with_variables, procedure_meaning, with_procedure_type, declared_procedure, with_procedure, with_def};
+ghost use Rattle.check_definition.specs.Declare.{with_constant, brings_with, with_type, begun_name, with_variable_type, finished_variable, with_variables, procedure_meaning, with_procedure_type, declared_procedure, with_procedure, with_def};
 
 use check_expr::constant_of;
 use check_scope::{Elaborated, Scope, begin, beside, declare, finish};
@@ -11,27 +11,9 @@ use check_type_expr::{heading_of, names_of, nothing_of, type_of, with_made};
 use m2_rule::Breach;
 use m2_tree::{Constant, Def, Heading, Ident, Simple, TypeDecl, TypeExpr, Variables};
 use std::alloc::{AllocError, Global};
-use typed_tree::{Meaning, Procedure, TypeNo, Value, Variable};
+use typed_tree::{Meaning, Procedure, TypeNo, Variable};
 
 // ---- constants
-
-fn nothing_reported(value: &Elaborated<Value>) -> Elaborated<()>
-    ensures { result ≡ nothing_reported value.now }
-{
-    match value {
-        Err(breach) => Err(*breach),
-        Ok(_) => Ok(()),
-    }
-}
-
-fn constant_meaning(value: Elaborated<Value>) -> Elaborated<Meaning>
-    ensures { result ≡ constant_meaning value }
-{
-    match value {
-        Err(breach) => Err(breach),
-        Ok(value) => Ok(Meaning::Constant(value)),
-    }
-}
 
 fn with_constant(
     alloc: Global,
@@ -43,9 +25,11 @@ fn with_constant(
         (scope.new, j) ≡ with_constant least (scope.old, before) constant.now) }
 {
     let first = begin(alloc, scope, &constant.name)?;
-    let value = constant_of(alloc, scope, &constant.value)?;
-    let reported = nothing_reported(&value);
-    finish(alloc, scope, &constant.name, constant_meaning(value))?;
+    let (means, reported) = match constant_of(alloc, scope, &constant.value)? {
+        Err(breach) => (Err(breach), Err(breach)),
+        Ok(value) => (Ok(Meaning::Constant(value)), Ok(())),
+    };
+    finish(alloc, scope, &constant.name, means)?;
     Ok(beside(before, beside(first, reported)))
 }
 
@@ -68,34 +52,16 @@ pub fn declare_constants(
 
 // ---- types
 
-fn brings_simple(t: &Simple) -> usize
-    ensures { result ≡ brings_simple t.now }
-{
-    match t {
-        Simple::Enumeration(_, names) => names.as_slice().len() + 1,
-        Simple::Named(_) => 1,
-        Simple::Subrange(_, _, _, _) => 1,
-    }
-}
-
 /// How many names come with a type: its own, and the constants of an enumeration that it is.
 fn brings_with(t: &TypeExpr) -> usize
     ensures { result ≡ brings_with t.now }
 {
     match t {
-        TypeExpr::Simple(simple) => brings_simple(simple),
-        TypeExpr::Array(_, _, _) => 1,
-        TypeExpr::Record(_, _) => 1,
-        TypeExpr::Procedure(_, _, _) => 1,
-    }
-}
-
-fn type_meaning(t: Elaborated<TypeNo>, names: usize) -> Elaborated<Meaning>
-    ensures { result ≡ type_meaning t names }
-{
-    match t {
-        Err(breach) => Err(breach),
-        Ok(t) => Ok(Meaning::Type(t, names)),
+        TypeExpr::Simple(simple) => match simple {
+            Simple::Enumeration(_, names) => names.as_slice().len() + 1,
+            Simple::Named(_) | Simple::Subrange(_, _, _, _) => 1,
+        },
+        TypeExpr::Array(_, _, _) | TypeExpr::Record(_, _) | TypeExpr::Procedure(_, _, _) => 1,
     }
 }
 
@@ -109,12 +75,11 @@ fn with_type(
 {
     let first = begin(alloc, scope, &decl.name)?;
     let t = type_of(alloc, scope, &decl.of)?;
-    finish(
-        alloc,
-        scope,
-        &decl.name,
-        type_meaning(t, brings_with(&decl.of)),
-    )?;
+    let means = match t {
+        Err(breach) => Err(breach),
+        Ok(t) => Ok(Meaning::Type(t, brings_with(&decl.of))),
+    };
+    finish(alloc, scope, &decl.name, means)?;
     Ok(beside(before, beside(first, nothing_of(t))))
 }
 
@@ -155,15 +120,6 @@ pub fn begin_all(
     Ok(elaborated)
 }
 
-fn variable_meaning(home: u32, number: usize, t: Elaborated<TypeNo>) -> Elaborated<Meaning>
-    ensures { result ≡ variable_meaning home number t }
-{
-    match t {
-        Err(breach) => Err(breach),
-        Ok(of) => Ok(Meaning::Variable(Variable { home, number, of })),
-    }
-}
-
 /// Numbers one more variable of this type.
 pub fn with_variable_type(
     scope: &mut Scope<Breach>,
@@ -188,7 +144,14 @@ fn finish_variable(
 ) -> Result<(), AllocError>
     ensures { OnOk result (scope.new ≡ finished_variable t scope.old name.now) }
 {
-    let means = variable_meaning(scope.types.home, scope.variables.len(), t);
+    let means = match t {
+        Err(breach) => Err(breach),
+        Ok(of) => Ok(Meaning::Variable(Variable {
+            home: scope.types.home,
+            number: scope.variables.len(),
+            of,
+        })),
+    };
     with_variable_type(scope, t)?;
     finish(alloc, scope, name, means)
 }
@@ -302,22 +265,6 @@ fn with_procedure(
 
 // ---- all of them
 
-fn with_def(
-    alloc: Global,
-    scope: &mut Scope<Breach>,
-    before: Elaborated<()>,
-    def: &Def,
-) -> Result<Elaborated<()>, AllocError>
-    ensures { IfOk result (λ j. (scope.new, j) ≡ with_def least (scope.old, before) def.now) }
-{
-    match def {
-        Def::Constants(list) => declare_constants(alloc, scope, before, list.as_slice()),
-        Def::Types(list) => declare_types(alloc, scope, before, list.as_slice()),
-        Def::Variables(list) => declare_variables(alloc, scope, before, list.as_slice()),
-        Def::Procedure(heading) => with_procedure(alloc, scope, before, heading),
-    }
-}
-
 /// Declares what a definition declares.
 pub fn declare_all(
     alloc: Global,
@@ -330,7 +277,12 @@ pub fn declare_all(
 {
     let mut elaborated = before;
     for def in defs {
-        elaborated = with_def(alloc, scope, elaborated, def)?;
+        elaborated = match def {
+            Def::Constants(list) => declare_constants(alloc, scope, elaborated, list.as_slice())?,
+            Def::Types(list) => declare_types(alloc, scope, elaborated, list.as_slice())?,
+            Def::Variables(list) => declare_variables(alloc, scope, elaborated, list.as_slice())?,
+            Def::Procedure(heading) => with_procedure(alloc, scope, elaborated, heading)?,
+        };
     }
     Ok(elaborated)
 }

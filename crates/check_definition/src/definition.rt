@@ -3,7 +3,7 @@
 ghost use Rattle.std.specs.Prelude.{◌≡◌, IfOk, ◌++◌, ◌∷◌, []};
 ghost use Rattle.check_scope.specs.Elaborated.{least};
 ghost use Rattle.check_definition.specs.Predeclared.{console};
-ghost use Rattle.check_definition.specs.Compiled.{table_of, declared_in, table_or, of_definition, definition_table};
+ghost use Rattle.check_definition.specs.Compiled.{declared_in, table_or, of_definition, definition_table};
 
 use crate::declare::declare_all;
 use crate::export::{exports, imported_modules, reached_of};
@@ -29,30 +29,7 @@ pub fn with_console(
     Ok(all)
 }
 
-/// The table of a definition whose declarations are known.
-fn table_of(
-    alloc: Global,
-    tree: &Module,
-    modules: &Dictionary<usize>,
-    scope: Scope<Breach>,
-) -> Result<Table, AllocError>
-    ensures { IfOk result (λ table. table ≡ table_of tree.now modules.now scope) }
-{
-    let imports = imported_modules(alloc, modules, &scope.tables, tree.imports.as_slice())?;
-    let exported = exports(alloc, &scope.own)?;
-    let number = scope.types.home;
-    let name = tree.name.name.clone()?;
-    let (types, _) = scope.into_types(alloc);
-    let reached = reached_of(alloc, types)?;
-    Ok(Table {
-        number,
-        name,
-        imports,
-        exported,
-        reached,
-    })
-}
-
+/// The table of a definition whose declarations are known, unless something is reported of them.
 fn table_or(
     alloc: Global,
     tree: &Module,
@@ -64,7 +41,21 @@ fn table_or(
 {
     match elaborated {
         Err(breach) => Ok(Err(breach)),
-        Ok(()) => Ok(Ok(table_of(alloc, tree, modules, scope)?)),
+        Ok(()) => {
+            let imports = imported_modules(alloc, modules, &scope.tables, tree.imports.as_slice())?;
+            let exported = exports(alloc, &scope.own)?;
+            let number = scope.types.home;
+            let name = tree.name.name.clone()?;
+            let (types, _) = scope.into_types(alloc);
+            let reached = reached_of(alloc, types)?;
+            Ok(Ok(Table {
+                number,
+                name,
+                imports,
+                exported,
+                reached,
+            }))
+        }
     }
 }
 

@@ -1,17 +1,16 @@
 //! What a definition exports, and the modules that it imports.
 
-ghost use Rattle.std.specs.Prelude.{◌++◌, ◌≡◌, IfOk, OnOk};
-ghost use Rattle.std.specs.List.{fold};
-ghost use Rattle.std.specs.Option.{option_map, option_copied};
+ghost use Rattle.std.specs.Prelude.{◌≡◌, IfOk, OnOk};
+ghost use Rattle.std.specs.Option.{option_map};
 ghost use Rattle.check_definition.specs.Steps.{if_some};
-ghost use Rattle.check_definition.specs.Export.{with_meaning, with_declared, with_export, exports, with_types, own_types, reached_of, with_table_if, with_imported, with_import_of, imported_modules};
+ghost use Rattle.check_definition.specs.Export.{with_meaning, with_export, exports, with_types, reached_of, with_imported, with_import_of, imported_modules};
 
 use check_scope::{Known, Origin};
 use m2_rule::Breach;
 use m2_tree::{Ident, Import};
 use std::alloc::{AllocError, Global};
 use tree_parts::{Items, Shared};
-use typed_tree::{Dictionary, Made, Meaning, ModuleTypes, Reached, Table, Types};
+use typed_tree::{Dictionary, Made, Meaning, ModuleTypes, Table, Types};
 
 // ---- exports
 
@@ -29,39 +28,6 @@ fn with_meaning(
     }
 }
 
-fn with_declared(
-    alloc: Global,
-    exported: &mut Dictionary<Meaning>,
-    name: &[u8],
-    origin: Origin,
-    means: &Result<Meaning, Breach>,
-) -> Result<(), AllocError>
-    ensures { OnOk result (exported.new ≡ with_declared exported.old name.now origin means.now) }
-{
-    match origin {
-        Origin::Here => with_meaning(alloc, exported, name, means),
-        Origin::Module(_) => Ok(()),
-        Origin::Export(_) => Ok(()),
-    }
-}
-
-fn with_export(
-    alloc: Global,
-    exported: &mut Dictionary<Meaning>,
-    name: &[u8],
-    known: &Known<Breach>,
-) -> Result<(), AllocError>
-    ensures { OnOk result (exported.new ≡ with_export exported.old (name.now, known.now)) }
-{
-    match known {
-        Known::Later => Ok(()),
-        Known::Ahead => Ok(()),
-        Known::Begun => Ok(()),
-        Known::Headed(means) => with_meaning(alloc, exported, name, means),
-        Known::Declared(origin, means) => with_declared(alloc, exported, name, *origin, means),
-    }
-}
-
 fn with_export_if(
     alloc: Global,
     exported: &mut Dictionary<Meaning>,
@@ -72,7 +38,15 @@ fn with_export_if(
 {
     match entry {
         None => Ok(()),
-        Some((name, known)) => with_export(alloc, exported, name, known),
+        Some((name, known)) => match known {
+            Known::Later | Known::Ahead | Known::Begun => Ok(()),
+            Known::Headed(means) => with_meaning(alloc, exported, name, means),
+            Known::Declared(origin, means) => match origin {
+                Origin::Here => with_meaning(alloc, exported, name, means),
+                Origin::Module(_) => Ok(()),
+                Origin::Export(_) => Ok(()),
+            },
+        },
     }
 }
 
@@ -108,59 +82,25 @@ fn with_types_if(
     }
 }
 
-fn with_others(reached: &mut Items<ModuleTypes>, others: &Reached) -> Result<(), AllocError>
-    ensures { OnOk result (reached.new ≡ fold with_types reached.old others.now) }
-{
-    for place in 0..others.len() {
-        with_types_if(reached, others.get(place))?;
-    }
-    Ok(())
-}
-
-fn with_own(
-    alloc: Global,
-    reached: &mut Items<ModuleTypes>,
-    home: u32,
-    own: Items<Made>,
-) -> Result<(), AllocError>
-    ensures { OnOk result (reached.new ≡ reached.old ++ own_types home own) }
-{
-    if own.len() == 0 {
-        return Ok(());
-    }
-    reached.push(ModuleTypes {
-        number: home,
-        made: Shared::new(alloc, own)?,
-    })
-}
-
 /// The types of each module whose types can be met, each behind those that it names.
 pub fn reached_of(alloc: Global, types: Types) -> Result<Items<ModuleTypes>, AllocError>
     ensures { IfOk result (λ reached. reached ≡ reached_of types) }
 {
     let Types { home, own, others } = types;
     let mut reached = Items::new(alloc);
-    with_others(&mut reached, &others)?;
-    with_own(alloc, &mut reached, home, own)?;
+    for place in 0..others.len() {
+        with_types_if(&mut reached, others.get(place))?;
+    }
+    if own.len() > 0 {
+        reached.push(ModuleTypes {
+            number: home,
+            made: Shared::new(alloc, own)?,
+        })?;
+    }
     Ok(reached)
 }
 
 // ---- modules that are imported
-
-fn with_table_if(
-    alloc: Global,
-    imported: &mut Dictionary<u32>,
-    name: &[u8],
-    table: Option<&Shared<Table>>,
-) -> Result<(), AllocError>
-    ensures { OnOk result
-        (imported.new ≡ with_table_if imported.old name.now (option_copied table.entry)) }
-{
-    match table {
-        None => Ok(()),
-        Some(table) => imported.enter(alloc, name, table.get().number),
-    }
-}
 
 fn with_imported(
     alloc: Global,
@@ -174,24 +114,11 @@ fn with_imported(
 {
     match modules.find(name.name.as_bytes()) {
         None => Ok(()),
-        Some(place) => { with_table_if(alloc, imported, name.name.as_bytes(), tables.get(*place)) }
+        Some(place) => match tables.get(*place) {
+            None => Ok(()),
+            Some(table) => imported.enter(alloc, name.name.as_bytes(), table.get().number),
+        },
     }
-}
-
-fn with_imported_names(
-    alloc: Global,
-    imported: &mut Dictionary<u32>,
-    modules: &Dictionary<usize>,
-    tables: &Items<Shared<Table>>,
-    names: &[Ident],
-) -> Result<(), AllocError>
-    ensures { OnOk result
-        (imported.new ≡ fold (with_imported modules.now tables.now) imported.old names.now) }
-{
-    for name in names {
-        with_imported(alloc, imported, modules, tables, name)?;
-    }
-    Ok(())
 }
 
 /// Enters the modules that an import names, with their numbers.
@@ -206,7 +133,12 @@ pub fn with_import_of(
         (imported.new ≡ with_import_of modules.now tables.now imported.old one.now) }
 {
     match &one.from {
-        None => with_imported_names(alloc, imported, modules, tables, one.names.as_slice()),
+        None => {
+            for name in one.names.as_slice() {
+                with_imported(alloc, imported, modules, tables, name)?;
+            }
+            Ok(())
+        }
         Some(from) => with_imported(alloc, imported, modules, tables, from),
     }
 }

@@ -1,14 +1,11 @@
 //! Imports.
 
-ghost use Rattle.std.specs.Prelude.{◌≡◌, not, ◌+◌, ◌<◌, ◌^◌, [], Ok, IfOk, OnOk, length, take, drop, slice_get};
+ghost use Rattle.std.specs.Prelude.{◌≡◌, ◌+◌, ◌<◌, ◌^◌, [], Ok, IfOk, length, take, drop, slice_get};
 ghost use Rattle.std.specs.List.{fold};
 ghost use Rattle.std.specs.Option.{option_copied, option_map};
-ghost use Rattle.check_scope.specs.Elaborated.{least, reported_where};
-ghost use Rattle.check_scope.specs.Scopes.{is_one_origin};
-ghost use Rattle.check_scope.specs.declared.known.Origin.TheVariants.{Export};
+ghost use Rattle.check_scope.specs.Elaborated.{least};
 ghost use Rattle.check_definition.specs.Steps.{if_some};
-ghost use Rattle.check_definition.specs.Importing.{with_place, numbered_modules, module_named, with_module_as, with_module_name, with_entry, brings_in, brings_of, reported_of_taken, from_place, with_from, exports_of, from_module, with_import};
-ghost use Rattle.m2_rule.specs.declared.rule.Rule.TheVariants as rule;
+ghost use Rattle.check_definition.specs.Importing.{numbered_modules, module_named, with_module_name, with_entry, brings_in, reported_of_taken, from_place, with_from, exports_of, with_import};
 
 use check_scope::{Elaborated, Known, Origin, Scope, beside, import, report};
 use m2_rule::{Breach, Rule};
@@ -17,28 +14,16 @@ use std::alloc::{AllocError, Global};
 use tree_parts::Shared;
 use typed_tree::{Dictionary, Meaning, Table};
 
-/// Gives the name of a module its place, unless it has one.
-fn with_module(
-    alloc: Global,
-    modules: &mut Dictionary<usize>,
-    name: &[u8],
-    place: usize,
-) -> Result<(), AllocError>
-    ensures { OnOk result (modules.new ≡ with_place name.now place modules.old) }
-{
-    if modules.find(name).is_some() {
-        return Ok(());
-    }
-    modules.enter(alloc, name, place)
-}
-
 /// The places of the tables by their names. The first of a name counts.
 pub fn modules_of(alloc: Global, tables: &[Shared<Table>]) -> Result<Dictionary<usize>, AllocError>
     ensures { IfOk result (λ m. (m, length tables.now) ≡ numbered_modules tables.now) }
 {
     let mut modules = Dictionary::new(alloc);
     for (place, table) in tables.iter().enumerate() {
-        with_module(alloc, &mut modules, table.get().name.as_bytes(), place)?;
+        let name = table.get().name.as_bytes();
+        if modules.find(name).is_none() {
+            modules.enter(alloc, name, place)?;
+        }
     }
     Ok(modules)
 }
@@ -49,27 +34,6 @@ fn module_named(modules: &Dictionary<usize>, name: &Ident) -> Elaborated<usize>
     match modules.find(name.name.as_bytes()) {
         None => report(name.pos, Rule::MissingModule),
         Some(place) => Ok(*place),
-    }
-}
-
-fn with_module_as(
-    alloc: Global,
-    scope: &mut Scope<Breach>,
-    name: &Ident,
-    place: Elaborated<usize>,
-) -> Result<Elaborated<()>, AllocError>
-    ensures { IfOk result (λ j. (scope.new, j) ≡ with_module_as least scope.old name.now place) }
-{
-    match place {
-        Err(breach) => Ok(Err(breach)),
-        Ok(place) => import(
-            alloc,
-            scope,
-            name.pos,
-            name.name.as_bytes(),
-            Origin::Module(place),
-            Ok(Meaning::Module(place)),
-        ),
     }
 }
 
@@ -85,27 +49,20 @@ fn import_modules(
 {
     let mut elaborated = before;
     for name in names {
-        let one = with_module_as(alloc, scope, name, module_named(modules, name))?;
+        let one = match module_named(modules, name) {
+            Err(breach) => Err(breach),
+            Ok(place) => import(
+                alloc,
+                scope,
+                name.pos,
+                name.name.as_bytes(),
+                Origin::Module(place),
+                Ok(Meaning::Module(place)),
+            )?,
+        };
         elaborated = beside(elaborated, one);
     }
     Ok(elaborated)
-}
-
-fn with_entry(
-    alloc: Global,
-    scope: &mut Scope<Breach>,
-    at: Pos,
-    place: usize,
-    before: Elaborated<()>,
-    name: &[u8],
-    meaning: &Meaning,
-) -> Result<Elaborated<()>, AllocError>
-    ensures { IfOk result (λ j.
-        (scope.new, j) ≡ with_entry least at place (scope.old, before) (name.now, meaning.now)) }
-{
-    let copy = meaning.copy()?;
-    let one = import(alloc, scope, at, name, Origin::Export(place), Ok(copy))?;
-    Ok(beside(before, one))
 }
 
 fn with_entry_if(
@@ -123,7 +80,11 @@ fn with_entry_if(
 {
     match entry {
         None => Ok(before),
-        Some((name, meaning)) => with_entry(alloc, scope, at, place, before, name, meaning),
+        Some((name, meaning)) => {
+            let copy = meaning.copy()?;
+            let one = import(alloc, scope, at, name, Origin::Export(place), Ok(copy))?;
+            Ok(beside(before, one))
+        }
     }
 }
 
@@ -151,52 +112,24 @@ fn bring_all(
     Ok(elaborated)
 }
 
-/// Imports this many names of a table from a place on, as far as there are names.
-fn bring(
-    alloc: Global,
-    scope: &mut Scope<Breach>,
-    at: Pos,
-    place: usize,
-    exported: &Dictionary<Meaning>,
-    first: usize,
-    count: usize,
-) -> Result<Elaborated<()>, AllocError>
-    ensures { IfOk result (λ j.
-        (scope.new, j)
-        ≡ fold (with_entry least at place) (scope.old, Ok tt)
-        (take count (drop first exported.now))) }
-{
-    let left = exported.len().saturating_sub(first);
-    if left < count {
-        return bring_all(alloc, scope, at, place, exported, first, left);
-    }
-    bring_all(alloc, scope, at, place, exported, first, count)
-}
-
-fn brings_of(meaning: &Meaning) -> usize
-    ensures { result ≡ brings_of meaning.now }
-{
-    match meaning {
-        Meaning::Type(_, names) => *names,
-        Meaning::Constant(_)
-        | Meaning::Variable(_)
-        | Meaning::Local(_)
-        | Meaning::Field(_)
-        | Meaning::Procedure(_)
-        | Meaning::LocalProcedure(_)
-        | Meaning::Ahead
-        | Meaning::Standard(_)
-        | Meaning::Module(_) => 1,
-    }
-}
-
 /// How many names come with a name.
 fn brings_in(entry: Option<(&[u8], &Meaning)>) -> usize
     ensures { result ≡ brings_in (option_map (λ e. (e.0.now, e.1.now)) entry.entry) }
 {
     match entry {
         None => 0,
-        Some((_, meaning)) => brings_of(meaning),
+        Some((_, meaning)) => match meaning {
+            Meaning::Type(_, names) => *names,
+            Meaning::Constant(_)
+            | Meaning::Variable(_)
+            | Meaning::Local(_)
+            | Meaning::Field(_)
+            | Meaning::Procedure(_)
+            | Meaning::LocalProcedure(_)
+            | Meaning::Ahead
+            | Meaning::Standard(_)
+            | Meaning::Module(_) => 1,
+        },
     }
 }
 
@@ -210,24 +143,16 @@ fn reported_of_taken(known: Option<&Known<Breach>>, at: Pos, place: usize) -> Op
             Known::Later | Known::Ahead => None,
             Known::Begun => Some(report(at, Rule::DeclaredTwice)),
             Known::Headed(_) => Some(report(at, Rule::DeclaredTwice)),
-            Known::Declared(origin, _) => Some(reported_unless_from(*origin, at, place)),
+            Known::Declared(origin, _) => match origin {
+                Origin::Here | Origin::Module(_) => Some(report(at, Rule::DeclaredTwice)),
+                Origin::Export(first) => {
+                    if *first == place {
+                        return Some(Ok(()));
+                    }
+                    Some(report(at, Rule::DeclaredTwice))
+                }
+            },
         },
-    }
-}
-
-fn reported_unless_from(origin: Origin, at: Pos, place: usize) -> Elaborated<()>
-    ensures { result
-        ≡ reported_where least (not (is_one_origin origin (Export place))) at rule.DeclaredTwice
-        (Ok tt) }
-{
-    match origin {
-        Origin::Here | Origin::Module(_) => report(at, Rule::DeclaredTwice),
-        Origin::Export(first) => {
-            if first == place {
-                return Ok(());
-            }
-            report(at, Rule::DeclaredTwice)
-        }
     }
 }
 
@@ -251,7 +176,11 @@ fn from_place(
         Some(elaborated) => Ok(elaborated),
         None => {
             let count = brings_in(exported.get(first));
-            bring(alloc, scope, name.pos, place, exported, first, count)
+            let left = exported.len().saturating_sub(first);
+            if left < count {
+                return bring_all(alloc, scope, name.pos, place, exported, first, left);
+            }
+            bring_all(alloc, scope, name.pos, place, exported, first, count)
         }
     }
 }
@@ -300,22 +229,6 @@ fn import_from(
     }
 }
 
-fn import_from_module(
-    alloc: Global,
-    scope: &mut Scope<Breach>,
-    place: Elaborated<usize>,
-    before: Elaborated<()>,
-    names: &[Ident],
-) -> Result<Elaborated<()>, AllocError>
-    ensures { IfOk result (λ j.
-        (scope.new, j) ≡ from_module least place (scope.old, before) names.now) }
-{
-    match place {
-        Err(breach) => Ok(beside(before, Err(breach))),
-        Ok(place) => import_from(alloc, scope, place, before, names),
-    }
-}
-
 fn with_import(
     alloc: Global,
     scope: &mut Scope<Breach>,
@@ -329,9 +242,10 @@ fn with_import(
     let names = one.names.as_slice();
     match &one.from {
         None => import_modules(alloc, scope, modules, before, names),
-        Some(from) => {
-            import_from_module(alloc, scope, module_named(modules, from), before, names)
-        }
+        Some(from) => match module_named(modules, from) {
+            Err(breach) => Ok(beside(before, Err(breach))),
+            Ok(place) => import_from(alloc, scope, place, before, names),
+        },
     }
 }
 

@@ -107,23 +107,17 @@ pub fn mark_variables(
     Ok(())
 }
 
-fn mark_def(alloc: Global, scope: &mut Scope<Breach>, def: &Def) -> Result<(), AllocError>
-    ensures { OnOk result (scope.new ≡ marked_def scope.old def.now) }
-{
-    match def {
-        Def::Constants(list) => mark_constants(alloc, scope, list.as_slice()),
-        Def::Types(list) => mark_types(alloc, scope, list.as_slice()),
-        Def::Variables(list) => mark_variables(alloc, scope, list.as_slice()),
-        Def::Procedure(heading) => mark(alloc, scope, &heading.name, Known::Ahead),
-    }
-}
-
 /// Marks the names that a definition declares.
 pub fn mark_defs(alloc: Global, scope: &mut Scope<Breach>, defs: &[Def]) -> Result<(), AllocError>
     ensures { OnOk result (scope.new ≡ fold marked_def scope.old defs.now) }
 {
     for def in defs {
-        mark_def(alloc, scope, def)?;
+        match def {
+            Def::Constants(list) => mark_constants(alloc, scope, list.as_slice())?,
+            Def::Types(list) => mark_types(alloc, scope, list.as_slice())?,
+            Def::Variables(list) => mark_variables(alloc, scope, list.as_slice())?,
+            Def::Procedure(heading) => mark(alloc, scope, &heading.name, Known::Ahead)?,
+        }
     }
     Ok(())
 }

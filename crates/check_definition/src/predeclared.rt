@@ -2,7 +2,7 @@
 
 ghost use Rattle.std.specs.Prelude.{◌≡◌, [], IfOk, OnOk};
 ghost use Rattle.std.specs.List.{fold};
-ghost use Rattle.check_definition.specs.Predeclared.{predeclared_as, truth, with_types, with_truth, with_functions, with_bounds, with_procedures, predeclared_names, console, with_reached, with_table, others_of, first_scope};
+ghost use Rattle.check_definition.specs.Predeclared.{predeclared_as, truth, with_types, with_truth, with_functions, with_bounds, with_procedures, predeclared_names, console, with_reached, first_scope};
 
 use check_scope::{Block, Known, Origin, Scope};
 use m2_rule::Breach;
@@ -202,34 +202,16 @@ pub fn console(alloc: Global) -> Result<Table, AllocError>
     })
 }
 
-fn with_reached(others: &mut Reached, types: &ModuleTypes) -> Result<(), AllocError>
-    ensures { OnOk result (others.new ≡ with_reached others.old types.now) }
-{
-    if others.find(types.number).is_some() {
-        return Ok(());
-    }
-    others.enter(types.number, types.made.share()?)
-}
-
 /// Enters the types of each module that is not there.
 pub fn with_table(others: &mut Reached, list: &[ModuleTypes]) -> Result<(), AllocError>
     ensures { OnOk result (others.new ≡ fold with_reached others.old list.now) }
 {
     for types in list {
-        with_reached(others, types)?;
+        if others.find(types.number).is_none() {
+            others.enter(types.number, types.made.share()?)?;
+        }
     }
     Ok(())
-}
-
-/// The types that can be met through tables.
-fn others_of(alloc: Global, tables: &[Shared<Table>]) -> Result<Reached, AllocError>
-    ensures { IfOk result (λ others. others ≡ others_of tables.now) }
-{
-    let mut others = Reached::new(alloc);
-    for table in tables {
-        with_table(&mut others, table.get().reached.as_slice())?;
-    }
-    Ok(others)
 }
 
 /// What is known where a module begins.
@@ -240,7 +222,10 @@ pub fn first_scope(
 ) -> Result<Scope<Breach>, AllocError>
     ensures { IfOk result (λ s. s ≡ first_scope home tables) }
 {
-    let others = others_of(alloc, tables.as_slice())?;
+    let mut others = Reached::new(alloc);
+    for table in tables.as_slice() {
+        with_table(&mut others, table.get().reached.as_slice())?;
+    }
     let names = predeclared_names(alloc)?;
     let mut outer = Items::new(alloc);
     let seen = names.len();

@@ -5,9 +5,9 @@ ghost use Rattle.check_scope.specs.Elaborated.{least};
 ghost use Rattle.check_operator.specs.declared.side.Side.TheVariants as side;
 ghost use Rattle.check_expr.specs.Meanings.{meanings_of, value_of};
 ghost use Rattle.check_stmt_parts.specs.Simple.{meant_if};
-ghost use Rattle.check_stmt_parts.specs.Control.{control_variable, is_own, control_by, control_of, start_at, limit_number, limit_by, limit_at, is_zero, step_number, step_by, step_of, type_of, base_of, course, course_of, repeated_for};
+ghost use Rattle.check_stmt_parts.specs.Control.{control_variable, is_own, control_by, control_of, start_at, limit_by, limit_at, step_by, step_of, type_of, base_of, course_of, repeated_for};
 
-use check_const_ops::{Ordinal, fits, whole_number};
+use check_const_ops::{fits, whole_number};
 use check_expr::{constant_of, place_of, value_of};
 use check_operator::{
     Amount, Class, Computed, Side, bases_suit, class_of, side_of, slot_of, sort_suits, value_suited,
@@ -112,34 +112,6 @@ fn control_of(
     }
 }
 
-fn start_at(
-    types: &Types,
-    at: Pos,
-    t: Elaborated<TypeNo>,
-    value: Elaborated<Computed>,
-) -> Elaborated<TypedExpr>
-    ensures { result ≡ start_at least types.now at t value }
-{
-    match both(t, value) {
-        Err(breach) => Err(breach),
-        Ok((t, value)) => value_suited(Rule::NotAssignable, types, t, at, value),
-    }
-}
-
-fn limit_number(base: TypeNo, at: Pos, n: i64, sort: Option<TypeNo>) -> Elaborated<TypedExpr>
-    ensures { result ≡ limit_number least base at n sort }
-{
-    match sort {
-        None => {
-            if !fits(Some(base), n) {
-                return report(at, Rule::OutOfRange);
-            }
-            Ok(TypedExpr::Constant(base, n))
-        }
-        Some(t) => Ok(TypedExpr::Constant(t, n)),
-    }
-}
-
 fn limit_amount(base: TypeNo, at: Pos, a: Amount) -> Elaborated<TypedExpr>
     ensures { result ≡ limit_by least base at (Some (side.Scalar a)) }
 {
@@ -148,7 +120,15 @@ fn limit_amount(base: TypeNo, at: Pos, a: Amount) -> Elaborated<TypedExpr>
             if !sort_suits(base, a.sort) {
                 return report(at, Rule::NotAssignable);
             }
-            limit_number(base, at, a.number, a.sort)
+            match a.sort {
+                None => {
+                    if !fits(Some(base), a.number) {
+                        return report(at, Rule::OutOfRange);
+                    }
+                    Ok(TypedExpr::Constant(base, a.number))
+                }
+                Some(t) => Ok(TypedExpr::Constant(t, a.number)),
+            }
         }
         Amount::Run(other, e) => {
             if !bases_suit(base, other) {
@@ -171,39 +151,18 @@ fn limit_by(base: TypeNo, at: Pos, limit: Option<Side>) -> Elaborated<TypedExpr>
     }
 }
 
-fn limit_at(at: Pos, base: Elaborated<TypeNo>, value: Elaborated<Computed>) -> Elaborated<TypedExpr>
-    ensures { result ≡ limit_at least at base value }
+fn step_by(at: Pos, value: &Value) -> Elaborated<i64>
+    ensures { result ≡ step_by least at value.now }
 {
-    match both(base, value) {
-        Err(breach) => Err(breach),
-        Ok((base, value)) => limit_by(base, at, side_of(value)),
-    }
-}
-
-fn is_zero(n: i64) -> bool
-    ensures { result ≡ is_zero n }
-{
-    !(n < 0 || 0 < n)
-}
-
-fn step_number(at: Pos, number: Option<Ordinal>) -> Elaborated<i64>
-    ensures { result ≡ step_number least at number }
-{
-    match number {
+    match whole_number(value) {
         None => report(at, Rule::WrongType),
         Some(a) => {
-            if is_zero(a.number) {
+            if a.number == 0 {
                 return report(at, Rule::ZeroStep);
             }
             Ok(a.number)
         }
     }
-}
-
-fn step_by(at: Pos, value: &Value) -> Elaborated<i64>
-    ensures { result ≡ step_by least at value.now }
-{
-    step_number(at, whole_number(value))
 }
 
 /// The step: a constant, or else 1.
@@ -226,43 +185,6 @@ fn step_of(
     }
 }
 
-fn type_of(control: &Elaborated<Control>) -> Elaborated<TypeNo>
-    ensures { result ≡ type_of control.now }
-{
-    match control {
-        Err(breach) => Err(*breach),
-        Ok(control) => Ok(control.of),
-    }
-}
-
-fn base_of(control: &Elaborated<Control>) -> Elaborated<TypeNo>
-    ensures { result ≡ base_of control.now }
-{
-    match control {
-        Err(breach) => Err(*breach),
-        Ok(control) => Ok(control.base),
-    }
-}
-
-fn for_heading(
-    control: Elaborated<Control>,
-    start: Elaborated<TypedExpr>,
-    limit: Elaborated<TypedExpr>,
-    by: Elaborated<i64>,
-) -> Elaborated<Course>
-    ensures { result ≡ course least control start limit by }
-{
-    match both(both(control, start), both(limit, by)) {
-        Err(breach) => Err(breach),
-        Ok(((control, start), (limit, by))) => Ok(Course {
-            control,
-            start,
-            limit,
-            by,
-        }),
-    }
-}
-
 /// The start of a FOR.
 fn start_of(
     alloc: Global,
@@ -276,7 +198,20 @@ fn start_of(
         (value_of least scope.now (meanings_of least e.now))) }
 {
     let value = value_of(alloc, scope, e)?;
-    Ok(start_at(&scope.types, place_of(e), type_of(control), value))
+    let t = match control {
+        Err(breach) => Err(*breach),
+        Ok(control) => Ok(control.of),
+    };
+    match both(t, value) {
+        Err(breach) => Ok(Err(breach)),
+        Ok((t, value)) => Ok(value_suited(
+            Rule::NotAssignable,
+            &scope.types,
+            t,
+            place_of(e),
+            value,
+        )),
+    }
 }
 
 /// The limit of a FOR.
@@ -290,7 +225,14 @@ fn limit_of(
         (base_of control.now) (value_of least scope.now (meanings_of least e.now))) }
 {
     let value = value_of(alloc, scope, e)?;
-    Ok(limit_at(place_of(e), base_of(control), value))
+    let base = match control {
+        Err(breach) => Err(*breach),
+        Ok(control) => Ok(control.base),
+    };
+    match both(base, value) {
+        Err(breach) => Ok(Err(breach)),
+        Ok((base, value)) => Ok(limit_by(base, place_of(e), side_of(value))),
+    }
 }
 
 /// What stands before the DO of a FOR. The control variable is a scalar variable of the module, or of the procedure
@@ -311,7 +253,15 @@ pub fn course_of(
     let start = start_of(alloc, scope, &control, start)?;
     let limit = limit_of(alloc, scope, &control, limit)?;
     let by = step_of(alloc, scope, by)?;
-    Ok(for_heading(control, start, limit, by))
+    match both(both(control, start), both(limit, by)) {
+        Err(breach) => Ok(Err(breach)),
+        Ok(((control, start), (limit, by))) => Ok(Ok(Course {
+            control,
+            start,
+            limit,
+            by,
+        })),
+    }
 }
 
 /// FOR.

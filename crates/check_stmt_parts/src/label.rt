@@ -5,35 +5,31 @@ ghost use Rattle.check_scope.specs.Elaborated.{least, ◌▷◌};
 ghost use Rattle.check_expr.specs.Meanings.{meanings_of};
 ghost use Rattle.check_const_ops.specs.Common.{common};
 ghost use Rattle.check_operator.specs.Classes.{class_at};
-ghost use Rattle.check_stmt_parts.specs.Labels.{of_type, no_constant, suits_selector, value_bound, variable_bound, bound_by, bound_in, bound_of, suits_base, bound_suits, single, label_range, label_between, item_label, with_new, with_label, with_item, labels_in};
+ghost use Rattle.check_stmt_parts.specs.Labels.{no_constant, suits_selector, value_bound, bound_by, bound_of, bound_suits, label_range, label_between, item_label, with_item, labels_in};
 
 use crate::Ranges;
 use crate::lists::with_next;
 use check_const_ops::{Ordinal, are_ordered, fits_base, is_of_base, operand_of, ordinal_in};
 use check_expr::{place_of, stands_for};
 use check_operator::{Class, Computed, Designated, class_of};
-use check_scope::{Elaborated, Meaningless, Scope, Sought, beside, both, report};
+use check_scope::{Elaborated, Meaningless, Scope, beside, both, report};
 use m2_rule::{Breach, Rule};
 use m2_tree::{Expr, Item, Pos};
 use std::alloc::{AllocError, Global};
 use tree_parts::Items;
 use typed_tree::{Label, TypeNo, Types, are_same};
 
-fn of_type(alike: bool, at: Pos) -> Elaborated<()>
-    ensures { result ≡ of_type least alike at }
-{
-    if !alike {
-        return report(at, Rule::WrongType);
-    }
-    Ok(())
-}
-
 /// A bound that is no constant: 49 at the label, and 40 at the bound if it has another base type than the selector.
 fn no_constant(alike: bool, label: Pos, at: Pos) -> Elaborated<Ordinal>
     ensures { result ≡ no_constant least alike label at }
 {
+    let of_type = if alike {
+        Ok(())
+    } else {
+        report(at, Rule::WrongType)
+    };
     let unknown: Elaborated<Ordinal> = report(label, Rule::WrongLabel);
-    match both(of_type(alike, at), unknown) {
+    match both(of_type, unknown) {
         Err(breach) => Err(breach),
         Ok(((), a)) => Ok(a),
     }
@@ -62,17 +58,6 @@ fn value_bound(base: Option<TypeNo>, label: Pos, at: Pos, value: Computed) -> El
     }
 }
 
-fn variable_bound(base: Option<TypeNo>, label: Pos, at: Pos, class: Class) -> Elaborated<Ordinal>
-    ensures { result ≡ variable_bound least base label at class }
-{
-    match class {
-        Class::Scalar(scalar) => no_constant(suits_selector(base, scalar.base), label, at),
-        Class::Set => no_constant(false, label, at),
-        Class::Procedure => no_constant(false, label, at),
-        Class::Whole => no_constant(false, label, at),
-    }
-}
-
 fn bound_by(
     types: &Types,
     base: Option<TypeNo>,
@@ -84,7 +69,10 @@ fn bound_by(
 {
     match designated {
         Designated::Value(value) => value_bound(base, label, at, value),
-        Designated::Variable(t, _) => variable_bound(base, label, at, class_of(types, t)),
+        Designated::Variable(t, _) => match class_of(types, t) {
+            Class::Scalar(scalar) => no_constant(suits_selector(base, scalar.base), label, at),
+            Class::Set | Class::Procedure | Class::Whole => no_constant(false, label, at),
+        },
         Designated::Open(_, _) => no_constant(false, label, at),
         Designated::Type(_) => no_constant(false, label, at),
         Designated::Procedure(_) => no_constant(false, label, at),
@@ -94,24 +82,7 @@ fn bound_by(
     }
 }
 
-/// What stands at a bound. A procedure is no constant, whatever its heading.
-fn bound_in(
-    types: &Types,
-    base: Option<TypeNo>,
-    label: Pos,
-    at: Pos,
-    sought: Sought<Designated>,
-) -> Elaborated<Ordinal>
-    ensures { result ≡ bound_in least types.now base label at sought }
-{
-    match sought {
-        Ok(designated) => bound_by(types, base, label, at, designated),
-        Err(Meaningless::Broken(breach)) => Err(breach),
-        Err(Meaningless::Headless(_)) => no_constant(false, label, at),
-    }
-}
-
-/// A bound of a label at a place.
+/// A bound of a label at a place. A procedure is no constant, whatever its heading.
 fn bound_of(
     alloc: Global,
     scope: &Scope<Breach>,
@@ -121,21 +92,11 @@ fn bound_of(
 ) -> Result<Elaborated<Ordinal>, AllocError>
     ensures { IfOk result (λ j. j ≡ bound_of least scope.now base label (meanings_of least e.now)) }
 {
-    let sought = stands_for(alloc, scope, e)?;
-    Ok(bound_in(&scope.types, base, label, place_of(e), sought))
-}
-
-fn suits_base(base: Option<TypeNo>, at: Pos, a: Ordinal) -> Elaborated<()>
-    ensures { result ≡ suits_base least base at a }
-{
-    match base {
-        None => Ok(()),
-        Some(base) => {
-            if !is_of_base(base, a.sort) {
-                return report(at, Rule::WrongType);
-            }
-            fits_base(at, base, a)
-        }
+    let at = place_of(e);
+    match stands_for(alloc, scope, e)? {
+        Ok(designated) => Ok(bound_by(&scope.types, base, label, at, designated)),
+        Err(Meaningless::Broken(breach)) => Ok(Err(breach)),
+        Err(Meaningless::Headless(_)) => Ok(no_constant(false, label, at)),
     }
 }
 
@@ -145,20 +106,15 @@ fn bound_suits(base: Option<TypeNo>, at: Pos, bound: Elaborated<Ordinal>) -> Ela
 {
     match bound {
         Err(breach) => Err(breach),
-        Ok(a) => suits_base(base, at, a),
-    }
-}
-
-/// A label of one value.
-fn single(base: Option<TypeNo>, at: Pos, bound: Elaborated<Ordinal>) -> Elaborated<Label>
-    ensures { result ≡ single least base at bound }
-{
-    match both(bound, bound_suits(base, at, bound)) {
-        Err(breach) => Err(breach),
-        Ok((a, ())) => Ok(Label {
-            low: a.number,
-            high: a.number,
-        }),
+        Ok(a) => match base {
+            None => Ok(()),
+            Some(base) => {
+                if !is_of_base(base, a.sort) {
+                    return report(at, Rule::WrongType);
+                }
+                fits_base(at, base, a)
+            }
+        },
     }
 }
 
@@ -215,43 +171,19 @@ fn label_of(
         None => {
             let at = place_of(&item.low);
             let bound = bound_of(alloc, scope, base, at, &item.low)?;
-            Ok(single(base, at, bound))
+            match both(bound, bound_suits(base, at, bound)) {
+                Err(breach) => Ok(Err(breach)),
+                Ok((a, ())) => Ok(Ok(Label {
+                    low: a.number,
+                    high: a.number,
+                })),
+            }
         }
         Some(high) => range_from(alloc, scope, base, &item.low, high),
     }
 }
 
-/// Takes a label in: 49 if another has a value of it.
-fn with_new(
-    at: Pos,
-    ranges: &mut Ranges,
-    done: Elaborated<Items<Label>>,
-    label: Label,
-) -> Result<Elaborated<Items<Label>>, AllocError>
-    ensures { IfOk result (λ j. (ranges.new, j) ≡ with_new least at (ranges.old, done) label) }
-{
-    let next = if ranges.take(label.low, label.high)? {
-        Ok(label)
-    } else {
-        report(at, Rule::WrongLabel)
-    };
-    with_next(done, next)
-}
-
-fn with_label(
-    at: Pos,
-    ranges: &mut Ranges,
-    done: Elaborated<Items<Label>>,
-    label: Elaborated<Label>,
-) -> Result<Elaborated<Items<Label>>, AllocError>
-    ensures { IfOk result (λ j. (ranges.new, j) ≡ with_label least at (ranges.old, done) label) }
-{
-    match label {
-        Err(breach) => with_next(done, Err(breach)),
-        Ok(label) => with_new(at, ranges, done, label),
-    }
-}
-
+/// Takes the label of an item in: 49 if another has a value of it.
 fn with_item(
     alloc: Global,
     scope: &Scope<Breach>,
@@ -263,8 +195,18 @@ fn with_item(
     ensures { IfOk result
         (λ j. (ranges.new, j) ≡ with_item least scope.now base (ranges.old, done) item.now) }
 {
-    let label = label_of(alloc, scope, base, item)?;
-    with_label(place_of(&item.low), ranges, done, label)
+    let at = place_of(&item.low);
+    match label_of(alloc, scope, base, item)? {
+        Err(breach) => with_next(done, Err(breach)),
+        Ok(label) => {
+            let next = if ranges.take(label.low, label.high)? {
+                Ok(label)
+            } else {
+                report(at, Rule::WrongLabel)
+            };
+            with_next(done, next)
+        }
+    }
 }
 
 /// The labels of an arm, with the values of the labels of the arms before it. A bound is a constant: else 49 at the label.

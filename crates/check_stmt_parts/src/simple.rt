@@ -6,7 +6,7 @@ ghost use Rattle.check_scope.specs.Elaborated.{least};
 ghost use Rattle.check_scope.specs.Scopes.{fields_at};
 ghost use Rattle.check_expr.specs.Meanings.{meanings_of, head};
 ghost use Rattle.check_expr.specs.Effects.{call_statement};
-ghost use Rattle.check_stmt_parts.specs.Simple.{meant_if, given_back, return_statement, condition, assignment, or_none, selector_amount, selector_of, case_selector, record_by, record_of, into_record, out_of_record};
+ghost use Rattle.check_stmt_parts.specs.Simple.{meant_if, given_back, return_statement, condition, assignment, or_none, selector_of, case_selector, record_of, into_record, out_of_record};
 
 use check_call::{assignment_of, target_at, type_of_number};
 use check_expr::{call_statement, designation, first_of, place_of, value_of};
@@ -115,24 +115,18 @@ pub fn procedure_call(
     }
 }
 
-fn selector_amount(a: Amount) -> (TypeNo, TypedExpr)
-    ensures { result ≡ selector_amount a }
-{
-    match a {
-        Amount::Known(a) => {
-            let t = type_of_number(a);
-            (t, TypedExpr::Constant(t, a.number))
-        }
-        Amount::Run(base, e) => (base, e),
-    }
-}
-
 fn selector_of(at: Pos, side: Option<Side>) -> Elaborated<(TypeNo, TypedExpr)>
     ensures { result ≡ selector_of least at side }
 {
     match side {
         None => report(at, Rule::WrongType),
-        Some(Side::Scalar(a)) => Ok(selector_amount(a)),
+        Some(Side::Scalar(a)) => match a {
+            Amount::Known(a) => {
+                let t = type_of_number(a);
+                Ok((t, TypedExpr::Constant(t, a.number)))
+            }
+            Amount::Run(base, e) => Ok((base, e)),
+        },
         Some(Side::Set(_)) => report(at, Rule::WrongType),
         Some(Side::Routine(_, _)) => report(at, Rule::WrongType),
         Some(Side::Procedure(_)) => report(at, Rule::WrongType),
@@ -163,29 +157,6 @@ pub fn is_record(types: &Types, t: TypeNo) -> bool
     }
 }
 
-fn record_by(types: &Types, at: Pos, designated: Designated) -> Elaborated<(TypeNo, Place)>
-    ensures { result ≡ record_by least types.now at designated }
-{
-    match designated {
-        Designated::Variable(t, place) => {
-            if !is_record(types, t) {
-                return report(at, Rule::WrongType);
-            }
-            Ok((t, place))
-        }
-        Designated::Value(value) => {
-            drop(value);
-            report(at, Rule::WrongType)
-        }
-        Designated::Open(_, _) => report(at, Rule::WrongType),
-        Designated::Type(_) => report(at, Rule::WrongType),
-        Designated::Procedure(_) => report(at, Rule::WrongType),
-        Designated::Nested(_) => report(at, Rule::WrongType),
-        Designated::Standard(_) => report(at, Rule::WrongType),
-        Designated::Module(_) => report(at, Rule::WrongType),
-    }
-}
-
 /// The record of a WITH with its type: 40 if it is no variable of a record type.
 pub fn record_of(
     alloc: Global,
@@ -197,7 +168,24 @@ pub fn record_of(
     let at = first_of(designator);
     match of_sort(at, Rule::WrongType, designation(alloc, scope, designator)?) {
         Err(breach) => Ok(Err(breach)),
-        Ok(designated) => Ok(record_by(&scope.types, at, designated)),
+        Ok(designated) => match designated {
+            Designated::Variable(t, place) => {
+                if !is_record(&scope.types, t) {
+                    return Ok(report(at, Rule::WrongType));
+                }
+                Ok(Ok((t, place)))
+            }
+            Designated::Value(value) => {
+                drop(value);
+                Ok(report(at, Rule::WrongType))
+            }
+            Designated::Open(_, _)
+            | Designated::Type(_)
+            | Designated::Procedure(_)
+            | Designated::Nested(_)
+            | Designated::Standard(_)
+            | Designated::Module(_) => Ok(report(at, Rule::WrongType)),
+        },
     }
 }
 

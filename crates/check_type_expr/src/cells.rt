@@ -2,21 +2,21 @@
 
 ghost use Rattle.std.specs.Prelude.{◌≡◌};
 ghost use Rattle.check_scope.specs.Elaborated.{least};
-ghost use Rattle.check_type_expr.specs.Cells.{count_up, count_of, count_at, plus, array_cells, is_index};
+ghost use Rattle.check_type_expr.specs.Cells.{count_up, count_at, plus, array_cells, is_index};
 
 use check_scope::{Elaborated, report};
 use m2_rule::Rule;
 use m2_tree::Pos;
-use typed_tree::{Scalar, TypeNo, Types, is_numeric, scalar_of};
+use typed_tree::{TypeNo, Types, is_numeric, scalar_of};
 
 /// The most scalar cells that a type may have.
 pub const MAX_CELLS: u32 = 131_072;
 
 /// How many values a scalar type has, counted up to one more than the most cells.
-fn count_of(scalar: Option<Scalar>) -> u32
-    ensures { result ≡ count_of scalar }
+pub fn count_at(types: &Types, t: TypeNo) -> u32
+    ensures { result ≡ count_at types.now t }
 {
-    match scalar {
+    match scalar_of(types, t) {
         None => 0,
         Some(s) => {
             if s.high < s.low {
@@ -30,13 +30,6 @@ fn count_of(scalar: Option<Scalar>) -> u32
             }
         }
     }
-}
-
-/// How many values a scalar type has, counted up to one more than the most cells.
-pub fn count_at(types: &Types, t: TypeNo) -> u32
-    ensures { result ≡ count_at types.now t }
-{
-    count_of(scalar_of(types, t))
 }
 
 /// Two numbers of cells together, counted up to one more than the most.

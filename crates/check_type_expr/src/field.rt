@@ -3,7 +3,7 @@
 ghost use Rattle.std.specs.Prelude.{◌≡◌, [], IfOk};
 ghost use Rattle.std.specs.List.{fold};
 ghost use Rattle.check_scope.specs.Elaborated.{least};
-ghost use Rattle.check_type_expr.specs.Fields.{with_field, with_name};
+ghost use Rattle.check_type_expr.specs.Fields.{with_name};
 
 use crate::cells::plus;
 use check_scope::{Elaborated, beside, report};
@@ -29,25 +29,7 @@ pub fn no_fields(alloc: Global) -> Fields
     }
 }
 
-/// One more name, unless it is there.
-fn with_field(
-    alloc: Global,
-    fields: &mut Fields,
-    name: &Ident,
-    t: TypeNo,
-    cells: u32,
-) -> Result<Elaborated<()>, AllocError>
-    ensures { IfOk result (λ j. (fields.new, j) ≡ with_field least t cells fields.old name.now) }
-{
-    if fields.names.find(name.name.as_bytes()).is_some() {
-        return Ok(report(name.pos, Rule::DeclaredTwice));
-    }
-    fields.names.enter(alloc, name.name.as_bytes(), t)?;
-    fields.cells = plus(fields.cells, cells);
-    Ok(Ok(()))
-}
-
-/// More names of one type.
+/// More names of one type, unless they are there.
 pub fn with_names(
     alloc: Global,
     fields: &mut Fields,
@@ -61,8 +43,12 @@ pub fn with_names(
 {
     let mut elaborated = before;
     for name in names {
-        let one = with_field(alloc, fields, name, t, cells)?;
-        elaborated = beside(elaborated, one);
+        if fields.names.find(name.name.as_bytes()).is_some() {
+            elaborated = beside(elaborated, report(name.pos, Rule::DeclaredTwice));
+        } else {
+            fields.names.enter(alloc, name.name.as_bytes(), t)?;
+            fields.cells = plus(fields.cells, cells);
+        }
     }
     Ok(elaborated)
 }

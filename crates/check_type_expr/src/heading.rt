@@ -1,18 +1,17 @@
 //! Headings of procedures, and procedure types.
 
-ghost use Rattle.std.specs.Prelude.{◌≡◌, [], Ok, IfOk};
-ghost use Rattle.std.specs.List.{fold};
+ghost use Rattle.std.specs.Prelude.{◌≡◌, IfOk};
 ghost use Rattle.check_scope.specs.Elaborated.{least};
-ghost use Rattle.check_type_expr.specs.Headings.{formal_of, result_in, result_of, joined_formal, with_parameter, formal_for_each, joined_formals, with_section, procedure_made, heading_of, with_names as with_section_names, names_of, procedure_type};
+ghost use Rattle.check_type_expr.specs.Headings.{formal_of, result_of, with_section, procedure_made, heading_of, with_names as with_section_names, names_of, procedure_type};
 
 use crate::field::{Fields, no_fields, with_names};
 use crate::named::{first_of, named_type};
 use check_scope::{Elaborated, Scope, both, report};
 use m2_rule::{Breach, Rule};
-use m2_tree::{FormalType, Heading, Ident, Parameter, Pos, Qualified, Section};
+use m2_tree::{FormalType, Heading, Parameter, Qualified, Section};
 use std::alloc::{AllocError, Global};
 use tree_parts::Items;
-use typed_tree::{Formal, INTEGER, Made, Shape, Signature, TypeNo, Types, is_result};
+use typed_tree::{Formal, INTEGER, Made, Shape, Signature, TypeNo, is_result};
 
 /// A formal, from what stands before its names and its type.
 pub fn formal_of(
@@ -32,15 +31,6 @@ pub fn formal_of(
     }
 }
 
-fn result_in(types: &Types, at: Pos, t: TypeNo) -> Elaborated<Option<TypeNo>>
-    ensures { result ≡ result_in least types.now at t }
-{
-    if !is_result(types, t) {
-        return report(at, Rule::NoType);
-    }
-    Ok(Some(t))
-}
-
 /// What a procedure gives, if it gives something.
 pub fn result_of(
     scope: &Scope<Breach>,
@@ -52,75 +42,18 @@ pub fn result_of(
         None => Ok(Ok(None)),
         Some(q) => match named_type(scope, q)? {
             Err(breach) => Ok(Err(breach)),
-            Ok(t) => Ok(result_in(&scope.types, first_of(q), t)),
+            Ok(t) => {
+                if !is_result(&scope.types, t) {
+                    return Ok(report(first_of(q), Rule::NoType));
+                }
+                Ok(Ok(Some(t)))
+            }
         },
-    }
-}
-
-fn joined_formal(
-    formals: Elaborated<Items<Formal>>,
-    formal: Elaborated<Formal>,
-) -> Result<Elaborated<Items<Formal>>, AllocError>
-    ensures { IfOk result (λ fs. fs ≡ joined_formal least formals formal) }
-{
-    match both(formals, formal) {
-        Err(breach) => Ok(Err(breach)),
-        Ok((mut all, one)) => {
-            all.push(one)?;
-            Ok(Ok(all))
-        }
-    }
-}
-
-fn parameters(
-    alloc: Global,
-    scope: &Scope<Breach>,
-    list: &[Parameter],
-) -> Result<Elaborated<Items<Formal>>, AllocError>
-    ensures { IfOk result (λ fs. fs ≡ fold (with_parameter least scope.now) (Ok []) list.now) }
-{
-    let mut formals = Ok(Items::new(alloc));
-    for parameter in list {
-        let formal = formal_of(scope, parameter.is_var, &parameter.of)?;
-        formals = joined_formal(formals, formal)?;
-    }
-    Ok(formals)
-}
-
-fn formal_for_each(
-    alloc: Global,
-    formal: Formal,
-    names: &[Ident],
-) -> Result<Items<Formal>, AllocError>
-    ensures { IfOk result (λ fs. fs ≡ formal_for_each formal names.now) }
-{
-    let mut formals = Items::new(alloc);
-    for _name in names {
-        formals.push(formal)?;
-    }
-    Ok(formals)
-}
-
-fn joined_formals(
-    alloc: Global,
-    formals: Elaborated<Items<Formal>>,
-    formal: Elaborated<Formal>,
-    names: &[Ident],
-) -> Result<Elaborated<Items<Formal>>, AllocError>
-    ensures { IfOk result (λ fs. fs ≡ joined_formals least formals formal names.now) }
-{
-    match both(formals, formal) {
-        Err(breach) => Ok(Err(breach)),
-        Ok((mut all, one)) => {
-            all.append(formal_for_each(alloc, one, names)?)?;
-            Ok(Ok(all))
-        }
     }
 }
 
 /// One more section of formals.
 fn with_section(
-    alloc: Global,
     scope: &Scope<Breach>,
     formals: Elaborated<Items<Formal>>,
     section: &Section,
@@ -128,21 +61,15 @@ fn with_section(
     ensures { IfOk result (λ fs. fs ≡ with_section least scope.now formals section.now) }
 {
     let formal = formal_of(scope, section.is_var, &section.of)?;
-    joined_formals(alloc, formals, formal, section.names.as_slice())
-}
-
-fn sections(
-    alloc: Global,
-    scope: &Scope<Breach>,
-    list: &[Section],
-) -> Result<Elaborated<Items<Formal>>, AllocError>
-    ensures { IfOk result (λ fs. fs ≡ fold (with_section least scope.now) (Ok []) list.now) }
-{
-    let mut formals = Ok(Items::new(alloc));
-    for section in list {
-        formals = with_section(alloc, scope, formals, section)?;
+    match both(formals, formal) {
+        Err(breach) => Ok(Err(breach)),
+        Ok((mut all, one)) => {
+            for _name in section.names.as_slice() {
+                all.push(one)?;
+            }
+            Ok(Ok(all))
+        }
     }
-    Ok(formals)
 }
 
 fn procedure_made(
@@ -168,7 +95,10 @@ pub fn heading_of(
 ) -> Result<Elaborated<Made>, AllocError>
     ensures { IfOk result (λ m. m ≡ heading_of least scope.now heading.now) }
 {
-    let formals = sections(alloc, scope, heading.formals.as_slice())?;
+    let mut formals = Ok(Items::new(alloc));
+    for section in heading.formals.as_slice() {
+        formals = with_section(scope, formals, section)?;
+    }
     let of = result_of(scope, &heading.result)?;
     Ok(procedure_made(formals, of))
 }
@@ -201,7 +131,17 @@ pub fn procedure_type(
 ) -> Result<Elaborated<Made>, AllocError>
     ensures { IfOk result (λ m. m ≡ procedure_type least scope.now list.now of.now) }
 {
-    let formals = parameters(alloc, scope, list)?;
+    let mut formals = Ok(Items::new(alloc));
+    for parameter in list {
+        let formal = formal_of(scope, parameter.is_var, &parameter.of)?;
+        formals = match both(formals, formal) {
+            Err(breach) => Err(breach),
+            Ok((mut all, one)) => {
+                all.push(one)?;
+                Ok(all)
+            }
+        };
+    }
     let result = result_of(scope, of)?;
     Ok(procedure_made(formals, result))
 }

@@ -1,10 +1,10 @@
 //! The types that type expressions make.
 
-ghost use Rattle.std.specs.Prelude.{◌≡◌, Ok, IfOk, length};
+ghost use Rattle.std.specs.Prelude.{◌≡◌, Ok, IfOk};
 ghost use Rattle.std.specs.List.{fold};
-ghost use Rattle.check_scope.specs.Elaborated.{least, ◌▷◌};
+ghost use Rattle.check_scope.specs.Elaborated.{least};
 ghost use Rattle.check_expr.specs.Meanings.{part};
-ghost use Rattle.check_type_expr.specs.Made.{with_made, scalar_made, too_many, enumeration_constant, enumeration_scalar, enumeration_of, enumeration, scalar_in, scalar_named, bound_at, subrange, simple_place, subrange_place, simple_type, index_in, array_in, array_of, index_type, array_made, field_type, nothing_of, record_in, record_of, type_of, with_field_list, field_list};
+ghost use Rattle.check_type_expr.specs.Made.{with_made, enumeration, scalar_named, bound_at, subrange, simple_place, simple_type, array_of, index_type, array_made, nothing_of, record_of, type_of, with_field_list, field_list};
 
 use crate::cells::{array_cells, count_at, is_index};
 use crate::field::{Fields, no_fields, with_names};
@@ -42,80 +42,7 @@ pub fn with_made(
     }
 }
 
-fn scalar_made(scalar: Elaborated<Scalar>) -> Elaborated<Made>
-    ensures { result ≡ scalar_made scalar }
-{
-    match scalar {
-        Err(breach) => Err(breach),
-        Ok(scalar) => Ok(Made {
-            shape: Shape::Scalar(scalar),
-            cells: 1,
-        }),
-    }
-}
-
 // ---- enumerations
-
-/// The 257th constant.
-fn too_many(names: &[Ident]) -> Elaborated<()>
-    ensures { result ≡ too_many least names.now }
-{
-    match names.get(256) {
-        None => Ok(()),
-        Some(name) => report(name.pos, Rule::ConstantCount),
-    }
-}
-
-fn enumeration_constant(t: TypeNo, number: i64) -> Meaning
-    ensures { result ≡ enumeration_constant t number }
-{
-    Meaning::Constant(Value::Scalar(ScalarValue {
-        of: t,
-        base: t,
-        number,
-    }))
-}
-
-fn enumeration_of(
-    alloc: Global,
-    scope: &mut Scope<Breach>,
-    t: TypeNo,
-    before: Elaborated<()>,
-    names: &[Ident],
-) -> Result<Elaborated<()>, AllocError>
-    ensures { IfOk result (λ j.
-        (scope.new, length names.now, j) ≡ enumeration_of least t scope.old before names.now) }
-{
-    let mut elaborated = before;
-    for (number, name) in names.iter().enumerate() {
-        let constant = enumeration_constant(t, number as i64);
-        let one = declare(alloc, scope, name, Ok(constant))?;
-        elaborated = beside(elaborated, one);
-    }
-    Ok(elaborated)
-}
-
-fn of_type(elaborated: Elaborated<()>, t: TypeNo) -> Elaborated<TypeNo>
-    ensures { result ≡ elaborated ▷ λ fine. Ok t }
-{
-    match elaborated {
-        Err(breach) => Err(breach),
-        Ok(()) => Ok(t),
-    }
-}
-
-fn enumeration_scalar(t: TypeNo, names: &[Ident]) -> Made
-    ensures { result ≡ enumeration_scalar t names.now }
-{
-    Made {
-        shape: Shape::Scalar(Scalar {
-            base: t,
-            low: 0,
-            high: names.len() as i64 - 1,
-        }),
-        cells: 1,
-    }
-}
 
 fn enumeration(
     alloc: Global,
@@ -128,31 +55,46 @@ fn enumeration(
         home: Home::Module(scope.types.home),
         number: scope.types.own.len(),
     };
-    scope.types.own.push(enumeration_scalar(t, names))?;
-    let elaborated = enumeration_of(alloc, scope, t, too_many(names), names)?;
-    Ok(of_type(elaborated, t))
+    scope.types.own.push(Made {
+        shape: Shape::Scalar(Scalar {
+            base: t,
+            low: 0,
+            high: names.len() as i64 - 1,
+        }),
+        cells: 1,
+    })?;
+    let mut elaborated = match names.get(256) {
+        None => Ok(()),
+        Some(name) => report(name.pos, Rule::ConstantCount),
+    };
+    for (number, name) in names.iter().enumerate() {
+        let constant = Meaning::Constant(Value::Scalar(ScalarValue {
+            of: t,
+            base: t,
+            number: number as i64,
+        }));
+        let one = declare(alloc, scope, name, Ok(constant))?;
+        elaborated = beside(elaborated, one);
+    }
+    match elaborated {
+        Err(breach) => Ok(Err(breach)),
+        Ok(()) => Ok(Ok(t)),
+    }
 }
 
 // ---- subranges
-
-fn scalar_in(types: &Types, at: Pos, t: Elaborated<TypeNo>) -> Elaborated<Scalar>
-    ensures { result ≡ scalar_in least types.now at t }
-{
-    match t {
-        Err(breach) => Err(breach),
-        Ok(t) => match scalar_of(types, t) {
-            None => report(at, Rule::NoType),
-            Some(scalar) => Ok(scalar),
-        },
-    }
-}
 
 /// The scalar type of a subrange's name.
 fn scalar_named(scope: &Scope<Breach>, q: &Qualified) -> Result<Elaborated<Scalar>, AllocError>
     ensures { IfOk result (λ s. s ≡ scalar_named least scope.now q.now) }
 {
-    let t = named_type(scope, q)?;
-    Ok(scalar_in(&scope.types, first_of(q), t))
+    match named_type(scope, q)? {
+        Err(breach) => Ok(Err(breach)),
+        Ok(t) => match scalar_of(&scope.types, t) {
+            None => Ok(report(first_of(q), Rule::NoType)),
+            Some(scalar) => Ok(Ok(scalar)),
+        },
+    }
 }
 
 fn bound_at(
@@ -195,16 +137,10 @@ fn simple_place(t: &Simple) -> Pos
     match t {
         Simple::Named(q) => first_of(q),
         Simple::Enumeration(at, _) => *at,
-        Simple::Subrange(of, at, _, _) => subrange_place(of, *at),
-    }
-}
-
-fn subrange_place(of: &Option<Qualified>, at: Pos) -> Pos
-    ensures { result ≡ subrange_place of.now at }
-{
-    match of {
-        None => at,
-        Some(q) => first_of(q),
+        Simple::Subrange(of, at, _, _) => match of {
+            None => *at,
+            Some(q) => first_of(q),
+        },
     }
 }
 
@@ -219,39 +155,19 @@ fn simple_type(
         Simple::Named(q) => named_type(scope, q),
         Simple::Enumeration(_, names) => enumeration(alloc, scope, names.as_slice()),
         Simple::Subrange(of, _, low, high) => {
-            let scalar = subrange(alloc, scope, of, low.get(), high.get())?;
-            with_made(scope, scalar_made(scalar))
+            let made = match subrange(alloc, scope, of, low.get(), high.get())? {
+                Err(breach) => Err(breach),
+                Ok(scalar) => Ok(Made {
+                    shape: Shape::Scalar(scalar),
+                    cells: 1,
+                }),
+            };
+            with_made(scope, made)
         }
     }
 }
 
 // ---- arrays
-
-fn index_in(types: &Types, at: Pos, t: Elaborated<TypeNo>) -> Elaborated<TypeNo>
-    ensures { result ≡ index_in least types.now at t }
-{
-    match t {
-        Err(breach) => Err(breach),
-        Ok(t) => {
-            if !is_index(types, t) {
-                return report(at, Rule::NoIndex);
-            }
-            Ok(t)
-        }
-    }
-}
-
-fn array_in(types: &Types, at: Pos, index: TypeNo, element: TypeNo) -> Elaborated<Made>
-    ensures { result ≡ array_in least types.now at index element }
-{
-    match array_cells(at, count_at(types, index), cells_of(types, element)) {
-        Err(breach) => Err(breach),
-        Ok(cells) => Ok(Made {
-            shape: Shape::Array(index, element),
-            cells,
-        }),
-    }
-}
 
 fn array_of(
     types: &Types,
@@ -263,7 +179,15 @@ fn array_of(
 {
     match both(index, element) {
         Err(breach) => Err(breach),
-        Ok((i, e)) => array_in(types, at, i, e),
+        Ok((index, element)) => {
+            match array_cells(at, count_at(types, index), cells_of(types, element)) {
+                Err(breach) => Err(breach),
+                Ok(cells) => Ok(Made {
+                    shape: Shape::Array(index, element),
+                    cells,
+                }),
+            }
+        }
     }
 }
 
@@ -275,8 +199,15 @@ fn index_type(
 ) -> Result<Elaborated<TypeNo>, AllocError>
     ensures { IfOk result (λ j. (scope.new, j) ≡ index_type least scope.old t.now) }
 {
-    let i = simple_type(alloc, scope, t)?;
-    Ok(index_in(&scope.types, simple_place(t), i))
+    match simple_type(alloc, scope, t)? {
+        Err(breach) => Ok(Err(breach)),
+        Ok(index) => {
+            if !is_index(&scope.types, index) {
+                return Ok(report(simple_place(t), Rule::NoIndex));
+            }
+            Ok(Ok(index))
+        }
+    }
 }
 
 fn array_made(
@@ -293,16 +224,6 @@ fn array_made(
 
 // ---- records
 
-/// The type of a field. One whose type is broken stands for its name alone.
-fn field_type(t: Elaborated<TypeNo>) -> TypeNo
-    ensures { result ≡ field_type t }
-{
-    match t {
-        Err(_) => INTEGER,
-        Ok(t) => t,
-    }
-}
-
 /// What is reported of a part.
 pub fn nothing_of(t: Elaborated<TypeNo>) -> Elaborated<()>
     ensures { result ≡ nothing_of t }
@@ -313,24 +234,20 @@ pub fn nothing_of(t: Elaborated<TypeNo>) -> Elaborated<()>
     }
 }
 
-fn record_in(at: Pos, fields: Fields) -> Elaborated<Made>
-    ensures { result ≡ record_in least at fields }
-{
-    if fields.cells > 131_072 {
-        return report(at, Rule::LargeType);
-    }
-    Ok(Made {
-        shape: Shape::Record(fields.names),
-        cells: fields.cells,
-    })
-}
-
 fn record_of(at: Pos, fields: Fields, elaborated: Elaborated<()>) -> Elaborated<Made>
     ensures { result ≡ record_of least at fields elaborated }
 {
     match elaborated {
         Err(breach) => Err(breach),
-        Ok(()) => record_in(at, fields),
+        Ok(()) => {
+            if fields.cells > 131_072 {
+                return report(at, Rule::LargeType);
+            }
+            Ok(Made {
+                shape: Shape::Record(fields.names),
+                cells: fields.cells,
+            })
+        }
     }
 }
 
@@ -395,7 +312,11 @@ fn field_list(
         (scope.new, fields.new, j) ≡ field_list least field.now (scope.old, fields.old, before)) }
 {
     let t = type_of(alloc, scope, &field.of)?;
-    let of = field_type(t);
+    // A field whose type is broken stands for its name alone.
+    let of = match t {
+        Err(_) => INTEGER,
+        Ok(of) => of,
+    };
     let cells = cells_of(&scope.types, of);
     with_names(
         alloc,

@@ -2,12 +2,12 @@
 
 ghost use Rattle.std.specs.Prelude.{◌≡◌, IfOk};
 ghost use Rattle.check_scope.specs.Elaborated.{least, ◌▷◌};
-ghost use Rattle.check_type_expr.specs.Named.{first_of, type_meant, in_module, of_module, named_type};
+ghost use Rattle.check_type_expr.specs.Named.{first_of, type_meant, of_module, named_type};
 
 use check_const::exported_meaning;
 use check_scope::{Elaborated, Scope, looked_up, of_sort, report};
 use m2_rule::{Breach, Rule};
-use m2_tree::{Ident, Pos, Qualified};
+use m2_tree::{Pos, Qualified};
 use std::alloc::AllocError;
 use typed_tree::{Meaning, TypeNo};
 
@@ -21,51 +21,23 @@ pub fn first_of(q: &Qualified) -> Pos
     }
 }
 
-fn type_meant(at: Pos, meaning: Meaning) -> Elaborated<TypeNo>
-    ensures { result ≡ type_meant least at meaning }
-{
-    match meaning {
-        Meaning::Type(t, _) => Ok(t),
-        Meaning::Constant(_) => report(at, Rule::NoType),
-        Meaning::Variable(_) => report(at, Rule::NoType),
-        Meaning::Local(_) => report(at, Rule::NoType),
-        Meaning::Field(_) => report(at, Rule::NoType),
-        Meaning::Procedure(_) => report(at, Rule::NoType),
-        Meaning::LocalProcedure(_) => report(at, Rule::NoType),
-        Meaning::Ahead => report(at, Rule::NoType),
-        Meaning::Standard(_) => report(at, Rule::NoType),
-        Meaning::Module(_) => report(at, Rule::NoType),
-    }
-}
-
 fn type_by(at: Pos, meaning: Elaborated<Meaning>) -> Elaborated<TypeNo>
     ensures { result ≡ meaning ▷ type_meant least at }
 {
     match meaning {
         Err(breach) => Err(breach),
-        Ok(meaning) => type_meant(at, meaning),
-    }
-}
-
-fn in_module(
-    scope: &Scope<Breach>,
-    at: Pos,
-    name: &Ident,
-    meaning: Meaning,
-) -> Result<Elaborated<TypeNo>, AllocError>
-    ensures { IfOk result (λ t. t ≡ in_module least scope.now at name.now meaning) }
-{
-    match meaning {
-        Meaning::Module(place) => Ok(type_by(at, exported_meaning(scope, place, name)?)),
-        Meaning::Type(_, _) => Ok(report(at, Rule::NoType)),
-        Meaning::Constant(_) => Ok(report(at, Rule::NoType)),
-        Meaning::Variable(_) => Ok(report(at, Rule::NoType)),
-        Meaning::Local(_) => Ok(report(at, Rule::NoType)),
-        Meaning::Field(_) => Ok(report(at, Rule::NoType)),
-        Meaning::Procedure(_) => Ok(report(at, Rule::NoType)),
-        Meaning::LocalProcedure(_) => Ok(report(at, Rule::NoType)),
-        Meaning::Ahead => Ok(report(at, Rule::NoType)),
-        Meaning::Standard(_) => Ok(report(at, Rule::NoType)),
+        Ok(meaning) => match meaning {
+            Meaning::Type(t, _) => Ok(t),
+            Meaning::Constant(_)
+            | Meaning::Variable(_)
+            | Meaning::Local(_)
+            | Meaning::Field(_)
+            | Meaning::Procedure(_)
+            | Meaning::LocalProcedure(_)
+            | Meaning::Ahead
+            | Meaning::Standard(_)
+            | Meaning::Module(_) => report(at, Rule::NoType),
+        },
     }
 }
 
@@ -80,7 +52,21 @@ pub fn named_type(scope: &Scope<Breach>, q: &Qualified) -> Result<Elaborated<Typ
         )),
         Some(home) => match of_sort(home.pos, Rule::NoType, looked_up(scope, home)?) {
             Err(breach) => Ok(Err(breach)),
-            Ok(meaning) => in_module(scope, home.pos, &q.name, meaning),
+            Ok(meaning) => match meaning {
+                Meaning::Module(place) => {
+                    let exported = exported_meaning(scope, place, &q.name)?;
+                    Ok(type_by(home.pos, exported))
+                }
+                Meaning::Type(_, _)
+                | Meaning::Constant(_)
+                | Meaning::Variable(_)
+                | Meaning::Local(_)
+                | Meaning::Field(_)
+                | Meaning::Procedure(_)
+                | Meaning::LocalProcedure(_)
+                | Meaning::Ahead
+                | Meaning::Standard(_) => Ok(report(home.pos, Rule::NoType)),
+            },
         },
     }
 }

@@ -2,7 +2,7 @@
 
 ghost use Rattle.std.specs.Prelude.{◌≡◌};
 ghost use Rattle.check_scope.specs.Elaborated.{least, ◌▷◌};
-ghost use Rattle.check_type_expr.specs.Subranges.{bound_of, number_base, base_of, between, subrange_between, is_of, bound_in, are_bounds, subrange_within, under};
+ghost use Rattle.check_type_expr.specs.Subranges.{bound_of, between, subrange_between, bound_in, are_bounds, under};
 
 use check_const_ops::{
     Ordinal, are_ordered, bounds_in_order, common, fits_base, is_of_base, operand_of, ordinal_in,
@@ -22,21 +22,6 @@ pub fn bound_of(at: Pos, value: Elaborated<Value>) -> Elaborated<Ordinal>
     }
 }
 
-fn number_base(low: i64) -> TypeNo
-    ensures { result ≡ number_base low }
-{
-    if low < 0 { INTEGER } else { CARDINAL }
-}
-
-fn base_of(sort: Option<TypeNo>, low: i64) -> TypeNo
-    ensures { result ≡ base_of sort low }
-{
-    match sort {
-        None => number_base(low),
-        Some(t) => t,
-    }
-}
-
 fn between(
     at: Pos,
     a: Ordinal,
@@ -49,7 +34,10 @@ fn between(
     match sort {
         None => report(high_at, Rule::WrongType),
         Some(sort) => {
-            let base = base_of(sort, a.number);
+            let base = match sort {
+                None => if a.number < 0 { INTEGER } else { CARDINAL },
+                Some(t) => t,
+            };
             let fit = beside(fits_base(at, base, a), fits_base(high_at, base, b));
             match beside(bounds_in_order(at, a.number, b.number), fit) {
                 Err(breach) => Err(breach),
@@ -78,24 +66,20 @@ pub fn subrange_between(
     }
 }
 
-fn is_of(of: Scalar, at: Pos, a: Ordinal) -> Elaborated<()>
-    ensures { result ≡ is_of least of at a }
-{
-    if !is_of_base(of.base, a.sort) {
-        return report(at, Rule::WrongType);
-    }
-    if !(of.low <= a.number && a.number <= of.high) {
-        return report(at, Rule::OutOfRange);
-    }
-    Ok(())
-}
-
 fn bound_in(of: Elaborated<Scalar>, at: Pos, a: Elaborated<Ordinal>) -> Elaborated<()>
     ensures { result ≡ bound_in least of at a }
 {
     match both(of, a) {
         Err(breach) => Err(breach),
-        Ok((of, a)) => is_of(of, at, a),
+        Ok((of, a)) => {
+            if !is_of_base(of.base, a.sort) {
+                return report(at, Rule::WrongType);
+            }
+            if !(of.low <= a.number && a.number <= of.high) {
+                return report(at, Rule::OutOfRange);
+            }
+            Ok(())
+        }
     }
 }
 
@@ -112,22 +96,6 @@ fn are_bounds(
     beside(within, are_ordered(at, low, high))
 }
 
-fn subrange_within(
-    parts: Elaborated<(Scalar, (Ordinal, Ordinal))>,
-    fine: Elaborated<()>,
-) -> Elaborated<Scalar>
-    ensures { result ≡ subrange_within least parts fine }
-{
-    match both(parts, fine) {
-        Err(breach) => Err(breach),
-        Ok(((of, (a, b)), ())) => Ok(Scalar {
-            base: of.base,
-            low: a.number,
-            high: b.number,
-        }),
-    }
-}
-
 /// The subrange between two bounds, under a named type.
 pub fn under(
     of: Elaborated<Scalar>,
@@ -139,5 +107,12 @@ pub fn under(
     ensures { result ≡ under least of at low high_at high }
 {
     let fine = are_bounds(of, at, low, high_at, high);
-    subrange_within(both(of, both(low, high)), fine)
+    match both(both(of, both(low, high)), fine) {
+        Err(breach) => Err(breach),
+        Ok(((of, (a, b)), ())) => Ok(Scalar {
+            base: of.base,
+            low: a.number,
+            high: b.number,
+        }),
+    }
 }

@@ -1,8 +1,0 @@
-use Rattle.std.proofs.Common.{◌≡◌, take}
-use Rattle.std.specs.List.{fold}
-use Rattle.check_scope.specs.Elaborated.{least}
-use Rattle.check_block.specs.Declarations.{with_decl}
-use Rattle.check_block.proofs.declarations.with_decls.Given as goal
-
-abbrev pub invariant-loop-decl : goal.invariant-loop-decl
-invariant-loop-decl l = (l.scope, l.elaborated, l.next) ≡ fold (with_decl least l.ends) (l.fn.scope, l.fn.before, l.fn.next) (take l.decl-index l.decls)
