@@ -111,21 +111,16 @@ fn routine_count(routine: Option<&Routine>) -> u32
     }
 }
 
-fn which_count(module_body: &TypedModule, which: Which) -> u32
-    ensures { result ≡ character_count (which_texts module_body.now which) }
-{
-    match which {
-        Which::Module(number) => routine_count(module_body.procedures.get(number)),
-        Which::Local(number) => routine_count(module_body.locals.get(number)),
-    }
-}
-
 fn routines_count(module_body: &TypedModule) -> u32
     ensures { result ≡ fold (with_which module_body.now) 0 module_body.now.order }
 {
     let mut all = 0;
     for which in module_body.order.as_slice() {
-        all = sum(all, which_count(module_body, *which));
+        let routine = match which {
+            Which::Module(number) => module_body.procedures.get(*number),
+            Which::Local(number) => module_body.locals.get(*number),
+        };
+        all = sum(all, routine_count(routine));
     }
     all
 }

@@ -14,22 +14,8 @@ use crate::row::{Row, begin_row, with_part};
 use std::alloc::{AllocError, Global};
 use typed_tree::{Formal, Made, Routine, Shape, TypeNo, Types, made_of};
 
-/// The bytes that a formal takes in a frame: an open array is kept as its address and HIGH, and a VAR formal as an
-/// address.
+/// An open array is kept as its address and HIGH, and a VAR formal as an address.
 #[tactic(auto, unfolding(crate::specs::Sizes::size))]
-fn formal_size(types: &Types, extents: &Extents, formal: &Formal) -> u32
-    requires { AreExtents types.now extents.now }
-    ensures { result ≡ cap_size (size (formal_tree types.now formal.now)) }
-{
-    if formal.is_open {
-        return 8;
-    }
-    if formal.is_var {
-        return 4;
-    }
-    size_of(types, extents, formal.of)
-}
-
 fn with_formals(
     types: &Types,
     extents: &Extents,
@@ -41,7 +27,14 @@ fn with_formals(
 {
     let mut row = before;
     for formal in formals {
-        row = with_part(row, formal_size(types, extents, formal))?;
+        let size = if formal.is_open {
+            8
+        } else if formal.is_var {
+            4
+        } else {
+            size_of(types, extents, formal.of)
+        };
+        row = with_part(row, size)?;
     }
     Ok(row)
 }

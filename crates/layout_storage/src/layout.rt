@@ -52,22 +52,15 @@ fn is_before(p: Pos, q: Pos) -> bool
     p.line < q.line || (p.line == q.line && p.col < q.col)
 }
 
-fn least_with(found: Option<Pos>, at: Pos) -> Pos
-    ensures { result ≡ least_with found at }
-{
-    match found {
-        None => at,
-        Some(other) => { if is_before(at, other) { at } else { other } }
-    }
-}
-
 fn with_size(found: Option<Pos>, bytes: u32, at: Pos) -> Option<Pos>
     ensures { result ≡ with_size found bytes at }
 {
-    if bytes > 16_777_216 {
-        Some(least_with(found, at))
-    } else {
-        found
+    if bytes <= 16_777_216 {
+        return found;
+    }
+    match found {
+        None => Some(at),
+        Some(other) => Some(if is_before(at, other) { at } else { other }),
     }
 }
 
