@@ -3,7 +3,7 @@
 ghost use Rattle.std.specs.Prelude.{◌≡◌, slice_get};
 ghost use Rattle.std.specs.List.{fold};
 ghost use Rattle.std.specs.Option.{option_copied};
-ghost use Rattle.layout_storage.specs.Texts.{texts_in, texts_armed, body_texts, routine_texts, which_texts, routines_texts, module_texts};
+ghost use Rattle.layout_storage.specs.Texts.{texts_in, texts_armed, body_texts, routine_texts, routines_texts, module_texts};
 ghost use Rattle.layout_storage.specs.Counted.{character_count, with_stmt, with_arm, with_which};
 
 use crate::capped::{cap_size, sum};

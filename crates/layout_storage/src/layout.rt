@@ -8,7 +8,7 @@ ghost use Rattle.layout_storage.specs.Texts.{module_texts};
 ghost use Rattle.layout_storage.specs.Extents.{AreExtents};
 ghost use Rattle.layout_storage.specs.Rows.{variables_row};
 ghost use Rattle.layout_storage.specs.Counted.{character_count};
-ghost use Rattle.layout_storage.specs.Layouts.{is_before, least_with, with_size, imported_row, no_frames, with_routine, data_too_large, too_large, together, IsWithoutFrames, IsChecked, IsAnswer};
+ghost use Rattle.layout_storage.specs.Layouts.{is_before, with_size, imported_row, no_frames, with_routine, too_large, together, IsWithoutFrames, IsChecked, IsAnswer};
 
 use crate::body::texts_count;
 use crate::capped::sum;
@@ -64,23 +64,6 @@ fn with_size(found: Option<Pos>, bytes: u32, at: Pos) -> Option<Pos>
     }
 }
 
-fn with_routine(
-    alloc: Global,
-    types: &Types,
-    extents: &Extents,
-    frames: Frames,
-    routine: &Routine,
-) -> Result<Frames, AllocError>
-    requires { AreExtents types.now extents.now }
-    ensures { IfOk result (λ x. x ≡ with_routine types.now frames routine.now) }
-{
-    let row = frame_row(alloc, types, extents, routine)?;
-    let too_large = with_size(frames.too_large, row.size, routine.pos);
-    let Frames { mut rows, .. } = frames;
-    rows.push(row)?;
-    Ok(Frames { rows, too_large })
-}
-
 fn with_routines(
     alloc: Global,
     types: &Types,
@@ -97,7 +80,9 @@ fn with_routines(
         too_large: before,
     };
     for routine in routines {
-        frames = with_routine(alloc, types, extents, frames, routine)?;
+        let row = frame_row(alloc, types, extents, routine)?;
+        frames.too_large = with_size(frames.too_large, row.size, routine.pos);
+        frames.rows.push(row)?;
     }
     Ok(frames)
 }
@@ -138,17 +123,6 @@ fn without_frames(
         locals: Items::new(alloc),
         texts: texts_count(module_body),
     })
-}
-
-fn data_too_large(module_body: &TypedModule, layout: &Layout) -> Option<Pos>
-    requires { IsWithoutFrames module_body.now layout.now }
-    ensures { result ≡ data_too_large module_body.now }
-{
-    with_size(
-        None,
-        sum(layout.variables.size, layout.texts),
-        module_body.pos,
-    )
 }
 
 /// A layout, and the least place where storage does not fit.
@@ -198,7 +172,8 @@ fn with_frames(
     ensures { IfOk result (λ x. IsChecked module_body.now x) }
 {
     let types = &module_body.types;
-    let data = data_too_large(module_body, &layout);
+    let bytes = sum(layout.variables.size, layout.texts);
+    let data = with_size(None, bytes, module_body.pos);
     let procedures = with_routines(
         alloc,
         types,

@@ -1,13 +1,12 @@
 //! How the storage of all types is found: one pass over the types of the modules in their order. A type names only types
 //! that stand before it, so each is found from what is kept of those.
 
-ghost use Rattle.std.specs.Prelude.{◌≡◌, ◌∷◌, [], nat_eq, IfOk, OnOk};
-ghost use Rattle.std.specs.Option.{option_copied, option_map};
+ghost use Rattle.std.specs.Prelude.{◌≡◌, ◌∷◌, [], IfOk, OnOk};
+ghost use Rattle.std.specs.Option.{option_map};
 ghost use Rattle.std.specs.List.{fold};
 ghost use Rattle.layout_storage.specs.Steps.{if_some};
-ghost use Rattle.layout_storage.specs.Extents.{begin_row, with_part, in_module, extent_in, AreExtents};
-ghost use Rattle.std.specs.Map.{lookup};
-ghost use Rattle.layout_storage.specs.Making.{known_in, part_size, with_field, array_extent, shape_extent, next_type, with_type, all_made, add_module, with_module, known_extents};
+ghost use Rattle.layout_storage.specs.Extents.{begin_row, with_part, extent_in, AreExtents};
+ghost use Rattle.layout_storage.specs.Making.{part_size, with_field, shape_extent, with_type, all_made, add_module, with_module, known_extents};
 
 use crate::capped::product;
 use crate::extent::Extent;
