@@ -2,7 +2,7 @@
 
 ghost use Rattle.std.specs.Prelude.{◌≡◌, ◌<◌, length, OnOk};
 ghost use Rattle.def_scheme.specs.Signatures.{signature, of_heading};
-ghost use Rattle.emit_tables.specs.Marked.{mark_kind, marked_at, with_one, with_all};
+ghost use Rattle.emit_tables.specs.Marked.{marked_at, with_one, with_all};
 ghost use Rattle.emit_tables.specs.Needed.{of_procedure};
 
 use crate::heading::{arguments_in, has_result, is_own};
@@ -16,27 +16,15 @@ pub struct Mark {
     pub giving: bool,
 }
 
-fn mark_kind(mark: Mark, has_result: bool) -> Mark
-    ensures { result ≡ mark_kind mark has_result }
-{
-    if has_result {
-        Mark {
-            without: mark.without,
-            giving: true,
-        }
-    } else {
-        Mark {
-            without: true,
-            giving: mark.giving,
-        }
-    }
-}
-
 fn set(marks: &mut Vec<Mark>, arguments: usize, has_result: bool)
     requires { arguments < length marks.old.items }
     ensures { marks.new.items ≡ marked_at arguments has_result marks.old.items }
 {
-    marks[arguments] = mark_kind(marks[arguments], has_result);
+    if has_result {
+        marks[arguments].giving = true;
+    } else {
+        marks[arguments].without = true;
+    }
 }
 
 /// Marks the type with this many arguments, and with a result or without.
