@@ -159,9 +159,7 @@ pub fn check_taken(
         OnOk result (draft.new ≡ put check draft.old) }
 {
     let types = &setting.home().module_body().types;
-    if constant
-        || (are_same(t, of) || (!is_subrange(types, t) && are_same(t, base_of(types, of))))
-    {
+    if constant || are_same(t, of) || (!is_subrange(types, t) && are_same(t, base_of(types, of))) {
         return Ok(());
     }
     in_type(setting, t, Fault::OutOfRange, draft)
