@@ -5,9 +5,9 @@ ghost use Rattle.layout_storage.specs.Sizes.{size};
 ghost use Rattle.layout_storage.specs.Shapes.{tree};
 ghost use Rattle.layout_storage.specs.Extents.{scalar_of as scalar_in_kind};
 ghost use Rattle.def_scheme.specs.Coded.{number, operation};
-ghost use Rattle.def_scheme.specs.Cells.{lower, is_nought, unless_nought, load_scalar, store_scalar, load_code, store_code, in_range, in_type, base_of, base_in, is_subrange, is_free, check_taken, check_changed};
+ghost use Rattle.def_scheme.specs.Cells.{lower, unless_nought, load_scalar, store_scalar, load_code, store_code, in_range, in_type, base_of, base_in, is_subrange, check_taken, check_changed};
 ghost use Rattle.emit_buffer.specs.Drafts.{put};
-ghost use Rattle.emit_buffer.specs.Kinds.{load_width, load_by, store_width, load_kind, store_kind, subrange_check};
+ghost use Rattle.emit_buffer.specs.Kinds.{load_by};
 ghost use Rattle.m2_rule.specs.FaultNumber.{fault_number};
 
 use crate::draft::Draft;
@@ -26,32 +26,16 @@ pub fn size_in(setting: &Setting<'_>, t: TypeNo) -> Result<u32, EncodeError>
     setting.home().size(t)
 }
 
-fn load_width(width: Width) -> Load
-    ensures { result ≡ load_width width }
-{
-    match width {
-        Width::One => Load::I64From8U,
-        Width::Two => Load::I64From16U,
-        Width::Four => Load::I64From32U,
-    }
-}
-
 fn load_of(kind: Kind) -> Load
     ensures { result ≡ load_by kind }
 {
     match kind {
         Kind::Integer => Load::I64From32S,
-        Kind::Natural(_) | Kind::Between(_, _) => load_width(width_of(kind)),
-    }
-}
-
-fn store_width(width: Width) -> StoreWidth
-    ensures { result ≡ store_width width }
-{
-    match width {
-        Width::One => StoreWidth::One,
-        Width::Two => StoreWidth::Two,
-        Width::Four => StoreWidth::Four,
+        Kind::Natural(_) | Kind::Between(_, _) => match width_of(kind) {
+            Width::One => Load::I64From8U,
+            Width::Two => Load::I64From16U,
+            Width::Four => Load::I64From32U,
+        },
     }
 }
 
@@ -64,18 +48,12 @@ fn lower_of(kind: Kind) -> i64
     }
 }
 
-fn is_nought(n: i64) -> bool
-    ensures { result ≡ is_nought n }
-{
-    n <= 0 && 0 <= n
-}
-
 /// Adds or subtracts a lower bound, if it is not 0.
 pub fn shift_bound(low: i64, o: Operation, draft: &mut Draft) -> Result<(), AllocError>
     ensures { let shift = unless_nought low (number low ∷ operation o ∷ []) in
         OnOk result (draft.new ≡ put shift draft.old) }
 {
-    if is_nought(low) {
+    if low == 0 {
         return Ok(());
     }
     number(low, draft)?;
@@ -97,25 +75,11 @@ fn store_scalar(kind: Kind, draft: &mut Draft) -> Result<(), AllocError>
     ensures { OnOk result (draft.new ≡ put (store_scalar (scalar_in_kind kind)) draft.old) }
 {
     shift_bound(lower_of(kind), Operation::Sub, draft)?;
-    draft.push(Op::Store(store_width(width_of(kind))))
-}
-
-fn load_kind(kind: Option<Kind>, draft: &mut Draft) -> Result<(), AllocError>
-    ensures { OnOk result (draft.new ≡ put (load_kind kind) draft.old) }
-{
-    match kind {
-        None => Ok(()),
-        Some(kind) => load_scalar(kind, draft),
-    }
-}
-
-fn store_kind(kind: Option<Kind>, draft: &mut Draft) -> Result<(), AllocError>
-    ensures { OnOk result (draft.new ≡ put (store_kind kind) draft.old) }
-{
-    match kind {
-        None => Ok(()),
-        Some(kind) => store_scalar(kind, draft),
-    }
+    draft.push(Op::Store(match width_of(kind) {
+        Width::One => StoreWidth::One,
+        Width::Two => StoreWidth::Two,
+        Width::Four => StoreWidth::Four,
+    }))
 }
 
 /// Loads a value of a type.
@@ -123,7 +87,10 @@ fn store_kind(kind: Option<Kind>, draft: &mut Draft) -> Result<(), AllocError>
 pub fn load(setting: &Setting<'_>, t: TypeNo, draft: &mut Draft) -> Result<(), AllocError>
     ensures { OnOk result (draft.new ≡ put (load_code setting.now.home.types t) draft.old) }
 {
-    load_kind(setting.home().kind(t), draft)
+    match setting.home().kind(t) {
+        None => Ok(()),
+        Some(kind) => load_scalar(kind, draft),
+    }
 }
 
 /// Stores a value of a type.
@@ -131,7 +98,10 @@ pub fn load(setting: &Setting<'_>, t: TypeNo, draft: &mut Draft) -> Result<(), A
 pub fn store(setting: &Setting<'_>, t: TypeNo, draft: &mut Draft) -> Result<(), AllocError>
     ensures { OnOk result (draft.new ≡ put (store_code setting.now.home.types t) draft.old) }
 {
-    store_kind(setting.home().kind(t), draft)
+    match setting.home().kind(t) {
+        None => Ok(()),
+        Some(kind) => store_scalar(kind, draft),
+    }
 }
 
 /// Ends the run with this fault if the value is outside of a range.
@@ -177,12 +147,6 @@ fn is_subrange(types: &Types, t: TypeNo) -> bool
     !are_same(base_of(types, t), t)
 }
 
-fn is_free(types: &Types, t: TypeNo, constant: bool, of: TypeNo) -> bool
-    ensures { result ≡ is_free types.now t constant of }
-{
-    constant || (are_same(t, of) || (!is_subrange(types, t) && are_same(t, base_of(types, of))))
-}
-
 /// Checks a value of one type that is taken as one of another.
 pub fn check_taken(
     setting: &Setting<'_>,
@@ -194,20 +158,11 @@ pub fn check_taken(
     ensures { let check = check_taken setting.now.home.types t constant of in
         OnOk result (draft.new ≡ put check draft.old) }
 {
-    if is_free(&setting.home().module_body().types, t, constant, of) {
+    let types = &setting.home().module_body().types;
+    if constant || are_same(t, of) || (!is_subrange(types, t) && are_same(t, base_of(types, of))) {
         return Ok(());
     }
     in_type(setting, t, Fault::OutOfRange, draft)
-}
-
-fn check_subrange(setting: &Setting<'_>, t: TypeNo, draft: &mut Draft) -> Result<(), AllocError>
-    ensures { let check = subrange_check setting.now.home.types t in
-        OnOk result (draft.new ≡ put check draft.old) }
-{
-    if is_subrange(&setting.home().module_body().types, t) {
-        return in_type(setting, t, Fault::OutOfRange, draft);
-    }
-    Ok(())
 }
 
 /// Checks the result of INC or DEC.
@@ -215,7 +170,10 @@ fn check_subrange(setting: &Setting<'_>, t: TypeNo, draft: &mut Draft) -> Result
 pub fn check_changed(setting: &Setting<'_>, t: TypeNo, draft: &mut Draft) -> Result<(), AllocError>
     ensures { OnOk result (draft.new ≡ put (check_changed setting.now.home.types t) draft.old) }
 {
-    let base = base_of(&setting.home().module_body().types, t);
-    in_type(setting, base, Fault::Overflow, draft)?;
-    check_subrange(setting, t, draft)
+    let types = &setting.home().module_body().types;
+    in_type(setting, base_of(types, t), Fault::Overflow, draft)?;
+    if is_subrange(types, t) {
+        return in_type(setting, t, Fault::OutOfRange, draft);
+    }
+    Ok(())
 }

@@ -100,7 +100,17 @@ impl Draft {
         self.ops.len()
     }
 
-    fn append(&mut self, op: Op) -> Result<(), AllocError>
+    /// Appends an operation with none inside.
+    #[tactic(auto, using(crate::proofs::Plain::one_is))]
+    pub fn push(&mut self, op: Op) -> Result<(), AllocError>
+        requires { is_plain op ≡ true }
+        ensures { OnOk result (self.new ≡ one (instr_of op) self.old) }
+    {
+        self.push_op(op)
+    }
+
+    /// Appends an operation as it is.
+    pub fn push_op(&mut self, op: Op) -> Result<(), AllocError>
         ensures { OnOk result (self.new ≡ with_ops (op ∷ []) self.old) }
     {
         if self.ops.len() == self.ops.capacity() {
@@ -110,22 +120,6 @@ impl Draft {
         Ok(())
     }
 
-    /// Appends an operation with none inside.
-    #[tactic(auto, using(crate::proofs::Plain::one_is))]
-    pub fn push(&mut self, op: Op) -> Result<(), AllocError>
-        requires { is_plain op ≡ true }
-        ensures { OnOk result (self.new ≡ one (instr_of op) self.old) }
-    {
-        self.append(op)
-    }
-
-    /// Appends an operation as it is.
-    pub fn push_op(&mut self, op: Op) -> Result<(), AllocError>
-        ensures { OnOk result (self.new ≡ with_ops (op ∷ []) self.old) }
-    {
-        self.append(op)
-    }
-
     /// Keeps a place for an operation, and answers the place.
     #[tactic(auto, unfolding(crate::specs::Drafts::open_draft))]
     pub fn open(&mut self) -> Result<usize, AllocError>
@@ -133,7 +127,7 @@ impl Draft {
         ensures opened { OnOk result (self.new ≡ open_draft self.old) }
     {
         let at = self.ops.len();
-        self.append(Op::Unreachable)?;
+        self.push_op(Op::Unreachable)?;
         Ok(at)
     }
 
@@ -197,20 +191,6 @@ impl Draft {
         Ok(())
     }
 
-    fn with_address(&mut self) -> Result<(), EncodeError>
-        ensures { OnOk result (self.new ≡ next_address self.old) }
-    {
-        self.addresses = plus(self.addresses, 1)?;
-        Ok(())
-    }
-
-    fn with_number(&mut self) -> Result<(), EncodeError>
-        ensures { OnOk result (self.new ≡ next_number self.old) }
-    {
-        self.numbers = plus(self.numbers, 1)?;
-        Ok(())
-    }
-
     /// Takes this many bytes of texts, and answers the offset of the first.
     pub fn next_text(&mut self, bytes: usize) -> Result<u32, EncodeError>
         ensures offset { IfOk result (λ at. at ≡ self.old.counts.texts) }
@@ -228,7 +208,7 @@ impl Draft {
         ensures taken { OnOk result (self.new ≡ next_address self.old) }
     {
         let w = setting.address_local(self.addresses)?;
-        self.with_address()?;
+        self.addresses = plus(self.addresses, 1)?;
         Ok(w)
     }
 
@@ -239,7 +219,7 @@ impl Draft {
         ensures taken { OnOk result (self.new ≡ next_number self.old) }
     {
         let t = setting.number_local(self.numbers)?;
-        self.with_number()?;
+        self.numbers = plus(self.numbers, 1)?;
         Ok(t)
     }
 }

@@ -3,7 +3,7 @@
 ghost use Rattle.std.specs.Prelude.{◌++◌, ◌≡◌, ◌+◌, ◌∷◌, [], IfOk, map, slice_get};
 ghost use Rattle.std.specs.Option.{option_copied};
 ghost use Rattle.def_scheme.specs.Exprs.{slot_path};
-ghost use Rattle.emit_buffer.specs.Slots.{slot_from, open_in, is_open, open_at};
+ghost use Rattle.emit_buffer.specs.Slots.{slot_from, is_open, open_at};
 ghost use Rattle.def_scheme.specs.Coded.{top_local, address_local, number_local};
 ghost use Rattle.def_scheme.specs.Functions.{setting};
 ghost use Rattle.emit_buffer.specs.Frames.{setting_of, frames_of, routines_in, AreFramed};
@@ -14,7 +14,7 @@ use crate::home::{Home, start_or};
 use layout_storage::Row;
 use std::alloc::{AllocError, Global};
 use std::marker::Model;
-use typed_tree::{Formal, Routine, Shape, Slot, Types, made_of};
+use typed_tree::{Routine, Shape, Slot, Types, made_of};
 use wasm_tree::{EncodeError, plus};
 
 /// The module, the frames that are seen, the procedure's own first, and the function's arguments and locals. Contracts see
@@ -71,15 +71,6 @@ fn slot_from(frames: &[Framed<'_>], slot: Slot) -> u32
     }
 }
 
-fn open_in(formal: Option<&Formal>) -> bool
-    ensures { result ≡ open_in (option_copied formal.entry) }
-{
-    match formal {
-        None => false,
-        Some(formal) => formal.is_open,
-    }
-}
-
 /// Whether a slot of a procedure is an open array.
 fn is_open(types: &Types, routine: &Routine, number: usize) -> bool
     ensures { result ≡ is_open types.now routine.now number }
@@ -87,7 +78,10 @@ fn is_open(types: &Types, routine: &Routine, number: usize) -> bool
     match made_of(types, routine.heading) {
         None => false,
         Some(made) => match &made.shape {
-            Shape::Procedure(signature) => open_in(signature.formals.get(number)),
+            Shape::Procedure(signature) => match signature.formals.get(number) {
+                None => false,
+                Some(formal) => formal.is_open,
+            },
             Shape::Scalar(_)
             | Shape::Set
             | Shape::Array(_, _)

@@ -1,15 +1,14 @@
 //! Calls, and what is passed to them.
 
-ghost use Rattle.std.specs.Prelude.{◌≡◌, IfOk, OnOk, length, pos, suc};
+ghost use Rattle.std.specs.Prelude.{◌≡◌, IfOk, OnOk, pos, suc};
 ghost use Rattle.wasm_tree.specs.declared.instr.Instr.TheVariants.{LocalGet as get_local};
-ghost use Rattle.layout_storage.specs.Texts.{argument_text};
 ghost use Rattle.def_meaning.specs.Answer.{empty_procedure};
 ghost use Rattle.def_scheme.specs.Coded.{top_local, number_local, check_code};
-ghost use Rattle.def_scheme.specs.Exprs.{slots_global, procedure_code, high_index, indirect, module_call};
+ghost use Rattle.def_scheme.specs.Exprs.{slots_global, procedure_code, indirect, module_call};
 ghost use Rattle.def_scheme.specs.Modules.{numbering_of};
 ghost use Rattle.emit_buffer.specs.Drafts.{one, put};
 ghost use Rattle.emit_buffer.specs.Frames.{setting_of};
-ghost use Rattle.emit_expr.specs.Called.{nested_called, slot_added, own_call, other_call, link_passed, kept_procedure, called_value, array_behind, open_code, with_passed};
+ghost use Rattle.emit_expr.specs.Called.{nested_called, other_call, link_passed, kept_procedure, called_value, array_behind, open_code, with_passed};
 
 use crate::places::{frame_code, high_code, index_of, open_address, twice};
 use emit_buffer::{
@@ -38,14 +37,6 @@ fn slot_number(f: Procedure) -> Result<u32, EncodeError>
     plus(1, small(f.number)?)
 }
 
-fn slot_added(number: u32, draft: &mut Draft) -> Result<(), AllocError>
-    ensures { OnOk result (draft.new ≡ put (slot_added number) draft.old) }
-{
-    extend_word(draft)?;
-    draft.push(Op::I64Const(u64::from(number)))?;
-    operation(Operation::Add, draft)
-}
-
 /// A procedure as a value.
 pub fn procedure_code(
     setting: &Setting<'_>,
@@ -57,7 +48,9 @@ pub fn procedure_code(
     let global = slots_global(setting.home(), f.home)?;
     let number = slot_number(f)?;
     draft.push(Op::GlobalGet(global))?;
-    slot_added(number, draft)?;
+    extend_word(draft)?;
+    draft.push(Op::I64Const(u64::from(number)))?;
+    operation(Operation::Add, draft)?;
     Ok(())
 }
 
@@ -79,14 +72,6 @@ fn indirect(setting: &Setting<'_>, heading: TypeNo, draft: &mut Draft) -> Result
     let arguments = arguments_in(types, heading);
     let number = home.number(arguments, has_result(types, heading));
     draft.push(Op::CallIndirect(number))
-}
-
-/// A call of a procedure of this module.
-fn own_call(f: Procedure, draft: &mut Draft) -> Result<(), EncodeError>
-    ensures { OnOk result (draft.new ≡ put (own_call f) draft.old) }
-{
-    draft.push(Op::Call(plus(8, small(f.number)?)?))?;
-    Ok(())
 }
 
 /// A call of a procedure of another module.
@@ -112,7 +97,8 @@ pub fn module_call(
         OnOk result (draft.new ≡ put (module_call (numbering_of m) m f) draft.old) }
 {
     if is_own(setting.home().module_body(), f.home) {
-        return own_call(f, draft);
+        draft.push(Op::Call(plus(8, small(f.number)?)?))?;
+        return Ok(());
     }
     other_call(setting, f, draft)
 }
@@ -166,20 +152,14 @@ pub fn called_value(
     indirect(setting, heading, draft)
 }
 
-fn high_index(setting: &Setting<'_>, t: TypeNo) -> u64
-    ensures { result ≡ high_index setting.now.home.types t }
-{
-    match index_of(&setting.home().module_body().types, t) {
-        None => 0,
-        Some(scalar) => scalar.high.abs_diff(scalar.low),
-    }
-}
-
 /// An array for a formal ARRAY OF, behind its address.
 pub fn array_behind(setting: &Setting<'_>, t: TypeNo, draft: &mut Draft) -> Result<(), AllocError>
     ensures { OnOk result (draft.new ≡ put (array_behind setting.now.home.types t) draft.old) }
 {
-    let high = high_index(setting, t);
+    let high = match index_of(&setting.home().module_body().types, t) {
+        None => 0,
+        Some(scalar) => scalar.high.abs_diff(scalar.low),
+    };
     extend_word(draft)?;
     draft.push(Op::I64Const(high))
 }
@@ -194,21 +174,14 @@ pub fn open_code(setting: &Setting<'_>, slot: Slot, draft: &mut Draft) -> Result
     high_code(setting, slot, draft)
 }
 
-/// The bytes of a passed string: an empty one is one character 0C.
-fn passed_bytes(text: &[u8]) -> usize
-    ensures { result ≡ length (argument_text text.now) }
-{
-    match text {
-        [] => 1,
-        [_, ..] => text.len(),
-    }
-}
-
-/// A string for a formal ARRAY OF CHAR.
+/// A string for a formal ARRAY OF CHAR: an empty one is one character 0C.
 pub fn passed_text(bytes: &[u8], draft: &mut Draft) -> Result<(), EncodeError>
     ensures { OnOk result (draft.new ≡ with_passed bytes.now draft.old) }
 {
-    let count = passed_bytes(bytes);
+    let count = match bytes {
+        [] => 1,
+        [_, ..] => bytes.len(),
+    };
     let at = draft.next_text(count)?;
     text(at, draft)?;
     extend_word(draft)?;

@@ -4,10 +4,10 @@ ghost use Rattle.std.specs.Prelude.{◌≡◌, ◌∷◌, [], IfOk, OnOk, pos};
 ghost use Rattle.def_meaning.specs.Answer.{range_fault};
 ghost use Rattle.def_scheme.specs.Coded.{number_local, operation, relation, extend_word, check_code};
 ghost use Rattle.def_scheme.specs.Cells.{in_type};
-ghost use Rattle.def_scheme.specs.Exprs.{relation_of, arithmetic_code, set_code, empty_code, ord_check, absolute_code};
+ghost use Rattle.def_scheme.specs.Exprs.{relation_of, arithmetic_code, set_code, empty_code, ord_check};
 ghost use Rattle.emit_buffer.specs.Drafts.{one, put, place_of};
 ghost use Rattle.emit_buffer.specs.Frames.{setting_of};
-ghost use Rattle.emit_expr.specs.Operators.{ending_and, begun_or, kept_element, element_bit, negated_behind, around_behind, within_behind, odd_code, char_check, before_sign, negative, negative_or_same, with_absolute, at_most_25, before_letter, lift_word, lifted_or_same, with_capital};
+ghost use Rattle.emit_expr.specs.Operators.{ending_and, begun_or, kept_element, element_bit, negated_behind, around_behind, within_behind, odd_code, char_check, before_sign, negative_or_same, with_absolute, before_letter, lifted_or_same, with_capital};
 
 use emit_buffer::{
     Draft, Helper, Setting, base_of, check_code, complement, extend_word, in_type, is_zero,
@@ -18,25 +18,20 @@ use std::alloc::AllocError;
 use typed_tree::{Arithmetic, Comparison, INTEGER, SetOperator, TypeNo, are_same};
 use wasm_tree::{EncodeError, Op, Operation, Relation, ValueType};
 
-fn relation_of(comparison: Comparison) -> Relation
-    ensures { result ≡ relation_of comparison }
+/// How two numbers compare.
+pub fn comparison_code(comparison: Comparison, draft: &mut Draft) -> Result<(), AllocError>
+    ensures { let code = relation (relation_of comparison) ∷ extend_word ∷ [] in
+        OnOk result (draft.new ≡ put code draft.old) }
 {
-    match comparison {
+    let compared = match comparison {
         Comparison::Equal => Relation::Eq,
         Comparison::Unequal => Relation::Ne,
         Comparison::Less => Relation::LtS,
         Comparison::AtMost => Relation::LeS,
         Comparison::Greater => Relation::GtS,
         Comparison::AtLeast => Relation::GeS,
-    }
-}
-
-/// How two numbers compare.
-pub fn comparison_code(comparison: Comparison, draft: &mut Draft) -> Result<(), AllocError>
-    ensures { let code = relation (relation_of comparison) ∷ extend_word ∷ [] in
-        OnOk result (draft.new ≡ put code draft.old) }
-{
-    relation(relation_of(comparison), draft)?;
+    };
+    relation(compared, draft)?;
     extend_word(draft)
 }
 
@@ -199,33 +194,18 @@ fn before_sign(t: u32, draft: &mut Draft) -> Result<(), AllocError>
     relation(Relation::LtS, draft)
 }
 
-fn negative(t: u32, draft: &mut Draft) -> Result<(), AllocError>
-    ensures { OnOk result (draft.new ≡ put (negative t) draft.old) }
-{
-    draft.push(Op::I64Const(0))?;
-    draft.push(Op::LocalGet(t))?;
-    operation(Operation::Sub, draft)
-}
-
-/// An `if` whose second side is the number itself.
+/// An `if` whose first side is the negative of the number, and the second one the number itself.
 #[tactic(auto, using(crate::proofs::Sides::negative_is))]
 fn negative_or_same(t: u32, draft: &mut Draft) -> Result<(), EncodeError>
     ensures { OnOk result (draft.new ≡ one (negative_or_same t) draft.old) }
 {
     let at = draft.open()?;
-    negative(t, draft)?;
+    draft.push(Op::I64Const(0))?;
+    draft.push(Op::LocalGet(t))?;
+    operation(Operation::Sub, draft)?;
     let middle = draft.place();
     draft.push(Op::LocalGet(t))?;
     draft.close_if_else(at, middle, Some(ValueType::I64))
-}
-
-fn absolute_of(t: u32, draft: &mut Draft) -> Result<(), EncodeError>
-    ensures { OnOk result (draft.new ≡ put (absolute_code t) draft.old) }
-{
-    before_sign(t, draft)?;
-    negative_or_same(t, draft)?;
-    check_code(0, 2_147_483_647, Fault::Overflow, draft)?;
-    Ok(())
 }
 
 /// The absolute value of a number of this type.
@@ -234,7 +214,9 @@ pub fn absolute(setting: &Setting<'_>, t: TypeNo, draft: &mut Draft) -> Result<(
 {
     if are_same(t, INTEGER) {
         let local = draft.next_number(setting)?;
-        return absolute_of(local, draft);
+        before_sign(local, draft)?;
+        negative_or_same(local, draft)?;
+        check_code(0, 2_147_483_647, Fault::Overflow, draft)?;
     }
     Ok(())
 }
@@ -246,22 +228,8 @@ fn before_letter(t: u32, draft: &mut Draft) -> Result<(), AllocError>
     draft.push(Op::LocalGet(t))?;
     draft.push(Op::I64Const(97))?;
     operation(Operation::Sub, draft)?;
-    at_most_25(draft)
-}
-
-fn at_most_25(draft: &mut Draft) -> Result<(), AllocError>
-    ensures { OnOk result (draft.new ≡ put at_most_25 draft.old) }
-{
     draft.push(Op::I64Const(25))?;
     relation(Relation::LeU, draft)
-}
-
-fn lift_word(t: u32, draft: &mut Draft) -> Result<(), AllocError>
-    ensures { OnOk result (draft.new ≡ put (lift_word t) draft.old) }
-{
-    draft.push(Op::LocalGet(t))?;
-    draft.push(Op::I64Const(32))?;
-    operation(Operation::Sub, draft)
 }
 
 #[tactic(auto, using(crate::proofs::Sides::lifted_is))]
@@ -269,7 +237,9 @@ fn lifted_or_same(t: u32, draft: &mut Draft) -> Result<(), EncodeError>
     ensures { OnOk result (draft.new ≡ one (lifted_or_same t) draft.old) }
 {
     let at = draft.open()?;
-    lift_word(t, draft)?;
+    draft.push(Op::LocalGet(t))?;
+    draft.push(Op::I64Const(32))?;
+    operation(Operation::Sub, draft)?;
     let middle = draft.place();
     draft.push(Op::LocalGet(t))?;
     draft.close_if_else(at, middle, Some(ValueType::I64))

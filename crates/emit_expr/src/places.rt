@@ -4,30 +4,20 @@ ghost use Rattle.std.specs.Prelude.{◌≡◌, ◌+◌, ◌*◌, ◌∷◌, [], 
 ghost use Rattle.std.specs.Option.{option_copied};
 ghost use Rattle.layout_storage.specs.Sizes.{size, offset};
 ghost use Rattle.layout_storage.specs.Shapes.{tree};
-ghost use Rattle.def_scheme.specs.Exprs.{outwards, frame_code, slot_path, slot_code, kept_address, open_address, high_code, global_code, with_code, index_made, index_of, scale_index, from_lower, element_code, open_element_code, base_global};
+ghost use Rattle.def_scheme.specs.Exprs.{outwards, frame_code, slot_path, slot_code, kept_address, open_address, high_code, global_code, with_code, index_of, scale_index, element_code, open_element_code};
 ghost use Rattle.def_scheme.specs.Cells.{load_scalar, word};
 ghost use Rattle.emit_buffer.specs.Drafts.{put};
 ghost use Rattle.emit_buffer.specs.Frames.{setting_of};
-ghost use Rattle.emit_buffer.specs.Slots.{behind_high, field_code, root_code};
+ghost use Rattle.emit_buffer.specs.Slots.{field_code, root_code};
 
 use emit_buffer::{
-    Draft, Helper, Home, Setting, in_range, operation, raise_address, shift_bound, wrap_word,
+    Draft, Helper, Setting, in_range, operation, raise_address, shift_bound, wrap_word,
 };
 use emit_tables::is_own;
 use m2_rule::Fault;
 use std::alloc::AllocError;
-use typed_tree::{Made, Root, Scalar, Shape, Slot, TypeNo, Types, Variable, made_of, scalar_of};
+use typed_tree::{Root, Scalar, Shape, Slot, TypeNo, Types, Variable, made_of, scalar_of};
 use wasm_tree::{EncodeError, Load, Numeric, Op, Operation, plus, small};
-
-/// The global with the place of a module's variables.
-fn base_global(home: &Home<'_>, number: u32) -> Result<u32, EncodeError>
-    ensures { IfOk result (λ g. g ≡ base_global home.now number) }
-{
-    if is_own(home.module_body(), number) {
-        return Ok(1);
-    }
-    twice(4, home.place(number))
-}
 
 /// The number behind this many pairs.
 pub fn twice(first: u32, pairs: usize) -> Result<u32, EncodeError>
@@ -42,7 +32,11 @@ pub fn global_code(setting: &Setting<'_>, v: Variable, draft: &mut Draft) -> Res
     ensures { OnOk result (draft.new ≡ put (global_code setting.now.home v) draft.old) }
 {
     let home = setting.home();
-    let global = base_global(home, v.home)?;
+    let global = if is_own(home.module_body(), v.home) {
+        1
+    } else {
+        twice(4, home.place(v.home))?
+    };
     let offset = home.variable_offset(v)?;
     draft.push(Op::GlobalGet(global))?;
     raise_address(offset, draft)?;
@@ -128,10 +122,11 @@ pub fn with_code(local: Option<&u32>, draft: &mut Draft) -> Result<(), AllocErro
     }
 }
 
-fn index_made(types: &Types, made: Option<&Made>) -> Option<Scalar>
-    ensures { result ≡ index_made types.now (option_copied made.entry) }
+/// The index of an array type.
+pub fn index_of(types: &Types, t: TypeNo) -> Option<Scalar>
+    ensures { result ≡ index_of types.now t }
 {
-    match made {
+    match made_of(types, t) {
         None => None,
         Some(made) => match &made.shape {
             Shape::Array(index, _) => scalar_of(types, *index),
@@ -144,13 +139,6 @@ fn index_made(types: &Types, made: Option<&Made>) -> Option<Scalar>
     }
 }
 
-/// The index of an array type.
-pub fn index_of(types: &Types, t: TypeNo) -> Option<Scalar>
-    ensures { result ≡ index_of types.now t }
-{
-    index_made(types, made_of(types, t))
-}
-
 /// An element of this many bytes, behind the address of the array and the index from 0.
 fn scale_index(bytes: u32, draft: &mut Draft) -> Result<(), AllocError>
     ensures { OnOk result (draft.new ≡ put (scale_index bytes) draft.old) }
@@ -159,15 +147,6 @@ fn scale_index(bytes: u32, draft: &mut Draft) -> Result<(), AllocError>
     operation(Operation::Mul, draft)?;
     wrap_word(draft)?;
     draft.push(Op::Numeric(Numeric::I32Add))
-}
-
-fn from_lower(index: Option<Scalar>, draft: &mut Draft) -> Result<(), AllocError>
-    ensures { OnOk result (draft.new ≡ put (from_lower index) draft.old) }
-{
-    match index {
-        None => Ok(()),
-        Some(scalar) => shift_bound(scalar.low, Operation::Sub, draft),
-    }
 }
 
 /// An element of an array, behind its address and the index.
@@ -179,17 +158,11 @@ pub fn element_code(setting: &Setting<'_>, t: TypeNo, draft: &mut Draft) -> Resu
     let index = index_of(&home.module_body().types, t);
     let bytes = home.element_size(t)?;
     in_range(index, Fault::Index, draft)?;
-    from_lower(index, draft)?;
+    if let Some(scalar) = index {
+        shift_bound(scalar.low, Operation::Sub, draft)?;
+    }
     scale_index(bytes, draft)?;
     Ok(())
-}
-
-fn behind_high(bytes: u32, draft: &mut Draft) -> Result<(), AllocError>
-    ensures { OnOk result (draft.new ≡ put (behind_high bytes) draft.old) }
-{
-    draft.push(Op::I64Const(u64::from(Fault::Index.number())))?;
-    draft.push(Op::Call(Helper::Check.index()))?;
-    scale_index(bytes, draft)
 }
 
 /// An element of a formal ARRAY OF, behind its address and the index.
@@ -206,7 +179,9 @@ pub fn open_element_code(
     let bytes = setting.home().size(t)?;
     draft.push(Op::I64Const(0))?;
     high_code(setting, slot, draft)?;
-    behind_high(bytes, draft)?;
+    draft.push(Op::I64Const(u64::from(Fault::Index.number())))?;
+    draft.push(Op::Call(Helper::Check.index()))?;
+    scale_index(bytes, draft)?;
     Ok(())
 }
 

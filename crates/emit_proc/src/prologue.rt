@@ -1,17 +1,15 @@
 //! What a procedure does before its statements.
 
 ghost use Rattle.std.specs.Prelude.{◌≡◌, ◌∷◌, ◌++◌, [], suc, IfOk, OnOk};
-ghost use Rattle.wasm_tree.specs.declared.instr.Instr.TheVariants.{Call, LocalGet, LocalTee, I32Const};
+ghost use Rattle.wasm_tree.specs.declared.instr.Instr.TheVariants.{LocalGet};
 ghost use Rattle.std.specs.Option.{option_copied};
 ghost use Rattle.layout_storage.specs.Frames.{formals_made, frame};
 ghost use Rattle.layout_storage.specs.Sizes.{size, offset};
 ghost use Rattle.layout_storage.specs.Shapes.{tree};
 ghost use Rattle.emit_buffer.specs.Frames.{setting_of};
 ghost use Rattle.emit_buffer.specs.Drafts.{put};
-ghost use Rattle.def_scheme.specs.Coded.{raise_address, wrap_word, extend_word, copy};
-ghost use Rattle.def_scheme.specs.Cells.{store_code};
-ghost use Rattle.def_scheme.specs.Exprs.{arguments_of};
-ghost use Rattle.def_scheme.specs.Functions.{link_arguments, prologue, limit_check, enter_code, link_kept, word_kept, value_kept, bytes_code, open_copied, formal_kept, formals_kept};
+ghost use Rattle.def_scheme.specs.Coded.{extend_word, copy};
+ghost use Rattle.def_scheme.specs.Functions.{prologue, limit_check, enter_code, link_kept, word_kept, value_kept, bytes_code, open_copied, formal_kept, formals_kept};
 ghost use Rattle.emit_proc.specs.Kept.{own, word_at, copy_begun, copy_made};
 
 use emit_buffer::{
@@ -34,22 +32,14 @@ fn limit_check(draft: &mut Draft) -> Result<(), EncodeError>
     draft.close_if(at, None)
 }
 
-/// Puts the stack's top behind a frame of this many bytes.
-fn top_raised(top: u32, bytes: u32, draft: &mut Draft) -> Result<(), EncodeError>
-    ensures { let code = LocalGet 0 ∷ (raise_address bytes ++ (LocalTee top ∷ limit_check)) in
-        OnOk result (draft.new ≡ put code draft.old) }
-{
-    draft.push(Op::LocalGet(0))?;
-    raise_address(bytes, draft)?;
-    draft.push(Op::LocalTee(top))?;
-    limit_check(draft)
-}
-
 /// Puts the stack's top behind a frame of this many bytes, which are filled with zeros.
 pub fn enter_code(top: u32, bytes: u32, draft: &mut Draft) -> Result<(), EncodeError>
     ensures { OnOk result (draft.new ≡ put (enter_code top bytes) draft.old) }
 {
-    top_raised(top, bytes, draft)?;
+    draft.push(Op::LocalGet(0))?;
+    raise_address(bytes, draft)?;
+    draft.push(Op::LocalTee(top))?;
+    limit_check(draft)?;
     draft.push(Op::LocalGet(0))?;
     draft.push(Op::I32Const(bytes))?;
     draft.push(Op::Call(Helper::Fill.index()))?;
@@ -116,45 +106,7 @@ fn open_kept(setting: &Setting<'_>, v: usize, x: u32, draft: &mut Draft) -> Resu
     Ok(())
 }
 
-/// Stores a scalar in the frame.
-fn scalar_kept(
-    setting: &Setting<'_>,
-    t: TypeNo,
-    at: u32,
-    x: u32,
-    draft: &mut Draft,
-) -> Result<(), AllocError>
-    ensures { let value = LocalGet x ∷ store_code setting.now.home.types t in
-        OnOk result (draft.new ≡ put (LocalGet 0 ∷ (raise_address at ++ value)) draft.old) }
-{
-    draft.push(Op::LocalGet(0))?;
-    raise_address(at, draft)?;
-    draft.push(Op::LocalGet(x))?;
-    store(setting, t, draft)
-}
-
-/// Copies an array or a record into the frame.
-fn whole_kept(
-    setting: &Setting<'_>,
-    t: TypeNo,
-    at: u32,
-    x: u32,
-    draft: &mut Draft,
-) -> Result<(), EncodeError>
-    ensures { let bytes = size (tree setting.now.home.types t) in
-        let value = LocalGet x ∷ wrap_word ∷ I32Const bytes ∷ Call copy ∷ [] in
-        OnOk result (draft.new ≡ put (LocalGet 0 ∷ (raise_address at ++ value)) draft.old) }
-{
-    draft.push(Op::LocalGet(0))?;
-    raise_address(at, draft)?;
-    draft.push(Op::LocalGet(x))?;
-    wrap_word(draft)?;
-    draft.push(Op::I32Const(size_in(setting, t)?))?;
-    draft.push(Op::Call(Helper::Copy.index()))?;
-    Ok(())
-}
-
-/// Keeps a value formal that is no open array.
+/// Keeps a value formal that is no open array: a scalar is stored in the frame, and an array or a record copied.
 #[tactic(auto, using(crate::proofs::Entered::scalar_value, crate::proofs::Entered::whole_value))]
 fn value_kept(
     setting: &Setting<'_>,
@@ -167,9 +119,17 @@ fn value_kept(
         OnOk result (draft.new ≡ put (value_kept f v x (tree setting.now.home.types t)) draft.old) }
 {
     let at = offset_of(setting, v)?;
+    draft.push(Op::LocalGet(0))?;
+    raise_address(at, draft)?;
+    draft.push(Op::LocalGet(x))?;
     match setting.home().kind(t) {
-        Some(_) => Ok(scalar_kept(setting, t, at, x, draft)?),
-        None => whole_kept(setting, t, at, x, draft),
+        Some(_) => Ok(store(setting, t, draft)?),
+        None => {
+            wrap_word(draft)?;
+            draft.push(Op::I32Const(size_in(setting, t)?))?;
+            draft.push(Op::Call(Helper::Copy.index()))?;
+            Ok(())
+        }
     }
 }
 
@@ -279,12 +239,6 @@ fn formal_kept(
     value_kept(setting, formal.of, v, x, draft)
 }
 
-fn arguments_of(formal: &Formal) -> u32
-    ensures { result ≡ arguments_of formal.now }
-{
-    if formal.is_open { 2 } else { 1 }
-}
-
 /// Keeps formals, the first argument of which stands in a local.
 #[tactic(auto, using(emit_buffer::proofs::Emitted::put_append))]
 fn formals_kept(
@@ -304,7 +258,7 @@ fn formals_kept(
     for formal in formals {
         formal_kept(setting, locals, formal, v, x, draft)?;
         v += 1;
-        x = plus(x, arguments_of(formal))?;
+        x = plus(x, if formal.is_open { 2 } else { 1 })?;
     }
     Ok(())
 }
@@ -337,12 +291,6 @@ fn heading_kept(
     }
 }
 
-fn first_argument(routine: &Routine) -> u32
-    ensures { result ≡ suc (link_arguments routine.now) }
-{
-    if routine.level <= 1 { 1 } else { 2 }
-}
-
 /// The prologue of a procedure with a frame of this many bytes.
 #[tactic(auto, using(emit_buffer::proofs::Emitted::put_append))]
 pub fn prologue(
@@ -360,5 +308,6 @@ pub fn prologue(
     enter_code(locals.top, bytes, draft)?;
     link_kept(routine, draft)?;
     let heading = made_of(&setting.home().module_body().types, routine.heading);
-    heading_kept(setting, locals, heading, first_argument(routine), draft)
+    let first = if routine.level <= 1 { 1 } else { 2 };
+    heading_kept(setting, locals, heading, first, draft)
 }

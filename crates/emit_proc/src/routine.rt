@@ -129,16 +129,6 @@ fn frames_of<'a>(
     Ok(frames)
 }
 
-/// The end of a function whose result nothing gives.
-fn end_code(gives: bool, draft: &mut Draft) -> Result<(), AllocError>
-    ensures { OnOk result (draft.new ≡ put (end_code gives) draft.old) }
-{
-    if gives {
-        return fault(Fault::NoReturn, draft);
-    }
-    Ok(())
-}
-
 /// The code of a procedure, with the frames that it sees.
 #[tactic(auto, using(crate::proofs::Finished::drafted, crate::proofs::Finished::own_frame_is, crate::proofs::Finished::home_is))]
 fn routine_draft<'a>(
@@ -205,7 +195,9 @@ fn framed_function(
         exact(framed.row.size)?,
         &mut draft,
     )?;
-    end_code(gives, &mut draft)?;
+    if gives {
+        fault(Fault::NoReturn, &mut draft)?;
+    }
     finish_code(alloc, home.signatures().number(count, gives), draft)
 }
 

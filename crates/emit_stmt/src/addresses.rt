@@ -22,33 +22,33 @@ fn stmt_addresses(stmt: &TypedStmt) -> Result<u32, EncodeError>
         TypedStmt::Membership(_, _, _) => Ok(1),
         TypedStmt::Halt => Ok(0),
         TypedStmt::If(_, body, others) => match others {
-            None => stmts_addresses(body.as_slice()),
+            None => addresses_in(body.as_slice()),
             Some(others) => plus(
-                stmts_addresses(body.as_slice())?,
-                stmts_addresses(others.as_slice())?,
+                addresses_in(body.as_slice())?,
+                addresses_in(others.as_slice())?,
             ),
         },
         TypedStmt::Case(_, arms, others) => match others {
             None => arms_addresses(arms.as_slice()),
             Some(others) => plus(
                 arms_addresses(arms.as_slice())?,
-                stmts_addresses(others.as_slice())?,
+                addresses_in(others.as_slice())?,
             ),
         },
-        TypedStmt::While(_, body) => stmts_addresses(body.as_slice()),
-        TypedStmt::Repeat(body, _) => stmts_addresses(body.as_slice()),
-        TypedStmt::Loop(body) => stmts_addresses(body.as_slice()),
+        TypedStmt::While(_, body) => addresses_in(body.as_slice()),
+        TypedStmt::Repeat(body, _) => addresses_in(body.as_slice()),
+        TypedStmt::Loop(body) => addresses_in(body.as_slice()),
         TypedStmt::Exit => Ok(0),
         TypedStmt::Return => Ok(0),
         TypedStmt::Give(_, _) => Ok(0),
-        TypedStmt::For(_, _, _, _, _, body) => stmts_addresses(body.as_slice()),
-        TypedStmt::With(_, body) => plus(1, stmts_addresses(body.as_slice())?),
+        TypedStmt::For(_, _, _, _, _, body) => addresses_in(body.as_slice()),
+        TypedStmt::With(_, body) => plus(1, addresses_in(body.as_slice())?),
     }
 }
 
-/// The addresses of statements.
+/// How many addresses the code of statements keeps in locals. An error says that the number does not fit into 32 bits.
 #[cycle(addresses)]
-fn stmts_addresses(stmts: &[TypedStmt]) -> Result<u32, EncodeError>
+pub fn addresses_in(stmts: &[TypedStmt]) -> Result<u32, EncodeError>
     ensures { IfOk result (λ n. n ≡ addresses_in stmts.now) }
 {
     let mut all = 0;
@@ -64,7 +64,7 @@ fn stmts_addresses(stmts: &[TypedStmt]) -> Result<u32, EncodeError>
 fn arm_addresses(arm: &TypedArm) -> Result<u32, EncodeError>
     ensures { IfOk result (λ n. n ≡ addresses_armed arm.now) }
 {
-    stmts_addresses(arm.body.as_slice())
+    addresses_in(arm.body.as_slice())
 }
 
 /// The addresses of the arms of a CASE.
@@ -77,11 +77,4 @@ fn arms_addresses(arms: &[TypedArm]) -> Result<u32, EncodeError>
         all = plus(all, arm_addresses(arm)?)?;
     }
     Ok(all)
-}
-
-/// How many addresses the code of a body keeps in locals. An error says that the number does not fit into 32 bits.
-pub fn addresses_in(body: &[TypedStmt]) -> Result<u32, EncodeError>
-    ensures { IfOk result (λ n. n ≡ addresses_in body.now) }
-{
-    stmts_addresses(body)
 }

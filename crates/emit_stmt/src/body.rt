@@ -45,12 +45,12 @@ fn stmt_code(
             condition(setting, e, draft)?;
             let place = draft.open()?;
             let inner = setting.within(1)?;
-            stmts_code(alloc, &inner, body.as_slice(), draft)?;
+            body_code(alloc, &inner, body.as_slice(), draft)?;
             match others {
                 None => draft.close_if(place, None),
                 Some(others) => {
                     let middle = draft.place();
-                    stmts_code(alloc, &inner, others.as_slice(), draft)?;
+                    body_code(alloc, &inner, others.as_slice(), draft)?;
                     draft.close_if_else(place, middle, None)
                 }
             }
@@ -66,7 +66,7 @@ fn stmt_code(
                 }
                 Some(others) => {
                     let inner = setting.within(1)?;
-                    stmts_code(alloc, &inner, others.as_slice(), draft)?;
+                    body_code(alloc, &inner, others.as_slice(), draft)?;
                     draft.close_block(place, None)
                 }
             }
@@ -75,20 +75,20 @@ fn stmt_code(
             let turns = open_turns(draft)?;
             let inner = setting.within(2)?;
             unless(&inner, e, 1, draft)?;
-            stmts_code(alloc, &inner, body.as_slice(), draft)?;
+            body_code(alloc, &inner, body.as_slice(), draft)?;
             turn_again(turns, draft)
         }
         TypedStmt::Repeat(body, e) => {
             let place = draft.open()?;
             let inner = setting.within(1)?;
-            stmts_code(alloc, &inner, body.as_slice(), draft)?;
+            body_code(alloc, &inner, body.as_slice(), draft)?;
             unless(&inner, e, 0, draft)?;
             draft.close_loop(place, None)
         }
         TypedStmt::Loop(body) => {
             let turns = open_turns(draft)?;
             let inner = setting.leaving(1)?;
-            stmts_code(alloc, &inner, body.as_slice(), draft)?;
+            body_code(alloc, &inner, body.as_slice(), draft)?;
             turn_again(turns, draft)
         }
         TypedStmt::Exit => Ok(exit(setting, draft)?),
@@ -99,20 +99,20 @@ fn stmt_code(
             let outer = setting.within(1)?;
             let turns = for_opened(&outer, place, *t, *by, n, draft)?;
             let inner = outer.within(1)?;
-            stmts_code(alloc, &inner, body.as_slice(), draft)?;
+            body_code(alloc, &inner, body.as_slice(), draft)?;
             for_ended(&inner, place, *t, *by, n, turns, draft)
         }
         TypedStmt::With(place, body) => {
             let w = record_kept(setting, place, draft)?;
             let inner = setting.under(w)?;
-            stmts_code(alloc, &inner, body.as_slice(), draft)
+            body_code(alloc, &inner, body.as_slice(), draft)
         }
     }
 }
 
 /// The code of statements.
 #[cycle(body)]
-fn stmts_code(
+pub fn body_code(
     alloc: Global,
     setting: &Setting<'_>,
     stmts: &[TypedStmt],
@@ -140,7 +140,7 @@ fn arm_code(
 {
     let place = arm_begun(t, arm, draft)?;
     let inner = setting.within(1)?;
-    stmts_code(alloc, &inner, arm.body.as_slice(), draft)?;
+    body_code(alloc, &inner, arm.body.as_slice(), draft)?;
     arm_ended(place, draft)
 }
 
@@ -177,7 +177,7 @@ fn jump_code(
 {
     jump_begun(place, left, draft)?;
     let inner = setting.within(more(left, 2)?)?;
-    stmts_code(alloc, &inner, arm.body.as_slice(), draft)?;
+    body_code(alloc, &inner, arm.body.as_slice(), draft)?;
     draft.push(Op::Br(more(left, 1)?))?;
     Ok(())
 }
@@ -227,16 +227,4 @@ fn cases_code(
             draft.close_block(begun.rest, None)
         }
     }
-}
-
-/// The code of a body.
-pub fn body_code(
-    alloc: Global,
-    setting: &Setting<'_>,
-    body: &[TypedStmt],
-    draft: &mut Draft,
-) -> Result<(), EncodeError>
-    ensures { OnOk result (draft.new ≡ with_steps (setting_of setting.now) draft.old body.now) }
-{
-    stmts_code(alloc, setting, body, draft)
 }

@@ -7,7 +7,7 @@ ghost use Rattle.wasm_tree.specs.declared.instr.Instr.TheVariants.{Br, BrTable};
 ghost use Rattle.emit_buffer.specs.Frames.{setting_of};
 ghost use Rattle.emit_buffer.specs.Drafts.{one, put, with_ops, open_draft, place_of, closed_block};
 ghost use Rattle.def_scheme.specs.Steps.{label_code, tests_code, from_least};
-ghost use Rattle.emit_stmt.specs.Written.{keep_selector, selected_local, arm_begun, labels_in, targets_in, beyond, dispatch_to, opened_times, table_begun};
+ghost use Rattle.emit_stmt.specs.Written.{keep_selector, selected_local, arm_begun, labels_in, targets_in, dispatch_to, opened_times, table_begun};
 
 use crate::control::open_turns;
 use crate::plan::{Plan, targets};
@@ -107,16 +107,6 @@ pub fn more(left: usize, labels: u32) -> Result<u32, EncodeError>
     plus(small(left)?, labels)
 }
 
-/// Begins `count` blocks.
-fn open_times(count: usize, draft: &mut Draft) -> Result<(), AllocError>
-    ensures { OnOk result (draft.new ≡ opened_times count draft.old) }
-{
-    for _number in 0..count {
-        draft.open()?;
-    }
-    Ok(())
-}
-
 /// The selector less the least value.
 fn from_least(t: u32, least: i64, draft: &mut Draft) -> Result<(), AllocError>
     ensures { OnOk result (draft.new ≡ put (from_least t least) draft.old) }
@@ -145,17 +135,7 @@ fn table_code(targets: &[u32], last: u32, draft: &mut Draft) -> Result<(), Encod
     Ok(())
 }
 
-/// Branches to what is done else, if the selector is beyond the greatest value.
-fn beyond(t: u32, plan: Plan, last: u32, draft: &mut Draft) -> Result<(), AllocError>
-    ensures { OnOk result (draft.new ≡ put (beyond t plan.least plan.span last) draft.old) }
-{
-    from_least(t, plan.least, draft)?;
-    draft.push(Op::I64Const(plan.span.saturating_sub(1) as u64))?;
-    relation(Relation::GtU, draft)?;
-    draft.push(Op::BrIf(last))
-}
-
-/// Branches to the arm of the selector.
+/// Branches to the arm of the selector, and to what is done else if it is beyond the greatest value.
 #[tactic(auto, using(emit_buffer::proofs::Emitted::put_append))]
 fn dispatch(
     t: u32,
@@ -167,7 +147,10 @@ fn dispatch(
     ensures { OnOk result
         (draft.new ≡ put (dispatch_to t plan.least plan.span targets.now last) draft.old) }
 {
-    beyond(t, plan, last, draft)?;
+    from_least(t, plan.least, draft)?;
+    draft.push(Op::I64Const(plan.span.saturating_sub(1) as u64))?;
+    relation(Relation::GtU, draft)?;
+    draft.push(Op::BrIf(last))?;
     from_least(t, plan.least, draft)?;
     wrap_word(draft)?;
     table_code(targets, last, draft)
@@ -189,7 +172,9 @@ fn blocks_begun(count: usize, draft: &mut Draft) -> Result<Begun, AllocError>
 {
     let rest = open_turns(draft)?.turn;
     let first = draft.place();
-    open_times(count, draft)?;
+    for _number in 0..count {
+        draft.open()?;
+    }
     Ok(Begun { rest, first })
 }
 

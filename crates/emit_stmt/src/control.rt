@@ -202,22 +202,6 @@ fn for_next(
     Ok(())
 }
 
-/// What stands behind the statements of a FOR.
-fn for_turned(
-    setting: &Setting<'_>,
-    place: &Place,
-    t: TypeNo,
-    by: i64,
-    n: u32,
-    draft: &mut Draft,
-) -> Result<(), EncodeError>
-    ensures { let s = setting_of setting.now in
-        OnOk result (draft.new ≡ for_turned s place.now t by n draft.old) }
-{
-    for_passed(setting, place, t, by, n, draft)?;
-    for_next(setting, place, t, by, draft)
-}
-
 /// Begins the block and the loop of a FOR, with the test before the first turn between the two.
 pub fn for_opened(
     setting: &Setting<'_>,
@@ -255,6 +239,7 @@ pub fn for_ended(
         let inner = closed_loop turns.turn None (for_turned s place.now t by n draft.old) in
         OnOk result (draft.new ≡ closed_block turns.block None inner) }
 {
-    for_turned(setting, place, t, by, n, draft)?;
+    for_passed(setting, place, t, by, n, draft)?;
+    for_next(setting, place, t, by, draft)?;
     close_turns(turns, draft)
 }

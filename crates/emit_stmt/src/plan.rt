@@ -1,9 +1,9 @@
 //! When the arms of a CASE are chosen by a table, and which table.
 
-ghost use Rattle.std.specs.Prelude.{◌≡◌, ◌+◌, ◌+ℤ◌, ◌&&◌, ℕ, pos, None, true, false, int_le, nat_le, suc, IfOk, MatchOption, length};
-ghost use Rattle.std.specs.List.{fold, list_any};
+ghost use Rattle.std.specs.Prelude.{◌≡◌, ◌+◌, ◌+ℤ◌, ℕ, pos, None, true, false, nat_le, suc, IfOk, MatchOption, length};
+ghost use Rattle.std.specs.List.{fold};
 ghost use Rattle.def_scheme.specs.Steps.{lesser, greater, values_of, is_dense, least_of, span_of};
-ghost use Rattle.emit_stmt.specs.Plans.{few, with_label, gap_of, dense, plan_by};
+ghost use Rattle.emit_stmt.specs.Plans.{few, with_label, gap_of, plan_by};
 ghost use Rattle.emit_stmt.specs.Written.{has_value, labels_in, target_in, targets_in};
 
 use std::alloc::Global;
@@ -91,14 +91,7 @@ fn bounds_of(arms: &[TypedArm]) -> Option<Bounds>
     bounds
 }
 
-/// Whether the arms are few, and the values dense.
-fn dense(count: usize, gap: u64, values: u32) -> bool
-    ensures { result ≡ dense count gap values }
-{
-    count <= 16 && values >= 4 && gap < 1024 && gap < 4 * u64::from(values)
-}
-
-/// The plan for `count` arms with these bounds.
+/// The plan for `count` arms with these bounds, if the arms are few and the values dense.
 fn plan_by(count: usize, bounds: Option<Bounds>) -> Option<Plan>
     ensures { result ≡ plan_by count bounds }
 {
@@ -106,7 +99,8 @@ fn plan_by(count: usize, bounds: Option<Bounds>) -> Option<Plan>
         None => None,
         Some(bounds) => {
             let gap = bounds.greatest.abs_diff(bounds.least);
-            if dense(count, gap, bounds.values) {
+            let values = bounds.values;
+            if count <= 16 && values >= 4 && gap < 1024 && gap < 4 * u64::from(values) {
                 return Some(Plan {
                     least: bounds.least,
                     span: gap.min(1023) as usize + 1,
@@ -128,31 +122,17 @@ pub fn plan_of(arms: &[TypedArm]) -> Option<Plan>
     plan_by(arms.len(), bounds_of(arms))
 }
 
-/// Whether a value is one of a label.
-fn is_in(label: Label, value: i64) -> bool
-    ensures { result ≡ (int_le label.low value && int_le value label.high) }
-{
-    label.low <= value && value <= label.high
-}
-
-/// Whether a value is one of labels.
-fn have_value(labels: &[Label], value: i64) -> bool
-    ensures { result ≡ list_any (λ y. int_le y.low value && int_le value y.high) labels.now }
-{
-    for label in labels {
-        if is_in(*label, value) {
-            return true;
-        }
-    }
-    false
-}
-
 /// Whether a value is one of an arm.
 #[tactic(auto, unfolding(crate::specs::Written::has_value))]
 fn has_value(arm: &TypedArm, value: i64) -> bool
     ensures { result ≡ has_value value arm.now }
 {
-    have_value(arm.labels.as_slice(), value)
+    for label in arm.labels.as_slice() {
+        if label.low <= value && value <= label.high {
+            return true;
+        }
+    }
+    false
 }
 
 /// The number of the arm for a value, or how many arms there are.

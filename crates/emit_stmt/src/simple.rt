@@ -1,11 +1,11 @@
 //! Statements that hold no others.
 
-ghost use Rattle.std.specs.Prelude.{◌≡◌, ◌∷◌, [], ◌-◌, IfOk, OnOk, length};
+ghost use Rattle.std.specs.Prelude.{◌≡◌, IfOk, OnOk};
 ghost use Rattle.typed_tree.specs.declared.statement.TypedStmt.TheVariants as stmt;
 ghost use Rattle.emit_buffer.specs.Frames.{setting_of};
 ghost use Rattle.emit_buffer.specs.Drafts.{put};
 ghost use Rattle.def_scheme.specs.Coded.{number_local, address_local};
-ghost use Rattle.def_scheme.specs.Steps.{read_again, change_instructions, change_operation, member_operation, with_member, text_copied};
+ghost use Rattle.def_scheme.specs.Steps.{read_again, change_instructions, with_member, text_copied};
 ghost use Rattle.emit_stmt.specs.Written.{with_step, address_kept, number_kept};
 
 use emit_buffer::{
@@ -144,15 +144,6 @@ fn read_again(setting: &Setting<'_>, w: u32, t: TypeNo, draft: &mut Draft) -> Re
     load(setting, t, draft)
 }
 
-fn change_operation(change: Change, draft: &mut Draft) -> Result<(), AllocError>
-    ensures { OnOk result (draft.new ≡ put (change_operation change ∷ []) draft.old) }
-{
-    match change {
-        Change::Increase => operation(Operation::Add, draft),
-        Change::Decrease => operation(Operation::Sub, draft),
-    }
-}
-
 /// The result of INC or DEC, checked and stored.
 #[tactic(auto, using(emit_buffer::proofs::Emitted::put_append))]
 fn change_instructions(
@@ -168,7 +159,10 @@ fn change_instructions(
 {
     read_again(setting, w, t, draft)?;
     draft.push(Op::LocalGet(n))?;
-    change_operation(change, draft)?;
+    match change {
+        Change::Increase => operation(Operation::Add, draft)?,
+        Change::Decrease => operation(Operation::Sub, draft)?,
+    }
     check_changed(setting, t, draft)?;
     store(setting, t, draft)
 }
@@ -194,18 +188,6 @@ pub fn change(
     Ok(())
 }
 
-fn member_operation(membership: Membership, draft: &mut Draft) -> Result<(), AllocError>
-    ensures { OnOk result (draft.new ≡ put (member_operation membership) draft.old) }
-{
-    match membership {
-        Membership::Include => operation(Operation::Or, draft),
-        Membership::Exclude => {
-            complement(draft)?;
-            operation(Operation::And, draft)
-        }
-    }
-}
-
 /// The set with or without the element, stored.
 #[tactic(auto, using(emit_buffer::proofs::Emitted::put_append))]
 fn with_member(
@@ -222,7 +204,13 @@ fn with_member(
     draft.push(Op::I64Const(1))?;
     draft.push(Op::LocalGet(n))?;
     operation(Operation::Shl, draft)?;
-    member_operation(membership, draft)?;
+    match membership {
+        Membership::Include => operation(Operation::Or, draft)?,
+        Membership::Exclude => {
+            complement(draft)?;
+            operation(Operation::And, draft)?;
+        }
+    }
     store(setting, BITSET, draft)
 }
 
@@ -246,14 +234,6 @@ pub fn membership(
     let n = keep_number(setting, draft)?;
     with_member(setting, membership, w, n, draft)?;
     Ok(())
-}
-
-/// The rest of an array behind the characters of a string.
-fn rest_of(size: u32, text: &[u8]) -> Result<u32, EncodeError>
-    ensures { IfOk result (λ n. n ≡ size - length text.now) }
-{
-    let bytes = small(text.len())?;
-    Ok(size.saturating_sub(bytes))
 }
 
 /// The copy of a text to an address that was kept, and zeros up to the end of the array.
@@ -286,7 +266,8 @@ pub fn copy_text(
     let w = draft.next_address(setting)?;
     draft.push(Op::LocalTee(w))?;
     let at = draft.next_text(characters.len())?;
-    let rest = rest_of(size_in(setting, t)?, characters)?;
-    text_copied(at, small(characters.len())?, rest, w, draft)?;
+    let bytes = small(characters.len())?;
+    let rest = size_in(setting, t)?.saturating_sub(bytes);
+    text_copied(at, bytes, rest, w, draft)?;
     Ok(())
 }

@@ -5,7 +5,7 @@ ghost use Rattle.layout_storage.specs.Frames.{formals_of};
 ghost use Rattle.def_scheme.specs.Exprs.{is_own, all_arguments, has_result};
 ghost use Rattle.def_scheme.specs.Functions.{numbers_of};
 
-use typed_tree::{Formal, Routine, Shape, TypeNo, TypedModule, Types, made_of};
+use typed_tree::{Routine, Shape, TypeNo, TypedModule, Types, made_of};
 
 /// Whether a module number is the number of the module itself.
 pub fn is_own(module_body: &TypedModule, home: u32) -> bool
@@ -14,16 +14,8 @@ pub fn is_own(module_body: &TypedModule, home: u32) -> bool
     home == module_body.types.home
 }
 
-/// How many numbers are passed for formals: two for an open array, and one for others.
+/// How many numbers of 64 bits are passed for the formals of a heading: two for an open array, and one for others.
 #[tactic(auto, using(crate::proofs::Formals::counted))]
-fn all_arguments(formals: &[Formal]) -> usize
-    ensures count { result ≡ all_arguments formals.now }
-    ensures room { result < 2 ^ 63 }
-{
-    formals.len() + formals.iter().filter(|f| f.is_open).count()
-}
-
-/// How many numbers of 64 bits are passed for the formals of a heading.
 pub fn arguments_in(types: &Types, heading: TypeNo) -> usize
     ensures count { result ≡ all_arguments (formals_of types.now heading) }
     ensures room { result < 2 ^ 63 }
@@ -31,7 +23,10 @@ pub fn arguments_in(types: &Types, heading: TypeNo) -> usize
     match made_of(types, heading) {
         None => 0,
         Some(made) => match &made.shape {
-            Shape::Procedure(signature) => all_arguments(signature.formals.as_slice()),
+            Shape::Procedure(signature) => {
+                let formals = signature.formals.as_slice();
+                formals.len() + formals.iter().filter(|f| f.is_open).count()
+            }
             Shape::Scalar(_)
             | Shape::Set
             | Shape::Array(_, _)

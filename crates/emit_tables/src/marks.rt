@@ -1,8 +1,8 @@
 //! Which types of functions are needed, by how many arguments these have.
 
-ghost use Rattle.std.specs.Prelude.{◌≡◌, ◌<◌, length, Bool, OnOk};
+ghost use Rattle.std.specs.Prelude.{◌≡◌, ◌<◌, length, OnOk};
 ghost use Rattle.def_scheme.specs.Signatures.{signature, of_heading};
-ghost use Rattle.emit_tables.specs.Marked.{mark_kind, marked_at, with_one, with_all};
+ghost use Rattle.emit_tables.specs.Marked.{marked_at, with_one, with_all};
 ghost use Rattle.emit_tables.specs.Needed.{of_procedure};
 
 use crate::heading::{arguments_in, has_result, is_own};
@@ -16,47 +16,19 @@ pub struct Mark {
     pub giving: bool,
 }
 
-fn mark_kind(mark: Mark, has_result: bool) -> Mark
-    ensures { result ≡ mark_kind mark has_result }
-{
-    if has_result {
-        Mark {
-            without: mark.without,
-            giving: true,
-        }
-    } else {
-        Mark {
-            without: true,
-            giving: mark.giving,
-        }
-    }
-}
-
-/// Makes the table reach so far.
-#[tactic(auto, using(crate::proofs::Marking::longer))]
-fn extend(marks: &mut Vec<Mark>, arguments: usize) -> Result<(), AllocError>
-    ensures same { OnOk result ((r : Bool)
-        → marked_at arguments r marks.new.items ≡ marked_at arguments r marks.old.items) }
-    ensures far { OnOk result (arguments < length marks.new.items) }
-{
-    while marks.len() <= arguments {
-        marks.push(Mark {
-            without: false,
-            giving: false,
-        })?;
-    }
-    Ok(())
-}
-
 fn set(marks: &mut Vec<Mark>, arguments: usize, has_result: bool)
     requires { arguments < length marks.old.items }
     ensures { marks.new.items ≡ marked_at arguments has_result marks.old.items }
 {
-    marks[arguments] = mark_kind(marks[arguments], has_result);
+    if has_result {
+        marks[arguments].giving = true;
+    } else {
+        marks[arguments].without = true;
+    }
 }
 
 /// Marks the type with this many arguments, and with a result or without.
-#[tactic(auto, unfolding(crate::specs::Marked::with_one))]
+#[tactic(auto, using(crate::proofs::Marking::longer), unfolding(crate::specs::Marked::with_one))]
 pub fn mark_signature(
     marks: &mut Vec<Mark>,
     arguments: usize,
@@ -65,7 +37,12 @@ pub fn mark_signature(
     ensures { let s = signature arguments has_result in
         OnOk result (marks.new.items ≡ with_one marks.old.items s) }
 {
-    extend(marks, arguments)?;
+    while marks.len() <= arguments {
+        marks.push(Mark {
+            without: false,
+            giving: false,
+        })?;
+    }
     set(marks, arguments, has_result);
     Ok(())
 }

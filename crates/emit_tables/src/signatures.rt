@@ -1,19 +1,15 @@
 //! The types of functions of a module, and their numbers.
 
 ghost use Rattle.std.specs.Prelude.{◌≡◌, IfOk, map};
-ghost use Rattle.std.specs.Option.{option_copied};
 ghost use Rattle.def_scheme.specs.Signatures.{number_of};
 ghost use Rattle.def_scheme.specs.Modules.{signatures};
 ghost use Rattle.emit_tables.specs.Seen.{meaning_of};
-ghost use Rattle.emit_tables.specs.Needed.{marks_of};
-ghost use Rattle.emit_tables.specs.Tables.{table_of};
-ghost use Rattle.emit_tables.specs.Numbered.{number_at, number_in};
 
 use crate::marks::Mark;
 use crate::signature::{Numbers, Signature};
 use crate::steps::module_marks;
 use crate::table::{Table, table_of};
-use std::alloc::{AllocError, Global};
+use std::alloc::Global;
 use std::marker::Model;
 use tree_parts::Items;
 use typed_tree::TypedModule;
@@ -39,25 +35,6 @@ impl Model for Signatures {
     ghost invariant = { λ s. AreNumbers s.list s.numbers };
 }
 
-fn number_at(numbers: Option<&Numbers>, has_result: bool) -> u32
-    ensures { result ≡ number_at (option_copied numbers.entry) has_result }
-{
-    match numbers {
-        None => 6,
-        Some(row) => { if has_result { row.giving } else { row.without } }
-    }
-}
-
-/// The number of a type of functions in a table.
-fn number_in(numbers: &[Numbers], arguments: usize, has_result: bool) -> u32
-    ensures { result ≡ number_in numbers.now arguments has_result }
-{
-    if arguments == 0 && !has_result {
-        return 5;
-    }
-    number_at(numbers.get(arguments), has_result)
-}
-
 impl Signatures {
     /// The list.
     pub fn list(&self) -> &[Signature]
@@ -70,29 +47,15 @@ impl Signatures {
     pub fn number(&self, arguments: usize, has_result: bool) -> u32
         ensures { result ≡ number_of self.now arguments has_result }
     {
-        number_in(self.numbers.as_slice(), arguments, has_result)
+        if arguments == 0 && !has_result {
+            return 5;
+        }
+        match self.numbers.get(arguments) {
+            None => 6,
+            Some(row) if has_result => row.giving,
+            Some(row) => row.without,
+        }
     }
-}
-
-/// What is marked for a module.
-#[tactic(auto, unfolding(crate::specs::Marked::with_all))]
-fn marks_of(alloc: Global, module_body: &TypedModule) -> Result<Vec<Mark>, AllocError>
-    ensures { IfOk result (λ v. v.items ≡ marks_of module_body.now) }
-{
-    let mut marks = Vec::new(alloc);
-    marks.push(Mark {
-        without: false,
-        giving: false,
-    })?;
-    module_marks(module_body, &mut marks)?;
-    Ok(marks)
-}
-
-fn module_table(alloc: Global, module_body: &TypedModule) -> Result<Table, EncodeError>
-    ensures { IfOk result (λ t. t ≡ table_of (marks_of module_body.now)) }
-{
-    let marks = marks_of(alloc, module_body)?;
-    table_of(alloc, marks.as_slice())
 }
 
 /// The types of functions that a module needs. The only error is that memory ran out, or that they are too many.
@@ -100,6 +63,12 @@ fn module_table(alloc: Global, module_body: &TypedModule) -> Result<Table, Encod
 pub fn signatures_of(alloc: Global, module_body: &TypedModule) -> Result<Signatures, EncodeError>
     ensures { IfOk result (λ s. s ≡ signatures module_body.now) }
 {
-    let Table { list, numbers } = module_table(alloc, module_body)?;
+    let mut marks = Vec::new(alloc);
+    marks.push(Mark {
+        without: false,
+        giving: false,
+    })?;
+    module_marks(module_body, &mut marks)?;
+    let Table { list, numbers } = table_of(alloc, marks.as_slice())?;
     Ok(Signatures { list, numbers })
 }

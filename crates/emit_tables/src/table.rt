@@ -1,7 +1,7 @@
 //! The list of the types of functions that are marked, and their numbers.
 
 ghost use Rattle.std.specs.Prelude.{◌≡◌, ◌+◌, ◌++◌, IfOk, OnOk};
-ghost use Rattle.emit_tables.specs.Tables.{enter_signature, number_behind, with_mark, table_of};
+ghost use Rattle.emit_tables.specs.Tables.{enter_signature, number_behind, table_of};
 
 use crate::marks::Mark;
 use crate::signature::{Numbers, Signature};
@@ -38,18 +38,6 @@ fn enter_signature(
     Ok(number)
 }
 
-/// Enters the types with one more argument.
-fn with_mark(table: &mut Table, mark: Mark) -> Result<(), EncodeError>
-    ensures { OnOk result (table.new ≡ with_mark table.old mark) }
-{
-    let arguments = table.numbers.len();
-    let wanted = mark.without && arguments != 0;
-    let without = enter_signature(&mut table.list, wanted, arguments, false)?;
-    let giving = enter_signature(&mut table.list, mark.giving, arguments, true)?;
-    table.numbers.push(Numbers { without, giving })?;
-    Ok(())
-}
-
 /// The types that are marked. The only error is that memory ran out, or that they are too many.
 pub fn table_of(alloc: Global, marks: &[Mark]) -> Result<Table, EncodeError>
     ensures { IfOk result (λ t. t ≡ table_of marks.now) }
@@ -59,7 +47,11 @@ pub fn table_of(alloc: Global, marks: &[Mark]) -> Result<Table, EncodeError>
         numbers: Items::new(alloc),
     };
     for mark in marks {
-        with_mark(&mut table, *mark)?;
+        let arguments = table.numbers.len();
+        let wanted = mark.without && arguments != 0;
+        let without = enter_signature(&mut table.list, wanted, arguments, false)?;
+        let giving = enter_signature(&mut table.list, mark.giving, arguments, true)?;
+        table.numbers.push(Numbers { without, giving })?;
     }
     Ok(table)
 }

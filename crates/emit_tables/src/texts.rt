@@ -1,7 +1,7 @@
 //! The characters of the strings that a module keeps, and where the characters of each procedure begin.
 
-ghost use Rattle.std.specs.Prelude.{◌≡◌, IfOk, OnOk};
-ghost use Rattle.emit_tables.specs.Offsets.{nothing_yet, with_which, gather_texts, offset_in, AreTexts};
+ghost use Rattle.std.specs.Prelude.{◌≡◌, IfOk};
+ghost use Rattle.emit_tables.specs.Offsets.{nothing_yet, gather_texts, offset_in, AreTexts};
 
 use crate::body::{push_body, push_which};
 use crate::characters::Characters;
@@ -36,20 +36,6 @@ impl ModuleTexts {
     }
 }
 
-/// The texts of one more procedure.
-fn gather_which(
-    gathering: &mut Gathering,
-    module_body: &TypedModule,
-    which: Which,
-) -> Result<(), EncodeError>
-    ensures { OnOk result (gathering.new ≡ with_which module_body.now gathering.old which) }
-{
-    let at = small(gathering.characters.len())?;
-    gathering.offsets.note(which, at);
-    push_which(&mut gathering.characters, module_body, which)?;
-    Ok(())
-}
-
 /// The texts of all procedures.
 fn gather_texts(
     alloc: Global,
@@ -63,7 +49,9 @@ fn gather_texts(
         offsets: Offsets::new(alloc, module_body)?,
     };
     for which in module_body.order.as_slice() {
-        gather_which(&mut gathering, module_body, *which)?;
+        let at = small(gathering.characters.len())?;
+        gathering.offsets.note(*which, at);
+        push_which(&mut gathering.characters, module_body, *which)?;
     }
     Ok(gathering)
 }

@@ -40,11 +40,6 @@ frame_is types r =
     ∙ sym (fold-append with_tree (begin_row 16) (map (formal_tree types) (formals_of types r.heading)) (map (tree types) r.variables))
     ∙ made 16 (variable_trees types r)
 
-pub ok_frame : {E : Type 0} (types : Types) (r : Routine) (x : Result Row E)
-    → IfOk x (λ y. y ≡ fold (with_variable types) (fold (with_formal types) (begin_row 16) (formals_of types r.heading)) r.variables) → IfOk x (λ y. y ≡ frame_row types r)
-ok_frame types r (Err e) h = tt
-ok_frame types r (Ok x) h = h ∙ frame_is types r
-
 pub ok_variables : {E : Type 0} (types : Types) (ts : List TypeNo) (start : Row) → start ≡ begin_row 0 → (x : Result Row E) → IfOk x (λ y. y ≡ fold (with_variable types) start ts) → IfOk x (λ y. y ≡ variables_row types ts)
 ok_variables types ts start e (Err f) h = tt
 ok_variables types ts start e (Ok x) h = h ∙ ap (λ (r : Row). fold (with_variable types) r ts) e ∙ variables_are types ts

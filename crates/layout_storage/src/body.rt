@@ -3,7 +3,7 @@
 ghost use Rattle.std.specs.Prelude.{◌≡◌, slice_get};
 ghost use Rattle.std.specs.List.{fold};
 ghost use Rattle.std.specs.Option.{option_copied};
-ghost use Rattle.layout_storage.specs.Texts.{texts_in, texts_armed, body_texts, routine_texts, which_texts, routines_texts, module_texts};
+ghost use Rattle.layout_storage.specs.Texts.{texts_in, texts_armed, body_texts, routine_texts, routines_texts, module_texts};
 ghost use Rattle.layout_storage.specs.Counted.{character_count, with_stmt, with_arm, with_which};
 
 use crate::capped::{cap_size, sum};
@@ -111,21 +111,16 @@ fn routine_count(routine: Option<&Routine>) -> u32
     }
 }
 
-fn which_count(module_body: &TypedModule, which: Which) -> u32
-    ensures { result ≡ character_count (which_texts module_body.now which) }
-{
-    match which {
-        Which::Module(number) => routine_count(module_body.procedures.get(number)),
-        Which::Local(number) => routine_count(module_body.locals.get(number)),
-    }
-}
-
 fn routines_count(module_body: &TypedModule) -> u32
     ensures { result ≡ fold (with_which module_body.now) 0 module_body.now.order }
 {
     let mut all = 0;
     for which in module_body.order.as_slice() {
-        all = sum(all, which_count(module_body, *which));
+        let routine = match which {
+            Which::Module(number) => module_body.procedures.get(*number),
+            Which::Local(number) => module_body.locals.get(*number),
+        };
+        all = sum(all, routine_count(routine));
     }
     all
 }

@@ -93,33 +93,6 @@ pub fn size_or(found: Option<&Extent>) -> u32
     }
 }
 
-fn element_or(found: Option<&Extent>) -> u32
-    ensures { result ≡ element_in (or_nothing (option_copied found.entry)) }
-{
-    match found {
-        None => 0,
-        Some(extent) => element_in(extent),
-    }
-}
-
-fn field_or(found: Option<&Extent>, number: usize) -> u32
-    ensures { result ≡ field_in (or_nothing (option_copied found.entry)) number }
-{
-    match found {
-        None => 0,
-        Some(extent) => field_in(extent, number),
-    }
-}
-
-fn kind_or(found: Option<&Extent>) -> Option<Kind>
-    ensures { result ≡ kind_in (or_nothing (option_copied found.entry)) }
-{
-    match found {
-        None => None,
-        Some(extent) => kind_in(extent),
-    }
-}
-
 fn size_at(types: &Types, extents: &Extents, t: TypeNo) -> u32
     ensures { result ≡ size_in (extent_in extents.now t) }
 {
@@ -134,7 +107,10 @@ fn element_at(extents: &Extents, t: TypeNo) -> u32
 {
     match t.home {
         Home::Predeclared => 0,
-        Home::Module(home) => element_or(extents.find(home, t.number)),
+        Home::Module(home) => match extents.find(home, t.number) {
+            None => 0,
+            Some(extent) => element_in(extent),
+        },
     }
 }
 
@@ -143,7 +119,10 @@ fn field_at(extents: &Extents, t: TypeNo, number: usize) -> u32
 {
     match t.home {
         Home::Predeclared => 0,
-        Home::Module(home) => field_or(extents.find(home, t.number), number),
+        Home::Module(home) => match extents.find(home, t.number) {
+            None => 0,
+            Some(extent) => field_in(extent, number),
+        },
     }
 }
 
@@ -152,7 +131,10 @@ fn kind_at(types: &Types, extents: &Extents, t: TypeNo) -> Option<Kind>
 {
     match t.home {
         Home::Predeclared => Some(scalar_extent(t, scalar_of(types, t))),
-        Home::Module(home) => kind_or(extents.find(home, t.number)),
+        Home::Module(home) => match extents.find(home, t.number) {
+            None => None,
+            Some(extent) => kind_in(extent),
+        },
     }
 }
 

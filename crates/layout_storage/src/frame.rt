@@ -3,33 +3,17 @@
 ghost use Rattle.std.specs.Prelude.{◌≡◌, IfOk, ◌∷◌, [], map};
 ghost use Rattle.std.specs.List.{fold};
 ghost use Rattle.std.specs.Option.{option_copied};
-ghost use Rattle.layout_storage.specs.Capped.{cap_size};
-ghost use Rattle.layout_storage.specs.Sizes.{size};
-ghost use Rattle.layout_storage.specs.Frames.{formals_made, formals_of, formal_tree};
+ghost use Rattle.layout_storage.specs.Frames.{formals_made, formals_of};
 ghost use Rattle.layout_storage.specs.Extents.{begin_row, AreExtents};
-ghost use Rattle.layout_storage.specs.Rows.{with_formal, with_variable, row_of_frame, variables_row, frame_row};
+ghost use Rattle.layout_storage.specs.Rows.{with_formal, with_variable, variables_row, frame_row};
 
 use crate::extents::{Extents, size_of};
 use crate::row::{Row, begin_row, with_part};
 use std::alloc::{AllocError, Global};
 use typed_tree::{Formal, Made, Routine, Shape, TypeNo, Types, made_of};
 
-/// The bytes that a formal takes in a frame: an open array is kept as its address and HIGH, and a VAR formal as an
-/// address.
+/// An open array is kept as its address and HIGH, and a VAR formal as an address.
 #[tactic(auto, unfolding(crate::specs::Sizes::size))]
-fn formal_size(types: &Types, extents: &Extents, formal: &Formal) -> u32
-    requires { AreExtents types.now extents.now }
-    ensures { result ≡ cap_size (size (formal_tree types.now formal.now)) }
-{
-    if formal.is_open {
-        return 8;
-    }
-    if formal.is_var {
-        return 4;
-    }
-    size_of(types, extents, formal.of)
-}
-
 fn with_formals(
     types: &Types,
     extents: &Extents,
@@ -41,7 +25,14 @@ fn with_formals(
 {
     let mut row = before;
     for formal in formals {
-        row = with_part(row, formal_size(types, extents, formal))?;
+        let size = if formal.is_open {
+            8
+        } else if formal.is_var {
+            4
+        } else {
+            size_of(types, extents, formal.of)
+        };
+        row = with_part(row, size)?;
     }
     Ok(row)
 }
@@ -88,26 +79,9 @@ fn with_variables(
     Ok(row)
 }
 
-fn row_of_frame(
-    alloc: Global,
-    types: &Types,
-    extents: &Extents,
-    routine: &Routine,
-) -> Result<Row, AllocError>
-    requires { AreExtents types.now extents.now }
-    ensures { IfOk result (λ r. r ≡ row_of_frame types.now routine.now) }
-{
-    let row = with_heading(
-        types,
-        extents,
-        begin_row(alloc, 16),
-        made_of(types, routine.heading),
-    )?;
-    with_variables(types, extents, row, routine.variables.as_slice())
-}
-
 /// The frame of a procedure: its formals and then its variables, behind 16 reserved bytes. The only error is that memory
 /// ran out.
+#[tactic(auto, using(crate::proofs::Framed::frame_is))]
 pub fn frame_row(
     alloc: Global,
     types: &Types,
@@ -117,7 +91,13 @@ pub fn frame_row(
     requires { AreExtents types.now extents.now }
     ensures { IfOk result (λ r. r ≡ frame_row types.now routine.now) }
 {
-    row_of_frame(alloc, types, extents, routine)
+    let row = with_heading(
+        types,
+        extents,
+        begin_row(alloc, 16),
+        made_of(types, routine.heading),
+    )?;
+    with_variables(types, extents, row, routine.variables.as_slice())
 }
 
 /// The variables of these types, one after another. The only error is that memory ran out.

@@ -8,7 +8,7 @@ ghost use Rattle.layout_storage.specs.Texts.{module_texts};
 ghost use Rattle.layout_storage.specs.Extents.{AreExtents};
 ghost use Rattle.layout_storage.specs.Rows.{variables_row};
 ghost use Rattle.layout_storage.specs.Counted.{character_count};
-ghost use Rattle.layout_storage.specs.Layouts.{is_before, least_with, with_size, imported_row, no_frames, with_routine, data_too_large, too_large, together, IsWithoutFrames, IsChecked, IsAnswer};
+ghost use Rattle.layout_storage.specs.Layouts.{is_before, with_size, imported_row, no_frames, with_routine, too_large, together, IsWithoutFrames, IsChecked, IsAnswer};
 
 use crate::body::texts_count;
 use crate::capped::sum;
@@ -52,40 +52,16 @@ fn is_before(p: Pos, q: Pos) -> bool
     p.line < q.line || (p.line == q.line && p.col < q.col)
 }
 
-fn least_with(found: Option<Pos>, at: Pos) -> Pos
-    ensures { result ≡ least_with found at }
-{
-    match found {
-        None => at,
-        Some(other) => { if is_before(at, other) { at } else { other } }
-    }
-}
-
 fn with_size(found: Option<Pos>, bytes: u32, at: Pos) -> Option<Pos>
     ensures { result ≡ with_size found bytes at }
 {
-    if bytes > 16_777_216 {
-        Some(least_with(found, at))
-    } else {
-        found
+    if bytes <= 16_777_216 {
+        return found;
     }
-}
-
-fn with_routine(
-    alloc: Global,
-    types: &Types,
-    extents: &Extents,
-    frames: Frames,
-    routine: &Routine,
-) -> Result<Frames, AllocError>
-    requires { AreExtents types.now extents.now }
-    ensures { IfOk result (λ x. x ≡ with_routine types.now frames routine.now) }
-{
-    let row = frame_row(alloc, types, extents, routine)?;
-    let too_large = with_size(frames.too_large, row.size, routine.pos);
-    let Frames { mut rows, .. } = frames;
-    rows.push(row)?;
-    Ok(Frames { rows, too_large })
+    match found {
+        None => Some(at),
+        Some(other) => Some(if is_before(at, other) { at } else { other }),
+    }
 }
 
 fn with_routines(
@@ -104,7 +80,9 @@ fn with_routines(
         too_large: before,
     };
     for routine in routines {
-        frames = with_routine(alloc, types, extents, frames, routine)?;
+        let row = frame_row(alloc, types, extents, routine)?;
+        frames.too_large = with_size(frames.too_large, row.size, routine.pos);
+        frames.rows.push(row)?;
     }
     Ok(frames)
 }
@@ -145,17 +123,6 @@ fn without_frames(
         locals: Items::new(alloc),
         texts: texts_count(module_body),
     })
-}
-
-fn data_too_large(module_body: &TypedModule, layout: &Layout) -> Option<Pos>
-    requires { IsWithoutFrames module_body.now layout.now }
-    ensures { result ≡ data_too_large module_body.now }
-{
-    with_size(
-        None,
-        sum(layout.variables.size, layout.texts),
-        module_body.pos,
-    )
 }
 
 /// A layout, and the least place where storage does not fit.
@@ -205,7 +172,8 @@ fn with_frames(
     ensures { IfOk result (λ x. IsChecked module_body.now x) }
 {
     let types = &module_body.types;
-    let data = data_too_large(module_body, &layout);
+    let bytes = sum(layout.variables.size, layout.texts);
+    let data = with_size(None, bytes, module_body.pos);
     let procedures = with_routines(
         alloc,
         types,

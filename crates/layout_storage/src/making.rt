@@ -1,13 +1,12 @@
 //! How the storage of all types is found: one pass over the types of the modules in their order. A type names only types
 //! that stand before it, so each is found from what is kept of those.
 
-ghost use Rattle.std.specs.Prelude.{◌≡◌, ◌∷◌, [], nat_eq, IfOk, OnOk};
-ghost use Rattle.std.specs.Option.{option_copied, option_map};
+ghost use Rattle.std.specs.Prelude.{◌≡◌, ◌∷◌, [], IfOk, OnOk};
+ghost use Rattle.std.specs.Option.{option_map};
 ghost use Rattle.std.specs.List.{fold};
 ghost use Rattle.layout_storage.specs.Steps.{if_some};
-ghost use Rattle.layout_storage.specs.Extents.{begin_row, with_part, in_module, extent_in, AreExtents};
-ghost use Rattle.std.specs.Map.{lookup};
-ghost use Rattle.layout_storage.specs.Making.{known_in, part_size, with_field, array_extent, shape_extent, next_type, with_type, all_made, add_module, replace_module, with_types, with_module, known_extents};
+ghost use Rattle.layout_storage.specs.Extents.{begin_row, with_part, extent_in, AreExtents};
+ghost use Rattle.layout_storage.specs.Making.{part_size, with_field, shape_extent, with_type, all_made, add_module, with_module, known_extents};
 
 use crate::capped::product;
 use crate::extent::Extent;
@@ -26,23 +25,14 @@ pub struct Making {
     pub own: Items<Extent>,
 }
 
-fn find_extent(making: &Making, home: u32, number: usize) -> Option<&Extent>
-    ensures { let known = lookup (nat_eq home) (known_in making.now) in
-        option_copied result ≡ in_module known number }
-{
-    if home == making.home {
-        return making.own.get(number);
-    }
-    making.modules.find(home, number)
-}
-
 /// The size of a type that stands before.
 fn part_size(types: &Types, making: &Making, t: TypeNo) -> u32
     ensures { result ≡ part_size making.now t }
 {
     match t.home {
         Home::Predeclared => bytes_of(scalar_extent(t, scalar_of(types, t))),
-        Home::Module(home) => size_or(find_extent(making, home, t.number)),
+        Home::Module(home) if home == making.home => size_or(making.own.get(t.number)),
+        Home::Module(home) => size_or(making.modules.find(home, t.number)),
     }
 }
 
@@ -76,12 +66,6 @@ fn record_row(
     Ok(row)
 }
 
-fn array_extent(count: u32, element: u32) -> Extent
-    ensures { result ≡ array_extent count element }
-{
-    Extent::Array(element, product(count, element))
-}
-
 fn shape_extent(
     alloc: Global,
     types: &Types,
@@ -94,22 +78,14 @@ fn shape_extent(
     match shape {
         Shape::Scalar(scalar) => Ok(Extent::Cell(kind_of(t, *scalar))),
         Shape::Set => Ok(Extent::Cell(Kind::Natural(4_294_967_295))),
-        Shape::Array(index, element) => Ok(array_extent(
-            elements_of(scalar_of(types, *index)),
-            part_size(types, making, *element),
-        )),
+        Shape::Array(index, element) => {
+            let size = part_size(types, making, *element);
+            let count = elements_of(scalar_of(types, *index));
+            Ok(Extent::Array(size, product(count, size)))
+        }
         Shape::Record(fields) => Ok(Extent::Row(record_row(alloc, types, making, fields)?)),
         Shape::Procedure(_) => Ok(Extent::Cell(Kind::Natural(4_294_967_295))),
         Shape::Open(_) => Ok(Extent::Row(begin_row(alloc, 0))),
-    }
-}
-
-fn next_type(making: &Making) -> TypeNo
-    ensures { result ≡ next_type making.now }
-{
-    TypeNo {
-        home: Home::Module(making.home),
-        number: making.own.len(),
     }
 }
 
@@ -121,7 +97,11 @@ fn with_type(
 ) -> Result<(), AllocError>
     ensures { OnOk result (making.new ≡ with_type types.now making.old made.now) }
 {
-    let extent = shape_extent(alloc, types, making, next_type(making), &made.shape)?;
+    let t = TypeNo {
+        home: Home::Module(making.home),
+        number: making.own.len(),
+    };
+    let extent = shape_extent(alloc, types, making, t, &made.shape)?;
     making.own.push(extent)
 }
 
@@ -162,18 +142,6 @@ fn all_made(
     Ok(making)
 }
 
-fn with_types(
-    alloc: Global,
-    types: &Types,
-    modules: Extents,
-    home: u32,
-    all: &[Made],
-) -> Result<Extents, AllocError>
-    ensures { IfOk result (λ x. x ≡ with_types types.now modules home all.now) }
-{
-    add_module(all_made(alloc, types, modules, home, all)?)
-}
-
 fn with_module(
     alloc: Global,
     types: &Types,
@@ -185,7 +153,9 @@ fn with_module(
 {
     match entry {
         None => Ok(modules),
-        Some((home, made)) => { with_types(alloc, types, modules, *home, made.get().as_slice()) }
+        Some((home, made)) => {
+            add_module(all_made(alloc, types, modules, *home, made.get().as_slice())?)
+        }
     }
 }
 
@@ -199,24 +169,19 @@ fn others_of(alloc: Global, types: &Types) -> Result<Extents, AllocError>
     Ok(modules)
 }
 
-/// Enters the module, also if one of its number is there: an implementation has the types of its definition and more.
-fn replace_module(making: Making) -> Result<Extents, AllocError>
-    ensures { IfOk result (λ x. x ≡ replace_module making) }
-{
-    let Making {
-        mut modules,
-        home,
-        own,
-    } = making;
-    modules.enter(home, own)?;
-    Ok(modules)
-}
-
+/// The module itself is entered also if one of its number is there: an implementation has the types of its definition
+/// and more.
 fn known_extents(alloc: Global, types: &Types) -> Result<Extents, AllocError>
     ensures { IfOk result (λ x. x ≡ known_extents types.now) }
 {
     let others = others_of(alloc, types)?;
-    replace_module(all_made(alloc, types, others, types.home, types.own.as_slice())?)
+    let Making {
+        mut modules,
+        home,
+        own,
+    } = all_made(alloc, types, others, types.home, types.own.as_slice())?;
+    modules.enter(home, own)?;
+    Ok(modules)
 }
 
 /// The storage of all types that a module knows. The only error is that memory ran out.

@@ -47,16 +47,9 @@ impl Layout {
         size_of(&module_body.types, &self.extents, t)
     }
 
-    fn offset_at(&self, module_body: &TypedModule, variable: usize) -> u32
-        requires layout { IsLayout module_body.now self.now }
-        requires fits { AllFits module_body.now }
-        ensures { result ≡ offset (module_row module_body.now) (variable ∷ []) }
-    {
-        start_of(&self.variables, variable)
-    }
-
     /// Where a variable of the module begins, in bytes behind the first one. `None` if there is no variable of this
     /// number. The layout is the module's.
+    #[tactic(auto, using(crate::proofs::Placed::offset_fits))]
     pub fn offset(&self, module_body: &TypedModule, variable: usize) -> Option<u32>
         requires layout { IsLayout module_body.now self.now }
         requires fits { AllFits module_body.now }
@@ -64,7 +57,7 @@ impl Layout {
             then Some (offset (module_row module_body.now) (variable ∷ [])) else None) }
     {
         if variable < module_body.variables.len() {
-            Some(self.offset_at(module_body, variable))
+            Some(start_of(&self.variables, variable))
         } else {
             None
         }

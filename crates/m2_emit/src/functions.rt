@@ -2,7 +2,7 @@
 
 ghost use Rattle.std.specs.Prelude.{◌≡◌, ◌++◌, Some, slice_get, IfOk, OnOk};
 ghost use Rattle.typed_tree.specs.declared.typed_module.Which.TheVariants as which;
-ghost use Rattle.def_scheme.specs.Functions.{functions_from, routine_function, module_function};
+ghost use Rattle.def_scheme.specs.Functions.{functions_from, routine_function};
 ghost use Rattle.def_scheme.specs.Modules.{functions, numbering_of};
 ghost use Rattle.emit_tables.specs.Offsets.{AreTexts};
 
@@ -90,15 +90,6 @@ fn push_locals(
     Ok(())
 }
 
-/// The function of the module's body.
-fn body(alloc: Global, home: &Home<'_>, texts: &ModuleTexts) -> Result<Function, EncodeError>
-    requires { AreTexts home.now texts.now }
-    ensures { let m = home.now in
-        IfOk result (λ f. f ≡ module_function (numbering_of m) m) }
-{
-    module_function(alloc, home, texts.body)
-}
-
 /// All functions of a module: the helpers, its body, its procedures, and those that are declared in procedures.
 pub fn functions_of(
     alloc: Global,
@@ -109,7 +100,7 @@ pub fn functions_of(
     ensures { IfOk result (λ found. found ≡ functions home.now) }
 {
     let mut found = helpers(alloc)?;
-    found.push(body(alloc, home, texts)?)?;
+    found.push(module_function(alloc, home, texts.body)?)?;
     push_procedures(alloc, &mut found, home, texts)?;
     push_locals(alloc, &mut found, home, texts)?;
     Ok(found)

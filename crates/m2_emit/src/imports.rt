@@ -1,9 +1,9 @@
 //! What a module imports.
 
 ghost use Rattle.std.specs.Prelude.{◌≡◌, ◌++◌, ◌∷◌, [], IfOk, OnOk, map};
-ghost use Rattle.def_scheme.specs.Scheme.{base_name, from_host, from_link, host_imports, imported_globals, own_imports, tab_name};
+ghost use Rattle.def_scheme.specs.Scheme.{base_name, from_host, from_link, imported_globals, own_imports, tab_name};
 ghost use Rattle.def_scheme.specs.Modules.{imports};
-ghost use Rattle.m2_emit.specs.OwnImports.{linked_as, own_globals, stores};
+ghost use Rattle.m2_emit.specs.OwnImports.{linked_as, own_globals};
 
 use crate::parts::{AT_LEAST_ONE, name_behind_word};
 use std::alloc::{AllocError, Global};
@@ -47,17 +47,6 @@ fn push_from_link(
     })
 }
 
-/// The memory and the table.
-fn push_stores(alloc: Global, imports: &mut Items<Import>) -> Result<(), AllocError>
-    ensures { OnOk result (imports.new ≡ imports.old ++ stores) }
-{
-    let limits = AT_LEAST_ONE;
-    let memory = ImportKind::Memory(MemoryType { limits });
-    push_from_link(alloc, imports, b"memory", memory)?;
-    let table = ImportKind::Table(TableType { limits });
-    push_from_link(alloc, imports, b"table", table)
-}
-
 /// A global that link exports under this name.
 fn push_from(alloc: Global, imports: &mut Items<Import>, name: Items<u8>) -> Result<(), AllocError>
     ensures { OnOk result (imports.new ≡ imports.old ++ from_link name ∷ []) }
@@ -84,7 +73,11 @@ fn own_imports(alloc: Global, name: &[u8]) -> Result<Items<Import>, AllocError>
     ensures { IfOk result (λ imports. imports ≡ own_imports name.now) }
 {
     let mut imports = Items::new(alloc);
-    push_stores(alloc, &mut imports)?;
+    let limits = AT_LEAST_ONE;
+    let memory = ImportKind::Memory(MemoryType { limits });
+    push_from_link(alloc, &mut imports, b"memory", memory)?;
+    let table = ImportKind::Table(TableType { limits });
+    push_from_link(alloc, &mut imports, b"table", table)?;
     push_own_globals(alloc, &mut imports, name)?;
     Ok(imports)
 }
@@ -116,21 +109,13 @@ fn push_imported(
     Ok(())
 }
 
-/// What the host does.
-fn push_host(alloc: Global, imports: &mut Items<Import>) -> Result<(), AllocError>
-    ensures { OnOk result (imports.new ≡ imports.old ++ host_imports) }
-{
-    imports.push(from_host(alloc, b"put")?)?;
-    imports.push(from_host(alloc, b"stop")?)?;
-    Ok(())
-}
-
 /// What a module imports.
 pub fn imports_of(alloc: Global, module_body: &TypedModule) -> Result<Items<Import>, AllocError>
     ensures { IfOk result (λ found. found ≡ imports module_body.now) }
 {
     let mut found = own_imports(alloc, module_body.name.as_bytes())?;
     push_imported(alloc, &mut found, module_body.imports.as_slice())?;
-    push_host(alloc, &mut found)?;
+    found.push(from_host(alloc, b"put")?)?;
+    found.push(from_host(alloc, b"stop")?)?;
     Ok(found)
 }

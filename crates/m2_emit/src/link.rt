@@ -1,11 +1,11 @@
 //! The module link.
 
-ghost use Rattle.std.specs.Prelude.{◌≡◌, ◌≤◌, ◌+◌, ◌*◌, ◌<◌, ◌^◌, ◌++◌, ◌∷◌, [], IfOk, OnOk, Some, map};
+ghost use Rattle.std.specs.Prelude.{◌≡◌, ◌≤◌, ◌+◌, ◌++◌, ◌∷◌, [], IfOk, OnOk, Some, map};
 ghost use Rattle.wasm_tree.specs.declared.code.Op.TheVariants as op;
 ghost use Rattle.wasm_tree.specs.declared.kinds.ValueType.TheVariants as types;
 ghost use Rattle.wasm_tree.specs.declared.module.ExportKind.TheVariants as exported;
-ghost use Rattle.def_scheme.specs.Scheme.{base_name, constant_global, exported_as, tab_name, text_name, type_from};
-ghost use Rattle.def_scheme.specs.Modules.{all_slots, calls_from, exports_from, globals_from, helper, link_of, max_pages, stack_begin};
+ghost use Rattle.def_scheme.specs.Scheme.{exported_as, type_from};
+ghost use Rattle.def_scheme.specs.Modules.{all_slots, calls_from, exports_from, globals_from, link_of, max_pages, stack_begin};
 ghost use Rattle.m2_emit.specs.Emitted.{parts, link_exports};
 
 use crate::emitted::ModuleBytes;
@@ -40,26 +40,7 @@ fn all_slots(modules: &[&ModuleBytes]) -> Result<u32, EncodeError>
     Ok(all)
 }
 
-/// Appends the places of a module's variables and texts, and its first slot.
-fn push_places(
-    alloc: Global,
-    globals: &mut Items<Constant>,
-    variables: u32,
-    texts: u32,
-    slot: u32,
-) -> Result<(), AllocError>
-    ensures { OnOk result
-        (globals.new
-        ≡ globals.old ++ constant_global variables ∷ constant_global texts
-        ∷ constant_global slot ∷ []) }
-{
-    globals.push(constant_global(alloc, variables)?)?;
-    globals.push(constant_global(alloc, texts)?)?;
-    globals.push(constant_global(alloc, slot)?)?;
-    Ok(())
-}
-
-/// Appends the places and slots of the modules.
+/// Appends of each module the places of its variables and texts, and its first slot.
 fn push_globals(
     alloc: Global,
     globals: &mut Items<Constant>,
@@ -72,28 +53,13 @@ fn push_globals(
     let mut slot = 1;
     for module in modules {
         let texts = plus(place, module.variables)?;
-        push_places(alloc, globals, place, texts, slot)?;
+        globals.push(constant_global(alloc, place)?)?;
+        globals.push(constant_global(alloc, texts)?)?;
+        globals.push(constant_global(alloc, slot)?)?;
         place = plus(texts, module.texts)?;
         slot = plus(slot, module.slots)?;
     }
     Ok(())
-}
-
-/// The end of the memory, and the places and slots of the modules.
-fn link_globals(
-    alloc: Global,
-    modules: &[&ModuleBytes],
-    pages: u32,
-) -> Result<Items<Constant>, EncodeError>
-    requires { pages ≤ max_pages }
-    ensures { IfOk result (λ globals.
-        globals
-        ≡ constant_global (65536 * pages)
-        ∷ globals_from 0 1 (parts (map (λ m. m.now) modules.now))) }
-{
-    let mut globals = one(alloc, constant_global(alloc, 65536 * pages)?)?;
-    push_globals(alloc, &mut globals, modules)?;
-    Ok(globals)
 }
 
 /// A global under a name that begins with a word.
@@ -111,26 +77,7 @@ fn exported_global(
     })
 }
 
-/// Appends the three globals of a module, the first of which has this number.
-fn push_exports(
-    alloc: Global,
-    exports: &mut Items<Export>,
-    name: &[u8],
-    global: u32,
-) -> Result<(), AllocError>
-    requires { global + 2 < 2 ^ 32 }
-    ensures { OnOk result
-        (exports.new ≡ exports.old ++ exported_as (base_name name.now) (exported.Global global)
-        ∷ exported_as (text_name name.now) (exported.Global (global + 1))
-        ∷ exported_as (tab_name name.now) (exported.Global (global + 2)) ∷ []) }
-{
-    exports.push(exported_global(alloc, b"base.", name, global)?)?;
-    exports.push(exported_global(alloc, b"text.", name, global + 1)?)?;
-    exports.push(exported_global(alloc, b"tab.", name, global + 2)?)?;
-    Ok(())
-}
-
-/// Appends the globals of the modules.
+/// Appends the three globals of each module.
 fn push_modules(
     alloc: Global,
     exports: &mut Items<Export>,
@@ -142,7 +89,10 @@ fn push_modules(
     let mut global = 1;
     for module in modules {
         let next = plus(global, 3)?;
-        push_exports(alloc, exports, module.name.as_bytes(), global)?;
+        let name = module.name.as_bytes();
+        exports.push(exported_global(alloc, b"base.", name, global)?)?;
+        exports.push(exported_global(alloc, b"text.", name, global + 1)?)?;
+        exports.push(exported_global(alloc, b"tab.", name, global + 2)?)?;
         global = next;
     }
     Ok(())
@@ -187,15 +137,6 @@ fn calls(alloc: Global, stack: u32, modules: &[&ModuleBytes]) -> Result<Code, En
     Ok(Code::new(ops))
 }
 
-/// The function that calls the bodies.
-fn run_function(alloc: Global, modules: &[&ModuleBytes]) -> Result<Function, EncodeError>
-    ensures { let ms = parts (map (λ m. m.now) modules.now) in
-        IfOk result (λ f. f ≡ helper 0 (calls_from (stack_begin ms) 3 ms)) }
-{
-    let stack = stack_begin(modules)?;
-    Ok(helper(alloc, 0, calls(alloc, stack, modules)?))
-}
-
 fn link_types(alloc: Global) -> Result<Items<FuncType>, AllocError>
     ensures { IfOk result (λ ts. ts ≡ type_from [] [] ∷ type_from (types.I32 ∷ []) [] ∷ []) }
 {
@@ -219,10 +160,14 @@ pub fn link_of(alloc: Global, modules: &[&ModuleBytes], pages: u32) -> Result<WM
     ensures { IfOk result (λ m. m ≡ link_of (parts (map (λ m. m.now) modules.now)) pages) }
 {
     let slots = fixed_limits(plus(1, all_slots(modules)?)?);
+    let stack = stack_begin(modules)?;
+    let run = helper(alloc, 0, calls(alloc, stack, modules)?);
+    let mut globals = one(alloc, constant_global(alloc, 65536 * pages)?)?;
+    push_globals(alloc, &mut globals, modules)?;
     Ok(WModule {
         types: link_types(alloc)?,
         imports: Items::new(alloc),
-        functions: one(alloc, run_function(alloc, modules)?)?,
+        functions: one(alloc, run)?,
         tables: one(alloc, TableType { limits: slots })?,
         memories: one(
             alloc,
@@ -230,7 +175,7 @@ pub fn link_of(alloc: Global, modules: &[&ModuleBytes], pages: u32) -> Result<WM
                 limits: fixed_limits(pages),
             },
         )?,
-        globals: link_globals(alloc, modules, pages)?,
+        globals,
         exports: link_exports(alloc, modules)?,
         elements: Items::new(alloc),
         data: Items::new(alloc),

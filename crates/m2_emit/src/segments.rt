@@ -12,19 +12,8 @@ use std::alloc::{AllocError, Global};
 use tree_parts::Items;
 use wasm_tree::{Data, Element, EncodeError, plus};
 
-/// The body, and the procedures behind it.
-#[tactic(auto, using(crate::proofs::Lists::range_more))]
-fn indices(alloc: Global, slots: u32) -> Result<Items<u32>, EncodeError>
-    ensures { IfOk result (λ found. found ≡ range_with_len body_index slots) }
-{
-    let mut found = Items::new(alloc);
-    for slot in 0..slots {
-        found.push(plus(7, slot)?)?;
-    }
-    Ok(found)
-}
-
 /// The body and the procedures stand in the table from the module's first slot on.
+#[tactic(auto, using(crate::proofs::Lists::range_more))]
 pub fn elements_of(alloc: Global, slots: u32) -> Result<Items<Element>, EncodeError>
     ensures { IfOk result (λ elements. elements ≡ record {
       table = 0;
@@ -32,10 +21,14 @@ pub fn elements_of(alloc: Global, slots: u32) -> Result<Items<Element>, EncodeEr
       functions = range_with_len body_index slots;
     } ∷ []) }
 {
+    let mut functions = Items::new(alloc);
+    for slot in 0..slots {
+        functions.push(plus(7, slot)?)?;
+    }
     let element = Element {
         table: 0,
         offset: global_code(alloc, 3)?,
-        functions: indices(alloc, slots)?,
+        functions,
     };
     Ok(one(alloc, element)?)
 }

@@ -3,7 +3,7 @@
 ghost use Rattle.std.specs.Prelude.{◌≡◌, ◌++◌, ◌∷◌, [], IfOk, OnOk, map};
 ghost use Rattle.wasm_tree.specs.declared.kinds.ValueType.TheVariants.{I32};
 ghost use Rattle.def_scheme.specs.Scheme.{body_types, type_from};
-ghost use Rattle.def_scheme.specs.Signatures.{so_many, results_of, type_of};
+ghost use Rattle.def_scheme.specs.Signatures.{so_many, type_of};
 ghost use Rattle.emit_tables.specs.Seen.{meaning_of};
 
 use crate::parts::type_from;
@@ -57,23 +57,16 @@ fn params_of(alloc: Global, arguments: usize) -> Result<Items<ValueType>, AllocE
     Ok(params)
 }
 
-fn results_of(alloc: Global, has_result: bool) -> Result<Items<ValueType>, AllocError>
-    ensures { IfOk result (λ results. results ≡ results_of has_result) }
-{
-    if has_result {
-        Items::from_slice(alloc, &[ValueType::I64])
-    } else {
-        Ok(Items::new(alloc))
-    }
-}
-
 fn type_of(alloc: Global, signature: Signature) -> Result<FuncType, AllocError>
     ensures { IfOk result (λ t. t ≡ type_of (meaning_of signature)) }
 {
-    Ok(FuncType {
-        params: params_of(alloc, signature.arguments)?,
-        results: results_of(alloc, signature.has_result)?,
-    })
+    let params = params_of(alloc, signature.arguments)?;
+    let results = if signature.has_result {
+        Items::from_slice(alloc, &[ValueType::I64])?
+    } else {
+        Items::new(alloc)
+    };
+    Ok(FuncType { params, results })
 }
 
 /// Appends the types of these signatures.
