@@ -5,7 +5,7 @@ ghost use Rattle.std.specs.List.{fold};
 ghost use Rattle.std.specs.Option.{option_map, option_copied};
 ghost use Rattle.check_definition.specs.Steps.{if_some};
 ghost use Rattle.check_definition.specs.Export.{with_import_of};
-ghost use Rattle.check_body.specs.Imports.{with_import_copy, definition_imports, all_imports, imported_as, with_table_of, with_name_of, with_place_of, with_module_of, typed_imports};
+ghost use Rattle.check_body.specs.Imports.{with_import_copy, all_imports, with_table_of, with_name_of, with_place_of, with_module_of, typed_imports};
 
 use crate::own::exported_variables;
 use check_definition::with_import_of;
@@ -40,15 +40,6 @@ fn imports_copy(alloc: Global, list: &Dictionary<u32>) -> Result<Dictionary<u32>
     Ok(imports)
 }
 
-fn definition_imports(alloc: Global, own: Option<&Table>) -> Result<Dictionary<u32>, AllocError>
-    ensures { IfOk result (λ imports. imports ≡ definition_imports (option_copied own.entry)) }
-{
-    match own {
-        None => Ok(Dictionary::new(alloc)),
-        Some(own) => imports_copy(alloc, &own.imports),
-    }
-}
-
 /// The names of the modules that the definition imports, if there is one, and then of those that the body imports, each
 /// once, with their numbers. The only error is that memory ran out.
 pub fn all_imports(
@@ -61,7 +52,10 @@ pub fn all_imports(
     ensures { IfOk result (λ imports.
         imports ≡ all_imports modules.now tables.now (option_copied own.entry) list.now) }
 {
-    let mut imports = definition_imports(alloc, own)?;
+    let mut imports = match own {
+        None => Dictionary::new(alloc),
+        Some(own) => imports_copy(alloc, &own.imports)?,
+    };
     for one in list {
         with_import_of(alloc, &mut imports, modules, tables, one)?;
     }
@@ -69,16 +63,6 @@ pub fn all_imports(
 }
 
 // ---- their variables
-
-fn imported_as(alloc: Global, table: &Table) -> Result<Imported, AllocError>
-    ensures { IfOk result (λ imported. imported ≡ imported_as table.now) }
-{
-    Ok(Imported {
-        name: Items::from_slice(alloc, table.name.as_bytes())?,
-        number: table.number,
-        variables: exported_variables(alloc, &table.exported)?,
-    })
-}
 
 fn with_table_of(
     alloc: Global,
@@ -90,10 +74,15 @@ fn with_table_of(
     match table {
         None => Ok(()),
         Some(table) => {
-            if is_console(table.get().name.as_bytes()) {
+            let table = table.get();
+            if is_console(table.name.as_bytes()) {
                 return Ok(());
             }
-            imports.push(imported_as(alloc, table.get())?)
+            imports.push(Imported {
+                name: Items::from_slice(alloc, table.name.as_bytes())?,
+                number: table.number,
+                variables: exported_variables(alloc, &table.exported)?,
+            })
         }
     }
 }
@@ -116,23 +105,6 @@ fn with_name_of(
     })
 }
 
-fn with_module_of(
-    alloc: Global,
-    imports: &mut Items<Imported>,
-    modules: &Dictionary<usize>,
-    tables: &Items<Shared<Table>>,
-    name: &[u8],
-    number: u32,
-) -> Result<(), AllocError>
-    ensures { OnOk result
-        (imports.new ≡ with_module_of modules.now tables.now imports.old (name.now, number)) }
-{
-    match modules.find(name) {
-        None => with_name_of(alloc, imports, name, number),
-        Some(place) => with_table_of(alloc, imports, tables.get(*place)),
-    }
-}
-
 fn with_module_if(
     alloc: Global,
     imports: &mut Items<Imported>,
@@ -146,7 +118,10 @@ fn with_module_if(
 {
     match entry {
         None => Ok(()),
-        Some((name, number)) => { with_module_of(alloc, imports, modules, tables, name, *number) }
+        Some((name, number)) => match modules.find(name) {
+            None => with_name_of(alloc, imports, name, *number),
+            Some(place) => with_table_of(alloc, imports, tables.get(*place)),
+        },
     }
 }
 

@@ -4,7 +4,7 @@ ghost use Rattle.std.specs.Prelude.{◌≡◌, ◌++◌, IfOk, OnOk, map};
 ghost use Rattle.std.specs.List.{fold};
 ghost use Rattle.std.specs.Option.{option_map};
 ghost use Rattle.check_definition.specs.Steps.{if_some};
-ghost use Rattle.check_body.specs.Own.{with_own_name, own_names, with_variable_of, with_exported_variable, exported_variables, with_heading_of, with_exported_heading, exported_headings, with_field_copy, fields_copy, shape_copy, made_copy, types_made_in, own_types, with_own_types, with_own, implementation_scope};
+ghost use Rattle.check_body.specs.Own.{with_own_name, own_names, with_exported_variable, exported_variables, with_exported_heading, exported_headings, with_field_copy, fields_copy, shape_copy, made_copy, types_made_in, own_types, implementation_scope};
 
 use check_definition::{first_scope, with_table};
 use check_scope::{Known, Origin, Scope};
@@ -17,18 +17,6 @@ use typed_tree::{
 
 // ---- names
 
-fn with_own_name(
-    alloc: Global,
-    names: &mut Dictionary<Known<Breach>>,
-    name: &[u8],
-    meaning: &Meaning,
-) -> Result<(), AllocError>
-    ensures { OnOk result (names.new ≡ with_own_name names.old (name.now, meaning.now)) }
-{
-    let means = Ok(meaning.copy()?);
-    names.enter(alloc, name, Known::Declared(Origin::Here, means))
-}
-
 fn with_own_name_if(
     alloc: Global,
     names: &mut Dictionary<Known<Breach>>,
@@ -39,7 +27,10 @@ fn with_own_name_if(
 {
     match entry {
         None => Ok(()),
-        Some((name, meaning)) => with_own_name(alloc, names, name, meaning),
+        Some((name, meaning)) => {
+            let means = Ok(meaning.copy()?);
+            names.enter(alloc, name, Known::Declared(Origin::Here, means))
+        }
     }
 }
 
@@ -58,23 +49,6 @@ fn own_names(
 
 // ---- variables and procedures
 
-fn with_variable_of(types: &mut Items<TypeNo>, meaning: &Meaning) -> Result<(), AllocError>
-    ensures { OnOk result (types.new ≡ with_variable_of types.old meaning.now) }
-{
-    match meaning {
-        Meaning::Variable(variable) => types.push(variable.of),
-        Meaning::Constant(_) => Ok(()),
-        Meaning::Type(_, _) => Ok(()),
-        Meaning::Local(_) => Ok(()),
-        Meaning::Field(_) => Ok(()),
-        Meaning::Procedure(_) => Ok(()),
-        Meaning::LocalProcedure(_) => Ok(()),
-        Meaning::Ahead => Ok(()),
-        Meaning::Standard(_) => Ok(()),
-        Meaning::Module(_) => Ok(()),
-    }
-}
-
 fn with_variable_if(
     types: &mut Items<TypeNo>,
     entry: Option<(&[u8], &Meaning)>,
@@ -85,7 +59,18 @@ fn with_variable_if(
 {
     match entry {
         None => Ok(()),
-        Some((_, meaning)) => with_variable_of(types, meaning),
+        Some((_, meaning)) => match meaning {
+            Meaning::Variable(variable) => types.push(variable.of),
+            Meaning::Constant(_)
+            | Meaning::Type(_, _)
+            | Meaning::Local(_)
+            | Meaning::Field(_)
+            | Meaning::Procedure(_)
+            | Meaning::LocalProcedure(_)
+            | Meaning::Ahead
+            | Meaning::Standard(_)
+            | Meaning::Module(_) => Ok(()),
+        },
     }
 }
 
@@ -103,23 +88,6 @@ pub fn exported_variables(
     Ok(types)
 }
 
-fn with_heading_of(types: &mut Items<TypeNo>, meaning: &Meaning) -> Result<(), AllocError>
-    ensures { OnOk result (types.new ≡ with_heading_of types.old meaning.now) }
-{
-    match meaning {
-        Meaning::Procedure(procedure) => types.push(procedure.heading),
-        Meaning::Constant(_) => Ok(()),
-        Meaning::Type(_, _) => Ok(()),
-        Meaning::Variable(_) => Ok(()),
-        Meaning::Local(_) => Ok(()),
-        Meaning::Field(_) => Ok(()),
-        Meaning::LocalProcedure(_) => Ok(()),
-        Meaning::Ahead => Ok(()),
-        Meaning::Standard(_) => Ok(()),
-        Meaning::Module(_) => Ok(()),
-    }
-}
-
 fn with_heading_if(
     types: &mut Items<TypeNo>,
     entry: Option<(&[u8], &Meaning)>,
@@ -130,7 +98,18 @@ fn with_heading_if(
 {
     match entry {
         None => Ok(()),
-        Some((_, meaning)) => with_heading_of(types, meaning),
+        Some((_, meaning)) => match meaning {
+            Meaning::Procedure(procedure) => types.push(procedure.heading),
+            Meaning::Constant(_)
+            | Meaning::Type(_, _)
+            | Meaning::Variable(_)
+            | Meaning::Local(_)
+            | Meaning::Field(_)
+            | Meaning::LocalProcedure(_)
+            | Meaning::Ahead
+            | Meaning::Standard(_)
+            | Meaning::Module(_) => Ok(()),
+        },
     }
 }
 
@@ -173,16 +152,6 @@ fn fields_copy(alloc: Global, fields: &Dictionary<TypeNo>) -> Result<Dictionary<
     Ok(copy)
 }
 
-fn signature_copy(alloc: Global, signature: &Signature) -> Result<Signature, AllocError>
-    ensures { IfOk result (λ copy. copy ≡ signature.now) }
-{
-    let formals: Items<Formal> = Items::from_slice(alloc, signature.formals.as_slice())?;
-    Ok(Signature {
-        formals,
-        result: signature.result,
-    })
-}
-
 fn shape_copy(alloc: Global, shape: &Shape) -> Result<Shape, AllocError>
     ensures { IfOk result (λ copy. copy ≡ shape_copy shape.now) }
 {
@@ -191,18 +160,12 @@ fn shape_copy(alloc: Global, shape: &Shape) -> Result<Shape, AllocError>
         Shape::Scalar(scalar) => Ok(Shape::Scalar(*scalar)),
         Shape::Set => Ok(Shape::Set),
         Shape::Array(index, element) => Ok(Shape::Array(*index, *element)),
-        Shape::Procedure(signature) => Ok(Shape::Procedure(signature_copy(alloc, signature)?)),
+        Shape::Procedure(signature) => Ok(Shape::Procedure(Signature {
+            formals: Items::from_slice(alloc, signature.formals.as_slice())?,
+            result: signature.result,
+        })),
         Shape::Open(element) => Ok(Shape::Open(*element)),
     }
-}
-
-fn made_copy(alloc: Global, made: &Made) -> Result<Made, AllocError>
-    ensures { IfOk result (λ copy. copy ≡ made_copy made.now) }
-{
-    Ok(Made {
-        shape: shape_copy(alloc, &made.shape)?,
-        cells: made.cells,
-    })
 }
 
 fn all_copied(alloc: Global, list: &[Made]) -> Result<Items<Made>, AllocError>
@@ -210,7 +173,10 @@ fn all_copied(alloc: Global, list: &[Made]) -> Result<Items<Made>, AllocError>
 {
     let mut copies = Items::new(alloc);
     for made in list {
-        copies.push(made_copy(alloc, made)?)?;
+        copies.push(Made {
+            shape: shape_copy(alloc, &made.shape)?,
+            cells: made.cells,
+        })?;
     }
     Ok(copies)
 }
@@ -234,24 +200,7 @@ fn types_made_in(
     }
 }
 
-fn with_own_types(alloc: Global, types: &mut Types, own: &Table) -> Result<(), AllocError>
-    ensures { OnOk result (types.new ≡ with_own_types types.old own.now) }
-{
-    types.own = types_made_in(alloc, own.number, own.reached.as_slice())?;
-    with_table(&mut types.others, own.reached.as_slice())
-}
-
 // ---- the scope
-
-fn with_own(alloc: Global, scope: &mut Scope<Breach>, own: &Table) -> Result<(), AllocError>
-    ensures { OnOk result (scope.new ≡ with_own scope.old own.now) }
-{
-    with_own_types(alloc, &mut scope.types, own)?;
-    scope.variables = exported_variables(alloc, &own.exported)?;
-    scope.procedures = exported_headings(alloc, &own.exported)?;
-    scope.own = own_names(alloc, &own.exported)?;
-    Ok(())
-}
 
 /// What is known where an implementation module begins, from the table of its definition and from the tables of its
 /// imports: all that the definition declares, and nothing that it imports. The only error is that memory ran out.
@@ -263,6 +212,10 @@ pub fn implementation_scope(
     ensures { IfOk result (λ scope. scope ≡ implementation_scope own.now tables) }
 {
     let mut scope = first_scope(alloc, own.number, tables)?;
-    with_own(alloc, &mut scope, own)?;
+    scope.types.own = types_made_in(alloc, own.number, own.reached.as_slice())?;
+    with_table(&mut scope.types.others, own.reached.as_slice())?;
+    scope.variables = exported_variables(alloc, &own.exported)?;
+    scope.procedures = exported_headings(alloc, &own.exported)?;
+    scope.own = own_names(alloc, &own.exported)?;
     Ok(scope)
 }

@@ -2,7 +2,7 @@
 
 ghost use Rattle.std.specs.Prelude.{◌≡◌, IfOk, OnOk};
 ghost use Rattle.check_scope.specs.Elaborated.{least};
-ghost use Rattle.check_body.specs.Inside.{returns_of, which_of, begun_procedure, reported_in, with_routine, ended_procedure};
+ghost use Rattle.check_body.specs.Inside.{which_of, begun_procedure, with_routine, ended_procedure};
 
 use crate::{Bodies, Numbered, begin_at, fill, procedure_named, routine_of};
 use check_block::{Outside, enter, leave};
@@ -37,16 +37,6 @@ pub struct Begun<T> {
 
 // ---- inwards
 
-fn returns_of(given: Elaborated<Option<TypeNo>>) -> Option<Elaborated<TypeNo>>
-    ensures { result ≡ returns_of given }
-{
-    match given {
-        Err(breach) => Some(Err(breach)),
-        Ok(None) => None,
-        Ok(Some(t)) => Some(Ok(t)),
-    }
-}
-
 /// The procedure of a number, if there is one.
 pub fn which_of(procedure: Option<Numbered>) -> Option<Which>
     ensures { result ≡ which_of procedure }
@@ -70,24 +60,20 @@ pub fn begin_procedure(
     let procedure = procedure_named(&walk.scope, &heading.name);
     begin_at(alloc, &mut walk.bodies, walk.scope.level)?;
     let entered = enter(alloc, &mut walk.scope, seen, heading)?;
+    let returns = match entered.result {
+        Err(breach) => Some(Err(breach)),
+        Ok(None) => None,
+        Ok(Some(t)) => Some(Ok(t)),
+    };
     Ok(Begun {
         outside: entered.outside,
         procedure,
         formals: walk.scope.variables.len(),
-        returns: returns_of(entered.result),
+        returns,
     })
 }
 
 // ---- outwards
-
-fn reported_in(body: &Elaborated<Items<TypedStmt>>) -> Elaborated<()>
-    ensures { result ≡ reported_in body.now }
-{
-    match body {
-        Err(breach) => Err(*breach),
-        Ok(_) => Ok(()),
-    }
-}
 
 fn fill_with(
     alloc: Global,
@@ -126,7 +112,11 @@ pub fn end_procedure(
     ensures { OnOk result
         (walk.new ≡ ended_procedure least name.now around begun (walk.old, body)) }
 {
-    walk.so_far = beside(walk.so_far, reported_in(&body));
+    let reported = match &body {
+        Err(breach) => Err(*breach),
+        Ok(_) => Ok(()),
+    };
+    walk.so_far = beside(walk.so_far, reported);
     fill_with(
         alloc,
         walk,

@@ -1,8 +1,8 @@
 //! The procedures of a module with their bodies, and the module of them.
 
-ghost use Rattle.std.specs.Prelude.{◌≡◌, [], map, drop, slice_set, IfOk, OnOk};
+ghost use Rattle.std.specs.Prelude.{◌≡◌, [], drop, slice_set, IfOk, OnOk};
 ghost use Rattle.std.specs.Option.{option_copied};
-ghost use Rattle.check_body.specs.Routines.{numbered_by, numbered_elaborated, numbered_known, procedure_named, empty_routine, no_bodies, begun_at, put_routine, routine, imports_of, with_scope, typed_module};
+ghost use Rattle.check_body.specs.Routines.{numbered_elaborated, procedure_named, empty_routine, no_bodies, begun_at, put_routine, routine, with_scope, typed_module};
 
 use crate::imports::{all_imports, typed_imports};
 use check_scope::{Elaborated, Known, Scope};
@@ -34,49 +34,28 @@ pub struct Bodies {
 
 // ---- which procedure it is
 
-fn numbered_by(meaning: &Meaning) -> Option<Numbered>
-    ensures { result ≡ numbered_by meaning.now }
-{
-    match meaning {
-        Meaning::Procedure(procedure) => Some(Numbered {
-            which: Which::Module(procedure.number),
-            heading: procedure.heading,
-        }),
-        Meaning::LocalProcedure(procedure) => Some(Numbered {
-            which: Which::Local(procedure.number),
-            heading: procedure.heading,
-        }),
-        Meaning::Constant(_) => None,
-        Meaning::Type(_, _) => None,
-        Meaning::Variable(_) => None,
-        Meaning::Local(_) => None,
-        Meaning::Field(_) => None,
-        Meaning::Ahead => None,
-        Meaning::Standard(_) => None,
-        Meaning::Module(_) => None,
-    }
-}
-
 fn numbered_elaborated(means: &Elaborated<Meaning>) -> Option<Numbered>
     ensures { result ≡ numbered_elaborated means.now }
 {
     match means {
         Err(_) => None,
-        Ok(meaning) => numbered_by(meaning),
-    }
-}
-
-fn numbered_known(known: Option<&Known<Breach>>) -> Option<Numbered>
-    ensures { result ≡ numbered_known (option_copied known.entry) }
-{
-    match known {
-        None => None,
-        Some(known) => match known {
-            Known::Later => None,
-            Known::Ahead => None,
-            Known::Begun => None,
-            Known::Headed(means) => numbered_elaborated(means),
-            Known::Declared(_, _) => None,
+        Ok(meaning) => match meaning {
+            Meaning::Procedure(procedure) => Some(Numbered {
+                which: Which::Module(procedure.number),
+                heading: procedure.heading,
+            }),
+            Meaning::LocalProcedure(procedure) => Some(Numbered {
+                which: Which::Local(procedure.number),
+                heading: procedure.heading,
+            }),
+            Meaning::Constant(_)
+            | Meaning::Type(_, _)
+            | Meaning::Variable(_)
+            | Meaning::Local(_)
+            | Meaning::Field(_)
+            | Meaning::Ahead
+            | Meaning::Standard(_)
+            | Meaning::Module(_) => None,
         },
     }
 }
@@ -85,7 +64,13 @@ fn numbered_known(known: Option<&Known<Breach>>) -> Option<Numbered>
 pub fn procedure_named(scope: &Scope<Breach>, name: &Ident) -> Option<Numbered>
     ensures { result ≡ procedure_named scope.now name.now }
 {
-    numbered_known(scope.own.find(name.name.as_bytes()))
+    match scope.own.find(name.name.as_bytes()) {
+        None => None,
+        Some(known) => match known {
+            Known::Headed(means) => numbered_elaborated(means),
+            Known::Later | Known::Ahead | Known::Begun | Known::Declared(_, _) => None,
+        },
+    }
 }
 
 // ---- their places
@@ -103,23 +88,17 @@ fn empty_routine(alloc: Global, heading: TypeNo) -> Routine
     }
 }
 
-fn all_unfilled(alloc: Global, headings: &[TypeNo]) -> Result<Items<Routine>, AllocError>
-    ensures { IfOk result (λ routines. routines ≡ map empty_routine headings.now) }
-{
-    let mut routines = Items::new(alloc);
-    for heading in headings {
-        routines.push(empty_routine(alloc, *heading))?;
-    }
-    Ok(routines)
-}
-
 /// No bodies, where a module's block is declared. The headings are the headings of the module's procedures. The only
 /// error is that memory ran out.
 pub fn no_bodies(alloc: Global, headings: &[TypeNo]) -> Result<Bodies, AllocError>
     ensures { IfOk result (λ bodies. bodies ≡ no_bodies headings.now) }
 {
+    let mut procedures = Items::new(alloc);
+    for heading in headings {
+        procedures.push(empty_routine(alloc, *heading))?;
+    }
     Ok(Bodies {
-        procedures: all_unfilled(alloc, headings)?,
+        procedures,
         locals: Items::new(alloc),
         order: Items::new(alloc),
     })
@@ -190,21 +169,6 @@ pub fn routine_of(
 
 // ---- the module
 
-/// The modules that a body imports, from the scope where its block ends.
-fn imports_of(
-    alloc: Global,
-    scope: &Scope<Breach>,
-    modules: &Dictionary<usize>,
-    own: Option<&Table>,
-    tree: &Module,
-) -> Result<Items<Imported>, AllocError>
-    ensures { let own = option_copied own.entry in
-        IfOk result (λ is. is ≡ imports_of scope.now modules.now own tree.now) }
-{
-    let names = all_imports(alloc, modules, &scope.tables, own, tree.imports.as_slice())?;
-    typed_imports(alloc, modules, &scope.tables, &names)
-}
-
 /// A module with this name and these imports, from the scope where its block ends.
 fn with_scope(
     alloc: Global,
@@ -249,7 +213,8 @@ pub fn typed_module(
     ensures { IfOk result (λ m.
         m ≡ typed_module scope modules.now (option_copied own.entry) tree.now bodies body) }
 {
-    let imports = imports_of(alloc, &scope, modules, own, tree)?;
+    let names = all_imports(alloc, modules, &scope.tables, own, tree.imports.as_slice())?;
+    let imports = typed_imports(alloc, modules, &scope.tables, &names)?;
     let name = tree.name.name.clone()?;
     let pos = tree.name.pos;
     Ok(with_scope(alloc, name, pos, imports, scope, bodies, body))

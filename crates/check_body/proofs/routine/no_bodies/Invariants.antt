@@ -1,6 +1,6 @@
 use Rattle.std.proofs.Common.{◌≡◌, map, take}
 use Rattle.check_body.specs.Routines.{empty_routine}
-use Rattle.check_body.proofs.routine.all_unfilled.Given as goal
+use Rattle.check_body.proofs.routine.no_bodies.Given as goal
 
 abbrev pub invariant-loop-heading : goal.invariant-loop-heading
-invariant-loop-heading l = l.routines ≡ map empty_routine (take l.heading-index l.headings)
+invariant-loop-heading l = l.procedures ≡ map empty_routine (take l.heading-index l.headings)
