@@ -1,3 +1,4 @@
 pub mod Meant
 pub mod Operators
 pub mod Values
+pub mod Designators

@@ -64,6 +64,16 @@ module _ (g : Gathers) where
   if_right f a (meant b p) h = h b p
   if_right f a (not_meant q) h = not_meant q
 
+  -- the same, by what looks at the second part
+  pub if_second : {A B D E : Type 0} {P : D → Type 0} {Q : E → Type 0} (k : B → Result D g.Reported) (f : A × B → Result E g.Reported) (a : A) (q : Result B g.Reported) → IfMeant P (q ▷ k) → ((b : B) → IfMeant P (k b) → IfMeant Q (f (a, b))) → IfMeant Q (both g (Ok a) q ▷ f)
+  if_second k f a (Ok b) m n = n b m
+  if_second k f a (Err q) m n = not_meant q
+
+  -- beside a first part that is refused
+  pub if_left : {A B D : Type 0} {Q : D → Type 0} (f : A × B → Result D g.Reported) (b : Breach) (q : Result B g.Reported) → IfMeant Q (both g (Err (g.one b)) q ▷ f)
+  if_left f b (Ok x) = not_meant (g.one b)
+  if_left f b (Err q) = not_meant (g.join (g.one b) q)
+
   pub if_reported : {A : Type 0} {P : A → Type 0} (at : Pos) (broken : Rule) → IfMeant P (report g {A = A} at broken)
   if_reported at broken = not_meant _
 
