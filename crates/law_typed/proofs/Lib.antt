@@ -2,3 +2,4 @@ pub mod Meant
 pub mod Operators
 pub mod Values
 pub mod Designators
+pub mod Arguments
