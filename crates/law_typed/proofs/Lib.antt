@@ -3,3 +3,4 @@ pub mod Operators
 pub mod Values
 pub mod Designators
 pub mod Arguments
+pub mod Calls
