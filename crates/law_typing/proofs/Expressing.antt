@@ -230,14 +230,14 @@ module _ (g : Gathers) (j : Judges g) (lawful : Lawful g j) (names : Ident → S
 
   -- ---- operators one after another
 
-  abbrev step : Pos → Result Computed g.Reported → Operand → Result Computed g.Reported
+  abbrev pub step : Pos → Result Computed g.Reported → Operand → Result Computed g.Reported
   step left v x = operation_between g s.types x.op x.spot left v (meanings_of g x.of).fixed.at (value_of g s (meanings_of g x.of))
 
-  fold_factors : (left : Pos) (rest : List (Operator MulOp × Expr)) (v : Result Computed g.Reported) → fold (factor g s left) v (map (λ (x : Operator MulOp × Expr). (x.0, meanings_of g x.1)) rest) ≡ fold (step left) v (factors rest)
+  pub fold_factors : (left : Pos) (rest : List (Operator MulOp × Expr)) (v : Result Computed g.Reported) → fold (factor g s left) v (map (λ (x : Operator MulOp × Expr). (x.0, meanings_of g x.1)) rest) ≡ fold (step left) v (factors rest)
   fold_factors left [] v = refl
   fold_factors left (x ∷ xs) v = fold_factors left xs _
 
-  fold_addends : (left : Pos) (rest : List (Operator AddOp × Expr)) (v : Result Computed g.Reported) → fold (addend g s left) v (map (λ (x : Operator AddOp × Expr). (x.0, meanings_of g x.1)) rest) ≡ fold (step left) v (addends rest)
+  pub fold_addends : (left : Pos) (rest : List (Operator AddOp × Expr)) (v : Result Computed g.Reported) → fold (addend g s left) v (map (λ (x : Operator AddOp × Expr). (x.0, meanings_of g x.1)) rest) ≡ fold (step left) v (addends rest)
   fold_addends left [] v = refl
   fold_addends left (x ∷ xs) v = fold_addends left xs _
 

@@ -1,0 +1,4 @@
+pub mod Named
+pub mod Coded
+pub mod Expressions
+pub mod Statements

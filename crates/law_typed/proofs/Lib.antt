@@ -1,0 +1,6 @@
+pub mod Meant
+pub mod Operators
+pub mod Values
+pub mod Designators
+pub mod Arguments
+pub mod Calls
