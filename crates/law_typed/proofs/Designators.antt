@@ -65,7 +65,7 @@ use Rattle.def_typed.specs.Coded.{At, constant, constant_set, computed as run}
 use Rattle.def_typed.specs.Expressions as rules
 use Rattle.def_typed.specs.Expressions.{Names, Leads, Selects, Gives, HasCode}
 use Rattle.law_typed.specs.Typed.{IsOne, IsNamed, code_of, named_of, Grasps}
-use Rattle.law_typed.proofs.Meant.{IfMeant, meant, not_meant, if_as, if_then, if_right, if_second, if_left, if_where, if_reported, if_plain, by_equal}
+use Rattle.law_typed.proofs.Meant.{IfMeant, meant, not_meant, if_as, if_then, if_both, if_right, if_second, if_left, if_where, if_reported, if_plain, by_equal}
 use Rattle.law_typed.proofs.Operators.{SideIs, side_known, side_run, side_bits, side_set, side_routine, side_procedure, no_side, side_is, at_one}
 use Rattle.law_typed.proofs.Values.{IsCoded, IsValue, value_is}
 
@@ -345,3 +345,66 @@ module _ (g : Gathers) (j : Judges g) (lawful : Lawful g j) (names : Ident → S
       by_first : {r : Result Designated (Meaningless g.Reported)} → IfMeant (λ x. named_of x ≡ Called (out-Designator d).name) r → IfMeant (IsNamed (Names s.types names exports senses d)) (fold picked r (out-Designator d).selectors)
       by_first (meant x e) = if_as (λ y a. ended x y e a) (all_behind x (out-Designator d).selectors h)
       by_first (not_meant q) = if_refused (all_refused (out-Designator d).selectors (is_refused q))
+
+  -- ---- constants
+
+  -- A designator that is a value is a constant.
+  abbrev pub IsCodeless : Designated → Type 0
+  IsCodeless (designated.Value v) = code_of v ≡ None
+  IsCodeless other = Unit {0}
+
+  codeless_meaning : (at : Pos) (m : Meaning) → IfMeant IsCodeless (designated_by g s.level at m)
+  codeless_meaning at (meaning.Constant v) = meant _ refl
+  codeless_meaning at (meaning.Type t n) = meant _ tt
+  codeless_meaning at (meaning.Variable v) = meant _ tt
+  codeless_meaning at (meaning.Local v) = meant _ (by_kind v.kind)
+    where
+      by_kind : (k : LocalKind) → IsCodeless (local_by s.level v k)
+      by_kind kind.Variable = tt
+      by_kind kind.Value = tt
+      by_kind kind.Alias = tt
+      by_kind kind.Open = tt
+  codeless_meaning at (meaning.Field f) = meant _ tt
+  codeless_meaning at (meaning.Procedure p) = meant _ tt
+  codeless_meaning at (meaning.LocalProcedure p) = meant _ tt
+  codeless_meaning at meaning.Ahead = not_meant _
+  codeless_meaning at (meaning.Standard f) = meant _ tt
+  codeless_meaning at (meaning.Module k) = meant _ tt
+
+  codeless_component : (t : TypeNo) (p : Place) (r : Result (ℕ × TypeNo) g.Reported) → IfMeant IsCodeless (r ▷ λ f. Ok (designated.Variable f.1 (behind p (part.Field t f.0))))
+  codeless_component t p (Ok f) = meant _ tt
+  codeless_component t p (Err r) = not_meant r
+
+  codeless_export : (at : Pos) (r : Result Meaning g.Reported) → IfMeant IsCodeless (r ▷ designated_by g s.level at)
+  codeless_export at (Ok m) = codeless_meaning at m
+  codeless_export at (Err r) = not_meant r
+
+  codeless_field : (x : Designated) (at : Pos) (name : Ident) → IfMeant IsCodeless (field_of g s at name x)
+  codeless_field (designated.Module k) at name = codeless_export name.pos (exported_meaning g s.tables k name)
+  codeless_field (designated.Variable t p) at name = codeless_component t p (record_field g at name (fields_at s.types t))
+  codeless_field (designated.Value v) at name = if_reported g at rule.WrongType
+  codeless_field (designated.Open t u) at name = if_reported g at rule.WrongType
+  codeless_field (designated.Type t) at name = if_reported g at rule.WrongType
+  codeless_field (designated.Procedure p) at name = if_reported g at rule.WrongType
+  codeless_field (designated.Nested p) at name = if_reported g at rule.WrongType
+  codeless_field (designated.Standard p) at name = if_reported g at rule.WrongType
+
+  codeless_element : (at' : Pos) (a : Result Subscripted g.Reported) (v : Result Computed g.Reported) → IfMeant IsCodeless (element_at_index g s.types a at' v)
+  codeless_element at' a v = if_then (if_both g {P = λ x. Unit {0}} {Q = λ x. Unit {0}} (by_equal a (λ x e. tt)) (by_equal v (λ x e. tt))) (λ p u. if_then {P = λ x. Unit {0}} (by_equal _ (λ x e. tt)) (λ z w. meant _ (of_array z p.0)))
+    where
+      of_array : (z : TypedExpr) (a : Subscripted) → IsCodeless (element_of_array z a)
+      of_array z (indexes.Array t i u p) = tt
+      of_array z (indexes.Open t u) = tt
+
+  codeless_pick : (x : Designated) (y : Selector) (l : Selector-F Expr Selector Designator Item) → out-Selector y ≡ l → IfMeant IsCodeless ((picks g y).picks s (Ok x))
+  codeless_pick x y (layer.Field at name) q = subst (IfMeant IsCodeless) (sym (ap (λ (m : Picks g.Reported). m.picks s (Ok x)) (picks_is g y (layer.Field at name) q))) (if_plain (codeless_field x at name))
+  codeless_pick x y (layer.Index at e) q = subst (IfMeant IsCodeless) (sym (ap (λ (m : Picks g.Reported). m.picks s (Ok x)) (picks_is g y (layer.Index at e) q))) (if_plain (codeless_element _ (indices g s.types at x) (value_of g s (meanings_of g e))))
+
+  codeless_all : (ss : List Selector) {d : Result Designated (Meaningless g.Reported)} → IfMeant IsCodeless d → IfMeant IsCodeless (fold picked d ss)
+  codeless_all [] h = h
+  codeless_all (y ∷ ys) (meant x h) = codeless_all ys (codeless_pick x y (out-Selector y) refl)
+  codeless_all (y ∷ ys) (not_meant r) = if_refused (all_refused (y ∷ ys) (is_refused r))
+
+  pub head_codeless : (d : Designator) → IfMeant IsCodeless ((head g d).means s)
+  head_codeless d = subst (IfMeant IsCodeless) (sym (ap (λ (m : Meant g.Reported). m.means s) (head_is g d) ∙ fold_picks (out-Designator d).selectors (first_name g s (out-Designator d).name)))
+      (codeless_all (out-Designator d).selectors (if_then {P = λ m. Unit {0}} (by_equal (looked_up g s (out-Designator d).name) (λ m e. tt)) (λ m u. if_plain (codeless_meaning (out-Designator d).name.pos m))))

@@ -4,3 +4,4 @@ pub mod Values
 pub mod Designators
 pub mod Arguments
 pub mod Calls
+pub mod Expressions
