@@ -23,6 +23,7 @@ use Rattle.typed_tree.specs.declared.meaning.LocalKind.{LocalKind}
 use Rattle.typed_tree.specs.declared.meaning.LocalKind.TheVariants as kind
 use Rattle.typed_tree.specs.declared.meaning.LocalVariable.{LocalVariable}
 use Rattle.typed_tree.specs.declared.meaning.Meaning.{Meaning}
+use Rattle.typed_tree.specs.declared.meaning.Value.{Value as ConstantValue}
 use Rattle.typed_tree.specs.declared.meaning.Meaning.TheVariants as meaning
 use Rattle.typed_tree.specs.declared.shape.Shape.{Shape}
 use Rattle.typed_tree.specs.declared.shape.Shape.TheVariants as shape
@@ -39,6 +40,7 @@ use Rattle.check_const_ops.specs.Numbers.{is_between}
 use Rattle.check_operator.specs.declared.class.Class.{Class}
 use Rattle.check_operator.specs.declared.class.Class.TheVariants as class
 use Rattle.check_operator.specs.declared.computed.Computed.{Computed}
+use Rattle.check_operator.specs.declared.computed.Computed.TheVariants as values
 use Rattle.check_operator.specs.declared.computed.Designated.{Designated}
 use Rattle.check_operator.specs.declared.computed.Designated.TheVariants as designated
 use Rattle.check_operator.specs.declared.side.Side.{Side}
@@ -68,6 +70,9 @@ use Rattle.law_typed.specs.Typed.{IsOne, IsNamed, code_of, named_of, Grasps}
 use Rattle.law_typed.proofs.Meant.{IfMeant, meant, not_meant, if_as, if_then, if_both, if_right, if_second, if_left, if_where, if_reported, if_plain, by_equal}
 use Rattle.law_typed.proofs.Operators.{SideIs, side_known, side_run, side_bits, side_set, side_routine, side_procedure, no_side, side_is, at_one}
 use Rattle.law_typed.proofs.Values.{IsCoded, IsValue, value_is}
+
+pub data IsConstant : Computed → Type 0 where
+  is_constant : (v : ConstantValue) → IsConstant (values.Constant v)
 
 -- ---- values at a type
 
@@ -350,11 +355,11 @@ module _ (g : Gathers) (j : Judges g) (lawful : Lawful g j) (names : Ident → S
 
   -- A designator that is a value is a constant.
   abbrev pub IsCodeless : Designated → Type 0
-  IsCodeless (designated.Value v) = code_of v ≡ None
+  IsCodeless (designated.Value v) = IsConstant v
   IsCodeless other = Unit {0}
 
   codeless_meaning : (at : Pos) (m : Meaning) → IfMeant IsCodeless (designated_by g s.level at m)
-  codeless_meaning at (meaning.Constant v) = meant _ refl
+  codeless_meaning at (meaning.Constant v) = meant _ (is_constant v)
   codeless_meaning at (meaning.Type t n) = meant _ tt
   codeless_meaning at (meaning.Variable v) = meant _ tt
   codeless_meaning at (meaning.Local v) = meant _ (by_kind v.kind)

@@ -44,7 +44,7 @@ use Rattle.law_typed.specs.Typed.{IsOne, IsNamed, code_of, named_of, Grasps}
 use Rattle.law_typed.proofs.Meant.{IfMeant, meant, not_meant, if_as, if_also, if_equal}
 use Rattle.law_typed.proofs.Operators.{Coded, coded_as}
 use Rattle.law_typed.proofs.Values.{IsCoded, coded_by, constant_layer, relation_coded, term_coded, sum_coded, signed_sum_coded, not_coded, brackets_coded}
-use Rattle.law_typed.proofs.Designators.{AreIndexed, IsCodeless, names_so, head_codeless}
+use Rattle.law_typed.proofs.Designators.{is_constant, AreIndexed, IsCodeless, names_so, head_codeless}
 use Rattle.law_typed.proofs.Arguments.{IsTyped}
 use Rattle.law_typed.proofs.Calls.{call_coded}
 
@@ -122,7 +122,7 @@ module _ (g : Gathers) (j : Judges g) (lawful : Lawful g j) (names : Ident → S
       alone : (y : TypedExpr) → C (layer.Use d None) y → y ≡ expr.Procedure p
       alone _ (rules.loaded {t = u} {place = q} r) = absurd cc (n.alone (Variable u q) r)
       alone _ (rules.a_procedure {p = q} r) = cc (n.alone (Procedure q) r)
-  name_value at (designated.Value v) n c = meant _ (λ z q. absurd cc)
+  name_value at (designated.Value _) n (is_constant v) = meant _ (λ z q. absurd cc)
   name_value at (designated.Open t u) n c = meant _ (λ z q. absurd cc)
   name_value at (designated.Type t) n c = not_meant _
   name_value at (designated.Nested p) n c = not_meant _

@@ -5,3 +5,4 @@ pub mod Designators
 pub mod Arguments
 pub mod Calls
 pub mod Expressions
+pub mod Assigning
