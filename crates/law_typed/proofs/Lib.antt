@@ -6,3 +6,4 @@ pub mod Arguments
 pub mod Calls
 pub mod Expressions
 pub mod Assigning
+pub mod Measuring
