@@ -150,7 +150,7 @@ module _ (g : Gathers) (j : Judges g) (lawful : Lawful g j) (names : Ident → S
   ahead_refused r (Ok u) f = not_meant r
   ahead_refused r (Err q) f = not_meant (g.join r q)
 
-  length_is : (a b : ℕ) → not (a == b) ≡ false → a ≡ b
+  pub length_is : (a b : ℕ) → not (a == b) ≡ false → a ≡ b
   length_is a b e = same a b (not_not (a == b) e)
     where
       not_not : (c : Bool) → not c ≡ false → c ≡ true
@@ -166,7 +166,7 @@ module _ (g : Gathers) (j : Judges g) (lawful : Lawful g j) (names : Ident → S
   result_code class.Procedure t e z q = cc q
   result_code class.Whole t e z q = absurd cc
 
-  map_length : (args : List Expr) → length (map (meanings_of g) args) ≡ length args
+  pub map_length : (args : List Expr) → length (map (meanings_of g) args) ≡ length args
   map_length [] = refl
   map_length (e ∷ es) = grind (arith, map_length es)
 

@@ -7,3 +7,4 @@ pub mod Calls
 pub mod Expressions
 pub mod Assigning
 pub mod Measuring
+pub mod Acting

@@ -117,7 +117,7 @@ module _ (g : Gathers) (j : Judges g) (lawful : Lawful g j) (exports : ℕ → I
           let u : t ≡ (selector_amount p).0 = one_base (selects p) (subst (λ (a : Amount). SelectsIn a t) z.0 l) in
           (u, at_one (selected_at p) (subst (λ (t : TypeNo). At t (Scalar (amount_of p)) (code_in p) x) u (subst (λ (a : Amount). At t (Scalar a) (code_in p) x) z.0 (subst (λ (c : Option TypedExpr). At t (Scalar a) c x) z.1 y))))
 
-  abbrev Measuring : Expr → TypedExpr → Type 0
+  abbrev pub Measuring : Expr → TypedExpr → Type 0
   Measuring e x = (t : TypeNo) × IsMeasured e (t, x)
 
   -- a constant, if it is a number
