@@ -8,3 +8,4 @@ pub mod Expressions
 pub mod Assigning
 pub mod Measuring
 pub mod Acting
+pub mod Looping
