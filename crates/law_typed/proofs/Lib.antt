@@ -9,3 +9,4 @@ pub mod Assigning
 pub mod Measuring
 pub mod Acting
 pub mod Looping
+pub mod Labels
