@@ -10,3 +10,4 @@ pub mod Measuring
 pub mod Acting
 pub mod Looping
 pub mod Labels
+pub mod Inside
