@@ -11,3 +11,4 @@ pub mod Acting
 pub mod Looping
 pub mod Labels
 pub mod Inside
+pub mod Statements
