@@ -25,23 +25,20 @@ use Rattle.typed_tree.specs.Types.{cardinal, char}
 use Rattle.check_scope.specs.declared.meaningless.Meaningless.{Meaningless}
 use Rattle.check_scope.specs.declared.meaningless.Meaningless.TheVariants as meaningless
 use Rattle.check_scope.specs.declared.scope.Scope.{Scope}
-use Rattle.check_scope.specs.Elaborated.{Gathers, both, report, reported_where, of_heading, of_sort, ahead, reported_beside, ◌▷◌}
+use Rattle.check_scope.specs.Elaborated.{Gathers, reported_where, of_heading, ahead, reported_beside, ◌▷◌}
 use Rattle.check_operator.specs.declared.class.Class.{Class}
 use Rattle.check_operator.specs.declared.class.Class.TheVariants as class
 use Rattle.check_operator.specs.declared.computed.Computed.{Computed}
 use Rattle.check_operator.specs.Suits.{value_suited}
 use Rattle.check_operator.specs.declared.computed.Designated.{Designated}
 use Rattle.check_operator.specs.declared.computed.Designated.TheVariants as designated
-use Rattle.check_operator.specs.Classes.{class_at, signature_at}
+use Rattle.check_operator.specs.Classes.{class_at}
 use Rattle.check_call.specs.declared.callee.Callee.{Callee}
 use Rattle.check_call.specs.declared.callee.Callee.TheVariants as callee
-use Rattle.check_call.specs.declared.callee.Called.{Called}
-use Rattle.check_call.specs.declared.callee.Called.TheVariants as called
 use Rattle.check_call.specs.Callees.{callee_of, callee_in_variable, proper_of, proper_with, call_by}
-use Rattle.check_call.specs.Effects.{change_target, change_target_as, amount, change_by, set_variable, set_as, set_element, membership_of, put}
-use Rattle.check_expr.specs.Meanings.{meanings_of, head, value_of, actuals, formals_of, breaches_in_all, wrong_count}
+use Rattle.check_call.specs.Effects.{change_target, change_target_as, change_by, set_variable, set_as, put}
+use Rattle.check_expr.specs.Meanings.{meanings_of, head, value_of, actuals, formals_of, breaches_in_all}
 use Rattle.check_expr.specs.Effects.{call_done, routine_done, change_target_in, change_statement, set_in, member_by, halt_statement, put_by, standard_done, callee_statement, call_statement}
-use Rattle.def_typing.specs.Parts.{Among}
 use Rattle.def_typing.specs.Shapes.{IsMade}
 use Rattle.def_typing.specs.Things.{Thing, AStandard, Standing}
 use Rattle.def_typing.specs.Expressions.{Denotes}
@@ -50,16 +47,16 @@ use Rattle.law_typing.specs.Exact.{Knows}
 use Rattle.law_typing.proofs.Combining.{Lawful}
 use Rattle.law_typing.proofs.Shaping.{one_signature, SignatureIs, has_signature, no_signature, signature_there}
 use Rattle.def_typed.specs.Named.{Named, Variable}
-use Rattle.def_typed.specs.Expressions.{Names, Designates, Calls, ArePassed, Gives}
+use Rattle.def_typed.specs.Expressions.{Designates, Calls, ArePassed, Gives}
 use Rattle.def_typed.specs.Statements as rules
 use Rattle.def_typed.specs.Statements.{Site, Measures, Changes, Sets, Acts}
 use Rattle.law_typed.specs.Typed.{IsOne, IsNamed, Grasps}
-use Rattle.law_typed.proofs.Meant.{IfMeant, meant, not_meant, if_as, if_also, if_then, if_both, if_right, if_where, if_reported, if_sorted, if_headed, if_ahead}
+use Rattle.law_typed.proofs.Meant.{IfMeant, meant, not_meant, if_then, if_both, if_sorted}
 use Rattle.law_typed.proofs.Arguments.{actuals_so}
 use Rattle.law_typed.proofs.Calls.{IsHead, head_is, IsCallee, module_callee, nested_callee, variable_callee, IsStandard, standard_is, length_is, map_length}
 use Rattle.law_typed.proofs.Expressions.{expression_typed, designator_named}
 use Rattle.law_typed.proofs.Assigning.{value_so, yielded}
-use Rattle.law_typed.proofs.Measuring.{IsMeasured, Measuring, amount_measured, element_measured}
+use Rattle.law_typed.proofs.Measuring.{IsMeasured, amount_measured, element_measured}
 
 -- ---- standard procedures
 

@@ -1,5 +1,5 @@
 -- Assignments, as they stand in a typed tree.
-use Rattle.std.proofs.Common.{◌≡◌, ℕ, length, Bool, true, false, not, List, [], ◌∷◌, Option, Some, None, Result, Ok, Err, refl, sym, ap, subst, ◌∙◌}
+use Rattle.std.proofs.Common.{◌≡◌, ℕ, length, Bool, true, false, not, List, [], ◌∷◌, Option, Some, None, Result, Ok, refl, sym, ap, subst, ◌∙◌}
 use Rattle.m2_rule.specs.declared.rule.Rule.{Rule}
 use Rattle.m2_rule.specs.declared.rule.Rule.TheVariants as rule
 use Rattle.m2_tree.specs.declared.pos.Pos.{Pos}
@@ -12,7 +12,6 @@ use Rattle.m2_tree.specs.declared.expr.Item.{Item}
 use Rattle.typed_tree.specs.declared.types.TypeNo.{TypeNo}
 use Rattle.typed_tree.specs.declared.computed.Place.{Place}
 use Rattle.typed_tree.specs.declared.computed.TypedExpr.{TypedExpr}
-use Rattle.typed_tree.specs.declared.meaning.Value.{Value as ConstantValue}
 use Rattle.typed_tree.specs.declared.meaning.Value.TheVariants as value
 use Rattle.typed_tree.specs.declared.meaning.Standard.{Standard}
 use Rattle.typed_tree.specs.declared.shape.Scalar.{Scalar as Range}
@@ -25,9 +24,8 @@ use Rattle.typed_tree.specs.Types.{are_same}
 use Rattle.check_scope.specs.declared.meaningless.Meaningless.{Meaningless}
 use Rattle.check_scope.specs.declared.meaningless.Meaningless.TheVariants as meaningless
 use Rattle.check_scope.specs.declared.scope.Scope.{Scope}
-use Rattle.check_scope.specs.Elaborated.{Gathers, both, reported_where, ◌▷◌}
+use Rattle.check_scope.specs.Elaborated.{Gathers, reported_where, ◌▷◌}
 use Rattle.check_operator.specs.declared.class.Class.{Class}
-use Rattle.check_operator.specs.declared.class.Class.TheVariants as class
 use Rattle.check_operator.specs.declared.computed.Computed.{Computed}
 use Rattle.check_operator.specs.declared.computed.Computed.TheVariants as computed
 use Rattle.check_operator.specs.declared.computed.Designated.{Designated}
@@ -37,20 +35,18 @@ use Rattle.check_operator.specs.declared.places.Accepted.TheVariants as accepted
 use Rattle.check_operator.specs.Suits.{value_suited, text_fits, whole_suited, of_expr, suited_in, value_for_place}
 use Rattle.check_call.specs.declared.effect.Target.{Target}
 use Rattle.check_call.specs.declared.effect.Target.TheVariants as target
-use Rattle.check_call.specs.Effects.{target_of, target_at, store_statement, assignment_to}
+use Rattle.check_call.specs.Effects.{target_of, store_statement, assignment_to}
 use Rattle.check_stmt_parts.specs.Simple.{assignment}
-use Rattle.check_operator.specs.Classes.{class_at}
 use Rattle.check_operator.specs.Values.{loaded_as, value_at_place}
 use Rattle.check_expr.specs.Meanings.{Meant, meanings_of, head, value_of, value_standing, of_computed, expr_layer}
-use Rattle.def_typing.specs.Parts.{Operand, Among, factors, addends}
+use Rattle.def_typing.specs.Parts.{Operand, factors, addends}
 use Rattle.def_typing.specs.Shapes.{shape_at}
-use Rattle.def_typing.specs.Amounts.{Amount}
 use Rattle.def_typing.specs.Operators as operators
 use Rattle.def_typing.specs.Operators.{Kind, Scalar, Set, Text, Whole, operand, Makes, SignMakes, Negates}
-use Rattle.def_typing.specs.Things.{Thing, AValue, AVariable, Standing, Taken, content, content_of}
+use Rattle.def_typing.specs.Things.{Thing, Standing, Taken, content, content_of}
 use Rattle.def_typing.specs.Constants as fixing
 use Rattle.def_typing.specs.Constants.{AConstant, FixedReads}
-use Rattle.def_typing.specs.Functions.{result_kind, result_of, Applies, applied, Converts, converted_constant, converted_value}
+use Rattle.def_typing.specs.Functions.{result_of, Applies, applied, Converts, converted_constant, converted_value}
 use Rattle.def_typing.specs.Expressions as typing
 use Rattle.def_typing.specs.Expressions.{Has, Stands, Reads, Chain, taken}
 use Rattle.law_typing.specs.Judging.{Judges}
@@ -64,7 +60,7 @@ use Rattle.def_typed.specs.Expressions.{Names, Gives}
 use Rattle.def_typed.specs.Statements as rules
 use Rattle.def_typed.specs.Statements.{Site, Lies, IsVariable}
 use Rattle.law_typed.specs.Typed.{IsOne, IsNamed, named_of, Grasps}
-use Rattle.law_typed.proofs.Meant.{IfMeant, meant, not_meant, if_as, if_also, if_then, if_both, if_where, if_reported, if_sorted, if_equal}
+use Rattle.law_typed.proofs.Meant.{IfMeant, meant, not_meant, if_as, if_also, if_then, if_both, if_reported, if_sorted, if_equal}
 use Rattle.law_typed.proofs.Values.{IsValue, value_is}
 use Rattle.law_typed.proofs.Arguments.{same_by}
 use Rattle.law_typed.proofs.Designators.{is_constant, given, IsCodeless, head_codeless}

@@ -1,5 +1,5 @@
 -- What designators name, and values at places that ask for a type.
-use Rattle.std.proofs.Common.{◌≡◌, ℕ, ℤ, pos, false, not, List, [], ◌∷◌, map, Option, Some, None, Result, Ok, Err, refl, sym, ap, subst, ◌∙◌}
+use Rattle.std.proofs.Common.{◌≡◌, ℕ, not, List, [], ◌∷◌, map, Option, Some, None, Result, Ok, Err, refl, sym, ap, subst, ◌∙◌}
 use Rattle.std.specs.Prelude.{slice_get}
 use Rattle.std.specs.Option.{option_map}
 use Rattle.std.specs.List.{fold}
@@ -7,7 +7,7 @@ use Rattle.m2_rule.specs.declared.rule.Rule.{Rule}
 use Rattle.m2_rule.specs.declared.rule.Rule.TheVariants as rule
 use Rattle.m2_tree.specs.declared.pos.Pos.{Pos}
 use Rattle.m2_tree.specs.declared.name.Ident.{Ident}
-use Rattle.m2_tree.specs.declared.expr.Expr.{Expr, out-Expr}
+use Rattle.m2_tree.specs.declared.expr.Expr.{Expr}
 use Rattle.m2_tree.specs.declared.expr.Expr.TheOpen as layer
 use Rattle.m2_tree.specs.declared.expr.Selector.{Selector, Selector-F, out-Selector}
 use Rattle.m2_tree.specs.declared.expr.Designator.{Designator, out-Designator}
@@ -16,7 +16,6 @@ use Rattle.typed_tree.specs.declared.types.TypeNo.{TypeNo}
 use Rattle.typed_tree.specs.declared.computed.Component.TheVariants as part
 use Rattle.typed_tree.specs.declared.computed.Place.{Place}
 use Rattle.typed_tree.specs.declared.computed.Root.TheVariants as root
-use Rattle.typed_tree.specs.declared.computed.Slot.{Slot}
 use Rattle.typed_tree.specs.declared.computed.TypedExpr.{TypedExpr}
 use Rattle.typed_tree.specs.declared.known_types.Types.{Types}
 use Rattle.typed_tree.specs.declared.meaning.LocalKind.{LocalKind}
@@ -33,7 +32,7 @@ use Rattle.typed_tree.specs.Types.{cardinal}
 use Rattle.check_scope.specs.declared.meaningless.Meaningless.{Meaningless}
 use Rattle.check_scope.specs.declared.meaningless.Meaningless.TheVariants as meaningless
 use Rattle.check_scope.specs.declared.scope.Scope.{Scope}
-use Rattle.check_scope.specs.Elaborated.{Gathers, both, plain, ◌▷◌}
+use Rattle.check_scope.specs.Elaborated.{Gathers, ◌▷◌}
 use Rattle.check_scope.specs.Scopes.{looked_up, fields_at}
 use Rattle.check_const.specs.Denote.{exported_by, export_of, exported_meaning}
 use Rattle.check_const_ops.specs.Numbers.{is_between}
@@ -46,12 +45,11 @@ use Rattle.check_operator.specs.declared.computed.Designated.TheVariants as desi
 use Rattle.check_operator.specs.declared.side.Side.{Side}
 use Rattle.check_operator.specs.declared.select.Subscripted.{Subscripted}
 use Rattle.check_operator.specs.declared.select.Subscripted.TheVariants as indexes
-use Rattle.check_operator.specs.Classes.{class_at, array_at}
-use Rattle.check_operator.specs.Selection.{component, record_field, field_named, numbered_field, typed_field, indices, array_indexed, index_type, element_of_array, with_index, element_at_index}
-use Rattle.check_operator.specs.Sides.{side_of}
+use Rattle.check_operator.specs.Classes.{class_at}
+use Rattle.check_operator.specs.Selection.{component, record_field, field_named, typed_field, indices, array_indexed, element_of_array, element_at_index}
 use Rattle.check_operator.specs.Suits.{sort_suits, value_suited, value_in}
 use Rattle.check_operator.specs.Values.{designated_by, local_by}
-use Rattle.check_expr.specs.Meanings.{Meant, Picks, meanings_of, picks, head, value_of, first_name, name_in_module, field_of, field_at, index_at, designation}
+use Rattle.check_expr.specs.Meanings.{Meant, Picks, meanings_of, picks, head, value_of, first_name, name_in_module, field_of, field_at, index_at}
 use Rattle.def_typing.specs.Shapes.{IsMade, shape_at}
 use Rattle.def_typing.specs.Operators.{◌!◌, Kind, operand}
 use Rattle.def_typing.specs.Parts.{Among, here, later}
@@ -61,13 +59,12 @@ use Rattle.law_typing.specs.Exact.{Knows, IsKind}
 use Rattle.law_typing.proofs.Combining.{Lawful}
 use Rattle.law_typing.proofs.Shaping.{fields_is, fields_of, array_is, array_of, one_made}
 use Rattle.law_typing.proofs.Places.{picks_is, head_is}
-use Rattle.law_typing.proofs.Trees.{AreSelectorTrees, no_selector, a_field, an_index}
 use Rattle.def_typed.specs.Named.{Named, Variable, OpenArray, Module, named, named_by, local_named, Senses}
 use Rattle.def_typed.specs.Coded.{At, constant, constant_set, computed as run}
 use Rattle.def_typed.specs.Expressions as rules
 use Rattle.def_typed.specs.Expressions.{Names, Leads, Selects, Gives, HasCode}
 use Rattle.law_typed.specs.Typed.{IsOne, IsNamed, code_of, named_of, Grasps}
-use Rattle.law_typed.proofs.Meant.{IfMeant, meant, not_meant, if_as, if_then, if_both, if_right, if_second, if_left, if_where, if_reported, if_plain, by_equal}
+use Rattle.law_typed.proofs.Meant.{IfMeant, meant, not_meant, if_as, if_then, if_both, if_second, if_left, if_where, if_reported, if_plain, by_equal}
 use Rattle.law_typed.proofs.Operators.{SideIs, side_known, side_run, side_bits, side_set, side_routine, side_procedure, no_side, side_is, at_one}
 use Rattle.law_typed.proofs.Values.{IsCoded, IsValue, value_is}
 

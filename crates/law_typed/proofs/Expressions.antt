@@ -1,7 +1,5 @@
 -- The induction over expressions: what is answered is the one typed tree that the rules give.
-use Rattle.std.proofs.Common.{◌≡◌, ℕ, pos, List, [], ◌∷◌, map, Option, Some, None, Result, Ok, Err, refl, sym, ap, subst, ◌∙◌}
-use Rattle.std.specs.Prelude.{length}
-use Rattle.m2_rule.specs.declared.rule.Rule.{Rule}
+use Rattle.std.proofs.Common.{◌≡◌, ℕ, List, Some, None, Result, Ok, Err, refl, sym, ap, subst, ◌∙◌}
 use Rattle.m2_tree.specs.declared.pos.Pos.{Pos}
 use Rattle.m2_tree.specs.declared.name.Ident.{Ident}
 use Rattle.m2_tree.specs.declared.expr.Expr.{Expr, Expr-F, out-Expr}
@@ -9,17 +7,13 @@ use Rattle.m2_tree.specs.declared.expr.Expr.TheOpen as layer
 use Rattle.m2_tree.specs.declared.expr.Selector.{Selector, out-Selector}
 use Rattle.m2_tree.specs.declared.expr.Designator.{Designator, out-Designator}
 use Rattle.m2_tree.specs.declared.expr.Item.{Item}
-use Rattle.typed_tree.specs.declared.types.TypeNo.{TypeNo}
-use Rattle.typed_tree.specs.declared.computed.Place.{Place}
 use Rattle.typed_tree.specs.declared.computed.TypedExpr.{TypedExpr}
 use Rattle.typed_tree.specs.declared.computed.TypedExpr.TheVariants as expr
 use Rattle.typed_tree.specs.declared.meaning.Value.{Value as ConstantValue}
-use Rattle.typed_tree.specs.declared.meaning.Value.TheVariants as value
-use Rattle.typed_tree.specs.Types.{char}
 use Rattle.check_scope.specs.declared.meaningless.Meaningless.{Meaningless}
 use Rattle.check_scope.specs.declared.meaningless.Meaningless.TheVariants as meaningless
 use Rattle.check_scope.specs.declared.scope.Scope.{Scope}
-use Rattle.check_scope.specs.Elaborated.{Gathers, of_heading, plain, ◌▷◌}
+use Rattle.check_scope.specs.Elaborated.{Gathers, plain, ◌▷◌}
 use Rattle.check_operator.specs.declared.class.Class.{Class}
 use Rattle.check_operator.specs.declared.class.Class.TheVariants as class
 use Rattle.check_operator.specs.declared.computed.Computed.{Computed}
@@ -28,22 +22,22 @@ use Rattle.check_operator.specs.declared.computed.Designated.{Designated}
 use Rattle.check_operator.specs.declared.computed.Designated.TheVariants as designated
 use Rattle.check_operator.specs.Classes.{class_at}
 use Rattle.check_operator.specs.Values.{loaded_as, value_at_place}
-use Rattle.check_expr.specs.Meanings.{Meant, meanings_of, head, value_of, value_standing, of_computed, expr_layer, expr_fixed, as_constant}
+use Rattle.check_expr.specs.Meanings.{Meant, meanings_of, head, value_of, value_standing, of_computed, expr_layer, as_constant}
 use Rattle.check_const.specs.Parts.{Part, constant}
-use Rattle.def_typing.specs.Parts.{Operand, Among, here, later, factors, addends}
+use Rattle.def_typing.specs.Parts.{Operand, Among, here, later}
 use Rattle.def_typing.specs.Things.{Standing}
 use Rattle.law_typing.specs.Judging.{Judges}
 use Rattle.law_typing.specs.Exact.{Knows}
 use Rattle.law_typing.proofs.Combining.{Lawful}
 use Rattle.law_typing.proofs.Places.{meant_is, opened}
-use Rattle.law_typing.proofs.Trees.{IsTree, tree_number, tree_character, tree_string, tree_set, tree_name, tree_call, tree_not, tree_brackets, tree_term, tree_sum, tree_relation, AreTrees, no_expression, one_expression, AreOperandTrees, no_operand, one_operand, AreSelectorTrees, no_selector, a_field, an_index, tree, selector_trees}
+use Rattle.law_typing.proofs.Trees.{IsTree, tree_number, tree_character, tree_string, tree_set, tree_name, tree_call, tree_not, tree_brackets, tree_term, tree_sum, tree_relation, AreTrees, no_expression, one_expression, AreOperandTrees, no_operand, one_operand, AreSelectorTrees, no_selector, a_field, an_index, tree}
 use Rattle.def_typed.specs.Named.{Named, Variable, Procedure, Senses}
 use Rattle.def_typed.specs.Expressions as rules
 use Rattle.def_typed.specs.Expressions.{Names, Designates, Computes}
-use Rattle.law_typed.specs.Typed.{IsOne, IsNamed, code_of, named_of, Grasps}
-use Rattle.law_typed.proofs.Meant.{IfMeant, meant, not_meant, if_as, if_also, if_equal}
+use Rattle.law_typed.specs.Typed.{IsNamed, named_of, Grasps}
+use Rattle.law_typed.proofs.Meant.{IfMeant, meant, not_meant, if_as, if_also}
 use Rattle.law_typed.proofs.Operators.{Coded, coded_as}
-use Rattle.law_typed.proofs.Values.{IsCoded, coded_by, constant_layer, relation_coded, term_coded, sum_coded, signed_sum_coded, not_coded, brackets_coded}
+use Rattle.law_typed.proofs.Values.{IsCoded, coded_by, relation_coded, term_coded, sum_coded, signed_sum_coded, not_coded, brackets_coded}
 use Rattle.law_typed.proofs.Designators.{is_constant, AreIndexed, IsCodeless, names_so, head_codeless}
 use Rattle.law_typed.proofs.Arguments.{IsTyped}
 use Rattle.law_typed.proofs.Calls.{call_coded}

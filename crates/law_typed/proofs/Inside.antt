@@ -1,5 +1,5 @@
 -- What names mean inside a WITH.
-use Rattle.std.proofs.Common.{◌≡◌, ℕ, List, [], ◌∷◌, ◌++◌, length, Option, Some, None, Result, Ok, Err, refl, sym, ap, subst, ◌∙◌}
+use Rattle.std.proofs.Common.{◌≡◌, ℕ, List, length, Option, Some, None, Result, Ok, refl, sym, ap, subst, ◌∙◌}
 use Rattle.std.specs.Prelude.{slice_get}
 use Rattle.std.specs.Option.{option_map}
 use Rattle.m2_tree.specs.declared.name.Ident.{Ident}
@@ -20,7 +20,7 @@ use Rattle.def_typing.specs.Shapes.{IsMade}
 use Rattle.law_typing.proofs.Inside.{last_opened}
 use Rattle.law_typing.proofs.Naming.{index, place_found, place_none, stands_at}
 use Rattle.law_typing.proofs.Shaping.{fields_of, fields_is}
-use Rattle.def_typed.specs.Named.{Named, named, named_by, Senses}
+use Rattle.def_typed.specs.Named.{named, named_by, Senses}
 use Rattle.def_typed.specs.Statements.{field_meaning, field_or, with_fields}
 use Rattle.law_typed.specs.Typed.{Grasps}
 

@@ -1,15 +1,14 @@
 -- Labels of a CASE, as they stand in a typed tree.
-use Rattle.std.proofs.Common.{◌≡◌, ℕ, ℤ, Bool, true, false, not, List, [], ◌∷◌, ◌++◌, Option, Some, None, Result, Ok, Err, refl, sym, ap, subst, ◌∙◌, append-nil, append_assoc}
+use Rattle.std.proofs.Common.{◌≡◌, ℕ, ℤ, Bool, true, false, not, List, [], ◌∷◌, ◌++◌, Some, Result, Ok, Err, refl, sym, ap, subst, ◌∙◌, append-nil, append_assoc}
 use Rattle.std.specs.List.{fold}
 use Rattle.m2_rule.specs.declared.rule.Rule.TheVariants as rule
 use Rattle.m2_tree.specs.declared.pos.Pos.{Pos}
 use Rattle.m2_tree.specs.declared.name.Ident.{Ident}
-use Rattle.m2_tree.specs.declared.expr.Item.{Item, out-Item}
+use Rattle.m2_tree.specs.declared.expr.Item.{Item}
 use Rattle.typed_tree.specs.declared.types.TypeNo.{TypeNo}
 use Rattle.typed_tree.specs.declared.statement.Label.{Label}
 use Rattle.check_scope.specs.declared.scope.Scope.{Scope}
-use Rattle.check_scope.specs.Elaborated.{Gathers, both, reported_where, ◌▷◌}
-use Rattle.check_expr.specs.Meanings.{meanings_of}
+use Rattle.check_scope.specs.Elaborated.{Gathers, reported_where}
 use Rattle.check_stmt_parts.specs.Ranges.{enter_range}
 use Rattle.check_stmt_parts.specs.Lists.{with_next}
 use Rattle.check_stmt_parts.specs.Labels.{with_label, item_label, with_item, labels_in}
@@ -21,7 +20,7 @@ use Rattle.law_typing.proofs.Combining.{Lawful}
 use Rattle.law_typing.proofs.Labelling.{IsSpan, is_span, label_answers}
 use Rattle.def_typed.specs.Statements as rules
 use Rattle.def_typed.specs.Statements.{Site, AreLabels}
-use Rattle.law_typed.specs.Typed.{IsOne, Grasps}
+use Rattle.law_typed.specs.Typed.{IsOne}
 use Rattle.law_typed.proofs.Meant.{IfMeant, meant, not_meant, if_as, of_answers}
 
 same_label : (l : Label) (n m : ℤ) → n ≡ l.low → m ≡ l.high → ◌≡◌ {A = Label} (record { low = n; high = m }) l

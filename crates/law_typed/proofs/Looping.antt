@@ -2,7 +2,6 @@
 use Rattle.std.proofs.Common.{◌≡◌, ℕ, ℤ, pos, Bool, true, false, not, Option, Some, None, Result, Ok, Err, refl, sym, ap, subst, ◌∙◌}
 use Rattle.std.specs.Prelude.{◌&&◌, ◌==◌}
 use Rattle.m2_rule.specs.declared.rule.Rule.TheVariants as rule
-use Rattle.m2_rule.specs.declared.breach.Breach.{Breach}
 use Rattle.m2_tree.specs.declared.pos.Pos.{Pos}
 use Rattle.m2_tree.specs.declared.name.Ident.{Ident}
 use Rattle.m2_tree.specs.declared.expr.Expr.{Expr}
@@ -15,17 +14,14 @@ use Rattle.typed_tree.specs.declared.meaning.LocalKind.TheVariants as local
 use Rattle.typed_tree.specs.declared.meaning.LocalVariable.{LocalVariable}
 use Rattle.typed_tree.specs.declared.meaning.Meaning.{Meaning}
 use Rattle.typed_tree.specs.declared.meaning.Meaning.TheVariants as meaning
-use Rattle.typed_tree.specs.declared.meaning.Value.{Value as ConstantValue}
 use Rattle.typed_tree.specs.declared.shape.Scalar.{Scalar as Range}
 use Rattle.typed_tree.specs.Chains.{root_place}
-use Rattle.check_scope.specs.declared.meaningless.Meaningless.{Meaningless}
 use Rattle.check_scope.specs.declared.scope.Scope.{Scope}
 use Rattle.check_scope.specs.Scopes.{looked_up}
-use Rattle.check_scope.specs.Elaborated.{Gathers, both, report, reported_where, of_sort, ◌▷◌}
+use Rattle.check_scope.specs.Elaborated.{Gathers, both, reported_where, ◌▷◌}
 use Rattle.check_const_ops.specs.declared.operand.Ordinal.{Ordinal}
 use Rattle.check_const_ops.specs.Sets.{ordinal_or_refusal}
 use Rattle.check_const_ops.specs.Standards.{whole_number}
-use Rattle.check_const.specs.Parts.{constant}
 use Rattle.check_operator.specs.declared.class.Class.{Class}
 use Rattle.check_operator.specs.declared.class.Class.TheVariants as class
 use Rattle.check_operator.specs.declared.computed.Computed.{Computed}
@@ -40,14 +36,14 @@ use Rattle.check_expr.specs.Meanings.{meanings_of, value_of}
 use Rattle.check_stmt_parts.specs.declared.control.Control.{Control}
 use Rattle.check_stmt_parts.specs.declared.control.Course.{Course}
 use Rattle.check_stmt_parts.specs.Simple.{meant_if}
-use Rattle.check_stmt_parts.specs.Control.{controlled_as, control_variable, is_own, control_by, control_of, start_at, limit_number, limit_by, limit_at, is_zero, step_number, step_by, step_of, type_of, base_of, course, course_of}
+use Rattle.check_stmt_parts.specs.Control.{controlled_as, control_variable, is_own, control_by, control_of, start_at, limit_number, limit_by, limit_at, step_number, step_of, type_of, base_of, course, course_of}
 use Rattle.def_typing.specs.Amounts.{Amount, Constant, IsNumber, sort_of}
 use Rattle.def_typing.specs.Operators.{Kind, Scalar, operand}
 use Rattle.def_typing.specs.Things.{Standing}
 use Rattle.def_typing.specs.Constants.{AConstant, Fixes}
 use Rattle.def_typing.specs.Loops.{IsControl, IsWholeConstant, whole_constant}
 use Rattle.law_typing.specs.Judging.{Judges}
-use Rattle.law_typing.specs.Exact.{Knows, KnowsOwn, IsConst, Repeats}
+use Rattle.law_typing.specs.Exact.{Knows, KnowsOwn}
 use Rattle.law_typing.proofs.Combining.{Lawful}
 use Rattle.law_typing.proofs.Elements.{IsOrdinal, is_ordinal, NumberOf, number_answers}
 use Rattle.law_typing.proofs.Expressing.{exactly_fixed}

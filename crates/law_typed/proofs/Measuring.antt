@@ -1,5 +1,5 @@
 -- Scalars with the type that they have by themselves.
-use Rattle.std.proofs.Common.{◌≡◌, ℕ, Bool, true, false, not, Option, Some, None, Result, Ok, Err, refl, sym, ap, subst, ◌∙◌}
+use Rattle.std.proofs.Common.{◌≡◌, ℕ, Bool, true, false, Option, Some, None, refl, sym, ap, subst, ◌∙◌}
 use Rattle.std.specs.Prelude.{cond}
 use Rattle.m2_rule.specs.declared.rule.Rule.TheVariants as rule
 use Rattle.m2_tree.specs.declared.pos.Pos.{Pos}
@@ -9,7 +9,7 @@ use Rattle.typed_tree.specs.declared.types.TypeNo.{TypeNo}
 use Rattle.typed_tree.specs.declared.computed.TypedExpr.{TypedExpr}
 use Rattle.typed_tree.specs.declared.meaning.Value.{Value as ConstantValue}
 use Rattle.check_scope.specs.declared.scope.Scope.{Scope}
-use Rattle.check_scope.specs.Elaborated.{Gathers, report, reported_where, ◌▷◌}
+use Rattle.check_scope.specs.Elaborated.{Gathers}
 use Rattle.check_const_ops.specs.declared.operand.Ordinal.{Ordinal}
 use Rattle.check_const_ops.specs.declared.operand.Operand.{Operand}
 use Rattle.check_const_ops.specs.declared.operand.Operand.TheVariants as operands
@@ -23,7 +23,7 @@ use Rattle.check_operator.specs.declared.side.Side.{Side}
 use Rattle.check_operator.specs.declared.side.Side.TheVariants as side
 use Rattle.check_operator.specs.Sides.{side_of, constant_side, run_of}
 use Rattle.check_call.specs.Effects.{known_amount, amount, element_known, set_element}
-use Rattle.check_expr.specs.Meanings.{meanings_of, value_of}
+use Rattle.check_expr.specs.Meanings.{meanings_of}
 use Rattle.check_stmt_parts.specs.Simple.{selector_amount, selector_of, case_selector}
 use Rattle.def_typing.specs.Amounts.{Amount, Constant, Value}
 use Rattle.def_typing.specs.Operators.{Kind, Scalar, operand}
@@ -40,7 +40,7 @@ use Rattle.def_typed.specs.Expressions.{HasCode}
 use Rattle.def_typed.specs.Statements as rules
 use Rattle.def_typed.specs.Statements.{Site, Measures}
 use Rattle.law_typed.specs.Typed.{code_of, Grasps}
-use Rattle.law_typed.proofs.Meant.{IfMeant, meant, not_meant, if_as, if_then, if_where}
+use Rattle.law_typed.proofs.Meant.{IfMeant, meant, not_meant, if_then, if_where}
 use Rattle.law_typed.proofs.Operators.{SideIs, side_known, side_run, side_is, at_one}
 use Rattle.law_typed.proofs.Values.{IsValue}
 use Rattle.law_typed.proofs.Assigning.{value_so}

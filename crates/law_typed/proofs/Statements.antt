@@ -1,5 +1,5 @@
 -- The induction over statements: what is answered is the one typed tree that the rules give.
-use Rattle.std.proofs.Common.{◌≡◌, ℕ, ℤ, Bool, true, false, not, List, [], ◌∷◌, ◌++◌, ◌+◌, length, Option, Some, None, Result, Ok, Err, refl, sym, ap, subst, ◌∙◌, append-nil, append_assoc, arith, length-append}
+use Rattle.std.proofs.Common.{◌≡◌, ℕ, ℤ, not, List, [], ◌∷◌, ◌++◌, ◌+◌, Option, Some, None, Result, Ok, Err, refl, sym, ap, subst, ◌∙◌, append-nil, append_assoc, length-append}
 use Rattle.std.specs.Prelude.{map}
 use Rattle.std.specs.List.{fold}
 use Rattle.std.specs.Option.{is_some}
@@ -16,7 +16,6 @@ use Rattle.m2_tree.specs.declared.stmt.Arm.{Arm, out-Arm}
 use Rattle.typed_tree.specs.declared.types.TypeNo.{TypeNo}
 use Rattle.typed_tree.specs.declared.computed.Place.{Place}
 use Rattle.typed_tree.specs.declared.computed.TypedExpr.{TypedExpr}
-use Rattle.typed_tree.specs.declared.shape.Scalar.{Scalar as Range}
 use Rattle.typed_tree.specs.declared.shape.Shape.{Shape}
 use Rattle.typed_tree.specs.declared.shape.Shape.TheVariants as shape
 use Rattle.typed_tree.specs.declared.statement.Label.{Label}
@@ -25,42 +24,40 @@ use Rattle.typed_tree.specs.declared.statement.TypedStmt.{TypedStmt}
 use Rattle.typed_tree.specs.declared.statement.TypedStmt.TheVariants as step
 use Rattle.typed_tree.specs.Types.{boolean}
 use Rattle.check_scope.specs.declared.scope.Scope.{Scope}
-use Rattle.check_scope.specs.Scopes.{fields_at}
-use Rattle.check_scope.specs.Elaborated.{Gathers, both, reported_where, reported_beside, ◌▷◌}
+use Rattle.check_scope.specs.Elaborated.{Gathers, reported_where, reported_beside, ◌▷◌}
 use Rattle.check_operator.specs.declared.computed.Computed.{Computed}
 use Rattle.check_operator.specs.declared.computed.Designated.{Designated}
 use Rattle.check_operator.specs.declared.computed.Designated.TheVariants as designated
 use Rattle.check_expr.specs.Meanings.{meanings_of, head, value_of}
 use Rattle.check_stmt_parts.specs.declared.around.Around.{Around}
 use Rattle.check_stmt_parts.specs.declared.control.Course.{Course}
-use Rattle.check_stmt_parts.specs.Lists.{with_next, base_in, case_statement, arm_of}
-use Rattle.check_stmt_parts.specs.Simple.{meant_if, in_loop, exit_statement, given_back, return_statement, condition, record_by, record_of, into_record}
-use Rattle.check_stmt.specs.Statements.{Elaborates, ElaboratesRest, ElaboratesArm, with_stmt, all_of, all_if, with_arm, arms_of, stmt_layer, rest_layer, stmt, rest, arm}
+use Rattle.check_stmt_parts.specs.Lists.{with_next, base_in, case_statement}
+use Rattle.check_stmt_parts.specs.Simple.{meant_if, in_loop, given_back, return_statement, condition, record_by, record_of, into_record}
+use Rattle.check_stmt.specs.Statements.{Elaborates, ElaboratesRest, ElaboratesArm, with_stmt, all_of, with_arm, arms_of, stmt_layer, rest_layer, stmt, rest, arm}
 use Rattle.def_typing.specs.Parts.{Among, here, later}
 use Rattle.def_typing.specs.Shapes.{shape_at, IsMade}
 use Rattle.def_typing.specs.Things.{Standing}
-use Rattle.def_typing.specs.Loops.{IsControl}
 use Rattle.def_typing.specs.Returns.{Giving, AResult, Nothing}
-use Rattle.def_typing.specs.Statements.{arguments, inside_loop}
+use Rattle.def_typing.specs.Statements.{arguments}
 use Rattle.law_typing.specs.Judging.{Judges}
-use Rattle.law_typing.specs.Exact.{KnowsSpot, KnowsResult, knows_nothing, knows_type, knows_broken}
+use Rattle.law_typing.specs.Exact.{KnowsResult, knows_nothing, knows_type, knows_broken}
 use Rattle.law_typing.proofs.Combining.{Lawful}
 use Rattle.law_typing.proofs.Shaping.{fields_is, fields_of, one_made}
 use Rattle.law_typing.proofs.Inside.{spot_inside}
 use Rattle.law_typing.proofs.Obeying.{opened_stmt, opened_rest, stmt_is, rest_is}
-use Rattle.law_typing.proofs.Choosing.{opened_arm, arm_is}
+use Rattle.law_typing.proofs.Choosing.{arm_is}
 use Rattle.law_typing.proofs.Trees.{statement_tree, IsStmtTree, tree_assignment, tree_action, tree_if, tree_case, tree_while, tree_repeat, tree_loop, tree_exit, tree_return, tree_for, tree_with, AreStmtTrees, no_statement, one_statement, IsRestTree, tree_elsif, tree_end, IsElseTree, tree_no_else, tree_else, AreArmTrees, no_arm_tree, one_arm_tree}
-use Rattle.def_typed.specs.Named.{Named, Variable}
+use Rattle.def_typed.specs.Named.{Variable}
 use Rattle.def_typed.specs.Expressions.{Names, Gives}
 use Rattle.def_typed.specs.Statements as rules
 use Rattle.def_typed.specs.Statements.{Site, in_with, Means, Reads, AllMean, RestMeans, ArmsMean, AreLabels, Measures, Limits, Steps, Controls}
-use Rattle.law_typed.specs.Typed.{IsOne, IsNamed, Grasps, KnowsSite}
-use Rattle.law_typed.proofs.Meant.{IfMeant, meant, not_meant, if_as, if_also, if_then, if_both, if_right, if_where, if_sorted, if_equal, if_ahead}
+use Rattle.law_typed.specs.Typed.{IsOne, IsNamed, KnowsSite}
+use Rattle.law_typed.proofs.Meant.{IfMeant, meant, not_meant, if_as, if_then, if_both, if_right, if_where, if_sorted, if_equal, if_ahead}
 use Rattle.law_typed.proofs.Expressions.{designator_named}
 use Rattle.law_typed.proofs.Assigning.{yielded, yielded_at, assigned}
 use Rattle.law_typed.proofs.Measuring.{IsMeasured, selector_measured}
 use Rattle.law_typed.proofs.Acting.{acted}
-use Rattle.law_typed.proofs.Looping.{IsControlled, IsCourse, course_so}
+use Rattle.law_typed.proofs.Looping.{IsCourse, course_so}
 use Rattle.law_typed.proofs.Labels.{labels_so}
 use Rattle.law_typed.proofs.Inside.{grasps_inside}
 
