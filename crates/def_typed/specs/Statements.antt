@@ -145,23 +145,23 @@ module _ (types : Types) (exports : ℕ → Ident → Standing) where
 
   -- where the array or the record is that an expression stands for: that of a designator, which may
   -- stand in brackets
-  pub data Lies (w : Site)
+  pub data LiesAt (w : Site)
       : Expr-F Expr Selector Designator Item → TypeNo → Place → Type 0 where
     variable : {d : Designator} {t : TypeNo} {place : Place} → IsVariable w d t place
-        → Lies w (expr_layer.Use d None) t place
-    bracketed : {at : Pos} {e : Expr} {t : TypeNo} {place : Place} → Lies w (out-Expr e) t place
-        → Lies w (expr_layer.Bracketed at e) t place
+        → LiesAt w (expr_layer.Use d None) t place
+    bracketed : {at : Pos} {e : Expr} {t : TypeNo} {place : Place} → LiesAt w (out-Expr e) t place
+        → LiesAt w (expr_layer.Bracketed at e) t place
     -- a term of one factor, and a sum of one term
-    factor : {e : Expr} {t : TypeNo} {place : Place} → Lies w (out-Expr e) t place
-        → Lies w (expr_layer.Term e []) t place
-    term : {e : Expr} {t : TypeNo} {place : Place} → Lies w (out-Expr e) t place
-        → Lies w (expr_layer.Sum None e []) t place
+    factor : {e : Expr} {t : TypeNo} {place : Place} → LiesAt w (out-Expr e) t place
+        → LiesAt w (expr_layer.Term e []) t place
+    term : {e : Expr} {t : TypeNo} {place : Place} → LiesAt w (out-Expr e) t place
+        → LiesAt w (expr_layer.Sum None e []) t place
 
   pub data Assigns (w : Site) (d : Designator) (e : Expr) : TypedStmt → Type 0 where
     value : {t : TypeNo} {place : Place} {x : TypedExpr} → IsVariable w d t place
         → (content types t ≡ Whole t → ⊥) → Yields w t e x → Assigns w d e (step.Assign place t x)
     copy : {t : TypeNo} {to from : Place} → IsVariable w d t to → content types t ≡ Whole t
-        → Lies w (out-Expr e) t from → Assigns w d e (step.Copy to from t)
+        → LiesAt w (out-Expr e) t from → Assigns w d e (step.Copy to from t)
     text : {t : TypeNo} {to : Place} {s : List ℕ} → IsVariable w d t to
         → content types t ≡ Whole t → Kinds w e (Text s) → Assigns w d e (step.CopyText to t s)
 

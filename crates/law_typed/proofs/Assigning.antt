@@ -58,7 +58,7 @@ use Rattle.law_typing.proofs.Trees.{IsTree, tree_number, tree_character, tree_st
 use Rattle.def_typed.specs.Named.{Named, Variable}
 use Rattle.def_typed.specs.Expressions.{Names, Gives}
 use Rattle.def_typed.specs.Statements as rules
-use Rattle.def_typed.specs.Statements.{Site, Lies, IsVariable}
+use Rattle.def_typed.specs.Statements.{Site, LiesAt, IsVariable}
 use Rattle.law_typed.specs.Typed.{IsOne, IsNamed, named_of, Grasps}
 use Rattle.law_typed.proofs.Meant.{IfMeant, meant, not_meant, if_as, if_also, if_then, if_both, if_reported, if_sorted, if_equal}
 use Rattle.law_typed.proofs.Values.{IsValue, value_is}
@@ -176,8 +176,8 @@ module _ (g : Gathers) (j : Judges g) (lawful : Lawful g j) (exports : ℕ → I
 
   -- what is answered is an array or a record that is there
   pub record IsLaid (y : Expr-F Expr Selector Designator Item) (v : Computed) : Type 0 where
-    pub lies : (t : TypeNo) (p : Place) → v ≡ computed.Whole t p → Lies s.types exports w y t p
-    pub alone : (t : TypeNo) (p : Place) → Lies s.types exports w y t p → content s.types t ≡ Whole t → v ≡ computed.Whole t p
+    pub lies : (t : TypeNo) (p : Place) → v ≡ computed.Whole t p → LiesAt s.types exports w y t p
+    pub alone : (t : TypeNo) (p : Place) → LiesAt s.types exports w y t p → content s.types t ≡ Whole t → v ≡ computed.Whole t p
 
   laid_standing : {P : Computed → Type 0} {r : Result Computed g.Reported} (at : Pos) → IfMeant P r → IfMeant P (value_standing g s.types at (of_computed r))
   laid_standing at (meant v p) = meant v p
@@ -190,7 +190,7 @@ module _ (g : Gathers) (j : Judges g) (lawful : Lawful g j) (exports : ℕ → I
   laid_at e y h m = subst (λ (y : Expr-F Expr Selector Designator Item). IfMeant (IsLaid y) (value_of g s (meanings_of g e))) (sym h)
       (subst (λ (d : Result Designated (Meaningless g.Reported)). IfMeant (IsLaid y) (value_standing g s.types (meanings_of g e).fixed.at d)) (sym (ap (λ (m : Meant g.Reported). m.means s) (meant_is g e y h))) m)
 
-  lies_bare : {y : Expr-F Expr Selector Designator Item} {t : TypeNo} {p : Place} → Lies s.types exports w y t p → Bare y
+  lies_bare : {y : Expr-F Expr Selector Designator Item} {t : TypeNo} {p : Place} → LiesAt s.types exports w y t p → Bare y
   lies_bare (rules.variable m) = tt
   lies_bare (rules.bracketed m) = tt
   lies_bare (rules.factor m) = tt
@@ -209,13 +209,13 @@ module _ (g : Gathers) (j : Judges g) (lawful : Lawful g j) (exports : ℕ → I
   not_array : {d : Designator} {x : Designated} (v : Computed) → IsNamed (Nd d) x → ((u : TypeNo) (p : Place) → named_of x ≡ Some (Variable u p) → ⊥) → ((u : TypeNo) (p : Place) → v ≡ computed.Whole u p → ⊥) → IsLaid (layer.Use d None) v
   not_array {d = d} v n a f = record { lies = λ u p e. absurd (f u p e); alone = λ u p m e. other m }
     where
-      other : {u : TypeNo} {p : Place} → Lies s.types exports w (layer.Use d None) u p → v ≡ computed.Whole u p
+      other : {u : TypeNo} {p : Place} → LiesAt s.types exports w (layer.Use d None) u p → v ≡ computed.Whole u p
       other {u = u} {p = p} (rules.variable m) = absurd (a u p (n.alone (Variable u p) m))
 
   name_at : {d : Designator} (at : Pos) (x : Designated) → IsNamed (Nd d) x → Codeless x → IfMeant (IsLaid (layer.Use d None)) (value_at_place g s.types at x)
   name_at {d = d} at (designated.Variable t p) n c = subst (λ (c : Class). IfMeant {R = g.Reported} (IsLaid (layer.Use d None)) (Ok (loaded_as t p c))) (sym (class_is s.types t)) (by_shape (shape_at s.types t) refl)
     where
-      same : {u : TypeNo} {q : Place} → Lies s.types exports w (layer.Use d None) u q → ◌≡◌ {A = Option Named} (Some (Variable t p)) (Some (Variable u q))
+      same : {u : TypeNo} {q : Place} → LiesAt s.types exports w (layer.Use d None) u q → ◌≡◌ {A = Option Named} (Some (Variable t p)) (Some (Variable u q))
       same {u = u} {q = q} (rules.variable m) = n.alone (Variable u q) m
 
       simple : (v : Computed) → ((u : TypeNo) (q : Place) → v ≡ computed.Whole u q → ⊥) → (content s.types t ≡ Whole t → ⊥) → IsLaid (layer.Use d None) v
@@ -249,7 +249,7 @@ module _ (g : Gathers) (j : Judges g) (lawful : Lawful g j) (exports : ℕ → I
       by_head (not_meant (meaningless.Headless r)) = not_meant r
 
   -- where a part of one is, it is
-  laid_part : {x y : Expr-F Expr Selector Designator Item} {v : Computed} → ((t : TypeNo) (p : Place) → Lies s.types exports w x t p → Lies s.types exports w y t p) → ((t : TypeNo) (p : Place) → Lies s.types exports w y t p → Lies s.types exports w x t p) → IsLaid x v → IsLaid y v
+  laid_part : {x y : Expr-F Expr Selector Designator Item} {v : Computed} → ((t : TypeNo) (p : Place) → LiesAt s.types exports w x t p → LiesAt s.types exports w y t p) → ((t : TypeNo) (p : Place) → LiesAt s.types exports w y t p → LiesAt s.types exports w x t p) → IsLaid x v → IsLaid y v
   laid_part f h i = record { lies = λ t p q. f t p (i.lies t p q); alone = λ t p m c. i.alone t p (h t p m) c }
 
   laid : {e : Expr} → IsTree e → LaidSo e
@@ -262,16 +262,16 @@ module _ (g : Gathers) (j : Judges g) (lawful : Lawful g j) (exports : ℕ → I
   laid {e = e} (tree_not {at = at} {x = x} h i) = not_laid e (layer.Not at x) h (λ b. b)
   laid {e = e} (tree_brackets {at = at} {x = x} h i) = laid_at e (layer.Bracketed at x) h (laid_standing _ (if_as (λ v m. laid_part (λ t p l. rules.bracketed l) (λ t p l. out l) m) (laid i)))
     where
-      out : {t : TypeNo} {p : Place} → Lies s.types exports w (layer.Bracketed at x) t p → Lies s.types exports w (out-Expr x) t p
+      out : {t : TypeNo} {p : Place} → LiesAt s.types exports w (layer.Bracketed at x) t p → LiesAt s.types exports w (out-Expr x) t p
       out (rules.bracketed l) = l
   laid {e = e} (tree_term {x = x} {rest = []} h i o) = laid_at e (layer.Term x []) h (laid_standing _ (if_as (λ v m. laid_part (λ t p l. rules.factor l) (λ t p l. out l) m) (laid i)))
     where
-      out : {t : TypeNo} {p : Place} → Lies s.types exports w (layer.Term x []) t p → Lies s.types exports w (out-Expr x) t p
+      out : {t : TypeNo} {p : Place} → LiesAt s.types exports w (layer.Term x []) t p → LiesAt s.types exports w (out-Expr x) t p
       out (rules.factor l) = l
   laid {e = e} (tree_term {x = x} {rest = y ∷ ys} h i o) = not_laid e (layer.Term x (y ∷ ys)) h (λ b. b)
   laid {e = e} (tree_sum {sign = None} {x = x} {rest = []} h i o) = laid_at e (layer.Sum None x []) h (laid_standing _ (if_as (λ v m. laid_part (λ t p l. rules.term l) (λ t p l. out l) m) (laid i)))
     where
-      out : {t : TypeNo} {p : Place} → Lies s.types exports w (layer.Sum None x []) t p → Lies s.types exports w (out-Expr x) t p
+      out : {t : TypeNo} {p : Place} → LiesAt s.types exports w (layer.Sum None x []) t p → LiesAt s.types exports w (out-Expr x) t p
       out (rules.term l) = l
   laid {e = e} (tree_sum {sign = None} {x = x} {rest = y ∷ ys} h i o) = not_laid e (layer.Sum None x (y ∷ ys)) h (λ b. b)
   laid {e = e} (tree_sum {sign = Some sign} {x = x} {rest = rest} h i o) = not_laid e (layer.Sum (Some sign) x rest) h (λ b. b)
@@ -303,7 +303,7 @@ module _ (g : Gathers) (j : Judges g) (lawful : Lawful g j) (exports : ℕ → I
   -- what is stored in a variable
   data Stores (t : TypeNo) (p : Place) (e : Expr) : TypedStmt → Type 0 where
     stores_value : {x : TypedExpr} → (content s.types t ≡ Whole t → ⊥) → G t e x → Stores t p e (step.Assign p t x)
-    stores_copy : {q : Place} → content s.types t ≡ Whole t → Lies s.types exports w (out-Expr e) t q → Stores t p e (step.Copy p q t)
+    stores_copy : {q : Place} → content s.types t ≡ Whole t → LiesAt s.types exports w (out-Expr e) t q → Stores t p e (step.Copy p q t)
     stores_text : {text : List ℕ} → content s.types t ≡ Whole t → Has s.types w.spot.names exports e (Text text) → Stores t p e (step.CopyText p t text)
 
   stored_as : {e : Expr} {t u : TypeNo} {p q : Place} {y : TypedStmt} → Some (Variable t p) ≡ Some (Variable u q) → Stores u q e y → Stores t p e y
