@@ -96,9 +96,12 @@ pub data Operates (types : Types) (op : BinaryOp)
   disjunction : {a b : Amount} {c d : Option TypedExpr} {x y : TypedExpr} → op ≡ Or
       → At boolean (Scalar a) c x → At boolean (Scalar b) d y
       → Operates types op (Scalar a) c (Scalar b) d (link_operand x (link.Or y))
-  scalar_comparison : {a b : Amount} {c d : Option TypedExpr} {x y : TypedExpr} {sort : Option TypeNo}
-      {o : Comparison} → Compares op o → GoTogether (sort_of a) (sort_of b) sort
-      → At (or_cardinal sort) (Scalar a) c x → At (or_cardinal sort) (Scalar b) d y
+  scalar_comparison : {a b : Amount} {c d : Option TypedExpr} {x y : TypedExpr}
+      {sort : Option TypeNo} {o : Comparison}
+      → Compares op o
+      → GoTogether (sort_of a) (sort_of b) sort
+      → At (or_cardinal sort) (Scalar a) c x
+      → At (or_cardinal sort) (Scalar b) d y
       → Operates types op (Scalar a) c (Scalar b) d (expr.Compare o x y)
   set_operation : {m n : Option ℕ} {c d : Option TypedExpr} {x y : TypedExpr} {o : SetOperator}
       → Unites op o → At bitset (Set m) c x → At bitset (Set n) d y

@@ -2,7 +2,9 @@
 use Rattle.std.specs.Prelude.{◌≡◌, ℕ, ℤ, pos, List, [], ◌∷◌, ◌+◌, Option, Some, None, slice_get}
 use Rattle.m2_tree.specs.declared.pos.Pos.{Pos}
 use Rattle.m2_tree.specs.declared.name.Ident.{Ident}
-use Rattle.m2_tree.specs.declared.expr.Expr.{Expr}
+use Rattle.m2_tree.specs.declared.expr.Expr.{Expr, Expr-F, out-Expr}
+use Rattle.m2_tree.specs.declared.expr.Expr.TheOpen as expr_layer
+use Rattle.m2_tree.specs.declared.expr.Selector.{Selector}
 use Rattle.m2_tree.specs.declared.expr.Designator.{Designator}
 use Rattle.m2_tree.specs.declared.expr.Item.{Item}
 use Rattle.m2_tree.specs.declared.stmt.Stmt.{Stmt, Stmt-F, out-Stmt}
@@ -141,12 +143,25 @@ module _ (types : Types) (exports : ℕ → Ident → Standing) where
     controls : named w.senses.level (w.senses.of_names name) ≡ Some (Variable t place)
         → Controls w name t place
 
+  -- where the array or the record is that an expression stands for: that of a designator, which may
+  -- stand in brackets
+  pub data LiesAt (w : Site)
+      : Expr-F Expr Selector Designator Item → TypeNo → Place → Type 0 where
+    variable : {d : Designator} {t : TypeNo} {place : Place} → IsVariable w d t place
+        → LiesAt w (expr_layer.Use d None) t place
+    bracketed : {at : Pos} {e : Expr} {t : TypeNo} {place : Place} → LiesAt w (out-Expr e) t place
+        → LiesAt w (expr_layer.Bracketed at e) t place
+    -- a term of one factor, and a sum of one term
+    factor : {e : Expr} {t : TypeNo} {place : Place} → LiesAt w (out-Expr e) t place
+        → LiesAt w (expr_layer.Term e []) t place
+    term : {e : Expr} {t : TypeNo} {place : Place} → LiesAt w (out-Expr e) t place
+        → LiesAt w (expr_layer.Sum None e []) t place
+
   pub data Assigns (w : Site) (d : Designator) (e : Expr) : TypedStmt → Type 0 where
     value : {t : TypeNo} {place : Place} {x : TypedExpr} → IsVariable w d t place
         → (content types t ≡ Whole t → ⊥) → Yields w t e x → Assigns w d e (step.Assign place t x)
     copy : {t : TypeNo} {to from : Place} → IsVariable w d t to → content types t ≡ Whole t
-        → Designates types w.spot.names exports w.senses e (Variable t from)
-        → Assigns w d e (step.Copy to from t)
+        → LiesAt w (out-Expr e) t from → Assigns w d e (step.Copy to from t)
     text : {t : TypeNo} {to : Place} {s : List ℕ} → IsVariable w d t to
         → content types t ≡ Whole t → Kinds w e (Text s) → Assigns w d e (step.CopyText to t s)
 

@@ -1,21 +1,18 @@
 -- Arguments for formals, as they stand in a typed tree.
-use Rattle.std.proofs.Common.{◌≡◌, ℕ, ℤ, pos, Bool, true, false, not, List, [], ◌∷◌, ◌++◌, map, Option, Some, None, Result, Ok, Err, refl, sym, ap, subst, ◌∙◌, append-nil, append_assoc, arith}
+use Rattle.std.proofs.Common.{◌≡◌, ℕ, Bool, true, false, not, List, [], ◌∷◌, ◌++◌, map, Option, Some, None, Result, Ok, Err, refl, sym, ap, subst, ◌∙◌, append-nil, append_assoc, arith}
 use Rattle.std.specs.Prelude.{cond, length}
 use Rattle.std.specs.List.{fold}
 use Rattle.m2_rule.specs.declared.rule.Rule.TheVariants as rule
 use Rattle.m2_rule.specs.declared.breach.Breach.{Breach}
 use Rattle.m2_tree.specs.declared.pos.Pos.{Pos}
 use Rattle.m2_tree.specs.declared.name.Ident.{Ident}
-use Rattle.m2_tree.specs.declared.expr.Expr.{Expr, out-Expr}
-use Rattle.m2_tree.specs.declared.expr.Designator.{Designator}
+use Rattle.m2_tree.specs.declared.expr.Expr.{Expr}
 use Rattle.typed_tree.specs.declared.types.TypeNo.{TypeNo}
 use Rattle.typed_tree.specs.declared.computed.Argument.{Argument}
 use Rattle.typed_tree.specs.declared.computed.Argument.TheVariants as argument
 use Rattle.typed_tree.specs.declared.computed.Place.{Place}
 use Rattle.typed_tree.specs.declared.computed.Slot.{Slot}
 use Rattle.typed_tree.specs.declared.computed.TypedExpr.{TypedExpr}
-use Rattle.typed_tree.specs.declared.known_types.Types.{Types}
-use Rattle.typed_tree.specs.declared.meaning.Value.{Value as ConstantValue}
 use Rattle.typed_tree.specs.declared.meaning.Value.TheVariants as value
 use Rattle.typed_tree.specs.declared.shape.Formal.{Formal}
 use Rattle.typed_tree.specs.declared.shape.Shape.{Shape}
@@ -24,25 +21,24 @@ use Rattle.typed_tree.specs.Types.{are_same, char}
 use Rattle.check_scope.specs.declared.meaningless.Meaningless.{Meaningless}
 use Rattle.check_scope.specs.declared.meaningless.Meaningless.TheVariants as meaningless
 use Rattle.check_scope.specs.declared.scope.Scope.{Scope}
-use Rattle.check_scope.specs.Elaborated.{Gathers, both, of_heading, of_sort, ◌▷◌}
+use Rattle.check_scope.specs.Elaborated.{Gathers, of_heading, of_sort, ◌▷◌}
 use Rattle.check_operator.specs.declared.class.Class.{Class}
 use Rattle.check_operator.specs.declared.computed.Computed.{Computed}
 use Rattle.check_operator.specs.declared.computed.Computed.TheVariants as computed
 use Rattle.check_operator.specs.declared.computed.Designated.{Designated}
 use Rattle.check_operator.specs.declared.computed.Designated.TheVariants as designated
-use Rattle.check_operator.specs.Classes.{class_at}
 use Rattle.check_operator.specs.Suits.{value_suited}
 use Rattle.check_operator.specs.Values.{value_at_place}
-use Rattle.check_call.specs.Actuals.{elements_suit, variable_passed, open_passed, open_value, text_passed, text_argument, value_passed, passed_as, whole_passed, simple_passed, actual, with_argument, next_formal}
-use Rattle.check_expr.specs.Meanings.{Meant, meanings_of, value_of, value_standing, argument_by, with_actual, actuals}
+use Rattle.check_call.specs.Actuals.{elements_suit, variable_passed, open_passed, open_value, value_passed, passed_as, whole_passed, simple_passed, actual, with_argument, next_formal}
+use Rattle.check_expr.specs.Meanings.{meanings_of, value_standing, argument_by, with_actual, actuals}
 use Rattle.def_typing.specs.Parts.{Among, here, later}
 use Rattle.def_typing.specs.Shapes.{shape_at}
-use Rattle.def_typing.specs.Operators.{Kind, Scalar, Set, Text, Routine, Procedure, Whole, Untaken}
-use Rattle.def_typing.specs.Things.{Thing, AValue, AVariable, AnOpenArray, AType, AProcedure, ANested, AStandard, AModule, Standing, Taken, content, content_of}
+use Rattle.def_typing.specs.Operators.{Kind, Text, Whole}
+use Rattle.def_typing.specs.Things.{Thing, Standing, Taken, content, content_of}
 use Rattle.def_typing.specs.Functions.{variable_formal, open_variable_formal, value_formal, open_value_formal}
 use Rattle.def_typing.specs.Expressions.{Stands, Has, taken}
 use Rattle.law_typing.specs.Judging.{Judges}
-use Rattle.law_typing.specs.Exact.{Knows, Repeats, IsKind, kind_constant, IsThing, thing_value, thing_variable, thing_open, thing_type, thing_procedure, thing_nested, thing_standard, thing_module}
+use Rattle.law_typing.specs.Exact.{Knows, Repeats, IsKind, kind_constant, IsThing, thing_value, thing_variable, thing_open}
 use Rattle.law_typing.proofs.Combining.{Lawful, Decided, holds, fails_it, Finds, finds, finds_headless, finds_nothing}
 use Rattle.law_typing.proofs.Deciding.{same_decided}
 use Rattle.law_typing.proofs.Shaping.{class_is, class_of}
@@ -50,8 +46,8 @@ use Rattle.law_typing.proofs.Expressing.{expression_found}
 use Rattle.def_typed.specs.Named.{Named, Variable, OpenArray, Senses}
 use Rattle.def_typed.specs.Expressions as rules
 use Rattle.def_typed.specs.Expressions.{Designates, Gives, IsPassed, ArePassed}
-use Rattle.law_typed.specs.Typed.{IsOne, IsNamed, named_of, Grasps}
-use Rattle.law_typed.proofs.Meant.{IfMeant, meant, not_meant, if_as, if_also, if_then, if_right, if_where, if_reported, if_sorted, if_headed, if_equal}
+use Rattle.law_typed.specs.Typed.{IsOne, IsNamed, Grasps}
+use Rattle.law_typed.proofs.Meant.{IfMeant, meant, not_meant, if_as, if_also, if_then, if_where, if_reported, if_sorted, if_headed, if_equal}
 use Rattle.law_typed.proofs.Values.{IsCoded}
 use Rattle.law_typed.proofs.Designators.{given}
 

@@ -3,13 +3,12 @@ use Rattle.std.proofs.Common.{◌≡◌, ℕ, Bool, true, false, not, List, [], 
 use Rattle.std.specs.Prelude.{length, ◌==◌}
 use Rattle.std.proofs.lemmas.Bool.Decides.{nat_tests}
 use Rattle.m2_rule.specs.declared.rule.Rule.TheVariants as rule
-use Rattle.m2_rule.specs.declared.breach.Breach.{Breach}
 use Rattle.m2_tree.specs.declared.pos.Pos.{Pos}
 use Rattle.m2_tree.specs.declared.name.Ident.{Ident}
 use Rattle.m2_tree.specs.declared.expr.Expr.{Expr, Expr-F, out-Expr}
 use Rattle.m2_tree.specs.declared.expr.Expr.TheOpen as layer
 use Rattle.m2_tree.specs.declared.expr.Selector.{Selector}
-use Rattle.m2_tree.specs.declared.expr.Designator.{Designator, out-Designator}
+use Rattle.m2_tree.specs.declared.expr.Designator.{Designator}
 use Rattle.m2_tree.specs.declared.expr.Item.{Item}
 use Rattle.typed_tree.specs.declared.types.TypeNo.{TypeNo}
 use Rattle.typed_tree.specs.declared.computed.Argument.{Argument}
@@ -32,15 +31,15 @@ use Rattle.typed_tree.specs.Types.{is_numeric}
 use Rattle.check_scope.specs.declared.meaningless.Meaningless.{Meaningless}
 use Rattle.check_scope.specs.declared.meaningless.Meaningless.TheVariants as meaningless
 use Rattle.check_scope.specs.declared.scope.Scope.{Scope}
-use Rattle.check_scope.specs.Elaborated.{Gathers, both, report, reported_where, of_heading, of_sort, ahead, reported_beside, ◌▷◌}
+use Rattle.check_scope.specs.Elaborated.{Gathers, reported_where, ahead, reported_beside, ◌▷◌}
 use Rattle.check_operator.specs.declared.class.Class.{Class}
 use Rattle.check_operator.specs.declared.class.Class.TheVariants as class
 use Rattle.check_operator.specs.declared.computed.Computed.{Computed}
 use Rattle.check_operator.specs.declared.computed.Computed.TheVariants as computed
 use Rattle.check_operator.specs.declared.computed.Designated.{Designated}
 use Rattle.check_operator.specs.declared.computed.Designated.TheVariants as designated
-use Rattle.check_operator.specs.Classes.{class_at, signature_at}
-use Rattle.check_operator.specs.Values.{function_result, given_as}
+use Rattle.check_operator.specs.Classes.{class_at}
+use Rattle.check_operator.specs.Values.{given_as}
 use Rattle.check_call.specs.declared.callee.Callee.{Callee}
 use Rattle.check_call.specs.declared.callee.Callee.TheVariants as callee
 use Rattle.check_call.specs.declared.callee.Called.TheVariants as called
@@ -50,17 +49,17 @@ use Rattle.check_const.specs.Calls.{scalar_type, unary_of}
 use Rattle.check_call.specs.declared.standard.Unary.{Unary}
 use Rattle.check_call.specs.declared.standard.Unary.TheVariants as unary
 use Rattle.check_call.specs.Functions.{unary_at, unary_built, unary_takes, bound_at, type_named, converted_value, high_of}
-use Rattle.check_expr.specs.Meanings.{Meant, meanings_of, head, value_of, actuals, formals_of, call_given, callee_value, breaches_in_all, wrong_count, unary, bound, conversion, high, scalar_named, call_in_expression}
+use Rattle.check_expr.specs.Meanings.{meanings_of, head, value_of, actuals, formals_of, call_given, callee_value, breaches_in_all, wrong_count, unary, bound, conversion, high, scalar_named, call_in_expression}
 use Rattle.def_typing.specs.Parts.{Among, here, later}
 use Rattle.def_typing.specs.Shapes.{IsMade}
 use Rattle.def_typing.specs.Amounts.{Value}
 use Rattle.def_typing.specs.Operators.{◌!◌, Kind, Scalar}
-use Rattle.def_typing.specs.Things.{Thing, AValue, AVariable, AType, AProcedure, ANested, AStandard, Standing}
+use Rattle.def_typing.specs.Things.{Thing, AType, AStandard, Standing}
 use Rattle.def_typing.specs.Functions as functions
 use Rattle.def_typing.specs.Functions.{IsOfOne}
 use Rattle.def_typing.specs.Expressions.{Stands, Has, Denotes}
 use Rattle.law_typing.specs.Judging.{Judges}
-use Rattle.law_typing.specs.Exact.{Knows, IsKind, kind_constant, kind_scalar, kind_set, kind_routine, kind_procedure, kind_whole, kind_untaken, IsThing, thing_value, thing_variable, thing_open, thing_type, thing_procedure, thing_nested, thing_standard, thing_module}
+use Rattle.law_typing.specs.Exact.{Knows, IsKind, kind_scalar, IsThing, thing_variable, thing_type, thing_procedure, thing_nested, thing_standard}
 use Rattle.law_typing.proofs.Combining.{Lawful}
 use Rattle.law_typing.proofs.Shaping.{one_signature, SignatureIs, has_signature, no_signature, signature_there}
 use Rattle.law_typing.proofs.Expressing.{designator_found}
@@ -69,7 +68,7 @@ use Rattle.def_typed.specs.Coded as coded
 use Rattle.def_typed.specs.Coded.{Applied}
 use Rattle.def_typed.specs.Expressions as rules
 use Rattle.def_typed.specs.Expressions.{Names, Computes, HasCode, Calls, ArePassed}
-use Rattle.law_typed.specs.Typed.{IsOne, IsNamed, code_of, named_of, Grasps}
+use Rattle.law_typed.specs.Typed.{IsOne, IsNamed, code_of, Grasps}
 use Rattle.law_typed.proofs.Meant.{IfMeant, meant, not_meant, if_as, if_also, if_then, if_both, if_where, if_reported, if_sorted}
 use Rattle.law_typed.proofs.Operators.{Coded, coded_as, constant_coded}
 use Rattle.law_typed.proofs.Values.{IsCoded, IsValue, value_is, coded_by}
@@ -150,7 +149,7 @@ module _ (g : Gathers) (j : Judges g) (lawful : Lawful g j) (names : Ident → S
   ahead_refused r (Ok u) f = not_meant r
   ahead_refused r (Err q) f = not_meant (g.join r q)
 
-  length_is : (a b : ℕ) → not (a == b) ≡ false → a ≡ b
+  pub length_is : (a b : ℕ) → not (a == b) ≡ false → a ≡ b
   length_is a b e = same a b (not_not (a == b) e)
     where
       not_not : (c : Bool) → not c ≡ false → c ≡ true
@@ -166,7 +165,7 @@ module _ (g : Gathers) (j : Judges g) (lawful : Lawful g j) (names : Ident → S
   result_code class.Procedure t e z q = cc q
   result_code class.Whole t e z q = absurd cc
 
-  map_length : (args : List Expr) → length (map (meanings_of g) args) ≡ length args
+  pub map_length : (args : List Expr) → length (map (meanings_of g) args) ≡ length args
   map_length [] = refl
   map_length (e ∷ es) = grind (arith, map_length es)
 

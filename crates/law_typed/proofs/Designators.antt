@@ -1,5 +1,5 @@
 -- What designators name, and values at places that ask for a type.
-use Rattle.std.proofs.Common.{◌≡◌, ℕ, ℤ, pos, false, not, List, [], ◌∷◌, map, Option, Some, None, Result, Ok, Err, refl, sym, ap, subst, ◌∙◌}
+use Rattle.std.proofs.Common.{◌≡◌, ℕ, not, List, [], ◌∷◌, map, Option, Some, None, Result, Ok, Err, refl, sym, ap, subst, ◌∙◌}
 use Rattle.std.specs.Prelude.{slice_get}
 use Rattle.std.specs.Option.{option_map}
 use Rattle.std.specs.List.{fold}
@@ -7,7 +7,7 @@ use Rattle.m2_rule.specs.declared.rule.Rule.{Rule}
 use Rattle.m2_rule.specs.declared.rule.Rule.TheVariants as rule
 use Rattle.m2_tree.specs.declared.pos.Pos.{Pos}
 use Rattle.m2_tree.specs.declared.name.Ident.{Ident}
-use Rattle.m2_tree.specs.declared.expr.Expr.{Expr, out-Expr}
+use Rattle.m2_tree.specs.declared.expr.Expr.{Expr}
 use Rattle.m2_tree.specs.declared.expr.Expr.TheOpen as layer
 use Rattle.m2_tree.specs.declared.expr.Selector.{Selector, Selector-F, out-Selector}
 use Rattle.m2_tree.specs.declared.expr.Designator.{Designator, out-Designator}
@@ -16,13 +16,13 @@ use Rattle.typed_tree.specs.declared.types.TypeNo.{TypeNo}
 use Rattle.typed_tree.specs.declared.computed.Component.TheVariants as part
 use Rattle.typed_tree.specs.declared.computed.Place.{Place}
 use Rattle.typed_tree.specs.declared.computed.Root.TheVariants as root
-use Rattle.typed_tree.specs.declared.computed.Slot.{Slot}
 use Rattle.typed_tree.specs.declared.computed.TypedExpr.{TypedExpr}
 use Rattle.typed_tree.specs.declared.known_types.Types.{Types}
 use Rattle.typed_tree.specs.declared.meaning.LocalKind.{LocalKind}
 use Rattle.typed_tree.specs.declared.meaning.LocalKind.TheVariants as kind
 use Rattle.typed_tree.specs.declared.meaning.LocalVariable.{LocalVariable}
 use Rattle.typed_tree.specs.declared.meaning.Meaning.{Meaning}
+use Rattle.typed_tree.specs.declared.meaning.Value.{Value as ConstantValue}
 use Rattle.typed_tree.specs.declared.meaning.Meaning.TheVariants as meaning
 use Rattle.typed_tree.specs.declared.shape.Shape.{Shape}
 use Rattle.typed_tree.specs.declared.shape.Shape.TheVariants as shape
@@ -32,24 +32,24 @@ use Rattle.typed_tree.specs.Types.{cardinal}
 use Rattle.check_scope.specs.declared.meaningless.Meaningless.{Meaningless}
 use Rattle.check_scope.specs.declared.meaningless.Meaningless.TheVariants as meaningless
 use Rattle.check_scope.specs.declared.scope.Scope.{Scope}
-use Rattle.check_scope.specs.Elaborated.{Gathers, both, plain, ◌▷◌}
+use Rattle.check_scope.specs.Elaborated.{Gathers, ◌▷◌}
 use Rattle.check_scope.specs.Scopes.{looked_up, fields_at}
 use Rattle.check_const.specs.Denote.{exported_by, export_of, exported_meaning}
 use Rattle.check_const_ops.specs.Numbers.{is_between}
 use Rattle.check_operator.specs.declared.class.Class.{Class}
 use Rattle.check_operator.specs.declared.class.Class.TheVariants as class
 use Rattle.check_operator.specs.declared.computed.Computed.{Computed}
+use Rattle.check_operator.specs.declared.computed.Computed.TheVariants as values
 use Rattle.check_operator.specs.declared.computed.Designated.{Designated}
 use Rattle.check_operator.specs.declared.computed.Designated.TheVariants as designated
 use Rattle.check_operator.specs.declared.side.Side.{Side}
 use Rattle.check_operator.specs.declared.select.Subscripted.{Subscripted}
 use Rattle.check_operator.specs.declared.select.Subscripted.TheVariants as indexes
-use Rattle.check_operator.specs.Classes.{class_at, array_at}
-use Rattle.check_operator.specs.Selection.{component, record_field, field_named, numbered_field, typed_field, indices, array_indexed, index_type, element_of_array, with_index, element_at_index}
-use Rattle.check_operator.specs.Sides.{side_of}
+use Rattle.check_operator.specs.Classes.{class_at}
+use Rattle.check_operator.specs.Selection.{component, record_field, field_named, typed_field, indices, array_indexed, element_of_array, element_at_index}
 use Rattle.check_operator.specs.Suits.{sort_suits, value_suited, value_in}
 use Rattle.check_operator.specs.Values.{designated_by, local_by}
-use Rattle.check_expr.specs.Meanings.{Meant, Picks, meanings_of, picks, head, value_of, first_name, name_in_module, field_of, field_at, index_at, designation}
+use Rattle.check_expr.specs.Meanings.{Meant, Picks, meanings_of, picks, head, value_of, first_name, name_in_module, field_of, field_at, index_at}
 use Rattle.def_typing.specs.Shapes.{IsMade, shape_at}
 use Rattle.def_typing.specs.Operators.{◌!◌, Kind, operand}
 use Rattle.def_typing.specs.Parts.{Among, here, later}
@@ -59,15 +59,17 @@ use Rattle.law_typing.specs.Exact.{Knows, IsKind}
 use Rattle.law_typing.proofs.Combining.{Lawful}
 use Rattle.law_typing.proofs.Shaping.{fields_is, fields_of, array_is, array_of, one_made}
 use Rattle.law_typing.proofs.Places.{picks_is, head_is}
-use Rattle.law_typing.proofs.Trees.{AreSelectorTrees, no_selector, a_field, an_index}
 use Rattle.def_typed.specs.Named.{Named, Variable, OpenArray, Module, named, named_by, local_named, Senses}
 use Rattle.def_typed.specs.Coded.{At, constant, constant_set, computed as run}
 use Rattle.def_typed.specs.Expressions as rules
 use Rattle.def_typed.specs.Expressions.{Names, Leads, Selects, Gives, HasCode}
 use Rattle.law_typed.specs.Typed.{IsOne, IsNamed, code_of, named_of, Grasps}
-use Rattle.law_typed.proofs.Meant.{IfMeant, meant, not_meant, if_as, if_then, if_right, if_second, if_left, if_where, if_reported, if_plain, by_equal}
+use Rattle.law_typed.proofs.Meant.{IfMeant, meant, not_meant, if_as, if_then, if_both, if_second, if_left, if_where, if_reported, if_plain, by_equal}
 use Rattle.law_typed.proofs.Operators.{SideIs, side_known, side_run, side_bits, side_set, side_routine, side_procedure, no_side, side_is, at_one}
 use Rattle.law_typed.proofs.Values.{IsCoded, IsValue, value_is}
+
+pub data IsConstant : Computed → Type 0 where
+  is_constant : (v : ConstantValue) → IsConstant (values.Constant v)
 
 -- ---- values at a type
 
@@ -345,3 +347,66 @@ module _ (g : Gathers) (j : Judges g) (lawful : Lawful g j) (names : Ident → S
       by_first : {r : Result Designated (Meaningless g.Reported)} → IfMeant (λ x. named_of x ≡ Called (out-Designator d).name) r → IfMeant (IsNamed (Names s.types names exports senses d)) (fold picked r (out-Designator d).selectors)
       by_first (meant x e) = if_as (λ y a. ended x y e a) (all_behind x (out-Designator d).selectors h)
       by_first (not_meant q) = if_refused (all_refused (out-Designator d).selectors (is_refused q))
+
+  -- ---- constants
+
+  -- A designator that is a value is a constant.
+  abbrev pub IsCodeless : Designated → Type 0
+  IsCodeless (designated.Value v) = IsConstant v
+  IsCodeless other = Unit {0}
+
+  codeless_meaning : (at : Pos) (m : Meaning) → IfMeant IsCodeless (designated_by g s.level at m)
+  codeless_meaning at (meaning.Constant v) = meant _ (is_constant v)
+  codeless_meaning at (meaning.Type t n) = meant _ tt
+  codeless_meaning at (meaning.Variable v) = meant _ tt
+  codeless_meaning at (meaning.Local v) = meant _ (by_kind v.kind)
+    where
+      by_kind : (k : LocalKind) → IsCodeless (local_by s.level v k)
+      by_kind kind.Variable = tt
+      by_kind kind.Value = tt
+      by_kind kind.Alias = tt
+      by_kind kind.Open = tt
+  codeless_meaning at (meaning.Field f) = meant _ tt
+  codeless_meaning at (meaning.Procedure p) = meant _ tt
+  codeless_meaning at (meaning.LocalProcedure p) = meant _ tt
+  codeless_meaning at meaning.Ahead = not_meant _
+  codeless_meaning at (meaning.Standard f) = meant _ tt
+  codeless_meaning at (meaning.Module k) = meant _ tt
+
+  codeless_component : (t : TypeNo) (p : Place) (r : Result (ℕ × TypeNo) g.Reported) → IfMeant IsCodeless (r ▷ λ f. Ok (designated.Variable f.1 (behind p (part.Field t f.0))))
+  codeless_component t p (Ok f) = meant _ tt
+  codeless_component t p (Err r) = not_meant r
+
+  codeless_export : (at : Pos) (r : Result Meaning g.Reported) → IfMeant IsCodeless (r ▷ designated_by g s.level at)
+  codeless_export at (Ok m) = codeless_meaning at m
+  codeless_export at (Err r) = not_meant r
+
+  codeless_field : (x : Designated) (at : Pos) (name : Ident) → IfMeant IsCodeless (field_of g s at name x)
+  codeless_field (designated.Module k) at name = codeless_export name.pos (exported_meaning g s.tables k name)
+  codeless_field (designated.Variable t p) at name = codeless_component t p (record_field g at name (fields_at s.types t))
+  codeless_field (designated.Value v) at name = if_reported g at rule.WrongType
+  codeless_field (designated.Open t u) at name = if_reported g at rule.WrongType
+  codeless_field (designated.Type t) at name = if_reported g at rule.WrongType
+  codeless_field (designated.Procedure p) at name = if_reported g at rule.WrongType
+  codeless_field (designated.Nested p) at name = if_reported g at rule.WrongType
+  codeless_field (designated.Standard p) at name = if_reported g at rule.WrongType
+
+  codeless_element : (at' : Pos) (a : Result Subscripted g.Reported) (v : Result Computed g.Reported) → IfMeant IsCodeless (element_at_index g s.types a at' v)
+  codeless_element at' a v = if_then (if_both g {P = λ x. Unit {0}} {Q = λ x. Unit {0}} (by_equal a (λ x e. tt)) (by_equal v (λ x e. tt))) (λ p u. if_then {P = λ x. Unit {0}} (by_equal _ (λ x e. tt)) (λ z w. meant _ (of_array z p.0)))
+    where
+      of_array : (z : TypedExpr) (a : Subscripted) → IsCodeless (element_of_array z a)
+      of_array z (indexes.Array t i u p) = tt
+      of_array z (indexes.Open t u) = tt
+
+  codeless_pick : (x : Designated) (y : Selector) (l : Selector-F Expr Selector Designator Item) → out-Selector y ≡ l → IfMeant IsCodeless ((picks g y).picks s (Ok x))
+  codeless_pick x y (layer.Field at name) q = subst (IfMeant IsCodeless) (sym (ap (λ (m : Picks g.Reported). m.picks s (Ok x)) (picks_is g y (layer.Field at name) q))) (if_plain (codeless_field x at name))
+  codeless_pick x y (layer.Index at e) q = subst (IfMeant IsCodeless) (sym (ap (λ (m : Picks g.Reported). m.picks s (Ok x)) (picks_is g y (layer.Index at e) q))) (if_plain (codeless_element _ (indices g s.types at x) (value_of g s (meanings_of g e))))
+
+  codeless_all : (ss : List Selector) {d : Result Designated (Meaningless g.Reported)} → IfMeant IsCodeless d → IfMeant IsCodeless (fold picked d ss)
+  codeless_all [] h = h
+  codeless_all (y ∷ ys) (meant x h) = codeless_all ys (codeless_pick x y (out-Selector y) refl)
+  codeless_all (y ∷ ys) (not_meant r) = if_refused (all_refused (y ∷ ys) (is_refused r))
+
+  pub head_codeless : (d : Designator) → IfMeant IsCodeless ((head g d).means s)
+  head_codeless d = subst (IfMeant IsCodeless) (sym (ap (λ (m : Meant g.Reported). m.means s) (head_is g d) ∙ fold_picks (out-Designator d).selectors (first_name g s (out-Designator d).name)))
+      (codeless_all (out-Designator d).selectors (if_then {P = λ m. Unit {0}} (by_equal (looked_up g s (out-Designator d).name) (λ m e. tt)) (λ m u. if_plain (codeless_meaning (out-Designator d).name.pos m))))

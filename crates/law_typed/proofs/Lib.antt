@@ -4,3 +4,11 @@ pub mod Values
 pub mod Designators
 pub mod Arguments
 pub mod Calls
+pub mod Expressions
+pub mod Assigning
+pub mod Measuring
+pub mod Acting
+pub mod Looping
+pub mod Labels
+pub mod Inside
+pub mod Statements

@@ -1,5 +1,5 @@
 -- Operators on values, as they stand in a typed tree.
-use Rattle.std.proofs.Common.{◌≡◌, ℕ, ℤ, pos, Bool, true, false, not, List, [], ◌∷◌, Option, Some, None, Result, Ok, Err, refl, sym, ap, subst, ◌∙◌}
+use Rattle.std.proofs.Common.{◌≡◌, ℕ, pos, Bool, false, not, List, [], ◌∷◌, Option, Some, None, Result, Ok, Err, refl, sym, ap, subst, ◌∙◌}
 use Rattle.std.specs.Prelude.{◌&&◌}
 use Rattle.m2_rule.specs.declared.rule.Rule.TheVariants as rule
 use Rattle.m2_tree.specs.declared.pos.Pos.{Pos}
@@ -17,15 +17,13 @@ use Rattle.typed_tree.specs.declared.meaning.Procedure.{Procedure as ModuleProce
 use Rattle.typed_tree.specs.declared.meaning.Value.{Value as ConstantValue}
 use Rattle.typed_tree.specs.declared.meaning.Value.TheVariants as value
 use Rattle.typed_tree.specs.Chains.{link_operand}
-use Rattle.typed_tree.specs.Types.{bitset, boolean, are_same}
-use Rattle.check_scope.specs.Elaborated.{Gathers, report, reported_where, ◌▷◌}
+use Rattle.typed_tree.specs.Types.{bitset, boolean}
+use Rattle.check_scope.specs.Elaborated.{Gathers, report}
 use Rattle.check_const_ops.specs.declared.operand.Ordinal.{Ordinal}
 use Rattle.check_const_ops.specs.declared.operand.Operand.{Operand}
-use Rattle.check_const_ops.specs.declared.operand.Operand.TheVariants as operands
 use Rattle.check_const_ops.specs.declared.operator.BinaryOp.{BinaryOp}
 use Rattle.check_const_ops.specs.declared.operator.BinaryOp.TheVariants.{Plus, Minus, Times, Over, Div, Mod, And, Or, Relation}
 use Rattle.check_const_ops.specs.Operands.{is_number}
-use Rattle.check_const_ops.specs.Common.{common}
 use Rattle.check_const_ops.specs.Operate.{binary, takes}
 
 use Rattle.check_operator.specs.declared.computed.Computed.{Computed}
@@ -38,7 +36,6 @@ use Rattle.check_operator.specs.declared.operate.Step.{Step}
 use Rattle.check_operator.specs.declared.operate.Step.TheVariants as step
 use Rattle.check_operator.specs.declared.operate.SetStep.{SetStep}
 use Rattle.check_operator.specs.declared.operate.SetStep.TheVariants as set_step
-use Rattle.check_operator.specs.Agreement.{headings_agree}
 use Rattle.check_operator.specs.Sides as sides
 use Rattle.check_operator.specs.Sides.{side_of, known_of, run_of}
 use Rattle.check_operator.specs.Operations as elaborated
@@ -46,7 +43,7 @@ use Rattle.check_operator.specs.Operations.{step_of, set_step_of, equality_of, i
 use Rattle.def_typing.specs.Shapes.{Agree}
 use Rattle.def_typing.specs.Amounts as k
 use Rattle.def_typing.specs.Amounts.{Amount, Constant, Value, GoTogether}
-use Rattle.def_typing.specs.Operators.{Kind, Scalar, Set, Text, Routine, Procedure, Whole, Untaken, operand, AreRoutines, of_one_type, with_procedure, procedure_with}
+use Rattle.def_typing.specs.Operators.{Kind, Scalar, Set, Text, Routine, Procedure, operand, AreRoutines, of_one_type, with_procedure, procedure_with}
 use Rattle.law_typing.specs.Exact.{IsKind, kind_constant, kind_scalar, kind_set, kind_routine, kind_procedure, kind_whole, kind_untaken}
 use Rattle.law_typing.proofs.Combining.{Decided, holds, fails_it, decided_as}
 use Rattle.law_typing.proofs.Deciding.{TogetherIs, together, apart, common_is, truth_decided, same_decided}

@@ -1,9 +1,7 @@
 -- Expressions that are made of others by operators, and the code of values.
-use Rattle.std.proofs.Common.{◌≡◌, ℕ, List, [], ◌∷◌, map, Option, Some, None, Result, Ok, Err, refl, sym, ap, subst, ◌∙◌}
-use Rattle.std.specs.Prelude.{slice_get}
+use Rattle.std.proofs.Common.{◌≡◌, ℕ, List, [], ◌∷◌, Option, Some, None, Result, Ok, Err, refl, sym, ap, subst, ◌∙◌}
 use Rattle.std.specs.List.{fold}
 use Rattle.m2_rule.specs.declared.rule.Rule.TheVariants as rule
-use Rattle.m2_rule.specs.declared.breach.Breach.{Breach}
 use Rattle.m2_tree.specs.declared.pos.Pos.{Pos}
 use Rattle.m2_tree.specs.declared.name.Ident.{Ident}
 use Rattle.m2_tree.specs.declared.expr.MulOp.{MulOp}
@@ -33,16 +31,16 @@ use Rattle.check_operator.specs.declared.computed.Computed.{Computed}
 use Rattle.check_operator.specs.declared.computed.Computed.TheVariants as computed
 use Rattle.check_operator.specs.declared.computed.Designated.{Designated}
 use Rattle.check_operator.specs.declared.computed.Designated.TheVariants as designated
-use Rattle.check_operator.specs.Operations.{operation_between, operation_on, of_value}
+use Rattle.check_operator.specs.Operations.{operation_on, of_value}
 use Rattle.check_operator.specs.Signs as signs
 use Rattle.check_operator.specs.Signs.{with_sign, negation}
-use Rattle.check_expr.specs.Meanings.{Meant, meanings_of, head, value_of, value_standing, of_computed, expr_layer}
+use Rattle.check_expr.specs.Meanings.{Meant, meanings_of, value_of, value_standing, of_computed, expr_layer}
 use Rattle.def_typing.specs.Parts.{Operand, Among, here, later, factors, addends, first}
-use Rattle.def_typing.specs.Amounts.{Amount, Constant, Value}
-use Rattle.def_typing.specs.Operators.{Kind, Scalar, Set, Text, Routine, Procedure, Whole, Untaken, operand, Makes, SignMakes, Negates}
+use Rattle.def_typing.specs.Amounts.{Value}
+use Rattle.def_typing.specs.Operators.{Kind, Scalar, operand, Makes, SignMakes}
 use Rattle.def_typing.specs.Things.{Standing}
 use Rattle.def_typing.specs.Expressions.{Has}
-use Rattle.law_typing.specs.Judging.{Judges, Answers}
+use Rattle.law_typing.specs.Judging.{Judges}
 use Rattle.law_typing.specs.Exact.{Knows, kind_of, IsKind, kind_constant, kind_scalar, kind_set, kind_routine, kind_procedure, kind_whole, kind_untaken}
 use Rattle.law_typing.proofs.Combining.{Lawful}
 use Rattle.law_typing.proofs.Joining.{operated_answers}
@@ -53,7 +51,7 @@ use Rattle.def_typed.specs.Named.{Senses}
 use Rattle.def_typed.specs.Coded.{HasNoCode, Operates, Codes, constant_result, computed_result, Signed, constant_signed, plus, minus}
 use Rattle.def_typed.specs.Expressions as rules
 use Rattle.def_typed.specs.Expressions.{Computes, HasCode, no_code, a_code, Chains}
-use Rattle.law_typed.specs.Typed.{IsOne, code_of, Grasps}
+use Rattle.law_typed.specs.Typed.{IsOne, code_of}
 use Rattle.law_typed.proofs.Meant.{IfMeant, meant, not_meant, if_as, if_also, if_then, if_both, if_right, if_where, if_reported, IsExactly, of_answers}
 use Rattle.law_typed.proofs.Operators.{Coded, coded_as, constant_coded, operated_coded}
 

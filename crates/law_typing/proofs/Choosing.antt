@@ -33,10 +33,10 @@ use Rattle.law_typing.proofs.Combining.{Lawful, Checks, passes, stops, more_chec
 use Rattle.law_typing.proofs.Twice.{behind, Keeps, keeps_none, labels_check, labels_join, labels_split, broken_join, broken_split}
 
 module _ (g : Gathers) where
-  abbrev opened_arm : Arm-F Rest Stmt Arm → Arm-F (ElaboratesRest g.Reported) (Elaborates g.Reported) (ElaboratesArm g.Reported)
+  abbrev pub opened_arm : Arm-F Rest Stmt Arm → Arm-F (ElaboratesRest g.Reported) (Elaborates g.Reported) (ElaboratesArm g.Reported)
   opened_arm x = map-Arm Rest Stmt Arm (ElaboratesRest g.Reported) (Elaborates g.Reported) (ElaboratesArm g.Reported) (rest g) (stmt g) (arm g) x
 
-  arm_is : (x : Arm) → arm g x ≡ arm_layer g (opened_arm (out-Arm x))
+  pub arm_is : (x : Arm) → arm g x ≡ arm_layer g (opened_arm (out-Arm x))
   unfolding stmt rest arm
   arm_is x = fold_out-Arm (ElaboratesRest g.Reported) (Elaborates g.Reported) (ElaboratesArm g.Reported) (rest_layer g) (stmt_layer g) (arm_layer g) x
 

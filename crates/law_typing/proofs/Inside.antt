@@ -39,7 +39,7 @@ or_three : {A : Type 0} (o p q : Option A) → or_outside (or_outside o p) q ≡
 or_three None p q = refl
 or_three (Some a) p q = refl
 
-last_opened : (types : Types) (name : List ℕ) (xs : List OpenedRecord) (r : OpenedRecord) → opened_field types name (xs ++ r ∷ []) ≡ or_outside (field_in types name r) (opened_field types name xs)
+pub last_opened : (types : Types) (name : List ℕ) (xs : List OpenedRecord) (r : OpenedRecord) → opened_field types name (xs ++ r ∷ []) ≡ or_outside (field_in types name r) (opened_field types name xs)
 last_opened types name [] r = sym (or_none (field_in types name r))
 last_opened types name (x ∷ xs) r = ap (λ (o : Option OpenedField). or_outside o (field_in types name x)) (last_opened types name xs r) ∙ or_three (field_in types name r) (opened_field types name xs) (field_in types name x)
 

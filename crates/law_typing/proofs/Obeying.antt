@@ -66,17 +66,17 @@ use Rattle.law_typing.proofs.Choosing.{BodySo, case_checks}
 -- ---- by layers
 
 module _ (g : Gathers) where
-  abbrev opened_stmt : Stmt-F Rest Stmt Arm → Stmt-F (ElaboratesRest g.Reported) (Elaborates g.Reported) (ElaboratesArm g.Reported)
+  abbrev pub opened_stmt : Stmt-F Rest Stmt Arm → Stmt-F (ElaboratesRest g.Reported) (Elaborates g.Reported) (ElaboratesArm g.Reported)
   opened_stmt x = map-Stmt Rest Stmt Arm (ElaboratesRest g.Reported) (Elaborates g.Reported) (ElaboratesArm g.Reported) (rest g) (stmt g) (arm g) x
 
-  abbrev opened_rest : Rest-F Rest Stmt Arm → Rest-F (ElaboratesRest g.Reported) (Elaborates g.Reported) (ElaboratesArm g.Reported)
+  abbrev pub opened_rest : Rest-F Rest Stmt Arm → Rest-F (ElaboratesRest g.Reported) (Elaborates g.Reported) (ElaboratesArm g.Reported)
   opened_rest x = map-Rest Rest Stmt Arm (ElaboratesRest g.Reported) (Elaborates g.Reported) (ElaboratesArm g.Reported) (rest g) (stmt g) (arm g) x
 
-  stmt_is : (x : Stmt) (y : Stmt-F Rest Stmt Arm) → out-Stmt x ≡ y → stmt g x ≡ stmt_layer g (opened_stmt y)
+  pub stmt_is : (x : Stmt) (y : Stmt-F Rest Stmt Arm) → out-Stmt x ≡ y → stmt g x ≡ stmt_layer g (opened_stmt y)
   unfolding stmt rest arm
   stmt_is x y h = fold_out-Stmt (ElaboratesRest g.Reported) (Elaborates g.Reported) (ElaboratesArm g.Reported) (rest_layer g) (stmt_layer g) (arm_layer g) x ∙ ap (λ (y : Stmt-F Rest Stmt Arm). stmt_layer g (opened_stmt y)) h
 
-  rest_is : (x : Rest) (y : Rest-F Rest Stmt Arm) → out-Rest x ≡ y → rest g x ≡ rest_layer g (opened_rest y)
+  pub rest_is : (x : Rest) (y : Rest-F Rest Stmt Arm) → out-Rest x ≡ y → rest g x ≡ rest_layer g (opened_rest y)
   unfolding stmt rest arm
   rest_is x y h = fold_out-Rest (ElaboratesRest g.Reported) (Elaborates g.Reported) (ElaboratesArm g.Reported) (rest_layer g) (stmt_layer g) (arm_layer g) x ∙ ap (λ (y : Rest-F Rest Stmt Arm). rest_layer g (opened_rest y)) h
 

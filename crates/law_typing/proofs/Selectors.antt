@@ -34,11 +34,11 @@ number_in : (n : ℤ) (b : Bool) → int_lt n (pos 0) ≡ b → SelectsIn (Const
 number_in n true e = negative e
 number_in n false e = not_negative e
 
-constant_in : (n : ℤ) (sort : Option TypeNo) → SelectsIn (Constant sort n) (type_of_number n sort)
+pub constant_in : (n : ℤ) (sort : Option TypeNo) → SelectsIn (Constant sort n) (type_of_number n sort)
 constant_in n None = number_in n (int_lt n (pos 0)) refl
 constant_in n (Some t) = constant_type
 
-one_base : {a : Amount} {t u : TypeNo} → SelectsIn a t → SelectsIn a u → u ≡ t
+pub one_base : {a : Amount} {t u : TypeNo} → SelectsIn a t → SelectsIn a u → u ≡ t
 one_base constant_type constant_type = refl
 one_base value_type value_type = refl
 one_base (negative e) (negative h) = refl
