@@ -33,7 +33,7 @@ use Rattle.check_block.specs.Headings.{name_standing, with_heading}
 use Rattle.def_typing.specs.Parts.{Among}
 use Rattle.def_typing.specs.Declarations.{Declaration, OfConstant, OfType, OfVariables, OfProcedure, declared_by, declarations_of}
 use Rattle.def_typed.specs.Numbers.{variables_by, variables_in}
-use Rattle.law_numbers.proofs.Walking.{begun_all, type_of_keeps, constants_stay, types_stay, heading_stays}
+use Rattle.law_numbers.proofs.Walking.{IsEntered, begun_all, type_of_keeps, constants_stay, types_stay, heading_stays}
 use Rattle.law_numbers.proofs.Variables as vars
 use Rattle.law_numbers.proofs.Variables.{beside_first, beside_second, type_there, Entry, first_fine, all_begun, Distinct}
 
@@ -84,11 +84,11 @@ module _ (g : Gathers) (home level : ℕ) where
     placed_as : {s t : S} → t.types.home ≡ s.types.home → t.level ≡ s.level → (vars.IsCounted g V fixed base vs s → vars.IsCounted g V fixed base vs t) → P s → P t
     placed_as eh el h p = record { of_home = eh ∙ p.of_home; of_level = el ∙ p.of_level; counted = h p.counted }
 
-    free : (s : S) (name : List ℕ) (k : Known g.Reported) → is_free (find_name name s.own) ≡ true → P s → P (with_known name k s)
-    free s name k e p = placed_as refl refl (vars.counted_free g V fixed base vs s name k e) p
+    free : (s : S) (name : List ℕ) (k : Known g.Reported) → IsEntered k → is_free (find_name name s.own) ≡ true → P s → P (with_known name k s)
+    free s name k i e p = placed_as refl refl (vars.counted_free g V fixed base vs s name k e) p
 
-    begun : (s : S) (name : List ℕ) (k : Known g.Reported) → is_begun (find_name name s.own) ≡ true → P s → P (with_known name k s)
-    begun s name k e p = placed_as refl refl (vars.counted_begun g V fixed base vs s name k e) p
+    begun : (s : S) (name : List ℕ) (k : Known g.Reported) → IsEntered k → is_begun (find_name name s.own) ≡ true → P s → P (with_known name k s)
+    begun s name k i e p = placed_as refl refl (vars.counted_begun g V fixed base vs s name k e) p
 
     waiting : (s : S) (name : List ℕ) (q : ModuleProcedure) (k : Known g.Reported) → name_standing (find_name name s.own) ≡ Awaited q → P s → P (with_known name k s)
     waiting s name q k e p = placed_as refl refl (vars.counted_awaited g V fixed base vs s name q k e) p
@@ -131,7 +131,7 @@ module _ (g : Gathers) (home level : ℕ) where
 
   -- names that are begun stay so while a type is read
   begun_behind : (xs : List Ident) (v : Variables) (s : S) → ((x : Ident) → Among x xs → Entry s x.name Begun) → (x : Ident) → Among x xs → Entry (type_of g v.of s).0 x.name Begun
-  begun_behind xs v s h x m = type_of_keeps g (λ t. Entry t x.name Begun) (λ t name k e q. vars.free_beside g x.name Begun refl t name k e q) (λ t d q. q) v.of s (h x m)
+  begun_behind xs v s h x m = type_of_keeps g (λ t. Entry t x.name Begun) (λ t name k i e q. vars.free_beside g x.name Begun refl t name k e q) (λ t d q. q) v.of s (h x m)
 
   module _ (base : ℕ) (vs : List Ident) where
     -- by what a list of variables does with a type that is there

@@ -1,3 +1,4 @@
 pub mod Walking
 pub mod Variables
 pub mod Declaring
+pub mod Headings

@@ -90,10 +90,10 @@ module _ (g : Gathers) where
   pub free_beside : (n : List ℕ) (l : Known g.Reported) → is_free (Some l) ≡ false → (s : S) (name : List ℕ) (k : Known g.Reported) → is_free (find_name name s.own) ≡ true → Entry s n l → Entry (with_known name k s) n l
   free_beside n l f s name k e h = entered_beside s name n k l (λ o. is_free o ≡ true) e (λ q. clash q f) h
 
-  begun_beside : (n : List ℕ) (l : Known g.Reported) → is_begun (Some l) ≡ false → (s : S) (name : List ℕ) (k : Known g.Reported) → is_begun (find_name name s.own) ≡ true → Entry s n l → Entry (with_known name k s) n l
+  pub begun_beside : (n : List ℕ) (l : Known g.Reported) → is_begun (Some l) ≡ false → (s : S) (name : List ℕ) (k : Known g.Reported) → is_begun (find_name name s.own) ≡ true → Entry s n l → Entry (with_known name k s) n l
   begun_beside n l f s name k e h = entered_beside s name n k l (λ o. is_begun o ≡ true) e (λ q. clash q f) h
 
-  awaited_beside : (n : List ℕ) (l : Known g.Reported) → ((p : ModuleProcedure) → name_standing (Some l) ≡ Awaited p → ⊥) → (s : S) (name : List ℕ) (p : ModuleProcedure) (k : Known g.Reported) → name_standing (find_name name s.own) ≡ Awaited p → Entry s n l → Entry (with_known name k s) n l
+  pub awaited_beside : (n : List ℕ) (l : Known g.Reported) → ((p : ModuleProcedure) → name_standing (Some l) ≡ Awaited p → ⊥) → (s : S) (name : List ℕ) (p : ModuleProcedure) (k : Known g.Reported) → name_standing (find_name name s.own) ≡ Awaited p → Entry s n l → Entry (with_known name k s) n l
   awaited_beside n l f s name p k e h = entered_beside s name n k l (λ o. name_standing o ≡ Awaited p) e (λ q. f p q) h
 
   -- ---- names that are begun together
@@ -114,7 +114,7 @@ module _ (g : Gathers) where
       by_free false q e = absurd cc
 
   stays_begun : (x : Ident) (xs : List Ident) (st : State (Unit {0}) g.Reported) → Entry st.0 x.name Begun → Entry (fold (begun_name g) st xs).0 x.name Begun
-  stays_begun x xs st h = begun_all g (λ s. Entry s x.name Begun) (λ s name k e q. free_beside x.name Begun refl s name k e q) xs st h
+  stays_begun x xs st h = begun_all g (λ s. Entry s x.name Begun) (λ s name k i e q. free_beside x.name Begun refl s name k e q) xs st h
 
   pub first_fine : (xs : List Ident) (st : State (Unit {0}) g.Reported) → (fold (begun_name g) st xs).1 ≡ Ok tt → st.1 ≡ Ok tt
   first_fine [] st e = e
@@ -123,7 +123,7 @@ module _ (g : Gathers) where
   apart : (x : Ident) (xs : List Ident) (st : State (Unit {0}) g.Reported) → Entry st.0 x.name Begun → (fold (begun_name g) st xs).1 ≡ Ok tt → (y : Ident) → Among y xs → y.name ≡ x.name → ⊥
   apart x [] st h e y m q = elim m [ ]
   apart x (z ∷ zs) st h e _ here q = let f = (begun_is st.0 z (beside_second g _ _ (first_fine zs (begun_name g st z) e))).1 in clash f (ap (λ (n : List ℕ). is_free (find_name n st.0.own)) q ∙ ap is_free h)
-  apart x (z ∷ zs) st h e y (later m) q = apart x zs (begun_name g st z) (begun_stays g (λ s. Entry s x.name Begun) (λ s name k e q. free_beside x.name Begun refl s name k e q) st.0 z h) e y m q
+  apart x (z ∷ zs) st h e y (later m) q = apart x zs (begun_name g st z) (begun_stays g (λ s. Entry s x.name Begun) (λ s name k i e q. free_beside x.name Begun refl s name k e q) st.0 z h) e y m q
 
   begun_more : (x : Ident) (xs : List Ident) (s : S) → Entry s x.name Begun → AllBegun xs s → AllBegun (x ∷ xs) s
   begun_more x xs s h r _ here = h

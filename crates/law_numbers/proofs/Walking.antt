@@ -38,7 +38,7 @@ use Rattle.check_block.specs.declared.heading.Standing.{Standing}
 use Rattle.check_block.specs.declared.heading.Standing.TheVariants.{Free, Awaited, Taken}
 use Rattle.check_block.specs.Headings.{name_standing, standing_of, nested_meaning, module_procedure, set_heading, headed_as, with_heading}
 use Rattle.check_block.specs.Naming.{marked_layer, marked_decl, with_marks, all_marked}
-use Rattle.check_block.specs.Declarations.{Course, local_meaning, finished_local, with_locals, decl_layer, with_decl, declared_block}
+use Rattle.check_block.specs.Declarations.{local_meaning, finished_local, with_locals, with_variables_of}
 use Rattle.std.proofs.Common.{◌⊎◌, inl, inr, refl}
 use Rattle.check_scope.specs.declared.known.Origin.TheVariants.{Here, Module, Export}
 use Rattle.check_scope.specs.Scopes.{is_free, is_begun, unless_declared}
@@ -46,18 +46,80 @@ use Rattle.check_scope.specs.Elaborated.{report}
 use Rattle.m2_rule.specs.declared.rule.Rule.TheVariants as rule
 use Rattle.typed_tree.specs.declared.meaning.Procedure.{Procedure as ModuleProcedure}
 
+-- ---- what stands under the name of a heading
+
+pub free_standing : {T : Type 0} (o : Option (Known T)) → name_standing o ≡ Free → is_free o ≡ true
+free_standing None e = refl
+free_standing (Some Later) e = refl
+free_standing (Some Ahead) e = refl
+free_standing (Some Begun) e = absurd cc
+free_standing (Some (Headed m)) e = absurd cc
+free_standing (Some (Declared Here (Ok m))) e = by_meaning m e
+  where
+    by_meaning : (m : Meaning) → standing_of m ≡ Free → false ≡ true
+    by_meaning (meaning.Procedure p) e = absurd cc
+    by_meaning (meaning.Constant v) e = absurd cc
+    by_meaning (meaning.Type t n) e = absurd cc
+    by_meaning (meaning.Variable v) e = absurd cc
+    by_meaning (meaning.Local v) e = absurd cc
+    by_meaning (meaning.Field f) e = absurd cc
+    by_meaning (meaning.LocalProcedure p) e = absurd cc
+    by_meaning meaning.Ahead e = absurd cc
+    by_meaning (meaning.Standard f) e = absurd cc
+    by_meaning (meaning.Module k) e = absurd cc
+free_standing (Some (Declared Here (Err m))) e = absurd cc
+free_standing (Some (Declared (Module n) m)) e = absurd cc
+free_standing (Some (Declared (Export n) m)) e = absurd cc
+
+pub waiting : {T : Type 0} (o : Option (Known T)) (p : ModuleProcedure) → name_standing o ≡ Awaited p → o ≡ Some (Declared Here (Ok (meaning.Procedure p)))
+waiting None p e = absurd cc
+waiting (Some Later) p e = absurd cc
+waiting (Some Ahead) p e = absurd cc
+waiting (Some Begun) p e = absurd cc
+waiting (Some (Headed m)) p e = absurd cc
+waiting {T = T} (Some (Declared Here (Ok m))) p e = by_meaning m e
+  where
+    by_meaning : (m : Meaning) → standing_of m ≡ Awaited p → ◌≡◌ {A = Option (Known T)} (Some (Declared Here (Ok m))) (Some (Declared Here (Ok (meaning.Procedure p))))
+    by_meaning (meaning.Procedure q) e = let w : q ≡ p = cc e in ap (λ (z : ModuleProcedure). Some (Declared Here (Ok (meaning.Procedure z)))) w
+    by_meaning (meaning.Constant v) e = absurd cc
+    by_meaning (meaning.Type t n) e = absurd cc
+    by_meaning (meaning.Variable v) e = absurd cc
+    by_meaning (meaning.Local v) e = absurd cc
+    by_meaning (meaning.Field f) e = absurd cc
+    by_meaning (meaning.LocalProcedure q) e = absurd cc
+    by_meaning meaning.Ahead e = absurd cc
+    by_meaning (meaning.Standard f) e = absurd cc
+    by_meaning (meaning.Module k) e = absurd cc
+waiting (Some (Declared Here (Err m))) p e = absurd cc
+waiting (Some (Declared (Module n) m)) p e = absurd cc
+waiting (Some (Declared (Export n) m)) p e = absurd cc
+
+-- ---- what is entered
+
+-- No declaration enters a procedure that awaits its heading.
+pub data IsEntered {T : Type 0} : Known T → Type 0 where
+  later_is : IsEntered Later
+  ahead_is : IsEntered Ahead
+  begun_is : IsEntered Begun
+  headed_is : (r : Result Meaning T) → IsEntered (Headed r)
+  declared_is : (r : Result Meaning T) → ((p : ModuleProcedure) → r ≡ Ok (meaning.Procedure p) → ⊥) → IsEntered (Declared Here r)
+
+no_procedure : {A T : Type 0} (r : Result A T) (f : A → Meaning) → ((x : A) (p : ModuleProcedure) → f x ≡ meaning.Procedure p → ⊥) → (p : ModuleProcedure) → (r ▷ λ x. Ok (f x)) ≡ Ok (meaning.Procedure p) → ⊥
+no_procedure (Ok x) f n p e = n x p (cc e)
+no_procedure (Err q) f n p e = absurd cc
+
 -- ---- a fact that stays while names that are free are entered
 
-module _ (g : Gathers) (P : Scope g.Reported → Type 0) (frees : (s : Scope g.Reported) (name : List ℕ) (k : Known g.Reported) → is_free (find_name name s.own) ≡ true → P s → P (with_known name k s)) where
-  unless_by : (b : Bool) (s : Scope g.Reported) (name : Ident) (k : Known g.Reported) → is_free (find_name name.name s.own) ≡ b → P s → P (cond {A = State (Unit {0}) g.Reported} b (with_known name.name k s, Ok tt) (s, report g name.pos rule.DeclaredTwice)).0
-  unless_by true s name k e h = frees s name.name k e h
-  unless_by false s name k e h = h
+module _ (g : Gathers) (P : Scope g.Reported → Type 0) (frees : (s : Scope g.Reported) (name : List ℕ) (k : Known g.Reported) → IsEntered k → is_free (find_name name s.own) ≡ true → P s → P (with_known name k s)) where
+  unless_by : (b : Bool) (s : Scope g.Reported) (name : Ident) (k : Known g.Reported) → IsEntered k → is_free (find_name name.name s.own) ≡ b → P s → P (cond {A = State (Unit {0}) g.Reported} b (with_known name.name k s, Ok tt) (s, report g name.pos rule.DeclaredTwice)).0
+  unless_by true s name k i e h = frees s name.name k i e h
+  unless_by false s name k i e h = h
 
-  pub unless_stays : (s : Scope g.Reported) (name : Ident) (k : Known g.Reported) → P s → P (unless_declared g s name k).0
-  unless_stays s name k h = unless_by (is_free (find_name name.name s.own)) s name k refl h
+  pub unless_stays : (s : Scope g.Reported) (name : Ident) (k : Known g.Reported) → IsEntered k → P s → P (unless_declared g s name k).0
+  unless_stays s name k i h = unless_by (is_free (find_name name.name s.own)) s name k i refl h
 
   pub begun_stays : (s : Scope g.Reported) (name : Ident) → P s → P (begin_name g s name).0
-  begun_stays s name h = unless_stays s name Begun h
+  begun_stays s name h = unless_stays s name Begun begun_is h
 
   pub begun_all : (names : List Ident) (st : State (Unit {0}) g.Reported) → P st.0 → P (fold (begun_name g) st names).0
   begun_all [] st h = h
@@ -65,16 +127,16 @@ module _ (g : Gathers) (P : Scope g.Reported → Type 0) (frees : (s : Scope g.R
 
   -- ---- marks
 
-  marked_by : (s : Scope g.Reported) (name : List ℕ) (k : Known g.Reported) (o : Option (Known g.Reported)) → find_name name s.own ≡ o → P s → P (unless_marked name k s o)
-  marked_by s name k (Some x) e h = h
-  marked_by s name k None e h = frees s name k (ap is_free e) h
+  marked_by : (s : Scope g.Reported) (name : List ℕ) (k : Known g.Reported) (o : Option (Known g.Reported)) → IsEntered k → find_name name s.own ≡ o → P s → P (unless_marked name k s o)
+  marked_by s name k (Some x) i e h = h
+  marked_by s name k None i e h = frees s name k i (ap is_free e) h
 
-  marked_keeps : (s : Scope g.Reported) (name : Ident) (k : Known g.Reported) → P s → P (mark_name name k s)
-  marked_keeps s name k h = marked_by s name.name k (find_name name.name s.own) refl h
+  marked_keeps : (s : Scope g.Reported) (name : Ident) (k : Known g.Reported) → IsEntered k → P s → P (mark_name name k s)
+  marked_keeps s name k i h = marked_by s name.name k (find_name name.name s.own) i refl h
 
   later_all : (names : List Ident) (s : Scope g.Reported) → P s → P (fold marked_later s names)
   later_all [] s h = h
-  later_all (x ∷ xs) s h = later_all xs (marked_later s x) (marked_keeps s x Later h)
+  later_all (x ∷ xs) s h = later_all xs (marked_later s x) (marked_keeps s x Later later_is h)
 
   simple_marks : (t : Simple) (s : Scope g.Reported) → P s → P (marked_simple t s)
   simple_marks (simple.Named q) s h = h
@@ -137,11 +199,11 @@ module _ (g : Gathers) (P : Scope g.Reported → Type 0) (frees : (s : Scope g.R
 
   constant_marks : (cs : List Constant) (s : Scope g.Reported) → P s → P (fold marked_constant s cs)
   constant_marks [] s h = h
-  constant_marks (c ∷ cs) s h = constant_marks cs (marked_constant s c) (marked_keeps s c.name Later h)
+  constant_marks (c ∷ cs) s h = constant_marks cs (marked_constant s c) (marked_keeps s c.name Later later_is h)
 
   types_marks : (ts : List TypeDecl) (s : Scope g.Reported) → P s → P (fold marked_type s ts)
   types_marks [] s h = h
-  types_marks (t ∷ ts) s h = types_marks ts (marked_type s t) (marked_in_keeps t.of _ (marked_keeps s t.name Later h))
+  types_marks (t ∷ ts) s h = types_marks ts (marked_type s t) (marked_in_keeps t.of _ (marked_keeps s t.name Later later_is h))
 
   variables_marks : (vs : List Variables) (s : Scope g.Reported) → P s → P (fold marked_variables s vs)
   variables_marks [] s h = h
@@ -151,7 +213,7 @@ module _ (g : Gathers) (P : Scope g.Reported → Type 0) (frees : (s : Scope g.R
   layer_marks (dlayer.Constants cs) s h = constant_marks cs s h
   layer_marks (dlayer.Types ts) s h = types_marks ts s h
   layer_marks (dlayer.Variables vs) s h = variables_marks vs s h
-  layer_marks (dlayer.Procedure x b) s h = marked_keeps s x.name Ahead h
+  layer_marks (dlayer.Procedure x b) s h = marked_keeps s x.name Ahead ahead_is h
 
   pub decls_marks : (ds : List Decl) (st : Scope g.Reported × List ℕ) → P st.0 → P (fold (with_marks marked_decl) st ds).0
   decls_marks [] st h = h
@@ -167,7 +229,7 @@ module _ (g : Gathers) (P : Scope g.Reported → Type 0) (frees : (s : Scope g.R
     listed_all : (t : TypeNo) (names : List Ident) (l : Scope g.Reported × ℕ × Result (Unit {0}) g.Reported) → P l.0 → P (fold (enumerate_name g t) l names).0
     listed_all t [] l h = h
     listed_all t (x ∷ xs) l h =
-        listed_all t xs (enumerate_name g t l x) (unless_stays l.0 x (Declared Here (Ok (enumeration_constant t (pos l.1)))) h)
+        listed_all t xs (enumerate_name g t l x) (unless_stays l.0 x (Declared Here (Ok (enumeration_constant t (pos l.1)))) (declared_is (Ok (enumeration_constant t (pos l.1))) (λ p e. absurd cc)) h)
 
     simple_keeps : (s : Scope g.Reported) (t : Simple) → P s → P (simple_type g s t).0
     simple_keeps s (simple.Named q) h = h
@@ -237,53 +299,64 @@ module _ (g : Gathers) (P : Scope g.Reported → Type 0) (frees : (s : Scope g.R
 
     -- ---- a fact that also stays while names that were begun are finished
 
-    module _ (finishes : (s : Scope g.Reported) (name : List ℕ) (k : Known g.Reported) → is_begun (find_name name s.own) ≡ true → P s → P (with_known name k s)) where
-      finish_by : (b : Bool) (s : Scope g.Reported) (name : Ident) (m : Result Meaning g.Reported) → is_begun (find_name name.name s.own) ≡ b → P s → P (cond b (with_known name.name (Declared Here m) s) s)
-      finish_by true s name m e h = finishes s name.name (Declared Here m) e h
-      finish_by false s name m e h = h
+    module _ (finishes : (s : Scope g.Reported) (name : List ℕ) (k : Known g.Reported) → IsEntered k → is_begun (find_name name s.own) ≡ true → P s → P (with_known name k s)) where
+      finish_by : (b : Bool) (s : Scope g.Reported) (name : Ident) (m : Result Meaning g.Reported) → IsEntered (Declared Here m) → is_begun (find_name name.name s.own) ≡ b → P s → P (cond b (with_known name.name (Declared Here m) s) s)
+      finish_by true s name m i e h = finishes s name.name (Declared Here m) i e h
+      finish_by false s name m i e h = h
 
-      pub finished_stays : (s : Scope g.Reported) (name : Ident) (m : Result Meaning g.Reported) → P s → P (finish_name s name m)
-      finished_stays s name m h = finish_by (is_begun (find_name name.name s.own)) s name m refl h
+      pub finished_stays : (s : Scope g.Reported) (name : Ident) (m : Result Meaning g.Reported) → IsEntered (Declared Here m) → P s → P (finish_name s name m)
+      finished_stays s name m i h = finish_by (is_begun (find_name name.name s.own)) s name m i refl h
 
       pub constants_stay : (cs : List Constant) (st : State (Unit {0}) g.Reported) → P st.0 → P (fold (with_constant g) st cs).0
       constants_stay [] st h = h
       constants_stay (c ∷ cs) st h =
           let b : State (Unit {0}) g.Reported = begin_name g st.0 c.name in
-          constants_stay cs (with_constant g st c) (finished_stays b.0 c.name (constant_meaning (constant g b.0 (part g c.value))) (begun_stays st.0 c.name h))
+          constants_stay cs (with_constant g st c) (finished_stays b.0 c.name (constant_meaning (constant g b.0 (part g c.value))) (declared_is _ (no_procedure (constant g b.0 (part g c.value)) (λ v. meaning.Constant v) (λ v p e. absurd cc))) (begun_stays st.0 c.name h))
 
       pub types_stay : (ts : List TypeDecl) (st : State (Unit {0}) g.Reported) → P st.0 → P (fold (with_type g) st ts).0
       types_stay [] st h = h
       types_stay (d ∷ ts) st h =
           let b : State (Unit {0}) g.Reported = begin_name g st.0 d.name in
           let t : State TypeNo g.Reported = type_of g d.of b.0 in
-          types_stay ts (with_type g st d) (finished_stays t.0 d.name (type_meaning t.1 (brings_with d.of)) (type_of_keeps d.of b.0 (begun_stays st.0 d.name h)))
+          types_stay ts (with_type g st d) (finished_stays t.0 d.name (type_meaning t.1 (brings_with d.of)) (declared_is _ (no_procedure t.1 (λ v. meaning.Type v (brings_with d.of)) (λ v p e. absurd cc))) (type_of_keeps d.of b.0 (begun_stays st.0 d.name h)))
+
+      -- ---- and while variables get their types
+
+      module _ (varied : (s : Scope g.Reported) (t : Result TypeNo g.Reported) → P s → P (with_variable_type s t)) where
+        variables_named : (t : Result TypeNo g.Reported) (names : List Ident) (s : Scope g.Reported) → P s → P (fold (finished_variable t) s names)
+        variables_named t [] s h = h
+        variables_named t (x ∷ xs) s h =
+            variables_named t xs (finished_variable t s x) (finished_stays (with_variable_type s t) x (variable_meaning s.types.home (length s.variables) t) (declared_is _ (no_procedure t (λ v. meaning.Variable (record { home = s.types.home; number = length s.variables; of = v })) (λ v p e. absurd cc))) (varied s t h))
+
+        locals_named : (t : Result TypeNo g.Reported) (names : List Ident) (s : Scope g.Reported) → P s → P (fold (finished_local t) s names)
+        locals_named t [] s h = h
+        locals_named t (x ∷ xs) s h =
+            locals_named t xs (finished_local t s x) (finished_stays (with_variable_type s t) x (local_meaning s.level (length s.variables) t) (declared_is _ (no_procedure t (λ v. meaning.Local (record { level = s.level; number = length s.variables; kind = kind.Variable; of = v })) (λ v p e. absurd cc))) (varied s t h))
+
+        variables_keep : (vs : List Variables) (st : State (Unit {0}) g.Reported) → P st.0 → P (fold (with_variables g) st vs).0
+        variables_keep [] st h = h
+        variables_keep (v ∷ vs) st h =
+            let b : State (Unit {0}) g.Reported = fold (begun_name g) st v.names in
+            let t : State TypeNo g.Reported = type_of g v.of b.0 in
+            variables_keep vs (with_variables g st v) (variables_named t.1 v.names t.0 (type_of_keeps v.of b.0 (begun_all v.names st h)))
+
+        locals_keep : (vs : List Variables) (st : State (Unit {0}) g.Reported) → P st.0 → P (fold (with_locals g) st vs).0
+        locals_keep [] st h = h
+        locals_keep (v ∷ vs) st h =
+            let b : State (Unit {0}) g.Reported = fold (begun_name g) st v.names in
+            let t : State TypeNo g.Reported = type_of g v.of b.0 in
+            locals_keep vs (with_locals g st v) (locals_named t.1 v.names t.0 (type_of_keeps v.of b.0 (begun_all v.names st h)))
+
+        variables_by : (b : Bool) (st : State (Unit {0}) g.Reported) (vs : List Variables) → P st.0 → P (cond {A = State (Unit {0}) g.Reported} b (fold (with_variables g) st vs) (fold (with_locals g) st vs)).0
+        variables_by true st vs h = variables_keep vs st h
+        variables_by false st vs h = locals_keep vs st h
+
+        pub variables_stay : (st : State (Unit {0}) g.Reported) (vs : List Variables) → P st.0 → P (with_variables_of g st vs).0
+        variables_stay st vs h = variables_by (st.0.level == 0) st vs h
 
       -- ---- and while procedures get their headings
 
       module _ (awaits : (s : Scope g.Reported) (name : List ℕ) (p : ModuleProcedure) (k : Known g.Reported) → name_standing (find_name name s.own) ≡ Awaited p → P s → P (with_known name k s)) (headed : (s : Scope g.Reported) (t : Result TypeNo g.Reported) → P s → P (with_procedure_type s t)) where
-        free_standing : (o : Option (Known g.Reported)) → name_standing o ≡ Free → is_free o ≡ true
-        free_standing None e = refl
-        free_standing (Some Later) e = refl
-        free_standing (Some Ahead) e = refl
-        free_standing (Some Begun) e = absurd cc
-        free_standing (Some (Headed m)) e = absurd cc
-        free_standing (Some (Declared Here (Ok m))) e = by_meaning m e
-          where
-            by_meaning : (m : Meaning) → standing_of m ≡ Free → false ≡ true
-            by_meaning (meaning.Procedure p) e = absurd cc
-            by_meaning (meaning.Constant v) e = absurd cc
-            by_meaning (meaning.Type t n) e = absurd cc
-            by_meaning (meaning.Variable v) e = absurd cc
-            by_meaning (meaning.Local v) e = absurd cc
-            by_meaning (meaning.Field f) e = absurd cc
-            by_meaning (meaning.LocalProcedure p) e = absurd cc
-            by_meaning meaning.Ahead e = absurd cc
-            by_meaning (meaning.Standard f) e = absurd cc
-            by_meaning (meaning.Module k) e = absurd cc
-        free_standing (Some (Declared Here (Err m))) e = absurd cc
-        free_standing (Some (Declared (Module n) m)) e = absurd cc
-        free_standing (Some (Declared (Export n) m)) e = absurd cc
-
         procedure_type_own : (s : Scope g.Reported) (t : Result TypeNo g.Reported) → (with_procedure_type s t).own ≡ s.own
         procedure_type_own s (Ok t) = refl
         procedure_type_own s (Err r) = refl
@@ -293,8 +366,8 @@ module _ (g : Gathers) (P : Scope g.Reported → Type 0) (frees : (s : Scope g.R
         made_own s (Err r) = refl
 
         new_by : (b : Bool) (s : Scope g.Reported) (name : List ℕ) (n : ℕ) (t : Result TypeNo g.Reported) → is_free (find_name name s.own) ≡ true → P s → P (cond b (module_procedure s name t) (set_heading name (nested_meaning s.level n t) s))
-        new_by true s name n t e h = frees (with_procedure_type s t) name (Headed (procedure_meaning s.types.home (length s.procedures) t)) (ap (λ (es : List (List ℕ × Known g.Reported)). is_free (find_name name es)) (procedure_type_own s t) ∙ e) (headed s t h)
-        new_by false s name n t e h = frees s name (Headed (nested_meaning s.level n t)) e h
+        new_by true s name n t e h = frees (with_procedure_type s t) name (Headed (procedure_meaning s.types.home (length s.procedures) t)) (headed_is _) (ap (λ (es : List (List ℕ × Known g.Reported)). is_free (find_name name es)) (procedure_type_own s t) ∙ e) (headed s t h)
+        new_by false s name n t e h = frees s name (Headed (nested_meaning s.level n t)) (headed_is _) e h
 
         heading_by : (s : Scope g.Reported) (x : Heading) (n : ℕ) (o : Standing) → name_standing (find_name x.name.name s.own) ≡ o → P s → P (headed_as g s x n (heading_of g s x) o).0
         heading_by s x n Free e h = new_by (level_is (with_made s (heading_of g s x)).0) (with_made s (heading_of g s x)).0 x.name.name n (with_made s (heading_of g s x)).1
