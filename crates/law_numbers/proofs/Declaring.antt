@@ -1,5 +1,5 @@
 -- Behind the declarations of a block its variables are numbered in order.
-use Rattle.std.proofs.Common.{◌≡◌, ℕ, ◌+◌, ◌==◌, Bool, true, false, cond, List, [], ◌∷◌, ◌++◌, length, Option, Some, None, Result, Ok, Err, refl, sym, ap, subst, ◌∙◌, append-nil, append_assoc, arith}
+use Rattle.std.proofs.Common.{◌≡◌, ℕ, ◌==◌, Bool, true, false, cond, List, [], ◌∷◌, ◌++◌, Some, Result, Ok, Err, refl, sym, ap, subst, ◌∙◌, append-nil, append_assoc}
 use Rattle.std.specs.Prelude.{map}
 use Rattle.std.specs.List.{fold}
 use Rattle.m2_tree.specs.declared.name.Ident.{Ident}
@@ -13,29 +13,26 @@ use Rattle.m2_tree.specs.declared.decl.Decl.TheOpen as dlayer
 use Rattle.typed_tree.specs.declared.types.TypeNo.{TypeNo}
 use Rattle.typed_tree.specs.declared.shape.Made.{Made}
 use Rattle.typed_tree.specs.declared.meaning.Meaning.{Meaning}
-use Rattle.typed_tree.specs.declared.meaning.Meaning.TheVariants as meaning
-use Rattle.typed_tree.specs.declared.meaning.LocalKind.TheVariants as kind
 use Rattle.typed_tree.specs.declared.meaning.Procedure.{Procedure as ModuleProcedure}
 use Rattle.typed_tree.specs.Names.{find_name}
-use Rattle.check_scope.specs.Elaborated.{Gathers, beside}
-use Rattle.check_scope.specs.Scopes.{State, with_known, begin_name, is_free, is_begun}
+use Rattle.check_scope.specs.Elaborated.{Gathers}
+use Rattle.check_scope.specs.Scopes.{State, with_known, is_free, is_begun}
 use Rattle.check_scope.specs.declared.known.Known.{Known}
 use Rattle.check_scope.specs.declared.known.Known.TheVariants.{Begun, Declared}
 use Rattle.check_scope.specs.declared.known.Origin.TheVariants.{Here}
 use Rattle.check_scope.specs.declared.scope.Scope.{Scope}
-use Rattle.check_const.specs.Parts.{constant}
-use Rattle.check_expr.specs.Meanings.{part}
-use Rattle.check_type_expr.specs.Made.{with_shape, type_of, nothing_of}
-use Rattle.check_definition.specs.Declare.{with_constant, with_type, begun_name, variable_meaning, with_variable_type, finished_variable, with_variables, with_procedure_type}
-use Rattle.check_block.specs.Declarations.{Course, local_meaning, finished_local, with_locals, with_variables_of, with_procedure, decl_layer, with_decl}
+use Rattle.check_type_expr.specs.Made.{with_shape, type_of}
+use Rattle.check_definition.specs.Declare.{with_constant, with_type, begun_name, finished_variable, with_variables, with_procedure_type}
+use Rattle.check_block.specs.Declarations.{Course, finished_local, with_locals, decl_layer, with_decl}
 use Rattle.check_block.specs.declared.heading.Standing.TheVariants.{Awaited, Taken}
 use Rattle.check_block.specs.Headings.{name_standing, with_heading}
 use Rattle.def_typing.specs.Parts.{Among}
-use Rattle.def_typing.specs.Declarations.{Declaration, OfConstant, OfType, OfVariables, OfProcedure, declared_by, declarations_of}
-use Rattle.def_typed.specs.Numbers.{variables_by, variables_in}
+use Rattle.def_typing.specs.Declarations.{Declaration, OfConstant, OfType, OfVariables, declared_by, declarations_of}
+use Rattle.def_typed.specs.Numbers.{variables_by, variables_in, variable_at}
+use Rattle.law_numbers.specs.Numbered.{Entry}
 use Rattle.law_numbers.proofs.Walking.{IsEntered, begun_all, type_of_keeps, constants_stay, types_stay, heading_stays}
 use Rattle.law_numbers.proofs.Variables as vars
-use Rattle.law_numbers.proofs.Variables.{beside_first, beside_second, type_there, Entry, first_fine, all_begun, Distinct}
+use Rattle.law_numbers.proofs.Variables.{beside_first, beside_second, type_there, first_fine, all_begun, Distinct}
 
 -- ---- lists of variables
 
@@ -50,12 +47,6 @@ no_constant (c ∷ cs) = no_constant cs
 no_type : (ts : List TypeDecl) → variables_in (map OfType ts) ≡ []
 no_type [] = refl
 no_type (t ∷ ts) = no_type ts
-
--- ---- what a variable is, in a module or in a procedure
-
-abbrev pub variable_at : (outermost : Bool) → (home level : ℕ) → ℕ → TypeNo → Meaning
-variable_at true home level n u = meaning.Variable (record { home = home; number = n; of = u })
-variable_at false home level n u = meaning.Local (record { level = level; number = n; kind = kind.Variable; of = u })
 
 module _ (g : Gathers) (home level : ℕ) where
   abbrev pub S : Type 0
@@ -84,7 +75,7 @@ module _ (g : Gathers) (home level : ℕ) where
     placed_as : {s t : S} → t.types.home ≡ s.types.home → t.level ≡ s.level → (vars.IsCounted g V fixed base vs s → vars.IsCounted g V fixed base vs t) → P s → P t
     placed_as eh el h p = record { of_home = eh ∙ p.of_home; of_level = el ∙ p.of_level; counted = h p.counted }
 
-    free : (s : S) (name : List ℕ) (k : Known g.Reported) → IsEntered k → is_free (find_name name s.own) ≡ true → P s → P (with_known name k s)
+    pub free : (s : S) (name : List ℕ) (k : Known g.Reported) → IsEntered k → is_free (find_name name s.own) ≡ true → P s → P (with_known name k s)
     free s name k i e p = placed_as refl refl (vars.counted_free g V fixed base vs s name k e) p
 
     begun : (s : S) (name : List ℕ) (k : Known g.Reported) → IsEntered k → is_begun (find_name name s.own) ≡ true → P s → P (with_known name k s)

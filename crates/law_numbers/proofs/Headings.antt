@@ -1,13 +1,7 @@
 -- The procedures of a block are numbered in the order of their headings.
-use Rattle.std.proofs.Common.{◌≡◌, ℕ, ◌+◌, ◌==◌, Bool, true, false, cond, List, [], ◌∷◌, ◌++◌, length, Option, Some, None, Result, Ok, Err, refl, sym, ap, subst, ◌∙◌, append-nil, append_assoc, arith}
+use Rattle.std.proofs.Common.{◌≡◌, ℕ, ◌+◌, ◌==◌, Bool, true, false, cond, List, [], ◌∷◌, ◌++◌, length, Option, Some, Result, Ok, Err, refl, sym, ap, subst, ◌∙◌, append-nil, append_assoc}
 use Rattle.std.proofs.lemmas.List.{length-append}
-use Rattle.std.specs.Prelude.{map}
 use Rattle.std.specs.List.{fold}
-use Rattle.m2_rule.specs.declared.rule.Rule.TheVariants as rule
-use Rattle.m2_tree.specs.declared.name.Ident.{Ident}
-use Rattle.m2_tree.specs.declared.decl.Constant.{Constant}
-use Rattle.m2_tree.specs.declared.decl.TypeDecl.{TypeDecl}
-use Rattle.m2_tree.specs.declared.decl.Variables.{Variables}
 use Rattle.m2_tree.specs.declared.decl.Heading.{Heading}
 use Rattle.m2_tree.specs.declared.decl.Block.{Block}
 use Rattle.m2_tree.specs.declared.decl.Decl.{Decl, Decl-F, out-Decl}
@@ -18,37 +12,27 @@ use Rattle.typed_tree.specs.declared.meaning.Meaning.{Meaning}
 use Rattle.typed_tree.specs.declared.meaning.Meaning.TheVariants as meaning
 use Rattle.typed_tree.specs.declared.meaning.Procedure.{Procedure as ModuleProcedure}
 use Rattle.typed_tree.specs.Names.{find_name}
-use Rattle.check_scope.specs.Elaborated.{Gathers, beside, report}
-use Rattle.check_scope.specs.Scopes.{State, with_known, is_free, is_begun}
+use Rattle.check_scope.specs.Elaborated.{Gathers}
+use Rattle.check_scope.specs.Scopes.{with_known, is_free, is_begun}
 use Rattle.check_scope.specs.declared.known.Known.{Known}
 use Rattle.check_scope.specs.declared.known.Known.TheVariants.{Headed, Declared}
-use Rattle.check_scope.specs.declared.known.Origin.{Origin}
-use Rattle.check_scope.specs.declared.known.Origin.TheVariants.{Here, Module, Export}
+use Rattle.check_scope.specs.declared.known.Origin.TheVariants.{Here}
 use Rattle.check_scope.specs.declared.scope.Scope.{Scope}
-use Rattle.check_type_expr.specs.Headings.{heading_of, names_of}
+use Rattle.check_type_expr.specs.Headings.{heading_of}
 use Rattle.check_type_expr.specs.Made.{with_shape, with_made, nothing_of}
-use Rattle.check_definition.specs.Declare.{with_constant, with_type, with_variable_type, with_procedure_type, procedure_meaning}
+use Rattle.check_definition.specs.Declare.{with_variable_type, with_procedure_type}
 use Rattle.check_block.specs.Nesting.{number_behind}
-use Rattle.check_block.specs.Declarations.{Course, with_variables_of, with_procedure, decl_layer, with_decl}
+use Rattle.check_block.specs.Declarations.{Course, decl_layer, with_decl}
 use Rattle.check_block.specs.declared.heading.Standing.{Standing}
 use Rattle.check_block.specs.declared.heading.Standing.TheVariants.{Free, Awaited, Taken}
-use Rattle.check_block.specs.Headings.{name_standing, standing_of, with_heading, headed_as, new_procedure, module_procedure, set_heading, nested_meaning}
-use Rattle.def_typing.specs.Declarations.{Declaration, declared_by}
+use Rattle.check_block.specs.Headings.{name_standing, headed_as, new_procedure, module_procedure, set_heading, nested_meaning}
 use Rattle.law_typing.proofs.Entering.{entered_all}
+use Rattle.def_typed.specs.Numbers.{headings_by, headings_in}
+use Rattle.law_numbers.specs.Numbered as numbered
+use Rattle.law_numbers.specs.Numbered.{Entry, no_heading, new_heading, awaited_heading, nested_heading}
 use Rattle.law_numbers.proofs.Walking.{free_standing, waiting, IsEntered, later_is, ahead_is, begun_is, headed_is, declared_is, constants_stay, types_stay, variables_stay}
-use Rattle.law_numbers.proofs.Variables.{beside_first, beside_second, type_there, Entry, entered_here, entered_other, free_beside, begun_beside, awaited_beside}
+use Rattle.law_numbers.proofs.Variables.{beside_second, entered_here, free_beside, begun_beside, awaited_beside}
 use Rattle.law_numbers.proofs.Declaring.{decls_fine}
-
--- the headings among declarations
-abbrev pub headings_by : {A B : Type 0} → Decl-F A B → List Heading
-headings_by (dlayer.Procedure h b) = h ∷ []
-headings_by (dlayer.Constants cs) = []
-headings_by (dlayer.Types ts) = []
-headings_by (dlayer.Variables vs) = []
-
-abbrev pub headings_in : List Decl → List Heading
-headings_in [] = []
-headings_in (d ∷ ds) = headings_by (out-Decl d) ++ headings_in ds
 
 module _ (g : Gathers) (home level : ℕ) (ends : List ℕ) (start : Scope g.Reported) where
   abbrev S : Type 0
@@ -57,19 +41,8 @@ module _ (g : Gathers) (home level : ℕ) (ends : List ℕ) (start : Scope g.Rep
   abbrev Waits : S → List ℕ → ModuleProcedure → Type 0
   Waits s n p = Entry s n (Declared Here (Ok (meaning.Procedure p)))
 
-  -- Headings get numbers one after the other: in a module those that the definition has not
-  -- declared, in a procedure all of them, each behind the procedures that stand in the one before.
-  pub data AreHeaded (s : S) : (m n : ℕ) → List Heading → (m' n' : ℕ) → Type 0 where
-    no_heading : {m n : ℕ} → AreHeaded s m n [] m n
-    new_heading : {m n m' n' : ℕ} {h : Heading} {hs : List Heading} (t : TypeNo) → (level == 0) ≡ true
-        → Entry s h.name.name (Headed (Ok (meaning.Procedure (record { home = home; number = m; heading = t }))))
-        → AreHeaded s (m + 1) (number_behind ends n) hs m' n' → AreHeaded s m n (h ∷ hs) m' n'
-    awaited_heading : {m n m' n' : ℕ} {h : Heading} {hs : List Heading} (p : ModuleProcedure) → Waits start h.name.name p
-        → Entry s h.name.name (Headed (Ok (meaning.Procedure p)))
-        → AreHeaded s m (number_behind ends n) hs m' n' → AreHeaded s m n (h ∷ hs) m' n'
-    nested_heading : {m n m' n' : ℕ} {h : Heading} {hs : List Heading} (t : TypeNo) → (level == 0) ≡ false
-        → Entry s h.name.name (Headed (Ok (meaning.LocalProcedure (record { level = level; number = n; heading = t }))))
-        → AreHeaded s m (number_behind ends n) hs m' n' → AreHeaded s m n (h ∷ hs) m' n'
+  abbrev AreHeaded : S → (m n : ℕ) → List Heading → (m' n' : ℕ) → Type 0
+  AreHeaded s = numbered.AreHeaded home level ends start s
 
   headed_as_before : {s t : S} {m n m' n' : ℕ} {hs : List Heading} → ((x : List ℕ) (r : Meaning) → Entry s x (Headed (Ok r)) → Entry t x (Headed (Ok r))) → AreHeaded s m n hs m' n' → AreHeaded t m n hs m' n'
   headed_as_before k no_heading = no_heading
@@ -111,7 +84,7 @@ module _ (g : Gathers) (home level : ℕ) (ends : List ℕ) (start : Scope g.Rep
       entered_by : {s : S} (name : List ℕ) (k : Known g.Reported) → IsEntered k → ((x : List ℕ) (r : Meaning) → Entry s x (Headed (Ok r)) → Entry (with_known name k s) x (Headed (Ok r))) → P s → P (with_known name k s)
       entered_by {s = s} name k i h p = record { headed = headed_as_before h p.headed; next = p.next; waits = waits_by s name k i p.waits; of_home = p.of_home; of_level = p.of_level }
 
-      free : (s : S) (name : List ℕ) (k : Known g.Reported) → IsEntered k → is_free (find_name name s.own) ≡ true → P s → P (with_known name k s)
+      pub free : (s : S) (name : List ℕ) (k : Known g.Reported) → IsEntered k → is_free (find_name name s.own) ≡ true → P s → P (with_known name k s)
       free s name k i e p = entered_by name k i (λ x r h. free_beside g x (Headed (Ok r)) refl s name k e h) p
 
       begun : (s : S) (name : List ℕ) (k : Known g.Reported) → IsEntered k → is_begun (find_name name s.own) ≡ true → P s → P (with_known name k s)

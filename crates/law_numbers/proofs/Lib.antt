@@ -2,3 +2,4 @@ pub mod Walking
 pub mod Variables
 pub mod Declaring
 pub mod Headings
+pub mod Blocks

@@ -1,36 +1,29 @@
 -- The variables that a block declares are numbered in order.
-use Rattle.std.proofs.Common.{◌≡◌, ◌⊎◌, inl, inr, ℕ, suc, zero, ◌+◌, ◌==◌, Bool, true, false, cond, List, [], ◌∷◌, ◌++◌, length, Option, Some, None, Result, Ok, Err, refl, sym, ap, subst, ◌∙◌, append_assoc, arith}
+use Rattle.std.proofs.Common.{◌≡◌, ◌⊎◌, inl, inr, ℕ, suc, zero, ◌+◌, Bool, true, false, cond, List, [], ◌∷◌, ◌++◌, length, Option, Some, Result, Ok, Err, refl, sym, ap, subst, ◌∙◌, arith}
 use Rattle.std.proofs.lemmas.List.{length-append}
-use Rattle.std.specs.Prelude.{map, slice_get}
+use Rattle.std.specs.Prelude.{slice_get}
 use Rattle.std.specs.List.{fold}
 use Rattle.m2_rule.specs.declared.rule.Rule.TheVariants as rule
 use Rattle.m2_tree.specs.declared.name.Ident.{Ident}
-use Rattle.m2_tree.specs.declared.decl.Constant.{Constant}
-use Rattle.m2_tree.specs.declared.decl.TypeDecl.{TypeDecl}
-use Rattle.m2_tree.specs.declared.decl.Variables.{Variables}
-use Rattle.m2_tree.specs.declared.decl.Heading.{Heading}
-use Rattle.m2_tree.specs.declared.decl.TypeExpr.{TypeExpr}
 use Rattle.typed_tree.specs.declared.types.TypeNo.{TypeNo}
 use Rattle.typed_tree.specs.declared.shape.Made.{Made}
 use Rattle.typed_tree.specs.declared.meaning.Meaning.{Meaning}
-use Rattle.typed_tree.specs.declared.meaning.Meaning.TheVariants as meaning
-use Rattle.typed_tree.specs.declared.meaning.LocalKind.TheVariants as kind
 use Rattle.typed_tree.specs.declared.meaning.Procedure.{Procedure as ModuleProcedure}
-use Rattle.typed_tree.specs.Names.{find_name, enter_name}
-use Rattle.check_scope.specs.Elaborated.{Gathers, beside, both, report, ◌▷◌}
+use Rattle.typed_tree.specs.Names.{find_name}
+use Rattle.check_scope.specs.Elaborated.{Gathers, beside, report}
 use Rattle.check_scope.specs.Scopes.{State, with_known, begin_name, finish_name, is_free, is_begun}
 use Rattle.check_scope.specs.declared.known.Known.{Known}
-use Rattle.check_scope.specs.declared.known.Known.TheVariants.{Later, Ahead, Begun, Headed, Declared}
+use Rattle.check_scope.specs.declared.known.Known.TheVariants.{Begun, Declared}
 use Rattle.check_scope.specs.declared.known.Origin.TheVariants.{Here}
 use Rattle.check_scope.specs.declared.scope.Scope.{Scope}
-use Rattle.check_type_expr.specs.Made.{with_shape, type_of, nothing_of}
-use Rattle.check_definition.specs.Declare.{begun_name, variable_meaning, with_variable_type, finished_variable, with_variables, with_procedure_type}
-use Rattle.check_block.specs.Declarations.{local_meaning, finished_local, with_locals}
-use Rattle.check_block.specs.declared.heading.Standing.TheVariants.{Free, Awaited, Taken}
+use Rattle.check_type_expr.specs.Made.{with_shape, nothing_of}
+use Rattle.check_definition.specs.Declare.{begun_name, with_variable_type, with_procedure_type}
+use Rattle.check_block.specs.declared.heading.Standing.TheVariants.{Awaited, Taken}
 use Rattle.check_block.specs.Headings.{name_standing}
 use Rattle.def_typing.specs.Parts.{Among, here, later}
 use Rattle.law_typing.proofs.Entering.{entered_all}
-use Rattle.law_numbers.proofs.Walking.{begun_all, begun_stays, type_of_keeps, constants_stay, types_stay, heading_stays}
+use Rattle.law_numbers.specs.Numbered.{Entry}
+use Rattle.law_numbers.proofs.Walking.{begun_all, begun_stays}
 
 -- ---- results
 
@@ -63,9 +56,6 @@ split_place (v ∷ vs) xs (suc i) x e = split_more vs xs i x (split_place vs xs 
 -- ---- what stands under a name
 
 module _ {T : Type 0} where
-  abbrev pub Entry : Scope T → List ℕ → Known T → Type 0
-  Entry s n k = find_name n s.own ≡ Some k
-
   pub entered_here : (s : Scope T) (name : List ℕ) (k : Known T) → Entry (with_known name k s) name k
   entered_here s name k = entered_all (λ (n : List ℕ) (o : Option (Known T)). n ≡ name → o ≡ Some k) name k s.own (λ e. refl) (λ n c e. absurd (c (sym e))) name refl
 

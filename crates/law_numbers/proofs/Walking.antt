@@ -37,9 +37,9 @@ use Rattle.check_definition.specs.Declare.{constant_meaning, with_constant, brin
 use Rattle.check_block.specs.declared.heading.Standing.{Standing}
 use Rattle.check_block.specs.declared.heading.Standing.TheVariants.{Free, Awaited, Taken}
 use Rattle.check_block.specs.Headings.{name_standing, standing_of, nested_meaning, module_procedure, set_heading, headed_as, with_heading}
-use Rattle.check_block.specs.Naming.{marked_layer, marked_decl, with_marks, all_marked}
+use Rattle.check_block.specs.Naming.{marked_layer, marked_decl, with_marks}
 use Rattle.check_block.specs.Declarations.{local_meaning, finished_local, with_locals, with_variables_of}
-use Rattle.std.proofs.Common.{◌⊎◌, inl, inr, refl}
+use Rattle.std.proofs.Common.{refl}
 use Rattle.check_scope.specs.declared.known.Origin.TheVariants.{Here, Module, Export}
 use Rattle.check_scope.specs.Scopes.{is_free, is_begun, unless_declared}
 use Rattle.check_scope.specs.Elaborated.{report}
