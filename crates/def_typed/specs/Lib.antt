@@ -3,3 +3,4 @@ pub mod Coded
 pub mod Expressions
 pub mod Statements
 pub mod Numbers
+pub mod Blocks

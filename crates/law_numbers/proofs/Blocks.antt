@@ -1,5 +1,5 @@
 -- Behind the declarations of a block all its names have their numbers.
-use Rattle.std.proofs.Common.{◌≡◌, ℕ, List, [], length, Ok, refl, arith}
+use Rattle.std.proofs.Common.{◌≡◌, ℕ, List, [], length, Ok, inl, refl, arith}
 use Rattle.std.specs.List.{fold}
 use Rattle.m2_tree.specs.declared.decl.Decl.{Decl}
 use Rattle.check_scope.specs.Elaborated.{Gathers}
@@ -33,12 +33,12 @@ module _ (g : Gathers) (ends : List ℕ) (s : Scope g.Reported) (first : ℕ) (d
 
   headed_marks : heading.IsNumbered g home s.level ends s (length s.procedures) first [] (length s.procedures) first marked
   headed_marks = decls_marks g (heading.IsNumbered g home s.level ends s (length s.procedures) first [] (length s.procedures) first) (heading.free g home s.level ends s (length s.procedures) first [] (length s.procedures) first) ds (s, [])
-      (record { headed = no_heading; next = refl; waits = λ x p e. e; of_home = refl; of_level = refl })
+      (record { headed = no_heading; next = refl; waits = λ x p e. e; kept = λ x p w. inl w; of_home = refl; of_level = refl; of_rest = (refl, refl, refl) })
 
-  headed : (m : ℕ) × heading.IsNumbered g home s.level ends s (length s.procedures) first (headings_in ds) m (fold (with_decl g ends) (marked, Ok tt, first) ds).2 (declared_block g ends (s, Ok tt) first ds).0
+  pub headed : (m : ℕ) × heading.IsNumbered g home s.level ends s (length s.procedures) first (headings_in ds) m (fold (with_decl g ends) (marked, Ok tt, first) ds).2 (declared_block g ends (s, Ok tt) first ds).0
   headed = heading.decls_numbered g home s.level ends s (length s.procedures) first [] (length s.procedures) ds (marked, Ok tt, first) headed_marks fine
 
-  block_numbered : AreNumbered ends s first ds (declared_block g ends (s, Ok tt) first ds).0
+  pub block_numbered : AreNumbered ends s first ds (declared_block g ends (s, Ok tt) first ds).0
   block_numbered = record {
     variables = placed.counted.numbered;
     counted = placed.counted.counted;

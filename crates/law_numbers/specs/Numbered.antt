@@ -28,6 +28,8 @@ pub data AreHeaded {T : Type 0} (home level : ℕ) (ends : List ℕ) (start s : 
   no_heading : {m n : ℕ} → AreHeaded home level ends start s m n [] m n
   new_heading : {m n m' n' : ℕ} {h : Heading} {hs : List Heading} (t : TypeNo)
       → (level == 0) ≡ true
+      → ((p : ModuleProcedure)
+      → Entry start h.name.name (Declared Here (Ok (meaning.Procedure p))) → ⊥)
       → Entry s h.name.name
       (Headed (Ok (meaning.Procedure (record { home = home; number = m; heading = t }))))
       → AreHeaded home level ends start s (m + 1) (number_behind ends n) hs m' n'
