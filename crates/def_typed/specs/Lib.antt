@@ -2,3 +2,5 @@ pub mod Named
 pub mod Coded
 pub mod Expressions
 pub mod Statements
+pub mod Numbers
+pub mod Blocks

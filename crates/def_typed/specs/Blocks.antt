@@ -1,0 +1,59 @@
+-- What names mean by number behind the declarations of a block.
+use Rattle.std.specs.Prelude.{◌≡◌, ℕ, ◌+◌, ◌==◌, Bool, true, false, List, ◌++◌, Option, Some, None, slice_get}
+use Rattle.m2_tree.specs.declared.name.Ident.{Ident}
+use Rattle.m2_tree.specs.declared.decl.Heading.{Heading}
+use Rattle.m2_tree.specs.declared.decl.Decl.{Decl}
+use Rattle.typed_tree.specs.declared.types.TypeNo.{TypeNo}
+use Rattle.typed_tree.specs.declared.meaning.Meaning.{Meaning}
+use Rattle.typed_tree.specs.declared.meaning.Meaning.TheVariants as meaning
+use Rattle.def_typing.specs.Parts.{Among}
+use Rattle.def_typing.specs.Things.{AVariable, AnOpenArray, AProcedure, ANested, AModule, Standing, Known}
+use Rattle.def_typing.specs.Declarations.{AnyDeclares, declarations_of}
+use Rattle.def_typed.specs.Numbers.{variables_in, variable_at, headings_in, new_headings, nested_numbers}
+
+-- Constants, types and standard procedures have no code.
+abbrev pub HasNoCode : Standing → Type 0
+HasNoCode (Known (AVariable t)) = ⊥
+HasNoCode (Known (AnOpenArray t)) = ⊥
+HasNoCode (Known (AProcedure t)) = ⊥
+HasNoCode (Known (ANested t)) = ⊥
+HasNoCode (Known (AModule k)) = ⊥
+HasNoCode other = Unit {0}
+
+-- where a block begins
+pub record Before : Type 0 where
+  -- the number of the module
+  pub home : ℕ
+  -- how many procedures stand around
+  pub level : ℕ
+  -- how many variables have numbers there: of a procedure the formals
+  pub variables : ℕ
+  -- how many procedures of the module have numbers there
+  pub procedures : ℕ
+  -- the number of the first procedure in a procedure
+  pub nested : ℕ
+  -- what names mean there
+  pub of_names : Ident → Option Meaning
+
+-- by which names are taken there, which procedures of the definition await a heading, and what names
+-- stand for behind the declarations
+module _ (q : Before) (taken : List ℕ → Bool) (awaited : List ℕ → Option TypeNo)
+    (names : Ident → Standing) (ds : List Decl) where
+  pub data MeansBehind (name : Ident) : Option Meaning → Type 0 where
+    from_outside : (taken name.name ≡ false → AnyDeclares (declarations_of ds) name.name → ⊥)
+        → MeansBehind name (q.of_names name)
+    a_variable : (i : ℕ) {x : Ident} {t : TypeNo} → taken name.name ≡ false
+        → slice_get (variables_in (declarations_of ds)) i ≡ Some x → x.name ≡ name.name
+        → names name ≡ Known (AVariable t)
+        → MeansBehind name (Some (variable_at (q.level == 0) q.home q.level (q.variables + i) t))
+    of_module : (i : ℕ) {h : Heading} {t : TypeNo} → (q.level == 0) ≡ true
+        → slice_get (new_headings awaited (headings_in ds)) i ≡ Some h → h.name.name ≡ name.name
+        → names name ≡ Known (AProcedure t)
+        → MeansBehind name (Some (meaning.Procedure
+        (record { home = q.home; number = q.procedures + i; heading = t })))
+    of_procedure : {n : ℕ} {h : Heading} {t : TypeNo} → (q.level == 0) ≡ false
+        → Among (h, n) (nested_numbers q.nested ds) → h.name.name ≡ name.name
+        → names name ≡ Known (ANested t)
+        → MeansBehind name (Some (meaning.LocalProcedure
+        (record { level = q.level; number = n; heading = t })))
+    without_code : HasNoCode (names name) → MeansBehind name None

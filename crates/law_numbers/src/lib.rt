@@ -1,0 +1,20 @@
+//! Laws alone: behind the declarations of a block its names have the numbers that the rules give: variables in the order of
+//! their declarations, procedures in the order of their headings.
+//!
+//! - `specs/Numbered` says what is known behind declarations of which nothing is reported (`AreNumbered`).
+//! - `proofs/Walking` says which names declarations enter: names that are free, names that were begun, and procedures that
+//!   await their headings. So a fact that these keep is kept by all declarations.
+//! - `proofs/Variables` and `proofs/Declaring` number variables, and `proofs/Headings` procedures. `proofs/Blocks` puts both
+//!   together.
+#![tactic(auto)]
+
+ghost use Rattle.check_scope.specs.Elaborated.{every, least};
+ghost use Rattle.law_numbers.specs.Numbered.{BlocksAreNumbered};
+
+/// If nothing is reported of the declarations of a block, its variables are numbered in order behind those that were there, and
+/// its procedures in the order of their headings: in a module those that its definition has not declared, and in a procedure
+/// all, each behind the procedures that stand in the one before.
+pub fn number_laws()
+    ensures every_rule { BlocksAreNumbered every }
+    ensures least_rule { BlocksAreNumbered least }
+{}
