@@ -1,5 +1,5 @@
 -- What names mean by number behind the declarations of a block.
-use Rattle.std.specs.Prelude.{◌≡◌, ℕ, ◌+◌, ◌==◌, Bool, true, false, List, ◌++◌, Option, Some, None, slice_get}
+use Rattle.std.specs.Prelude.{◌≡◌, ℕ, ◌+◌, ◌==◌, Bool, true, false, List, Option, Some, None, slice_get}
 use Rattle.m2_tree.specs.declared.name.Ident.{Ident}
 use Rattle.m2_tree.specs.declared.decl.Heading.{Heading}
 use Rattle.m2_tree.specs.declared.decl.Decl.{Decl}
@@ -35,8 +35,8 @@ pub record Before : Type 0 where
   -- what names mean there
   pub of_names : Ident → Option Meaning
 
--- by which names are taken there, which procedures of the definition await a heading, and what names
--- stand for behind the declarations
+-- by which names are taken there, which procedures of the definition await a heading, and what
+-- names stand for behind the declarations
 module _ (q : Before) (taken : List ℕ → Bool) (awaited : List ℕ → Option TypeNo)
     (names : Ident → Standing) (ds : List Decl) where
   pub data MeansBehind (name : Ident) : Option Meaning → Type 0 where

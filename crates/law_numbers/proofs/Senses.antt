@@ -1,5 +1,5 @@
 -- What names mean behind the declarations of a block, by number.
-use Rattle.std.proofs.Common.{◌≡◌, ℕ, zero, suc, ◌+◌, ◌==◌, Bool, true, false, cond, List, [], ◌∷◌, ◌++◌, length, Option, Some, None, Result, Ok, Err, ◌⊎◌, inl, inr, refl, sym, ap, subst, ◌∙◌}
+use Rattle.std.proofs.Common.{◌≡◌, ℕ, zero, suc, ◌+◌, ◌==◌, Bool, true, false, List, [], ◌∷◌, ◌++◌, length, Option, Some, None, Result, Ok, ◌⊎◌, inl, inr, refl, sym, ap, subst, ◌∙◌}
 use Rattle.std.specs.Prelude.{map, slice_get, not}
 use Rattle.m2_tree.specs.declared.name.Ident.{Ident}
 use Rattle.m2_tree.specs.declared.pos.Pos.{Pos}
@@ -33,7 +33,7 @@ use Rattle.def_typing.specs.Declarations.{Declaration, OfConstant, OfType, OfVar
 use Rattle.def_typing.specs.TypeExprs.{Added, Setting, next_type}
 use Rattle.def_typing.specs.Bodies.{Place}
 use Rattle.def_typed.specs.Named.{named, named_by}
-use Rattle.def_typed.specs.Numbers.{variables_by, variables_in, variable_at, headings_by, headings_in, unless_awaited, new_headings, procedures_in, nested_by, next_nested, nested_numbers}
+use Rattle.def_typed.specs.Numbers.{variables_by, variables_in, variable_at, headings_by, headings_in, unless_awaited, new_headings, nested_by, next_nested, nested_numbers}
 use Rattle.def_typed.specs.Blocks.{HasNoCode, Before, MeansBehind, from_outside, a_variable, of_module, of_procedure, without_code}
 use Rattle.law_typing.specs.Judging.{Judges}
 use Rattle.law_typing.specs.Exact.{of_local, standing, Sees, sees, sees_nothing, sees_headless, sees_unknown, Knows, TakenAs, is_taken, awaits, not_taken, IsAsBefore, as_before, has_heading, is_nested}

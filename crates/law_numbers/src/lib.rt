@@ -1,15 +1,20 @@
 //! Laws alone: behind the declarations of a block its names have the numbers that the rules give: variables in the order of
 //! their declarations, procedures in the order of their headings.
 //!
-//! - `specs/Numbered` says what is known behind declarations of which nothing is reported (`AreNumbered`).
+//! - `specs/Numbered` says what is known behind declarations of which nothing is reported (`AreNumbered`), and `specs/Sensed`
+//!   what names mean there (`AreSensed`).
 //! - `proofs/Walking` says which names declarations enter: names that are free, names that were begun, and procedures that
 //!   await their headings. So a fact that these keep is kept by all declarations.
 //! - `proofs/Variables` and `proofs/Declaring` number variables, and `proofs/Headings` procedures. `proofs/Blocks` puts both
 //!   together.
+//! - `proofs/Within` counts procedures in procedures, `proofs/Finding` finds a heading by its number, and `proofs/Senses` says
+//!   what each name means.
 #![tactic(auto)]
 
 ghost use Rattle.check_scope.specs.Elaborated.{every, least};
+ghost use Rattle.law_typing.specs.Judging.{all_of_them, the_least};
 ghost use Rattle.law_numbers.specs.Numbered.{BlocksAreNumbered};
+ghost use Rattle.law_numbers.specs.Sensed.{SensesAreKnown};
 
 /// If nothing is reported of the declarations of a block, its variables are numbered in order behind those that were there, and
 /// its procedures in the order of their headings: in a module those that its definition has not declared, and in a procedure
@@ -17,4 +22,12 @@ ghost use Rattle.law_numbers.specs.Numbered.{BlocksAreNumbered};
 pub fn number_laws()
     ensures every_rule { BlocksAreNumbered every }
     ensures least_rule { BlocksAreNumbered least }
+{}
+
+/// If nothing is reported of the declarations of a block, and if it is known what names mean where the block begins, it is
+/// known what they mean behind them: each name of the block means what the rules of numbers say, and each other name what it
+/// meant outside.
+pub fn sense_laws()
+    ensures every_rule { SensesAreKnown every all_of_them }
+    ensures least_rule { SensesAreKnown least the_least }
 {}
