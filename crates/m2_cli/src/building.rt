@@ -68,27 +68,8 @@ fn say_details<R: Eprint>(rt: &R, refusals: &[Refusal], details: &[String]) {
     }
 }
 
-/// Shows refusals, and what stood at their places: in their objects, or below all lines. The status.
-fn show_detailed<R>(
-    rt: &R,
-    setting: &Setting,
-    program: &Program,
-    refusals: &[Refusal],
-) -> Result<u8>
-where
-    R: Print + Eprint + AllocGlobal + Threads + Sync,
-{
-    if setting.style == Style::Json {
-        let details = details_of(rt, &program.files, setting.options, refusals)?;
-        return show(rt, setting.style, program, refusals, &details);
-    }
-    let status = show(rt, setting.style, program, refusals, &[])?;
-    let details = details_of(rt, &program.files, setting.options, refusals)?;
-    say_details(rt, refusals, &details);
-    Ok(status)
-}
-
-/// Shows the refusals of a program, and says what stands there and what it lacks: types, modules, or pages. The status.
+/// Shows the refusals of a program, and says what stands there, in their objects or below all lines, and what it lacks: types,
+/// modules, or pages. The status.
 pub fn show_refused<R>(
     rt: &R,
     setting: &Setting,
@@ -98,8 +79,16 @@ pub fn show_refused<R>(
 where
     R: Print + Eprint + AllocGlobal + Threads + Sync,
 {
-    let status = show_detailed(rt, setting, program, refusals)?;
-    say_pages(rt, &program.files, setting.options, refusals)?;
+    let (files, options) = (program.files.as_slice(), setting.options);
+    let status = if setting.style == Style::Json {
+        let details = details_of(rt, files, options, refusals)?;
+        show(rt, setting.style, program, refusals, &details)?
+    } else {
+        let status = show(rt, setting.style, program, refusals, &[])?;
+        say_details(rt, refusals, &details_of(rt, files, options, refusals)?);
+        status
+    };
+    say_pages(rt, files, options, refusals)?;
     Ok(status)
 }
 

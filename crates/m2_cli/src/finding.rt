@@ -6,7 +6,7 @@ use command_words::{Exit, FAILED};
 use find_modules::{FindFault, FoundModule, Part, Sources, find};
 use m2_tree::Name;
 use m2c::SourceFile;
-use std::alloc::AllocError;
+use std::alloc::{AllocError, Global};
 use std::fs;
 use std::rt::Files;
 use tool_words::{PROGRAM, Setting};
@@ -106,21 +106,15 @@ fn searched_by<R: Files + AllocGlobal>(
     Ok(searched)
 }
 
-/// The program of this text alone.
-fn program_of<R: Files + AllocGlobal>(
-    rt: &R,
-    places: &Places<'_, R>,
-    path: &str,
-    bytes: Vec<u8>,
-) -> Result<Program, AllocError> {
-    let alloc = rt.alloc();
-    let name = String::from_str(alloc, path)?;
+/// The program of this text alone, for which no folder was searched.
+pub fn alone(alloc: Global, path: &str, bytes: Vec<u8>) -> Result<Program, AllocError> {
     let mut files = Vec::new(alloc);
+    let name = String::from_str(alloc, path)?;
     files.push(SourceFile { name, bytes })?;
     Ok(Program {
         files,
         lacking: Vec::new(alloc),
-        searched: searched_by(rt, places)?,
+        searched: Vec::new(alloc),
     })
 }
 
@@ -149,7 +143,8 @@ fn found_for<R: Files + Eprint + AllocGlobal>(
     let places = Places::of(rt, path, &setting.libraries)?;
     match find(rt.alloc(), &places, &text) {
         Ok(modules) => {
-            let program = program_of(rt, &places, path, text)?;
+            let mut program = alone(rt.alloc(), path, text)?;
+            program.searched = searched_by(rt, &places)?;
             Ok(with_modules(rt, setting, &places, modules, program)?)
         }
         Err(FindFault::NoMemory) => {
@@ -163,17 +158,23 @@ fn found_for<R: Files + Eprint + AllocGlobal>(
     }
 }
 
+/// The text of a file. If it cannot be read, that is reported.
+pub fn text_of<R: Files + Eprint + AllocGlobal>(rt: &R, path: &str) -> Result<Vec<u8>, Exit> {
+    match fs::read(rt, path) {
+        Ok(text) => Ok(text),
+        Err(error) => {
+            let _ = eprintln!(rt; "{PROGRAM}: cannot read {path}: {error}");
+            Err(Exit::Reported(FAILED))
+        }
+    }
+}
+
 /// The program of this file, with the modules that it imports. A file that cannot be read is reported.
 pub fn find_program<R: Files + Eprint + AllocGlobal>(
     rt: &R,
     setting: &Setting,
     path: &str,
 ) -> Result<Program, Exit> {
-    match fs::read(rt, path) {
-        Ok(text) => found_for(rt, setting, path, text),
-        Err(error) => {
-            let _ = eprintln!(rt; "{PROGRAM}: cannot read {path}: {error}");
-            Err(Exit::Reported(FAILED))
-        }
-    }
+    let text = text_of(rt, path)?;
+    found_for(rt, setting, path, text)
 }

@@ -1,7 +1,7 @@
 //! `m2 show`: what a pass makes of a program.
 
 use crate::building::{Modules, build_program};
-use crate::finding::Program;
+use crate::finding::{alone, text_of};
 use crate::output::say_output_fault;
 use crate::showing::show;
 use anyhow::Result;
@@ -12,10 +12,9 @@ use mark_statements::marked_text;
 use show_passes::{File, Shown, show_program, show_text_tokens, show_text_tree};
 use show_types::show_types;
 use std::alloc::{AllocError, Global};
-use std::fs;
 use std::rt::Files;
 use std::thread::Threads;
-use tool_words::{PROGRAM, Pass, Setting};
+use tool_words::{Pass, Setting};
 use typed_program::typed_program;
 
 /// The status of what is shown.
@@ -30,18 +29,6 @@ fn write_page<R: Print + Eprint>(rt: &R, page: &[u8]) -> u8 {
             FAILED
         }
     }
-}
-
-/// The program of this text alone.
-fn alone(alloc: Global, path: &str, bytes: Vec<u8>) -> Result<Program, AllocError> {
-    let mut files = Vec::new(alloc);
-    let name = String::from_str(alloc, path)?;
-    files.push(SourceFile { name, bytes })?;
-    Ok(Program {
-        files,
-        lacking: Vec::new(alloc),
-        searched: Vec::new(alloc),
-    })
 }
 
 /// Shows where a text is refused. The status.
@@ -76,17 +63,6 @@ fn show_text<R: Print + Eprint + AllocGlobal>(
     match made {
         Shown::Made(page) => Ok(write_page(rt, &page)),
         Shown::Refused(pos, number) => refuse(rt, setting, path, text, pos, number),
-    }
-}
-
-/// The text of a file. If it cannot be read, that is reported.
-fn text_of<R: Files + Eprint + AllocGlobal>(rt: &R, path: &str) -> Result<Vec<u8>, Exit> {
-    match fs::read(rt, path) {
-        Ok(text) => Ok(text),
-        Err(error) => {
-            let _ = eprintln!(rt; "{PROGRAM}: cannot read {path}: {error}");
-            Err(Exit::Reported(FAILED))
-        }
     }
 }
 

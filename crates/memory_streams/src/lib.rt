@@ -1,9 +1,16 @@
-//! A folder and streams over memory, for the crates of tests.
+//! Folders and streams over memory, and what is executed there, for the crates of tests.
 #![tactic(auto)]
+
+mod files;
+mod ran;
+mod samples;
 
 ghost use Rattle.std.specs.Prelude.{◌≡◌};
 
+pub use files::NamedFiles;
+pub use ran::{Ran, bytes_of, execute_in, execute_modules, execute_two};
 use run_directory::{InDir, Sink};
+pub use samples::{CYCLE, LINK};
 use std::alloc::Global;
 
 /// The folder of a build: link, and the other modules under their names.

@@ -1,12 +1,12 @@
 //! Typed expressions, and what they are made of.
 
-use crate::rows::{constant_row, numbered_row, procedure_row, slot_row, typed_row, variable_row};
+use crate::rows::{constant_row, declared_row, numbered_row, slot_row, typed_row};
 use show_code::Page;
 use std::alloc::AllocError;
 use tree_parts::Items;
 use typed_tree::{
     Argument, Arithmetic, BITSET, BOOLEAN, CARDINAL, CHAR, Call, Comparison, Component, INTEGER,
-    Inclusion, Link, LocalProcedure, Place, Root, SetOperator, TypeNo, TypedExpr, TypedModule,
+    Inclusion, Link, Place, Root, SetOperator, TypeNo, TypedExpr, TypedModule,
 };
 
 /// How an operator on two numbers is written.
@@ -58,29 +58,12 @@ fn show_root(
     root: Root,
 ) -> Result<(), AllocError> {
     match root {
-        Root::Global(variable) => variable_row(page, module, level, variable),
+        Root::Global(v) => declared_row(page, module, level, b"variable", v.home, v.number, v.of),
         Root::Local(slot) => slot_row(page, level, b"local", slot),
         Root::Alias(slot) => slot_row(page, level, b"VAR formal", slot),
         Root::Open(slot) => slot_row(page, level, b"open array", slot),
-        Root::With(number) => numbered_row(page, level, &[b"record of WITH"], number),
+        Root::With(number) => numbered_row(page, level, b"record of WITH", number),
     }
-}
-
-/// A procedure of a procedure.
-fn show_local_procedure(
-    page: &mut Page,
-    module: &TypedModule,
-    level: usize,
-    procedure: LocalProcedure,
-) -> Result<(), AllocError> {
-    numbered_row(page, level, &[b"call of local procedure"], procedure.number)?;
-    typed_row(
-        page,
-        module,
-        level.saturating_add(1),
-        &[b"heading"],
-        procedure.heading,
-    )
 }
 
 /// The word of an operator on one value, with the type of its result.
@@ -109,8 +92,9 @@ pub fn show_value(
             show_word(page, module, level, "value", *t)?;
             show_place(page, module, inner, place)
         }
-        TypedExpr::Procedure(procedure) => {
-            procedure_row(page, module, level, b"procedure", *procedure)
+        TypedExpr::Procedure(f) => {
+            let word = b"procedure";
+            declared_row(page, module, level, word, f.home, f.number, f.heading)
         }
         TypedExpr::Plus(t, e) => show_operand(page, module, level, "+", *t, e.get()),
         TypedExpr::Negate(e) => show_operand(page, module, level, "-", INTEGER, e.get()),
@@ -119,26 +103,14 @@ pub fn show_value(
             show_links(page, module, level, links.as_slice())
         }
         TypedExpr::Compare(relation, first, second) => {
-            show_operand(
-                page,
-                module,
-                level,
-                comparison_word(*relation),
-                BOOLEAN,
-                first.get(),
-            )?;
+            let word = comparison_word(*relation);
+            show_operand(page, module, level, word, BOOLEAN, first.get())?;
             show_value(page, module, inner, second.get())
         }
         TypedExpr::Not(e) => show_operand(page, module, level, "NOT", BOOLEAN, e.get()),
         TypedExpr::Include(relation, first, second) => {
-            show_operand(
-                page,
-                module,
-                level,
-                inclusion_word(*relation),
-                BOOLEAN,
-                first.get(),
-            )?;
+            let word = inclusion_word(*relation);
+            show_operand(page, module, level, word, BOOLEAN, first.get())?;
             show_value(page, module, inner, second.get())
         }
         TypedExpr::In(element, set) => {
@@ -164,7 +136,7 @@ pub fn show_value(
 
 /// The word of an operator with the type of its result, and its operand below.
 #[cycle(expression)]
-fn show_operand(
+pub fn show_operand(
     page: &mut Page,
     module: &TypedModule,
     level: usize,
@@ -264,7 +236,7 @@ fn show_component(
 ) -> Result<(), AllocError> {
     match component {
         Component::Field(t, number) => {
-            numbered_row(page, level, &[b"field"], *number)?;
+            numbered_row(page, level, b"field", *number)?;
             show_word(page, module, level.saturating_add(1), "of", *t)
         }
         Component::Element(t, index) => show_operand(page, module, level, "element of", *t, index),
@@ -282,21 +254,25 @@ pub fn show_call(
     level: usize,
     call: &Call,
 ) -> Result<(), AllocError> {
-    match call {
-        Call::Module(procedure, arguments) => {
-            procedure_row(page, module, level, b"call of procedure", *procedure)?;
-            show_arguments(page, module, level.saturating_add(1), arguments)
+    let inner = level.saturating_add(1);
+    let arguments = match call {
+        Call::Module(f, arguments) => {
+            let word = b"call of procedure";
+            declared_row(page, module, level, word, f.home, f.number, f.heading)?;
+            arguments
         }
-        Call::Nested(procedure, arguments) => {
-            show_local_procedure(page, module, level, *procedure)?;
-            show_arguments(page, module, level.saturating_add(1), arguments)
+        Call::Nested(f, arguments) => {
+            numbered_row(page, level, b"call of local procedure", f.number)?;
+            show_word(page, module, inner, "heading", f.heading)?;
+            arguments
         }
         Call::Variable(t, place, arguments) => {
             show_word(page, module, level, "call of the value of", *t)?;
-            show_place(page, module, level.saturating_add(1), place)?;
-            show_arguments(page, module, level.saturating_add(1), arguments)
+            show_place(page, module, inner, place)?;
+            arguments
         }
-    }
+    };
+    show_arguments(page, module, inner, arguments)
 }
 
 /// Arguments, one behind another.

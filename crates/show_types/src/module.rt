@@ -24,34 +24,7 @@ fn show_variables(
     Ok(())
 }
 
-/// A procedure: the type of its heading, its variables, and its body.
-fn show_routine(
-    page: &mut Page,
-    module: &TypedModule,
-    level: usize,
-    words: &[&[u8]],
-    routine: &Routine,
-) -> Result<(), AllocError> {
-    let inner = level.saturating_add(1);
-    page.row_at(level, words, routine.pos)?;
-    typed_row(page, module, inner, &[b"heading"], routine.heading)?;
-    show_variables(
-        page,
-        module,
-        inner,
-        b"own variable",
-        routine.variables.as_slice(),
-    )?;
-    page.row(inner, &[b"body"])?;
-    show_stmts(
-        page,
-        module,
-        inner.saturating_add(1),
-        routine.body.as_slice(),
-    )
-}
-
-/// Procedures, each with its number.
+/// Procedures, each with its number, the type of its heading, its variables, and its body.
 fn show_routines(
     page: &mut Page,
     module: &TypedModule,
@@ -59,10 +32,21 @@ fn show_routines(
     word: &[u8],
     routines: &[Routine],
 ) -> Result<(), AllocError> {
+    let inner = level.saturating_add(1);
     for (number, routine) in routines.iter().enumerate() {
         let mut digits = Buffer::new();
         let words: [&[u8]; 3] = [word, b" ", digits.format(number).as_bytes()];
-        show_routine(page, module, level, &words, routine)?;
+        let own = routine.variables.as_slice();
+        page.row_at(level, &words, routine.pos)?;
+        typed_row(page, module, inner, &[b"heading"], routine.heading)?;
+        show_variables(page, module, inner, b"own variable", own)?;
+        page.row(inner, &[b"body"])?;
+        show_stmts(
+            page,
+            module,
+            inner.saturating_add(1),
+            routine.body.as_slice(),
+        )?;
     }
     Ok(())
 }

@@ -4,8 +4,7 @@ use itoa::Buffer;
 use show_code::Page;
 use std::alloc::AllocError;
 use typed_tree::{
-    BITSET, BOOLEAN, CARDINAL, CHAR, Home, INTEGER, Procedure, Slot, TypeNo, TypedModule, Variable,
-    are_same,
+    BITSET, BOOLEAN, CARDINAL, CHAR, Home, INTEGER, Slot, TypeNo, TypedModule, are_same,
 };
 
 /// The name of a type that is declared around all modules.
@@ -67,18 +66,15 @@ pub fn typed_row(
     page.put(b"\n")
 }
 
-/// A row of this level: these words, and a number.
+/// A row of this level: a word, and a number.
 pub fn numbered_row(
     page: &mut Page,
     level: usize,
-    words: &[&[u8]],
+    word: &[u8],
     number: usize,
 ) -> Result<(), AllocError> {
-    page.begin_row(level)?;
-    page.put_all(words)?;
-    page.put(b" ")?;
-    page.put_number(number as u64)?;
-    page.put(b"\n")
+    let mut digits = Buffer::new();
+    page.row(level, &[word, b" ", digits.format(number).as_bytes()])
 }
 
 /// A constant: its number, and its type.
@@ -94,37 +90,23 @@ pub fn constant_row(
     typed_row(page, module, level, &words, t)
 }
 
-/// A variable of a module: its number there, and its type.
-pub fn variable_row(
-    page: &mut Page,
-    module: &TypedModule,
-    level: usize,
-    variable: Variable,
-) -> Result<(), AllocError> {
-    page.begin_row(level)?;
-    page.put(b"variable ")?;
-    page.put_number(variable.number as u64)?;
-    put_home(page, module, variable.home)?;
-    page.put(b", ")?;
-    put_type(page, module, variable.of)?;
-    page.put(b"\n")
-}
-
-/// A procedure of a module: its number there, and its type.
-pub fn procedure_row(
+/// A variable or a procedure of a module: a word, its number there, and its type.
+pub fn declared_row(
     page: &mut Page,
     module: &TypedModule,
     level: usize,
     word: &[u8],
-    procedure: Procedure,
+    home: u32,
+    number: usize,
+    t: TypeNo,
 ) -> Result<(), AllocError> {
     page.begin_row(level)?;
     page.put(word)?;
     page.put(b" ")?;
-    page.put_number(procedure.number as u64)?;
-    put_home(page, module, procedure.home)?;
+    page.put_number(number as u64)?;
+    put_home(page, module, home)?;
     page.put(b", ")?;
-    put_type(page, module, procedure.heading)?;
+    put_type(page, module, t)?;
     page.put(b"\n")
 }
 

@@ -1,6 +1,6 @@
 //! Typed statements.
 
-use crate::exprs::{show_call, show_place, show_value};
+use crate::exprs::{show_call, show_operand, show_place, show_value};
 use crate::rows::typed_row;
 use itoa::Buffer;
 use show_code::Page;
@@ -25,50 +25,17 @@ fn membership_word(membership: Membership) -> &'static str {
     }
 }
 
-/// A statement that changes a variable: its word with the variable's type, the variable, and a value.
-fn show_stored(
+/// The word of a statement that changes a variable, with the variable's type, and the variable below.
+fn show_changed(
     page: &mut Page,
     module: &TypedModule,
     level: usize,
     word: &str,
     t: TypeNo,
     place: &Place,
-    e: &TypedExpr,
 ) -> Result<(), AllocError> {
-    let inner = level.saturating_add(1);
     typed_row(page, module, level, &[word.as_bytes()], t)?;
-    show_place(page, module, inner, place)?;
-    show_value(page, module, inner, e)
-}
-
-/// A copy of an array or a record.
-fn show_copy(
-    page: &mut Page,
-    module: &TypedModule,
-    level: usize,
-    t: TypeNo,
-    to: &Place,
-    from: &Place,
-) -> Result<(), AllocError> {
-    let inner = level.saturating_add(1);
-    typed_row(page, module, level, &[b":="], t)?;
-    show_place(page, module, inner, to)?;
-    show_place(page, module, inner, from)
-}
-
-/// An array that gets a string.
-fn show_text_copy(
-    page: &mut Page,
-    module: &TypedModule,
-    level: usize,
-    t: TypeNo,
-    to: &Place,
-    text: &[u8],
-) -> Result<(), AllocError> {
-    let inner = level.saturating_add(1);
-    typed_row(page, module, level, &[b":="], t)?;
-    show_place(page, module, inner, to)?;
-    page.row(inner, &[b"string '", text, b"'"])
+    show_place(page, module, level.saturating_add(1), place)
 }
 
 /// A word, and below it an expression.
@@ -83,21 +50,6 @@ fn show_part(
     show_value(page, module, level.saturating_add(1), e)
 }
 
-/// The set of INCL or EXCL, and the element.
-fn show_membership(
-    page: &mut Page,
-    module: &TypedModule,
-    level: usize,
-    membership: Membership,
-    place: &Place,
-    e: &TypedExpr,
-) -> Result<(), AllocError> {
-    let inner = level.saturating_add(1);
-    page.row(level, &[membership_word(membership).as_bytes()])?;
-    show_place(page, module, inner, place)?;
-    show_value(page, module, inner, e)
-}
-
 /// A word, and below it a call.
 fn show_called(
     page: &mut Page,
@@ -108,10 +60,7 @@ fn show_called(
     match stmt {
         TypedStmt::Call(call) => show_call(page, module, level, call),
         TypedStmt::Put(e) => show_part(page, module, level, "Put", e),
-        TypedStmt::Give(t, e) => {
-            typed_row(page, module, level, &[b"RETURN"], *t)?;
-            show_value(page, module, level.saturating_add(1), e)
-        }
+        TypedStmt::Give(t, e) => show_operand(page, module, level, "RETURN", *t, e),
         TypedStmt::Halt => page.row(level, &[b"HALT"]),
         TypedStmt::Exit => page.row(level, &[b"EXIT"]),
         TypedStmt::Return => page.row(level, &[b"RETURN"]),
@@ -126,40 +75,47 @@ fn show_change(
     level: usize,
     stmt: &TypedStmt,
 ) -> Result<(), AllocError> {
+    let inner = level.saturating_add(1);
     match stmt {
-        TypedStmt::Assign(to, t, e) => show_stored(page, module, level, ":=", *t, to, e),
-        TypedStmt::Copy(to, from, t) => show_copy(page, module, level, *t, to, from),
+        TypedStmt::Assign(to, t, e) => {
+            show_changed(page, module, level, ":=", *t, to)?;
+            show_value(page, module, inner, e)
+        }
+        TypedStmt::Copy(to, from, t) => {
+            show_changed(page, module, level, ":=", *t, to)?;
+            show_place(page, module, inner, from)
+        }
         TypedStmt::CopyText(to, t, text) => {
-            show_text_copy(page, module, level, *t, to, text.get().as_bytes())
+            show_changed(page, module, level, ":=", *t, to)?;
+            page.row(inner, &[b"string '", text.get().as_bytes(), b"'"])
         }
         TypedStmt::Change(change, place, t, e) => {
-            show_stored(page, module, level, change_word(*change), *t, place, e)
+            show_changed(page, module, level, change_word(*change), *t, place)?;
+            show_value(page, module, inner, e)
         }
         TypedStmt::Membership(membership, place, e) => {
-            show_membership(page, module, level, *membership, place, e)
+            page.row(level, &[membership_word(*membership).as_bytes()])?;
+            show_place(page, module, inner, place)?;
+            show_value(page, module, inner, e)
         }
         _ => Ok(()),
     }
 }
 
-/// A label of a CASE, by its least and its greatest number.
-fn show_label(page: &mut Page, level: usize, label: Label) -> Result<(), AllocError> {
-    let mut low = Buffer::new();
-    let mut high = Buffer::new();
-    page.row(
-        level,
-        &[
-            b"label ",
-            low.format(label.low).as_bytes(),
-            b"..",
-            high.format(label.high).as_bytes(),
-        ],
-    )
-}
-
+/// The labels of an arm of a CASE, each by its least and its greatest number.
 fn show_labels(page: &mut Page, level: usize, labels: &[Label]) -> Result<(), AllocError> {
     for label in labels {
-        show_label(page, level, *label)?;
+        let mut low = Buffer::new();
+        let mut high = Buffer::new();
+        page.row(
+            level,
+            &[
+                b"label ",
+                low.format(label.low).as_bytes(),
+                b"..",
+                high.format(label.high).as_bytes(),
+            ],
+        )?;
     }
     Ok(())
 }
@@ -182,17 +138,6 @@ fn show_course(
     show_value(page, module, inner, start)?;
     show_part(page, module, inner, "TO", limit)?;
     page.row(inner, &[b"BY ", digits.format(step).as_bytes()])
-}
-
-/// The record of a WITH.
-fn show_opened(
-    page: &mut Page,
-    module: &TypedModule,
-    level: usize,
-    place: &Place,
-) -> Result<(), AllocError> {
-    page.row(level, &[b"WITH"])?;
-    show_place(page, module, level.saturating_add(1), place)
 }
 
 /// A typed statement.
@@ -249,7 +194,8 @@ fn show_stmt(
             show_body(page, module, level, body.as_slice())
         }
         TypedStmt::With(place, body) => {
-            show_opened(page, module, level, place)?;
+            page.row(level, &[b"WITH"])?;
+            show_place(page, module, level.saturating_add(1), place)?;
             show_body(page, module, level, body.as_slice())
         }
     }
@@ -280,18 +226,7 @@ fn show_else(
     show_stmts(page, module, level.saturating_add(1), body)
 }
 
-/// An arm of a CASE: its labels and its statements.
-#[cycle(statement)]
-fn show_arm(
-    page: &mut Page,
-    module: &TypedModule,
-    level: usize,
-    arm: &TypedArm,
-) -> Result<(), AllocError> {
-    show_labels(page, level.saturating_add(1), arm.labels.as_slice())?;
-    show_body(page, module, level, arm.body.as_slice())
-}
-
+/// The arms of a CASE, each with its labels and its statements.
 #[cycle(statement)]
 fn show_arms(
     page: &mut Page,
@@ -300,7 +235,8 @@ fn show_arms(
     arms: &[TypedArm],
 ) -> Result<(), AllocError> {
     for arm in arms {
-        show_arm(page, module, level, arm)?;
+        show_labels(page, level.saturating_add(1), arm.labels.as_slice())?;
+        show_body(page, module, level, arm.body.as_slice())?;
     }
     Ok(())
 }

@@ -1,18 +1,12 @@
 //! Programs of many files.
 
 use crate::gates::Always;
-use crate::rows::execute_modules;
+use crate::rows::{STEPS, file};
 use anyhow::{Result, bail};
 use m2c::{Options, Outcome, SourceFile, build};
-use std::alloc::{AllocError, Global};
+use memory_streams::{bytes_of, execute_modules};
+use std::alloc::Global;
 use std::thread::Threads;
-
-fn file(alloc: Global, name: &str, text: &str) -> Result<SourceFile, AllocError> {
-    Ok(SourceFile {
-        name: String::from_str(alloc, name)?,
-        bytes: Vec::from_slice(alloc, text.as_bytes())?,
-    })
-}
 
 /// The text of the k-th implementation, which imports the module before it.
 fn implementation(alloc: Global, k: usize) -> Result<String> {
@@ -62,19 +56,6 @@ fn outcome<R: Threads + Sync>(
     Ok(build(rt, alloc, files, options, &Always(true))?)
 }
 
-/// The bytes of link, and behind them the bytes of each module.
-fn bytes_of(
-    alloc: Global,
-    link: &[u8],
-    modules: &[(String, Vec<u8>)],
-) -> Result<Vec<u8>, AllocError> {
-    let mut all = Vec::from_slice(alloc, link)?;
-    for module in modules {
-        all.extend_from_slice(&module.1)?;
-    }
-    Ok(all)
-}
-
 /// What this many workers build of files; executed, it is to print a byte for each module, and P last.
 fn build_many<R: Threads + Sync>(
     rt: &R,
@@ -85,10 +66,10 @@ fn build_many<R: Threads + Sync>(
     let Outcome::Built { link, modules } = outcome(rt, alloc, files, workers)? else {
         bail!("the files are refused");
     };
-    let (status, printed) = execute_modules(alloc, &link, &modules);
-    let count = printed.len();
-    if status != 0 || count != modules.len() || printed.last() != Some(&b'P') {
-        bail!("status {status}, with {count} bytes printed");
+    let ran = execute_modules(alloc, &link, &modules, STEPS);
+    let count = ran.out.len();
+    if ran.status != 0 || count != modules.len() || ran.out.last() != Some(&b'P') {
+        bail!("status {}, with {count} bytes printed", ran.status);
     }
     Ok(bytes_of(alloc, &link, &modules)?)
 }

@@ -3,33 +3,28 @@
 use crate::gates::Always;
 use anyhow::{Result, bail};
 use m2c::{Options, Outcome, SourceFile, build};
-use memory_streams::{Folder, Screen};
-use run_directory::execute;
+use memory_streams::{CYCLE, execute_modules};
 use std::alloc::{AllocError, Global};
 use std::thread::Threads;
 
 /// More reductions than any of the programs makes.
-const STEPS: u64 = 1_000_000;
+pub const STEPS: u64 = 1_000_000;
+
+/// The file of this name and text.
+pub fn file(alloc: Global, name: &str, text: &str) -> Result<SourceFile, AllocError> {
+    Ok(SourceFile {
+        name: String::from_str(alloc, name)?,
+        bytes: Vec::from_slice(alloc, text.as_bytes())?,
+    })
+}
 
 /// Files with these names and texts.
 pub fn files_of(alloc: Global, texts: &[(&str, &str)]) -> Result<Vec<SourceFile>, AllocError> {
     let mut files = Vec::new(alloc);
     for text in texts {
-        files.push(SourceFile {
-            name: String::from_str(alloc, text.0)?,
-            bytes: Vec::from_slice(alloc, text.1.as_bytes())?,
-        })?;
+        files.push(file(alloc, text.0, text.1)?)?;
     }
     Ok(files)
-}
-
-/// The status with which modules end, and what they print.
-pub fn execute_modules(alloc: Global, link: &[u8], modules: &[(String, Vec<u8>)]) -> (u8, Vec<u8>) {
-    let mut folder = Folder { link, modules };
-    let mut out = Screen::new(alloc);
-    let mut err = Screen::new(alloc);
-    let status = execute(alloc, &mut folder, STEPS, &mut out, &mut err);
-    (status, out.bytes)
 }
 
 /// Builds files, and executes what is built. It is to end with status 0, with these bytes printed.
@@ -48,33 +43,17 @@ fn check<R: Threads + Sync>(
     let Outcome::Built { link, modules } = outcome else {
         bail!("the files are refused");
     };
-    let (status, bytes) = execute_modules(alloc, &link, &modules);
-    if status != 0 || bytes.as_slice() != printed {
-        let count = bytes.len();
-        bail!("status {status}, with {count} bytes printed");
+    let ran = execute_modules(alloc, &link, &modules, STEPS);
+    if ran.status != 0 || ran.out.as_slice() != printed {
+        let count = ran.out.len();
+        bail!("status {}, with {count} bytes printed", ran.status);
     }
     Ok(())
 }
 
 /// P imports A, and the implementations of A and B import each other.
 pub fn imports_that_lead_to_one_another<R: Threads + Sync>(rt: &R, alloc: Global) -> Result<()> {
-    let texts = [
-        (
-            "P.mod",
-            "MODULE P; FROM Console IMPORT Put; IMPORT A; BEGIN Put('P') END P.",
-        ),
-        (
-            "A.mod",
-            "IMPLEMENTATION MODULE A; FROM Console IMPORT Put; IMPORT B; BEGIN Put('A') END A.",
-        ),
-        (
-            "B.mod",
-            "IMPLEMENTATION MODULE B; IMPORT A; FROM Console IMPORT Put; BEGIN Put('B') END B.",
-        ),
-        ("A.def", "DEFINITION MODULE A; END A."),
-        ("B.def", "DEFINITION MODULE B; END B."),
-    ];
-    check(rt, alloc, &texts, b"BAP")
+    check(rt, alloc, &CYCLE, b"BAP")
 }
 
 /// Two modules import a third, whose body runs once; the definition's import comes before the body's.

@@ -1,9 +1,7 @@
 //! A program's files with one byte changed.
 
-use crate::memory::Pair;
 use anyhow::{Result, bail};
-use memory_streams::Screen;
-use run_directory::execute;
+use memory_streams::execute_two;
 use std::alloc::Global;
 use std::fs;
 
@@ -11,10 +9,7 @@ use std::fs;
 const STEPS: u64 = 100_000;
 
 fn status_of(alloc: Global, link: &[u8], body: &[u8]) -> u8 {
-    let mut dir = Pair { link, body };
-    let mut out = Screen::new(alloc);
-    let mut err = Screen::new(alloc);
-    execute(alloc, &mut dir, STEPS, &mut out, &mut err)
+    execute_two(alloc, link, body, STEPS, usize::MAX).status
 }
 
 /// Whether a byte at this place is changed by this mask: by all masks, or by every second one, in turn the odd and the even.

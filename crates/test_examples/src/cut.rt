@@ -1,10 +1,8 @@
 //! A program's files cut short.
 
 use crate::faults::answer_to;
-use crate::memory::Pair;
 use anyhow::{Result, bail};
-use memory_streams::Screen;
-use run_directory::execute;
+use memory_streams::execute_two;
 use std::alloc::Global;
 use std::fs;
 
@@ -36,19 +34,8 @@ fn check_beginnings(alloc: Global, bytes: &[u8], modules: &[usize]) -> Result<u6
     Ok(count)
 }
 
-/// What comes of two files: the status, and what is on the two streams.
-fn report_cut(alloc: Global, link: &[u8], body: &[u8]) -> Result<String> {
-    let mut dir = Pair { link, body };
-    let mut out = Screen::new(alloc);
-    let mut err = Screen::new(alloc);
-    let status = execute(alloc, &mut dir, STEPS, &mut out, &mut err);
-    let printed = String::from_utf8_lossy(alloc, &out.bytes)?;
-    let words = String::from_utf8_lossy(alloc, &err.bytes)?;
-    Ok(format!(in alloc; "{status}|{printed}|{words}")?)
-}
-
 fn check_row(alloc: Global, link: &[u8], body: &[u8], expected: &str) -> Result<()> {
-    let text = report_cut(alloc, link, body)?;
+    let text = execute_two(alloc, link, body, STEPS, usize::MAX).text(alloc)?;
     if text.as_str() != expected {
         bail!("expected {expected}, reported {text}");
     }

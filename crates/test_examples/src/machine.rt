@@ -2,8 +2,8 @@
 
 use crate::expected::{self, Expected};
 use anyhow::{Context, Result, bail};
-use memory_streams::Screen;
-use run_directory::{InDir, execute};
+use memory_streams::{Ran, execute_in};
+use run_directory::InDir;
 use std::alloc::{AllocError, Global};
 use std::fs;
 use std::rt::Files;
@@ -32,14 +32,6 @@ impl<R: Files + AllocGlobal> InDir for Folder<'_, R> {
     }
 }
 
-/// What came of a directory's modules.
-#[derive(Drop)]
-struct Came {
-    status: u8,
-    out: String,
-    err: String,
-}
-
 /// The bytes, two hexadecimal digits each.
 fn digits(alloc: Global, bytes: &[u8]) -> Result<String, AllocError> {
     let mut text = String::new(alloc);
@@ -50,40 +42,33 @@ fn digits(alloc: Global, bytes: &[u8]) -> Result<String, AllocError> {
     Ok(text)
 }
 
-fn run(rt: &HostRuntime, path: &str, steps: u64) -> Result<Came> {
-    let alloc = rt.alloc();
-    let mut dir = Folder { rt, path };
-    let mut out = Screen::new(alloc);
-    let mut err = Screen::new(alloc);
-    let status = execute(alloc, &mut dir, steps, &mut out, &mut err);
-    Ok(Came {
-        status,
-        out: digits(alloc, &out.bytes)?,
-        err: String::from_utf8_lossy(alloc, &err.bytes)?,
-    })
+fn run(rt: &HostRuntime, path: &str, steps: u64) -> Ran {
+    execute_in(rt.alloc(), &mut Folder { rt, path }, steps, usize::MAX)
 }
 
 /// The status, the bytes on standard output and the line on standard error.
-fn check_end(expected: &Expected, came: &Came) -> Result<()> {
-    if came.status != expected.status {
-        bail!("status {}", came.status);
+fn check_end(alloc: Global, expected: &Expected, ran: &Ran) -> Result<()> {
+    if ran.status != expected.status {
+        bail!("status {}", ran.status);
     }
-    if came.out.as_str() != expected.out.as_str() {
-        bail!("out {}", came.out);
+    let out = digits(alloc, &ran.out)?;
+    if out.as_str() != expected.out.as_str() {
+        bail!("out {out}");
     }
+    let err = String::from_utf8_lossy(alloc, &ran.err)?;
     match &expected.err {
-        Some(line) if came.err.trim_end() != line.as_str() => bail!("err {}", came.err),
+        Some(line) if err.trim_end() != line.as_str() => bail!("err {err}"),
         _ => Ok(()),
     }
 }
 
 /// This many reductions lead to the end, and one less do not.
 fn check_reductions(rt: &HostRuntime, path: &str, status: u8, reductions: u64) -> Result<()> {
-    let came = run(rt, path, reductions)?;
-    if came.status != status {
-        bail!("status {} after {reductions} reductions", came.status);
+    let ran = run(rt, path, reductions);
+    if ran.status != status {
+        bail!("status {} after {reductions} reductions", ran.status);
     }
-    let before = run(rt, path, reductions.saturating_sub(1))?;
+    let before = run(rt, path, reductions.saturating_sub(1));
     if before.status != 4 {
         bail!("status {} after one reduction less", before.status);
     }
@@ -95,8 +80,7 @@ fn check(rt: &HostRuntime, path: &str) -> Result<()> {
     let name = format!(in alloc; "{path}/EXPECTED")?;
     let text = fs::read_to_string(rt, name.as_str())?;
     let expected = expected::read(alloc, text.as_str())?;
-    let came = run(rt, path, expected.steps)?;
-    check_end(&expected, &came)?;
+    check_end(alloc, &expected, &run(rt, path, expected.steps))?;
     match expected.reductions {
         Some(reductions) => check_reductions(rt, path, expected.status, reductions),
         None => Ok(()),

@@ -9,7 +9,6 @@ mod cut;
 mod expected;
 mod faults;
 mod machine;
-mod memory;
 
 use anyhow::Result;
 use std::env;

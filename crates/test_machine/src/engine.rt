@@ -6,7 +6,8 @@ use wasm_binary::read_module;
 use wasm_engine::{Instances, RunFault};
 use wasm_valid::{ValidModule, validate};
 
-fn module(rt: &impl Abort, alloc: Global, bytes: &[u8]) -> ValidModule {
+/// The module of these bytes.
+pub fn module(rt: &impl Abort, alloc: Global, bytes: &[u8]) -> ValidModule {
     let tree = read_module(alloc, bytes).expect(rt, "a module");
     validate(alloc, tree).expect(rt, "a valid module")
 }

@@ -1,27 +1,13 @@
-use memory_streams::Screen;
-use run_directory::{InDir, execute};
+use crate::engine::module;
+use memory_streams::{LINK, NamedFiles, Screen, execute_in, execute_two};
+use run_directory::execute;
 use std::alloc::{AllocError, Global};
 use std::process::Abort;
 use std::test::*;
-use wasm_binary::read_module;
 use wasm_engine::{End, Instances};
-use wasm_valid::{ValidModule, validate};
+use wasm_valid::ValidModule;
 
-/// The module link of the program `MODULE M; FROM Console IMPORT Put; BEGIN Put("A") END M.` with 16 pages, encoded by
-/// hand from Core 1.0, section 5.
-const LINK: [u8; 134] = [
-    0x00, 0x61, 0x73, 0x6D, 0x01, 0x00, 0x00, 0x00, 0x01, 0x08, 0x02, 0x60, 0x00, 0x00, 0x60, 0x01,
-    0x7F, 0x00, 0x03, 0x02, 0x01, 0x00, 0x04, 0x05, 0x01, 0x70, 0x01, 0x02, 0x02, 0x05, 0x04, 0x01,
-    0x01, 0x10, 0x10, 0x06, 0x18, 0x04, 0x7F, 0x00, 0x41, 0x80, 0x80, 0xC0, 0x00, 0x0B, 0x7F, 0x00,
-    0x41, 0x00, 0x0B, 0x7F, 0x00, 0x41, 0x00, 0x0B, 0x7F, 0x00, 0x41, 0x01, 0x0B, 0x07, 0x3A, 0x07,
-    0x06, 0x6D, 0x65, 0x6D, 0x6F, 0x72, 0x79, 0x02, 0x00, 0x05, 0x74, 0x61, 0x62, 0x6C, 0x65, 0x01,
-    0x00, 0x05, 0x6C, 0x69, 0x6D, 0x69, 0x74, 0x03, 0x00, 0x06, 0x62, 0x61, 0x73, 0x65, 0x2E, 0x4D,
-    0x03, 0x01, 0x06, 0x74, 0x65, 0x78, 0x74, 0x2E, 0x4D, 0x03, 0x02, 0x05, 0x74, 0x61, 0x62, 0x2E,
-    0x4D, 0x03, 0x03, 0x03, 0x72, 0x75, 0x6E, 0x00, 0x00, 0x0A, 0x0B, 0x01, 0x09, 0x00, 0x41, 0x00,
-    0x23, 0x03, 0x11, 0x01, 0x00, 0x0B,
-];
-
-/// The module of its body, encoded by hand in the same way, helpers and prologue included.
+/// The module of the body that `LINK` starts, encoded by hand in the same way, helpers and prologue included.
 const BODY: [u8; 404] = [
     0x00, 0x61, 0x73, 0x6D, 0x01, 0x00, 0x00, 0x00, 0x01, 0x22, 0x06, 0x60, 0x01, 0x7E, 0x00, 0x60,
     0x03, 0x7F, 0x7F, 0x7F, 0x00, 0x60, 0x02, 0x7F, 0x7F, 0x00, 0x60, 0x04, 0x7E, 0x7E, 0x7E, 0x7E,
@@ -76,73 +62,6 @@ const INVALID: [u8; 26] = [
     0x01, 0x00, 0x0A, 0x06, 0x01, 0x04, 0x00, 0x41, 0x00, 0x0B,
 ];
 
-/// A folder over memory: the files of link, of M and of N, if they are there. It notes which files it is asked for.
-#[derive(Drop)]
-struct Folder<'a> {
-    link: Option<&'a [u8]>,
-    first: Option<&'a [u8]>,
-    second: Option<&'a [u8]>,
-    asked: String,
-}
-
-impl<'a> Folder<'a> {
-    fn file(&self, name: &str) -> Option<&'a [u8]> {
-        if name == "link.wasm" {
-            return self.link;
-        }
-        if name == "M.wasm" {
-            return self.first;
-        }
-        if name == "N.wasm" {
-            return self.second;
-        }
-        None
-    }
-}
-
-impl InDir for Folder<'_> {
-    ghost gives = { λ _ _ _. Unit {0} };
-
-    fn read(&mut self, alloc: Global, name: &str) -> Option<Vec<u8>> {
-        self.asked.push_str(name).ok()?;
-        self.asked.push_str(" ").ok()?;
-        Vec::from_slice(alloc, self.file(name)?).ok()
-    }
-
-    fn front(&self) -> &str {
-        ""
-    }
-
-    fn reason(&self) -> &str {
-        ""
-    }
-}
-
-/// The files of link and of M.
-fn two<'a>(alloc: Global, link: &'a [u8], body: &'a [u8]) -> Folder<'a> {
-    Folder {
-        link: Some(link),
-        first: Some(body),
-        second: None,
-        asked: String::new(alloc),
-    }
-}
-
-/// What comes of a folder: the status, and what is on the two streams.
-fn report_of(
-    alloc: Global,
-    folder: &mut Folder<'_>,
-    steps: u64,
-    room: usize,
-) -> Result<String, AllocError> {
-    let mut out = Screen::with_room(alloc, room);
-    let mut err = Screen::with_room(alloc, 100);
-    let status = execute(alloc, folder, steps, &mut out, &mut err);
-    let printed = String::from_utf8_lossy(alloc, &out.bytes)?;
-    let words = String::from_utf8_lossy(alloc, &err.bytes)?;
-    format!(in alloc; "{status}|{printed}|{words}")
-}
-
 /// Link makes 3 reductions, its call included; the check of the stack makes 8, the call of fill 3; fill makes 2, then 16 for
 /// each of its 16 bytes, and 4 at its end. Behind the constant, the 278th prints the byte, and two ends follow.
 #[test]
@@ -157,7 +76,7 @@ fn executes_the_first_program(rt: HostRuntime) -> Result<(), Fail> {
         (1000, 0, "3||refusal 91\n"),
     ];
     for (steps, room, expected) in rows {
-        let text = report_of(alloc, &mut two(alloc, &LINK, &BODY), steps, room)?;
+        let text = execute_two(alloc, &LINK, &BODY, steps, room).text(alloc)?;
         assert!(rt; text.as_str() == expected, "{steps}: {text}");
     }
     Ok(())
@@ -173,7 +92,7 @@ fn reports_what_is_wrong_with_files(rt: HostRuntime) -> Result<(), Fail> {
         (&HEADER, &BODY, "3||link: refusal 83\n"),
     ];
     for (link, body, expected) in rows {
-        let text = report_of(alloc, &mut two(alloc, link, body), 100, 100)?;
+        let text = execute_two(alloc, link, body, 100, 100).text(alloc)?;
         assert!(rt; text.as_str() == expected, "{text}");
     }
     Ok(())
@@ -185,10 +104,11 @@ fn reports_what_is_wrong_with_files(rt: HostRuntime) -> Result<(), Fail> {
 fn each_write_fails_in_turn(rt: HostRuntime) {
     let alloc = rt.alloc();
     let line = b"refusal 91\n".as_slice();
+    let files: [(&str, Option<&[u8]>); 2] = [("link.wasm", Some(&LINK)), ("M.wasm", Some(&BODY))];
     for room in 0..line.len() {
         let mut out = Screen::with_room(alloc, 0);
         let mut err = Screen::with_room(alloc, room);
-        let mut dir = two(alloc, &LINK, &BODY);
+        let mut dir = NamedFiles::new(alloc, &files);
         let status = execute(alloc, &mut dir, 1000, &mut out, &mut err);
         assert!(rt; status == 3 && out.bytes.is_empty() && out.failures == 1);
         assert!(rt;
@@ -205,15 +125,10 @@ fn ask_of(
     first: Option<&[u8]>,
     second: Option<&[u8]>,
 ) -> Result<String, AllocError> {
-    let mut folder = Folder {
-        link,
-        first,
-        second,
-        asked: String::new(alloc),
-    };
-    let text = report_of(alloc, &mut folder, 100, 100)?;
-    let asked = folder.asked;
-    format!(in alloc; "{text}|{asked}")
+    let files = [("link.wasm", link), ("M.wasm", first), ("N.wasm", second)];
+    let mut dir = NamedFiles::new(alloc, &files);
+    let text = execute_in(alloc, &mut dir, 100, 100).text(alloc)?;
+    format!(in alloc; "{text}|{}", dir.asked)
 }
 
 /// A file that is at fault ends the reading: so each module is read, decoded and validated before the next.
@@ -277,11 +192,7 @@ fn reads_a_module_after_the_one_before_is_valid(rt: HostRuntime) -> Result<(), F
 
 /// The modules of the first program.
 fn first_program(rt: &impl Abort, alloc: Global) -> Vec<ValidModule> {
-    let link = read_module(alloc, &LINK).expect(rt, "a module");
-    let body = read_module(alloc, &BODY).expect(rt, "a module");
-    let link = validate(alloc, link).expect(rt, "a valid module");
-    let body = validate(alloc, body).expect(rt, "a valid module");
-    vec![in alloc; link, body].expect(rt, "memory")
+    vec![in alloc; module(rt, alloc, &LINK), module(rt, alloc, &BODY)].expect(rt, "memory")
 }
 
 #[test]

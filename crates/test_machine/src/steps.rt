@@ -1,5 +1,6 @@
 //! Code with where the machine is after 60 reductions and what it printed by then, worked out by hand.
 
+use crate::engine::module;
 use memory_streams::Screen;
 use std::alloc::Global;
 use std::process::Abort;
@@ -50,9 +51,7 @@ fn module_of(rt: &impl Abort, alloc: Global, code: &[Op]) -> WModule {
 fn modules_of(rt: &impl Abort, alloc: Global, sources: &[&[u8]]) -> Vec<ValidModule> {
     let mut modules = Vec::new(alloc);
     for source in sources {
-        let tree = read_module(alloc, source).expect(rt, "a module");
-        let module = validate(alloc, tree).expect(rt, "a valid module");
-        modules.push(module).expect(rt, "memory");
+        modules.push(module(rt, alloc, source)).expect(rt, "memory");
     }
     modules
 }

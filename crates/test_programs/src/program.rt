@@ -2,8 +2,7 @@
 
 use anyhow::Result;
 use m2c::{Gate, Options, Outcome, SourceFile, build};
-use memory_streams::{Folder, Screen};
-use run_directory::execute;
+use memory_streams::{Ran, bytes_of, execute_modules};
 use std::alloc::Global;
 use std::thread::Threads;
 
@@ -178,47 +177,28 @@ fn is_repeated(bytes: &[u8], piece: &[u8]) -> bool {
 }
 
 /// What is wrong with how the modules ended, if something is.
-fn end_difference(program: &Program, status: u8, out: &[u8], err: &[u8]) -> Option<&'static str> {
-    if status > 1 || err != last_words(program.end).as_bytes() {
+fn end_difference(program: &Program, ran: &Ran) -> Option<&'static str> {
+    if ran.status > 1 || ran.err.as_slice() != last_words(program.end).as_bytes() {
         return Some("it ends otherwise");
     }
-    if out != program.printed.as_slice() {
+    if ran.out.as_slice() != program.printed.as_slice() {
         return Some("it prints something else");
     }
     None
 }
 
 /// What is wrong with modules that are to go on, if something is.
-fn went_on(program: &Program, status: u8, out: &[u8], err: &[u8]) -> Option<&'static str> {
-    if status != RUNNING || !err.is_empty() {
+fn went_on(program: &Program, ran: &Ran) -> Option<&'static str> {
+    if ran.status != RUNNING || !ran.err.is_empty() {
         return Some("it does not go on");
     }
-    if !is_repeated(out, program.printed.as_slice()) {
+    if !is_repeated(&ran.out, program.printed.as_slice()) {
         return Some("it prints something else");
     }
     None
 }
 
-/// What is wrong with what modules do, if something is.
-fn execute_modules(
-    alloc: Global,
-    program: &Program,
-    link: &[u8],
-    modules: &[(String, Vec<u8>)],
-) -> Option<&'static str> {
-    let goes_on = program.goes_on > 0;
-    let steps = if goes_on { program.goes_on } else { STEPS };
-    let mut folder = Folder { link, modules };
-    let mut out = Screen::new(alloc);
-    let mut err = Screen::new(alloc);
-    let status = execute(alloc, &mut folder, steps, &mut out, &mut err);
-    if goes_on {
-        return went_on(program, status, out.bytes.as_slice(), err.bytes.as_slice());
-    }
-    end_difference(program, status, out.bytes.as_slice(), err.bytes.as_slice())
-}
-
-/// What is wrong with what was built, if something is.
+/// What is wrong with what was built, and what it does, if something is.
 fn decided_built(
     alloc: Global,
     program: &Program,
@@ -229,7 +209,11 @@ fn decided_built(
     if wrong.is_some() {
         return wrong;
     }
-    execute_modules(alloc, program, link, modules)
+    if program.goes_on > 0 {
+        let ran = execute_modules(alloc, link, modules, program.goes_on);
+        return went_on(program, &ran);
+    }
+    end_difference(program, &execute_modules(alloc, link, modules, STEPS))
 }
 
 /// What is wrong with a program, if something is: it is built with this many workers, compared and executed.
@@ -254,15 +238,6 @@ pub fn decide_row<R: Threads + Sync + Eprint>(
     }
 }
 
-/// The bytes of link, and behind them the bytes of each module.
-fn join_modules(alloc: Global, link: &[u8], modules: &[(String, Vec<u8>)]) -> Result<Vec<u8>> {
-    let mut all = Vec::from_slice(alloc, link)?;
-    for module in modules {
-        all.extend_from_slice(&module.1)?;
-    }
-    Ok(all)
-}
-
 /// What this many workers build, whom the gate lets in or not: all bytes, or none if the program is refused.
 fn bytes_by<R: Threads + Sync>(
     rt: &R,
@@ -277,7 +252,7 @@ fn bytes_by<R: Threads + Sync>(
     };
     match build(rt, alloc, &program.files, options, &Always(is_open))? {
         Outcome::Refused(_) => Ok(Vec::new(alloc)),
-        Outcome::Built { link, modules } => join_modules(alloc, &link, &modules),
+        Outcome::Built { link, modules } => Ok(bytes_of(alloc, &link, &modules)?),
     }
 }
 

@@ -1,9 +1,8 @@
 //! Tests of `compile`.
 
-use crate::memory::{Notes, Sources};
-use crate::saving::CYCLE;
+use crate::memory::Notes;
 use m2c::{Options, compile};
-use memory_streams::Screen;
+use memory_streams::{CYCLE, NamedFiles, Screen};
 use std::alloc::{AllocError, Global};
 use std::process::Abort;
 use std::test::Fail;
@@ -45,6 +44,20 @@ fn workers(workers: usize) -> Options {
     Options { workers, pages: 16 }
 }
 
+/// The files of these texts. That of this number, counted from 1, is not there.
+fn files_of<'a>(
+    alloc: Global,
+    texts: &[(&'a str, &'a str)],
+    lacking: usize,
+) -> Result<Vec<(&'a str, Option<&'a [u8]>)>, AllocError> {
+    let mut files = Vec::new(alloc);
+    for (before, text) in texts.iter().enumerate() {
+        let is_there = before.saturating_add(1) != lacking;
+        files.push((text.0, is_there.then_some(text.1.as_bytes())))?;
+    }
+    Ok(files)
+}
+
 fn names_of(alloc: Global, texts: &[(&str, &str)]) -> Result<Vec<String>, AllocError> {
     let mut names = Vec::new(alloc);
     for text in texts {
@@ -62,7 +75,8 @@ fn compile_text<R: Threads + Sync + Abort + AllocGlobal>(
 ) -> Came {
     let alloc = rt.alloc();
     let names = names_of(alloc, texts).expect(rt, "memory");
-    let mut files = Sources::new(alloc, texts, trouble.read);
+    let sources = files_of(alloc, texts, trouble.read).expect(rt, "memory");
+    let mut files = NamedFiles::new(alloc, &sources);
     let mut dir = Notes::new(alloc, trouble.write);
     if trouble.removal {
         dir.remove_nothing();

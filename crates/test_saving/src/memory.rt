@@ -1,58 +1,9 @@
-//! Files and a folder in memory.
+//! A folder in memory.
 
 ghost use Rattle.std.specs.Prelude.{◌≡◌};
 
-use m2c::{InDir, OutDir};
+use m2c::OutDir;
 use std::alloc::{AllocError, Global};
-
-/// Files in memory, of which one may not be read. They note what they are asked for.
-#[derive(Drop)]
-pub struct Sources<'a> {
-    texts: &'a [(&'a str, &'a str)],
-    /// The names that were asked for, each with a blank behind it.
-    pub asked: String,
-    reads: usize,
-    failing: usize,
-}
-
-impl<'a> Sources<'a> {
-    /// These files, by name and text. The read of that number fails, counted from 1; 0 is none.
-    pub fn new(alloc: Global, texts: &'a [(&'a str, &'a str)], failing: usize) -> Sources<'a> {
-        Sources {
-            texts,
-            asked: String::new(alloc),
-            reads: 0,
-            failing,
-        }
-    }
-}
-
-impl InDir for Sources<'_> {
-    ghost gives = { λ _ _ _. Unit {0} };
-
-    fn read(&mut self, alloc: Global, name: &str) -> Option<Vec<u8>> {
-        self.asked.push_str(name).ok()?;
-        self.asked.push_str(" ").ok()?;
-        self.reads = self.reads.saturating_add(1);
-        if self.reads == self.failing {
-            return None;
-        }
-        for text in self.texts {
-            if text.0 == name {
-                return Vec::from_slice(alloc, text.1.as_bytes()).ok();
-            }
-        }
-        None
-    }
-
-    fn front(&self) -> &str {
-        ""
-    }
-
-    fn reason(&self) -> &str {
-        ""
-    }
-}
 
 /// A folder in memory that notes its calls. A write that fails keeps half of the bytes.
 #[derive(Drop)]

@@ -1,30 +1,12 @@
 //! Tests of `save`.
 
 use crate::memory::Notes;
-use m2c::{Open, Options, Outcome, SaveFault, SourceFile, build, execute, save};
-use memory_streams::{Folder, Screen};
+use m2c::{Open, Options, Outcome, SaveFault, SourceFile, build, save};
+use memory_streams::{CYCLE, execute_modules};
 use std::alloc::{AllocError, Global};
 use std::process::Abort;
 use std::test::Fail;
 use std::thread::Threads;
-
-/// P imports A, and the implementations of A and B import each other. B starts first, then A, and P last.
-pub const CYCLE: [(&str, &str); 5] = [
-    (
-        "P.mod",
-        "MODULE P; FROM Console IMPORT Put; IMPORT A; BEGIN Put('P') END P.",
-    ),
-    (
-        "A.mod",
-        "IMPLEMENTATION MODULE A; FROM Console IMPORT Put; IMPORT B; BEGIN Put('A') END A.",
-    ),
-    (
-        "B.mod",
-        "IMPLEMENTATION MODULE B; IMPORT A; FROM Console IMPORT Put; BEGIN Put('B') END B.",
-    ),
-    ("A.def", "DEFINITION MODULE A; END A."),
-    ("B.def", "DEFINITION MODULE B; END B."),
-];
 
 /// More reductions than the program makes.
 const STEPS: u64 = 1_000_000;
@@ -110,14 +92,8 @@ fn saves_what_can_be_executed(rt: HostRuntime) {
     );
     assert!(&rt; dir.bytes_of("link.wasm") == Some(link.as_slice()));
     assert!(&rt; dir.files.len() == 4);
-    let mut folder = Folder {
-        link: &link,
-        modules: &modules,
-    };
-    let mut out = Screen::new(alloc);
-    let mut err = Screen::new(alloc);
-    let status = execute(alloc, &mut folder, STEPS, &mut out, &mut err);
-    assert!(&rt; status == 0 && out.bytes.as_slice() == b"BAP".as_slice());
+    let ran = execute_modules(alloc, &link, &modules, STEPS);
+    assert!(&rt; ran.status == 0 && ran.out.as_slice() == b"BAP".as_slice());
 }
 
 #[test]
