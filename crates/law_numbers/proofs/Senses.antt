@@ -91,9 +91,9 @@ headed_by {h = h} (layer.Procedure x b) m = subst (λ (k : Heading). Among h (k 
 headings_there : {h : Heading} (ds : List Decl) → Among (OfProcedure h) (declarations_of ds) → Among h (headings_in ds)
 headings_there [] m = elim m [ ]
 headings_there (d ∷ ds) m = elim (among_both (declared_by (out-Decl d)) (declarations_of ds) m) [
-    inl a ↦ among_left (headings_in ds) (headed_by (out-Decl d) a)
+  | inl a ↦ among_left (headings_in ds) (headed_by (out-Decl d) a)
   | inr b ↦ among_right (headings_by (out-Decl d)) (headings_there ds b)
-  ]
+]
 
 nested_there_by : {h : Heading} (n : ℕ) (y : Decl-F Decl Block) → Among (OfProcedure h) (declared_by y) → (k : ℕ) × Among (h, k) (nested_by n y)
 nested_there_by n (layer.Constants cs) m = let r = mapped OfConstant cs m in let e = r.1 in absurd cc
@@ -104,9 +104,9 @@ nested_there_by {h = h} n (layer.Procedure x b) m = (n, subst (λ (k : Heading).
 nested_there : {h : Heading} (ds : List Decl) (n : ℕ) → Among (OfProcedure h) (declarations_of ds) → (k : ℕ) × Among (h, k) (nested_numbers n ds)
 nested_there [] n m = elim m [ ]
 nested_there (d ∷ ds) n m = elim (among_both (declared_by (out-Decl d)) (declarations_of ds) m) [
-    inl a ↦ let r = nested_there_by n (out-Decl d) a in (r.0, among_left (nested_numbers (next_nested n (out-Decl d)) ds) r.1)
+  | inl a ↦ let r = nested_there_by n (out-Decl d) a in (r.0, among_left (nested_numbers (next_nested n (out-Decl d)) ds) r.1)
   | inr b ↦ let r = nested_there ds (next_nested n (out-Decl d)) b in (r.0, among_right (nested_by n (out-Decl d)) r.1)
-  ]
+]
 
 new_there : {h : Heading} (awaited : List ℕ → Option TypeNo) (hs : List Heading) → awaited h.name.name ≡ None → Among h hs → Among h (new_headings awaited hs)
 new_there awaited [] e m = elim m [ ]
