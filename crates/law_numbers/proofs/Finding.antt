@@ -136,7 +136,7 @@ module _ {T : Type 0} (home level : ℕ) (ends : List ℕ) (start s : Scope T) (
         by_heading more x b is (new_heading t z w e r) i = absurd (clash z l)
         by_heading more x b is (awaited_heading p w e r) i = let q = sym (never x.name.name) ∙ awaits x.name.name p w in absurd cc
         by_heading more x b is (nested_heading t z e r) i = elim (first_or i) [
-          inl q ↦ subst (λ (p : Heading × ℕ). InProcedure p.0 p.1) (sym q) (t, e)
+          | inl q ↦ subst (λ (p : Heading × ℕ). InProcedure p.0 p.1) (sym q) (t, e)
           | inr i ↦ in_list more (next_number ends n d ds c x b is) r (behind ends n d ds c x b is) i
         ]
 

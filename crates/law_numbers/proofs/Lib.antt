@@ -6,3 +6,5 @@ pub mod Blocks
 pub mod Within
 pub mod Finding
 pub mod Senses
+pub mod Formals
+pub mod Inside

@@ -91,9 +91,9 @@ headed_by {h = h} (layer.Procedure x b) m = subst (λ (k : Heading). Among h (k 
 headings_there : {h : Heading} (ds : List Decl) → Among (OfProcedure h) (declarations_of ds) → Among h (headings_in ds)
 headings_there [] m = elim m [ ]
 headings_there (d ∷ ds) m = elim (among_both (declared_by (out-Decl d)) (declarations_of ds) m) [
-    inl a ↦ among_left (headings_in ds) (headed_by (out-Decl d) a)
+  | inl a ↦ among_left (headings_in ds) (headed_by (out-Decl d) a)
   | inr b ↦ among_right (headings_by (out-Decl d)) (headings_there ds b)
-  ]
+]
 
 nested_there_by : {h : Heading} (n : ℕ) (y : Decl-F Decl Block) → Among (OfProcedure h) (declared_by y) → (k : ℕ) × Among (h, k) (nested_by n y)
 nested_there_by n (layer.Constants cs) m = let r = mapped OfConstant cs m in let e = r.1 in absurd cc
@@ -104,9 +104,9 @@ nested_there_by {h = h} n (layer.Procedure x b) m = (n, subst (λ (k : Heading).
 nested_there : {h : Heading} (ds : List Decl) (n : ℕ) → Among (OfProcedure h) (declarations_of ds) → (k : ℕ) × Among (h, k) (nested_numbers n ds)
 nested_there [] n m = elim m [ ]
 nested_there (d ∷ ds) n m = elim (among_both (declared_by (out-Decl d)) (declarations_of ds) m) [
-    inl a ↦ let r = nested_there_by n (out-Decl d) a in (r.0, among_left (nested_numbers (next_nested n (out-Decl d)) ds) r.1)
+  | inl a ↦ let r = nested_there_by n (out-Decl d) a in (r.0, among_left (nested_numbers (next_nested n (out-Decl d)) ds) r.1)
   | inr b ↦ let r = nested_there ds (next_nested n (out-Decl d)) b in (r.0, among_right (nested_by n (out-Decl d)) r.1)
-  ]
+]
 
 new_there : {h : Heading} (awaited : List ℕ → Option TypeNo) (hs : List Heading) → awaited h.name.name ≡ None → Among h hs → Among h (new_headings awaited hs)
 new_there awaited [] e m = elim m [ ]
@@ -206,9 +206,6 @@ module _ (g : Gathers) (j : Judges g) (lawful : Lawful g j) (exports : ℕ → I
   numbered : AreNumbered ends s q.nested ds sd
   numbered = block_numbered g ends s q.nested ds fine
 
-  level_is : sd.level ≡ s.level
-  level_is = (headed g ends s q.nested ds fine).1.of_level
-
   outer_is : sd.outer ≡ s.outer
   outer_is = (headed g ends s q.nested ds fine).1.of_rest.0
 
@@ -284,17 +281,14 @@ module _ (g : Gathers) (j : Judges g) (lawful : Lawful g j) (exports : ℕ → I
   abbrev Is : Ident → Option Meaning → Type 0
   Is name o = MeansBehind q p.taken p.awaited names ds name o
 
-  at_level : (o : Option Meaning) (m : Meaning) → named s.level o ≡ named_by s.level m → named sd.level o ≡ named_by sd.level m
-  at_level o m e = subst (λ (l : ℕ). named l o ≡ named_by l m) (sym level_is) e
-
-  meant : {n m : Meaning} → n ≡ m → named sd.level (Some n) ≡ named_by sd.level m
-  meant e = ap (λ (m : Meaning). named_by sd.level m) e
+  meant : {n m : Meaning} → n ≡ m → (l : ℕ) → named l (Some n) ≡ named_by l m
+  meant e l = ap (λ (m : Meaning). named_by l m) e
 
   entry_as : {x : List ℕ} {n : List ℕ} {V : TypeNo → Entered g.Reported} → x ≡ n → (t : TypeNo) × Entry sd x (V t) → (t : TypeNo) × Entry sd n (V t)
   entry_as {V = V} e r = subst (λ (n : List ℕ). (t : TypeNo) × Entry sd n (V t)) e r
 
-  known_by : (name : Ident) (o : Option Meaning) → Is name o → (m : Meaning) → looked_up g sd name ≡ Ok m → named sd.level o ≡ named_by sd.level m
-  known_by name _ (from_outside c) m w = at_level (q.of_names name) m (b.means name m (sym (outside_looked name c) ∙ w))
+  known_by : (name : Ident) (o : Option Meaning) → Is name o → (m : Meaning) → looked_up g sd name ≡ Ok m → (l : ℕ) → named l o ≡ named_by l m
+  known_by name _ (from_outside c) m w = b.means name m (sym (outside_looked name c) ∙ w)
   known_by name _ (a_variable i {x = x} {t = t} f e n k) m w =
       meant (variable_means name i t k (entry_as {V = λ u. Declared Here (Ok (variable_at (s.level == 0) s.types.home s.level (length s.variables + i) u))} n (numbered.variables i x e)) m w)
   known_by name _ (of_module i {h = h} {t = t} l e n k) m w =
@@ -306,7 +300,7 @@ module _ (g : Gathers) (j : Judges g) (lawful : Lawful g j) (exports : ℕ → I
       let inside = b.nested l in
       meant (nested_means name n t k (entry_as {V = λ u. Headed (Ok (meaning.LocalProcedure (record { level = s.level; number = n; heading = u })))} e
       (nested_in s.types.home s.level ends s sd p.awaited awaits_here waits_here (outermost l) inside.0 ds numbered.headings inside.1 h n i)) m w)
-  known_by name _ (without_code h) m w = no_code sd.level m (subst HasNoCode (stands name m w) h)
+  known_by name _ (without_code h) m w = λ l. no_code l m (subst HasNoCode (stands name m w) h)
 
   -- ---- each name means something, if it has code
 

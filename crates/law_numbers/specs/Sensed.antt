@@ -39,8 +39,9 @@ pub record Begins (g : Gathers) (j : Judges g) (exports : ℕ → Ident → Stan
   pub of_level : s.level ≡ q.level
   pub variables : length s.variables ≡ q.variables
   pub procedures : length s.procedures ≡ q.procedures
+  -- Seen from any level, names mean what the scope has.
   pub means : (name : Ident) (m : Meaning) → looked_up g s name ≡ Ok m
-      → named s.level (q.of_names name) ≡ named_by s.level m
+      → (level : ℕ) → named level (q.of_names name) ≡ named_by level m
   -- No procedure in a procedure is awaited.
   pub nested : (q.level == 0) ≡ false
       → ((n : List ℕ) → p.awaited n ≡ None) × AreCounted ends q.nested ds
@@ -53,7 +54,8 @@ pub record AreSensed (g : Gathers) (p : Place) (q : Before) (names : Ident → S
       → (o : Option Meaning) × MeansBehind q p.taken p.awaited names ds name o
   -- The scope has what it means by the rules.
   pub known : (name : Ident) (o : Option Meaning) → MeansBehind q p.taken p.awaited names ds name o
-      → (m : Meaning) → looked_up g s name ≡ Ok m → named s.level o ≡ named_by s.level m
+      → (m : Meaning) → looked_up g s name ≡ Ok m
+      → (level : ℕ) → named level o ≡ named_by level m
 
 -- Of the declarations nothing is reported, and names stand behind them for what the rules say.
 abbrev pub SensesAreKnown : (g : Gathers) → Judges g → Type 0
