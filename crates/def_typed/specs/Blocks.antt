@@ -83,6 +83,10 @@ module _ (exports : ℕ → Ident → Standing) (seen : Ident → Standing)
     -- Formals are numbered in their order.
     a_formal : {i : ℕ} {x : Section} {t : TypeNo} → IsFirstAt name.name (names_in h.formals) i
         → formal_named name.name h.formals ≡ Some x → NamesType seen exports x.of.of t
-        → MeansInside name (Some (meaning.Local (record { level = level; number = i;
-        kind = kind_of_formal x.is_var x.of.is_open; of = t })))
+        → MeansInside name (Some (meaning.Local (record {
+          level = level;
+          number = i;
+          kind = kind_of_formal x.is_var x.of.is_open;
+          of = t;
+        })))
     no_formal : formal_named name.name h.formals ≡ None → MeansInside name (around name)

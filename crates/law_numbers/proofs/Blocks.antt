@@ -33,7 +33,7 @@ module _ (g : Gathers) (ends : List ℕ) (s : Scope g.Reported) (first : ℕ) (d
 
   headed_marks : heading.IsNumbered g home s.level ends s (length s.procedures) first [] (length s.procedures) first marked
   headed_marks = decls_marks g (heading.IsNumbered g home s.level ends s (length s.procedures) first [] (length s.procedures) first) (heading.free g home s.level ends s (length s.procedures) first [] (length s.procedures) first) ds (s, [])
-      (record { headed = no_heading; next = refl; waits = λ x p e. e; kept = λ x p w. inl w; of_home = refl; of_level = refl; of_rest = (refl, refl, refl) })
+      (record { headed = no_heading; next = refl; waits = λ x p e. e; kept = λ x p w. inl w; of_home = refl; of_level = refl; of_rest = (refl, refl, refl); of_variables = λ i t e. e })
 
   pub headed : (m : ℕ) × heading.IsNumbered g home s.level ends s (length s.procedures) first (headings_in ds) m (fold (with_decl g ends) (marked, Ok tt, first) ds).2 (declared_block g ends (s, Ok tt) first ds).0
   headed = heading.decls_numbered g home s.level ends s (length s.procedures) first [] (length s.procedures) ds (marked, Ok tt, first) headed_marks fine
@@ -42,6 +42,7 @@ module _ (g : Gathers) (ends : List ℕ) (s : Scope g.Reported) (first : ℕ) (d
   block_numbered = record {
     variables = placed.counted.numbered;
     counted = placed.counted.counted;
+    kept = headed.1.of_variables;
     last = headed.0;
     end = (fold (with_decl g ends) (marked, Ok tt, first) ds).2;
     headings = headed.1.headed;

@@ -191,3 +191,17 @@ module _ (n : List ℕ) where
             let w : length (with_section g s fs x).1 + r.0 ≡ length fs.1 + i = omega (arith, c, k) in
             subst (λ (k : ℕ). At y k (find_name n (fold (with_section g s) (with_section g s fs x) xs).0)) w
             (more (names_leave s.level (of_section x) x.names fs r.3 ∙ q) r.0 r.2 y (sym (ap (λ (b : Bool). cond b (Some x) (formal_named n xs)) r.3) ∙ e))
+
+-- ---- how many formals there are
+
+module _ (g : Gathers) (s : Scope g.Reported) where
+  section_count : (x : Section) (f : Formal) → formal_of g s x.is_var x.of ≡ Ok f → (fs : Formals g.Reported) → length (with_section g s fs x).1 ≡ length fs.1 + length x.names
+  section_count x f e fs = ap (λ (r : Result Formal g.Reported). length (fold (with_formal s.level r) fs x.names).1) e ∙ names_count [] s.level f x.names fs
+
+  pub sections_count : (xs : List Section) (fs : Formals g.Reported) → ((x : Section) → Among x xs → (f : Formal) × (formal_of g s x.is_var x.of ≡ Ok f)) → length (fold (with_section g s) fs xs).1 ≡ length fs.1 + length (names_in xs)
+  sections_count [] fs ok = omega arith
+  sections_count (x ∷ xs) fs ok =
+      let f = ok x here in
+      let c = section_count x f.0 f.1 fs in
+      let r = sections_count xs (with_section g s fs x) (λ z m. ok z (later m)) in
+      let l = length-append x.names (names_in xs) in omega (arith, c, r, l)

@@ -1,6 +1,7 @@
 -- The procedures of a block are numbered in the order of their headings.
 use Rattle.std.proofs.Common.{◌≡◌, ℕ, ◌+◌, ◌==◌, Bool, true, false, cond, List, [], ◌∷◌, ◌++◌, length, Option, Some, Result, Ok, Err, ◌⊎◌, inl, inr, refl, sym, ap, subst, ◌∙◌, append-nil, append_assoc}
 use Rattle.std.proofs.lemmas.List.{length-append}
+use Rattle.std.specs.Prelude.{slice_get}
 use Rattle.std.specs.List.{fold}
 use Rattle.m2_tree.specs.declared.decl.Heading.{Heading}
 use Rattle.m2_tree.specs.declared.decl.Block.{Block}
@@ -31,7 +32,7 @@ use Rattle.def_typed.specs.Numbers.{headings_by, headings_in}
 use Rattle.law_numbers.specs.Numbered as numbered
 use Rattle.law_numbers.specs.Numbered.{Entry, no_heading, new_heading, awaited_heading, nested_heading}
 use Rattle.law_numbers.proofs.Walking.{free_standing, waiting, IsEntered, later_is, ahead_is, begun_is, headed_is, declared_is, constants_stay, types_stay, variables_stay}
-use Rattle.law_numbers.proofs.Variables.{beside_second, entered_here, free_beside, begun_beside, awaited_beside}
+use Rattle.law_numbers.proofs.Variables.{get_left, beside_second, entered_here, free_beside, begun_beside, awaited_beside}
 use Rattle.law_numbers.proofs.Declaring.{decls_fine}
 
 module _ (g : Gathers) (home level : ℕ) (ends : List ℕ) (start : Scope g.Reported) where
@@ -65,6 +66,10 @@ module _ (g : Gathers) (home level : ℕ) (ends : List ℕ) (start : Scope g.Rep
   abbrev pub Rest : S → Type 0
   Rest s = (s.outer ≡ start.outer) × (s.withs ≡ start.withs) × (s.tables ≡ start.tables)
 
+  -- variables that have numbers keep them
+  abbrev pub Olds : S → Type 0
+  Olds s = (i : ℕ) (t : TypeNo) → slice_get start.variables i ≡ Some t → slice_get s.variables i ≡ Some t
+
   abbrev Kept : S → Type 0
   Kept s = (x : List ℕ) (p : ModuleProcedure) → Waits start x p → Stays x p (find_name x s.own)
 
@@ -97,6 +102,7 @@ module _ (g : Gathers) (home level : ℕ) (ends : List ℕ) (start : Scope g.Rep
       pub of_home : s.types.home ≡ home
       pub of_level : s.level ≡ level
       pub of_rest : Rest s
+      pub of_variables : Olds s
 
     module _ (hs : List Heading) (m' n' : ℕ) where
       abbrev P : S → Type 0
@@ -114,7 +120,7 @@ module _ (g : Gathers) (home level : ℕ) (ends : List ℕ) (start : Scope g.Rep
       waits_by s name k i h x p = entered_all (λ (x : List ℕ) (o : Option (Known g.Reported)). o ≡ Some (Declared Here (Ok (meaning.Procedure p))) → Waits start x p) name k s.own (λ e. absurd (no_wait p i (cc e))) (λ x c e. h x p e) x
 
       entered_by : {s : S} (name : List ℕ) (k : Known g.Reported) → IsEntered k → ((p : ModuleProcedure) → Stays name p (find_name name s.own) → ⊥) → ((x : List ℕ) (r : Meaning) → Entry s x (Headed (Ok r)) → Entry (with_known name k s) x (Headed (Ok r))) → P s → P (with_known name k s)
-      entered_by {s = s} name k i n h p = record { headed = headed_as_before h p.headed; next = p.next; waits = waits_by s name k i p.waits; kept = kept_beside s name k (λ a z. absurd (n a z)) p.kept; of_home = p.of_home; of_level = p.of_level; of_rest = p.of_rest }
+      entered_by {s = s} name k i n h p = record { headed = headed_as_before h p.headed; next = p.next; waits = waits_by s name k i p.waits; kept = kept_beside s name k (λ a z. absurd (n a z)) p.kept; of_home = p.of_home; of_level = p.of_level; of_rest = p.of_rest; of_variables = p.of_variables }
 
       pub free : (s : S) (name : List ℕ) (k : Known g.Reported) → IsEntered k → is_free (find_name name s.own) ≡ true → P s → P (with_known name k s)
       free s name k i e p = entered_by name k i (λ a z. not_free name a (find_name name s.own) z e) (λ x r h. free_beside g x (Headed (Ok r)) refl s name k e h) p
@@ -123,10 +129,10 @@ module _ (g : Gathers) (home level : ℕ) (ends : List ℕ) (start : Scope g.Rep
       begun s name k i e p = entered_by name k i (λ a z. not_begun name a (find_name name s.own) z e) (λ x r h. begun_beside g x (Headed (Ok r)) refl s name k e h) p
 
       shaped : (s : S) (d : Made) → P s → P (with_shape s d)
-      shaped s d p = record { headed = headed_as_before (λ x r h. h) p.headed; next = p.next; waits = p.waits; kept = p.kept; of_home = p.of_home; of_level = p.of_level; of_rest = p.of_rest }
+      shaped s d p = record { headed = headed_as_before (λ x r h. h) p.headed; next = p.next; waits = p.waits; kept = p.kept; of_home = p.of_home; of_level = p.of_level; of_rest = p.of_rest; of_variables = p.of_variables }
 
       varied : (s : S) (t : Result TypeNo g.Reported) → P s → P (with_variable_type s t)
-      varied s (Ok t) p = record { headed = headed_as_before (λ x r h. h) p.headed; next = p.next; waits = p.waits; kept = p.kept; of_home = p.of_home; of_level = p.of_level; of_rest = p.of_rest }
+      varied s (Ok t) p = record { headed = headed_as_before (λ x r h. h) p.headed; next = p.next; waits = p.waits; kept = p.kept; of_home = p.of_home; of_level = p.of_level; of_rest = p.of_rest; of_variables = λ i u e. get_left s.variables (t ∷ []) i u (p.of_variables i u e) }
       varied s (Err r) p = p
 
     -- ---- one heading more
@@ -137,19 +143,19 @@ module _ (g : Gathers) (home level : ℕ) (ends : List ℕ) (start : Scope g.Rep
 
     module _ (hs : List Heading) (m' n' : ℕ) (h : Heading) where
       -- the entry of this heading, and all that was there before
-      added : {s t : S} (m'' : ℕ) → ((x : List ℕ) (r : Meaning) → Entry s x (Headed (Ok r)) → Entry t x (Headed (Ok r))) → AreHeaded t m' n' (h ∷ []) m'' (number_behind ends n') → length t.procedures ≡ m'' → ((x : List ℕ) (p : ModuleProcedure) → Waits t x p → Waits start x p) → Kept t → t.types.home ≡ home → t.level ≡ level → Rest t → IsNumbered hs m' n' s → More hs n' h t
-      added m'' k one next waits kept eh el er p = (m'', record { headed = headed_more (headed_as_before k p.headed) one; next = next; waits = waits; kept = kept; of_home = eh; of_level = el; of_rest = er })
+      added : {s t : S} (m'' : ℕ) → ((x : List ℕ) (r : Meaning) → Entry s x (Headed (Ok r)) → Entry t x (Headed (Ok r))) → AreHeaded t m' n' (h ∷ []) m'' (number_behind ends n') → length t.procedures ≡ m'' → ((x : List ℕ) (p : ModuleProcedure) → Waits t x p → Waits start x p) → Kept t → t.types.home ≡ home → t.level ≡ level → Rest t → Olds t → IsNumbered hs m' n' s → More hs n' h t
+      added m'' k one next waits kept eh el er eo p = (m'', record { headed = headed_more (headed_as_before k p.headed) one; next = next; waits = waits; kept = kept; of_home = eh; of_level = el; of_rest = er; of_variables = eo })
 
       new_in_module : (s : S) (u : TypeNo) → (level == 0) ≡ true → is_free (find_name h.name.name s.own) ≡ true → IsNumbered hs m' n' s → More hs n' h (module_procedure s h.name.name (Ok u))
       new_in_module s u l f p = added (m' + 1) (λ x r e. free_beside g x (Headed (Ok r)) refl (with_procedure_type s (Ok u)) h.name.name _ f e)
           (new_heading u l (λ a w. not_free h.name.name a (find_name h.name.name s.own) (p.kept h.name.name a w) f) (subst (λ (a : ℕ). Entry (module_procedure s h.name.name (Ok u)) h.name.name (Headed (Ok (meaning.Procedure (record { home = a; number = m'; heading = u }))))) p.of_home
           (subst (λ (a : ℕ). Entry (module_procedure s h.name.name (Ok u)) h.name.name (Headed (Ok (meaning.Procedure (record { home = s.types.home; number = a; heading = u }))))) p.next (entered_here (with_procedure_type s (Ok u)) h.name.name _))) no_heading)
-          (length-append s.procedures (u ∷ []) ∙ ap (λ (a : ℕ). a + 1) p.next) (waits_by hs m' n' (with_procedure_type s (Ok u)) h.name.name _ (headed_is _) p.waits) (kept_beside (with_procedure_type s (Ok u)) h.name.name _ (λ a z. absurd (not_free h.name.name a (find_name h.name.name s.own) z f)) p.kept) p.of_home p.of_level p.of_rest p
+          (length-append s.procedures (u ∷ []) ∙ ap (λ (a : ℕ). a + 1) p.next) (waits_by hs m' n' (with_procedure_type s (Ok u)) h.name.name _ (headed_is _) p.waits) (kept_beside (with_procedure_type s (Ok u)) h.name.name _ (λ a z. absurd (not_free h.name.name a (find_name h.name.name s.own) z f)) p.kept) p.of_home p.of_level p.of_rest p.of_variables p
 
       new_in_procedure : (s : S) (u : TypeNo) → (level == 0) ≡ false → is_free (find_name h.name.name s.own) ≡ true → IsNumbered hs m' n' s → More hs n' h (set_heading h.name.name (nested_meaning s.level n' (Ok u)) s)
       new_in_procedure s u l f p = added m' (λ x r e. free_beside g x (Headed (Ok r)) refl s h.name.name _ f e)
           (nested_heading u l (subst (λ (a : ℕ). Entry (set_heading h.name.name (nested_meaning s.level n' (Ok u)) s) h.name.name (Headed (Ok (meaning.LocalProcedure (record { level = a; number = n'; heading = u }))))) p.of_level (entered_here s h.name.name _)) no_heading)
-          p.next (waits_by hs m' n' s h.name.name _ (headed_is _) p.waits) (kept_beside s h.name.name _ (λ a z. absurd (not_free h.name.name a (find_name h.name.name s.own) z f)) p.kept) p.of_home p.of_level p.of_rest p
+          p.next (waits_by hs m' n' s h.name.name _ (headed_is _) p.waits) (kept_beside s h.name.name _ (λ a z. absurd (not_free h.name.name a (find_name h.name.name s.own) z f)) p.kept) p.of_home p.of_level p.of_rest p.of_variables p
 
       new_by : (b : Bool) (s : S) (u : TypeNo) → (level == 0) ≡ b → is_free (find_name h.name.name s.own) ≡ true → IsNumbered hs m' n' s → More hs n' h (cond b (module_procedure s h.name.name (Ok u)) (set_heading h.name.name (nested_meaning s.level n' (Ok u)) s))
       new_by true s u l f p = new_in_module s u l f p
@@ -163,7 +169,7 @@ module _ (g : Gathers) (home level : ℕ) (ends : List ℕ) (start : Scope g.Rep
           by_made (Ok d) w = new_by (s.level == 0) (with_shape s d) _ (ap (λ (l : ℕ). l == 0) (sym p.of_level)) (free_standing (find_name h.name.name s.own) q) (shaped hs m' n' s d p)
       heading_more s (Awaited a) q p e = added m' (λ x r w. awaited_beside g x (Headed (Ok r)) (λ z v. absurd cc) s h.name.name a _ q w)
           (awaited_heading a (p.waits h.name.name a (waiting (find_name h.name.name s.own) a q)) (entered_here s h.name.name (Headed (Ok (meaning.Procedure a)))) no_heading)
-          p.next (waits_by hs m' n' s h.name.name _ (headed_is _) p.waits) (kept_beside s h.name.name _ (λ b z. gets_heading h.name.name a b (find_name h.name.name s.own) (waiting (find_name h.name.name s.own) a q) z) p.kept) p.of_home p.of_level p.of_rest p
+          p.next (waits_by hs m' n' s h.name.name _ (headed_is _) p.waits) (kept_beside s h.name.name _ (λ b z. gets_heading h.name.name a b (find_name h.name.name s.own) (waiting (find_name h.name.name s.own) a q) z) p.kept) p.of_home p.of_level p.of_rest p.of_variables p
       heading_more s Taken q p e = let w = beside_second g _ _ e in absurd cc
 
     -- ---- all declarations

@@ -30,7 +30,7 @@ use Rattle.law_typing.specs.Exact.{Repeats}
 use Rattle.law_typing.proofs.Combining.{Lawful}
 use Rattle.law_typing.proofs.TypeNaming.{type_name_answers}
 use Rattle.law_numbers.specs.Inside.{Surrounds, AreSensedInside, InsidesAreKnown}
-use Rattle.law_numbers.proofs.Formals.{entry, formal_place, sections_leave, sections_at}
+use Rattle.law_numbers.proofs.Formals.{entry, formal_place, sections_leave, sections_at, sections_count}
 
 section_among : (n : List ℕ) (xs : List Section) (x : Section) → formal_named n xs ≡ Some x → Among x xs
 section_among n [] x e = absurd cc
@@ -127,8 +127,13 @@ module _ (g : Gathers) (j : Judges g) (lawful : Lawful g j) (exports : ℕ → I
       let n = types x (section_among name.name h.formals x e) in
       (Some _, a_formal p.1 e n.1)
 
+  count : length entered.variables ≡ length (names_in h.formals)
+  count =
+      let e = sections_count g s h.formals ([], []) (λ y m. ((let z = type_is y m in record { is_var = y.is_var; is_open = y.of.is_open; of = z.0 }), (let z = type_is y m in z.1))) in
+      omega (arith, e)
+
   inside : AreSensedInside g exports seen around s.level h entered
-  inside = record { each = λ name. each_by name (formal_named name.name h.formals) refl; known = known_by }
+  inside = record { each = λ name. each_by name (formal_named name.name h.formals) refl; known = known_by; counted = count }
 
 pub insides_known : (g : Gathers) (j : Judges g) → Lawful g j → InsidesAreKnown g j
 insides_known g j lawful exports seen around s b h types = inside g j lawful exports seen around s b h types

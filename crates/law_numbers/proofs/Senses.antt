@@ -290,7 +290,7 @@ module _ (g : Gathers) (j : Judges g) (lawful : Lawful g j) (exports : ℕ → I
   known_by : (name : Ident) (o : Option Meaning) → Is name o → (m : Meaning) → looked_up g sd name ≡ Ok m → (l : ℕ) → named l o ≡ named_by l m
   known_by name _ (from_outside c) m w = b.means name m (sym (outside_looked name c) ∙ w)
   known_by name _ (a_variable i {x = x} {t = t} f e n k) m w =
-      meant (variable_means name i t k (entry_as {V = λ u. Declared Here (Ok (variable_at (s.level == 0) s.types.home s.level (length s.variables + i) u))} n (numbered.variables i x e)) m w)
+      meant (variable_means name i t k (entry_as {V = λ u. Declared Here (Ok (variable_at (s.level == 0) s.types.home s.level (length s.variables + i) u))} n (let r = numbered.variables i x e in (r.0, r.1))) m w)
   known_by name _ (of_module i {h = h} {t = t} l e n k) m w =
       meant (module_means name (q.procedures + i) t k
       (subst (λ (v : ℕ). (u : TypeNo) × Entry sd name.name (Headed (Ok (meaning.Procedure (record { home = s.types.home; number = v + i; heading = u }))))) b.procedures

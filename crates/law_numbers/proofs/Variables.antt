@@ -44,6 +44,15 @@ module _ (g : Gathers) where
   type_there (Ok u) e = (u, refl)
   type_there (Err r) e = absurd cc
 
+pub get_left : {A : Type 0} (xs ys : List A) (i : ℕ) (a : A) → slice_get xs i ≡ Some a → slice_get (xs ++ ys) i ≡ Some a
+get_left [] ys i a e = absurd cc
+get_left (x ∷ xs) ys zero a e = e
+get_left (x ∷ xs) ys (suc i) a e = get_left xs ys i a e
+
+get_last : {A : Type 0} (xs : List A) (a : A) → slice_get (xs ++ a ∷ []) (length xs) ≡ Some a
+get_last [] a = refl
+get_last (x ∷ xs) a = get_last xs a
+
 split_more : {A : Type 0} (vs xs : List A) (i : ℕ) (x : A) → ((slice_get vs i ≡ Some x) ⊎ ((k : ℕ) × (i ≡ length vs + k) × (slice_get xs k ≡ Some x))) → (v : A) → (slice_get (v ∷ vs) (suc i) ≡ Some x) ⊎ ((k : ℕ) × (suc i ≡ length (v ∷ vs) + k) × (slice_get xs k ≡ Some x))
 split_more vs xs i x (inl e) v = inl e
 split_more vs xs i x (inr (k, q, e)) v = inr (k, omega (arith, q), e)
@@ -144,7 +153,7 @@ module _ (g : Gathers) where
 
     -- these names, with numbers from this one on
     abbrev Numbered : ℕ → List Ident → S → Type 0
-    Numbered n xs s = (i : ℕ) (x : Ident) → slice_get xs i ≡ Some x → (u : TypeNo) × Entry s x.name (Stood (n + i) u)
+    Numbered n xs s = (i : ℕ) (x : Ident) → slice_get xs i ≡ Some x → (u : TypeNo) × Entry s x.name (Stood (n + i) u) × (slice_get s.variables (n + i) ≡ Some u)
 
     finish_stays : (u : TypeNo) (n : List ℕ) (k : Known g.Reported) → is_begun (Some k) ≡ false → (s : S) (x : Ident) → Entry s n k → Entry (finish u s x) n k
     finish_stays u n k f s x h = by_begun (is_begun (find_name x.name s.own)) refl
@@ -156,6 +165,18 @@ module _ (g : Gathers) where
     all_stay : (u : TypeNo) (n : List ℕ) (k : Known g.Reported) → is_begun (Some k) ≡ false → (xs : List Ident) (s : S) → Entry s n k → Entry (fold (finish u) s xs) n k
     all_stay u n k f [] s h = h
     all_stay u n k f (x ∷ xs) s h = all_stay u n k f xs (finish u s x) (finish_stays u n k f s x h)
+
+    one_grown : (u : TypeNo) (s : S) (x : Ident) → (finish u s x).variables ≡ s.variables ++ u ∷ []
+    one_grown u s x = by_begun (is_begun (find_name x.name s.own))
+      where
+        by_begun : (b : Bool) → (cond b (with_known x.name (Stood (length s.variables) u) (with_variable_type s (Ok u))) (with_variable_type s (Ok u))).variables ≡ s.variables ++ u ∷ []
+        by_begun true = refl
+        by_begun false = refl
+
+    -- types of variables that are there
+    types_stay : (u : TypeNo) (xs : List Ident) (s : S) (i : ℕ) (t : TypeNo) → slice_get s.variables i ≡ Some t → slice_get (fold (finish u) s xs).variables i ≡ Some t
+    types_stay u [] s i t e = e
+    types_stay u (x ∷ xs) s i t e = types_stay u xs (finish u s x) i t (ap (λ (ts : List TypeNo). slice_get ts i) (one_grown u s x) ∙ get_left s.variables (u ∷ []) i t e)
 
     all_finished : (u : TypeNo) (xs : List Ident) (s : S) → AllBegun xs s → Distinct xs → Numbered (length s.variables) xs (fold (finish u) s xs) × (length (fold (finish u) s xs).variables ≡ length s.variables + length xs)
     all_finished u [] s h d = ((λ i x e. absurd cc), omega arith)
@@ -173,9 +194,24 @@ module _ (g : Gathers) where
         stood : Entry (fold (finish u) (finish u s x) xs) x.name (Stood (length s.variables) u)
         stood = all_stay u x.name (Stood (length s.variables) u) refl xs (finish u s x) (subst (λ (t : S). Entry t x.name (Stood (length s.variables) u)) (sym entered) (entered_here (with_variable_type s (Ok u)) x.name (Stood (length s.variables) u)))
 
+        typed : slice_get (fold (finish u) (finish u s x) xs).variables (length s.variables) ≡ Some u
+        typed = types_stay u xs (finish u s x) (length s.variables) u (ap (λ (ts : List TypeNo). slice_get ts (length s.variables)) (one_grown u s x) ∙ get_last s.variables u)
+
         numbered : Numbered (length (finish u s x).variables) xs (fold (finish u) (finish u s x) xs) → Numbered (length s.variables) (x ∷ xs) (fold (finish u) (finish u s x) xs)
-        numbered r zero z e = (u, subst (λ (n : ℕ). Entry (fold (finish u) (finish u s x) xs) z.name (Stood n u)) (let q : length s.variables ≡ length s.variables + 0 = omega arith in q) (subst (λ (y : Ident). Entry (fold (finish u) (finish u s x) xs) y.name (Stood (length s.variables) u)) (let q : x ≡ z = cc e in q) stood))
-        numbered r (suc k) z e = let q = r k z e in (q.0, subst (λ (n : ℕ). Entry (fold (finish u) (finish u s x) xs) z.name (Stood n q.0)) (let w : length (finish u s x).variables + k ≡ length s.variables + suc k = omega (arith, longer) in w) q.1)
+        numbered r zero z e =
+            let q : length s.variables ≡ length s.variables + 0 = omega arith in (
+              u,
+              subst (λ (n : ℕ). Entry (fold (finish u) (finish u s x) xs) z.name (Stood n u)) q
+                  (subst (λ (y : Ident). Entry (fold (finish u) (finish u s x) xs) y.name (Stood (length s.variables) u)) (let q : x ≡ z = cc e in q) stood),
+              subst (λ (n : ℕ). slice_get (fold (finish u) (finish u s x) xs).variables n ≡ Some u) q typed,
+            )
+        numbered r (suc k) z e =
+            let q = r k z e in
+            let w : length (finish u s x).variables + k ≡ length s.variables + suc k = omega (arith, longer) in (
+              q.0,
+              subst (λ (n : ℕ). Entry (fold (finish u) (finish u s x) xs) z.name (Stood n q.0)) w q.1,
+              subst (λ (n : ℕ). slice_get (fold (finish u) (finish u s x) xs).variables n ≡ Some q.0) w q.2,
+            )
 
         by_rest : Numbered (length (finish u s x).variables) xs (fold (finish u) (finish u s x) xs) × (length (fold (finish u) (finish u s x) xs).variables ≡ length (finish u s x).variables + length xs)
             → Numbered (length s.variables) (x ∷ xs) (fold (finish u) (finish u s x) xs) × (length (fold (finish u) (finish u s x) xs).variables ≡ length s.variables + length (x ∷ xs))
@@ -189,7 +225,7 @@ module _ (g : Gathers) where
 
     -- names that are entered under others
     counted_by : {base : ℕ} {vs : List Ident} {s : S} (name : List ℕ) (k : Known g.Reported) → ((n : List ℕ) (m : ℕ) (u : TypeNo) → Entry s n (Stood m u) → Entry (with_known name k s) n (Stood m u)) → IsCounted base vs s → IsCounted base vs (with_known name k s)
-    counted_by {base = base} name k h c = record { counted = c.counted; numbered = λ i x e. let r = c.numbered i x e in (r.0, h x.name (base + i) r.0 r.1) }
+    counted_by {base = base} name k h c = record { counted = c.counted; numbered = λ i x e. let r = c.numbered i x e in (r.0, h x.name (base + i) r.0 r.1, r.2) }
 
     abbrev pub Counted : ℕ → List Ident → S → Type 0
     Counted base vs = IsCounted base vs
@@ -218,9 +254,12 @@ module _ (g : Gathers) where
         f : Numbered (length s.variables) xs (fold (finish u) s xs) × (length (fold (finish u) s xs).variables ≡ length s.variables + length xs)
         f = all_finished u xs s h d
 
-        by_place : {i : ℕ} {x : Ident} → ((slice_get vs i ≡ Some x) ⊎ ((k : ℕ) × (i ≡ length vs + k) × (slice_get xs k ≡ Some x))) → (v : TypeNo) × Entry (fold (finish u) s xs) x.name (Stood (base + i) v)
-        by_place {i = i} {x = x} (inl e) = let r = c.numbered i x e in (r.0, all_stay u x.name (Stood (base + i) r.0) refl xs s r.1)
-        by_place {i = i} {x = x} (inr (k, q, e)) = let r = f.0 k x e in (r.0, subst (λ (n : ℕ). Entry (fold (finish u) s xs) x.name (Stood n r.0)) (let w : length s.variables + k ≡ base + i = omega (arith, c.counted, q) in w) r.1)
+        by_place : {i : ℕ} {x : Ident} → ((slice_get vs i ≡ Some x) ⊎ ((k : ℕ) × (i ≡ length vs + k) × (slice_get xs k ≡ Some x))) → (v : TypeNo) × Entry (fold (finish u) s xs) x.name (Stood (base + i) v) × (slice_get (fold (finish u) s xs).variables (base + i) ≡ Some v)
+        by_place {i = i} {x = x} (inl e) = let r = c.numbered i x e in (r.0, all_stay u x.name (Stood (base + i) r.0) refl xs s r.1, types_stay u xs s (base + i) r.0 r.2)
+        by_place {i = i} {x = x} (inr (k, q, e)) =
+            let r = f.0 k x e in
+            let w : length s.variables + k ≡ base + i = omega (arith, c.counted, q) in
+            (r.0, subst (λ (n : ℕ). Entry (fold (finish u) s xs) x.name (Stood n r.0)) w r.1, subst (λ (n : ℕ). slice_get (fold (finish u) s xs).variables n ≡ Some r.0) w r.2)
 
         numbered : Numbered base (vs ++ xs) (fold (finish u) s xs)
         numbered i x e = by_place (split_place vs xs i x e)

@@ -1,5 +1,5 @@
 -- That names mean what the rules say, by number, where the block of a procedure begins.
-use Rattle.std.specs.Prelude.{◌≡◌, ℕ, [], Option, Ok}
+use Rattle.std.specs.Prelude.{◌≡◌, ℕ, [], length, Option, Ok}
 use Rattle.m2_tree.specs.declared.name.Ident.{Ident}
 use Rattle.m2_tree.specs.declared.decl.Section.{Section}
 use Rattle.m2_tree.specs.declared.decl.Heading.{Heading}
@@ -12,6 +12,7 @@ use Rattle.check_block.specs.Inner.{formals_in, with_formals}
 use Rattle.def_typing.specs.Parts.{Among}
 use Rattle.def_typing.specs.Things.{Standing}
 use Rattle.def_typing.specs.TypeNames.{NamesType}
+use Rattle.def_typing.specs.Declarations.{names_in}
 use Rattle.def_typed.specs.Named.{named, named_by}
 use Rattle.def_typed.specs.Blocks.{MeansInside}
 use Rattle.law_typing.specs.Judging.{Judges}
@@ -38,6 +39,8 @@ pub record AreSensedInside (g : Gathers) (exports : ℕ → Ident → Standing) 
       → MeansInside exports seen around level h name o
       → (m : Meaning) → looked_up g s name ≡ Ok m
       → (level : ℕ) → named level o ≡ named_by level m
+  -- Its formals are the first variables.
+  pub counted : length s.variables ≡ length (names_in h.formals)
 
 -- The type of each formal is named.
 abbrev pub InsidesAreKnown : (g : Gathers) → Judges g → Type 0

@@ -55,6 +55,9 @@ pub record AreNumbered {T : Type 0} (ends : List ℕ) (start : Scope T) (first :
       → (t : TypeNo) × Entry s x.name
       (Declared Here (Ok (variable_at (start.level == 0) start.types.home start.level
       (length start.variables + i) t)))
+      × (slice_get s.variables (length start.variables + i) ≡ Some t)
+  pub kept : (i : ℕ) (t : TypeNo) → slice_get start.variables i ≡ Some t
+      → slice_get s.variables i ≡ Some t
   pub counted : length s.variables
       ≡ length start.variables + length (variables_in (declarations_of ds))
   -- So are its procedures.
