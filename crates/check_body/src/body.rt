@@ -4,7 +4,7 @@ ghost use Rattle.std.specs.Prelude.{◌≡◌, None, IfOk};
 ghost use Rattle.std.specs.Option.{option_copied};
 ghost use Rattle.check_scope.specs.Elaborated.{least};
 ghost use Rattle.check_definition.specs.Predeclared.{first_scope};
-ghost use Rattle.check_body.specs.Checked.{module_or, walk_body, of_walk, of_body, of_implementation, body_module};
+ghost use Rattle.check_body.specs.Checked.{module_or, begun_module, walk_body, of_walk, of_body, of_implementation, body_module};
 
 use crate::procedure::Walk;
 use crate::procedures::check_procedures;
@@ -14,7 +14,7 @@ use check_block::{declare_module, procedure_ends};
 use check_definition::{first_scope, modules_of, with_console};
 use check_scope::{Elaborated, Scope, both, report};
 use m2_rule::{Breach, Rule};
-use m2_tree::{Block, Contents, Module};
+use m2_tree::{Block, Contents, Decl, Module};
 use std::alloc::{AllocError, Global};
 use tree_parts::{Items, Shared};
 use typed_tree::{Dictionary, Table, TypedModule, TypedStmt};
@@ -41,6 +41,30 @@ fn module_or(
     }
 }
 
+/// Declares what a module imports and what its block declares, and answers how many names stand before each
+/// declaration.
+fn begin_module(
+    alloc: Global,
+    modules: &Dictionary<usize>,
+    ends: &[usize],
+    scope: Scope<Breach>,
+    tree: &Module,
+    decls: &[Decl],
+) -> Result<(Walk<Breach>, Items<usize>), AllocError>
+    ensures { IfOk result (λ r. r ≡
+        begun_module least modules.now ends.now scope tree.now decls.now) }
+{
+    let mut scope = scope;
+    let (so_far, seen) = declare_module(alloc, &mut scope, modules, ends, tree, decls)?;
+    let bodies = no_bodies(alloc, scope.procedures.as_slice())?;
+    let walk = Walk {
+        scope,
+        so_far,
+        bodies,
+    };
+    Ok((walk, seen))
+}
+
 /// Checks the bodies of the procedures of a module, and then its own.
 fn walk_through<S: Statements>(
     alloc: Global,
@@ -57,14 +81,7 @@ fn walk_through<S: Statements>(
         block.now) }
 {
     let decls = block.decls.as_slice();
-    let mut scope = scope;
-    let (so_far, seen) = declare_module(alloc, &mut scope, modules, ends, tree, decls)?;
-    let bodies = no_bodies(alloc, scope.procedures.as_slice())?;
-    let mut walk = Walk {
-        scope,
-        so_far,
-        bodies,
-    };
+    let (mut walk, seen) = begin_module(alloc, modules, ends, scope, tree, decls)?;
     check_procedures(
         alloc,
         statements,

@@ -1,6 +1,7 @@
 //! The bodies of the procedures of a block, and of those in them.
 
-ghost use Rattle.std.specs.Prelude.{◌≡◌, IfOk, OnOk};
+ghost use Rattle.std.specs.Prelude.{◌≡◌, IfOk, OnOk, slice_get};
+ghost use Rattle.std.specs.Option.{unwrap_or};
 ghost use Rattle.check_scope.specs.Elaborated.{least};
 ghost use Rattle.check_body.specs.Bodies.{checks_decl, checks_block, procedure_checked, begun_block, bodies_checked};
 
@@ -37,6 +38,15 @@ fn declare_in(
     Ok(seen)
 }
 
+fn seen_at(seen: &[usize], place: usize) -> usize
+    ensures { result ≡ unwrap_or (slice_get seen.now place) 0 }
+{
+    match seen.get(place) {
+        None => 0,
+        Some(count) => *count,
+    }
+}
+
 /// Checks the bodies of the procedures that a block declares, and of those in them. The numbers are those behind the
 /// procedures in procedures, and how many names of the block stand before each declaration.
 #[cycle(procedures)]
@@ -54,10 +64,7 @@ pub fn check_procedures<S: Statements>(
         ends.now around seen.now walk.old decls.now) }
 {
     for (place, decl) in decls.iter().enumerate() {
-        let before = match seen.get(place) {
-            None => 0,
-            Some(count) => *count,
-        };
+        let before = seen_at(seen, place);
         check_decl(alloc, statements, ends, around, before, walk, decl)?;
     }
     Ok(())
