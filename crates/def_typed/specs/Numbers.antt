@@ -75,6 +75,17 @@ nested_numbers n [] = []
 nested_numbers n (d ∷ ds) =
     nested_by n (out-Decl d) ++ nested_numbers (next_nested n (out-Decl d)) ds
 
+-- The procedures that stand in procedures of a module are numbered through.
+abbrev pub next_inside : (n : ℕ) → Decl-F Decl Block → ℕ
+next_inside n (layer.Constants cs) = n
+next_inside n (layer.Types ts) = n
+next_inside n (layer.Variables vs) = n
+next_inside n (layer.Procedure h b) = n + procedures_in b
+
+abbrev pub behind_inside : (n : ℕ) → List Decl → ℕ
+behind_inside n [] = n
+behind_inside n (d ∷ ds) = behind_inside (next_inside n (out-Decl d)) ds
+
 -- In a module those get one that no definition has declared.
 abbrev pub unless_awaited : {A : Type 0} → Option TypeNo → A → List A → List A
 unless_awaited None h hs = h ∷ hs

@@ -17,7 +17,7 @@ use Rattle.check_block.specs.Nesting.{within_decl, within, ends_from, number_beh
 use Rattle.def_typing.specs.Parts.{Among, here, later}
 use Rattle.def_typed.specs.Numbers.{headings_by, headings_in, procedures_in, nested_by, next_nested, nested_numbers, unless_awaited, new_headings}
 use Rattle.law_numbers.specs.Numbered.{Entry, AreHeaded, no_heading, new_heading, awaited_heading, nested_heading}
-use Rattle.law_numbers.specs.Sensed.{within_all, AreCounted}
+use Rattle.law_numbers.specs.Counted.{within_all, AreCounted}
 use Rattle.law_numbers.proofs.Within.{within_is, procedures_counted}
 
 first_or : {A : Type 0} {x y : A} {xs : List A} → Among x (y ∷ xs) → (x ≡ y) ⊎ Among x xs
@@ -27,13 +27,13 @@ first_or (later i) = inr i
 clash : {b : Bool} → b ≡ true → b ≡ false → ⊥
 clash p q = let z = sym p ∙ q in absurd cc
 
-ends_append : (n : ℕ) (xs ys : List ℕ) → ends_from n (xs ++ ys) ≡ ends_from n xs ++ ends_from (n + length xs) ys
+pub ends_append : (n : ℕ) (xs ys : List ℕ) → ends_from n (xs ++ ys) ≡ ends_from n xs ++ ends_from (n + length xs) ys
 ends_append n [] ys = let e : n + 0 ≡ n = omega arith in ap (λ (m : ℕ). ends_from m ys) (sym e)
 ends_append n (x ∷ xs) ys =
     let e : n + 1 + length xs ≡ n + suc (length xs) = omega arith in
     ap (λ (r : List ℕ). (n + 1 + x) ∷ r) (ends_append (n + 1) xs ys ∙ ap (λ (m : ℕ). ends_from (n + 1) xs ++ ends_from m ys) e)
 
-ends_length : (n : ℕ) (xs : List ℕ) → length (ends_from n xs) ≡ length xs
+pub ends_length : (n : ℕ) (xs : List ℕ) → length (ends_from n xs) ≡ length xs
 ends_length n [] = refl
 ends_length n (x ∷ xs) = ap suc (ends_length (n + 1) xs)
 
@@ -52,10 +52,10 @@ module _ (ends : List ℕ) (n : ℕ) (d : Decl) (ds : List Decl) (c : AreCounted
 
   -- behind a procedure and those in it
   module _ (x : Heading) (b : Block) (is : out-Decl d ≡ layer.Procedure x b) where
-    within_it : within_decl d ≡ length (within b) ∷ within b
+    pub within_it : within_decl d ≡ length (within b) ∷ within b
     within_it = within_is d (layer.Procedure x b) is
 
-    ends_are : ends ≡ c.before ++ ((n + 1 + length (within b)) ∷ (ends_from (n + 1) (within b ++ within_all ds) ++ c.after))
+    pub ends_are : ends ≡ c.before ++ ((n + 1 + length (within b)) ∷ (ends_from (n + 1) (within b ++ within_all ds) ++ c.after))
     ends_are = c.all ∙ ap (λ (ws : List ℕ). c.before ++ (ends_from n (ws ++ within_all ds) ++ c.after)) within_it
 
     abbrev next : ℕ
@@ -69,7 +69,7 @@ module _ (ends : List ℕ) (n : ℕ) (d : Decl) (ds : List Decl) (c : AreCounted
     abbrev one : List ℕ
     one = (n + 1 + length (within b)) ∷ ends_from (n + 1) (within b)
 
-    behind : AreCounted ends next ds
+    pub behind : AreCounted ends next ds
     behind = record {
       before = c.before ++ one;
       after = c.after;

@@ -8,3 +8,4 @@ pub mod Finding
 pub mod Senses
 pub mod Formals
 pub mod Inside
+pub mod Counting

@@ -25,7 +25,7 @@ counted_is : (d : Decl) (x : Decl-F Decl Block) → out-Decl d ≡ x → counted
 unfolding procedures_in
 counted_is d x h = fold_out-Decl ℕ ℕ counted_decl counted_block d ∙ ap (λ (y : Decl-F Decl Block). counted_decl (map-Decl Decl Block ℕ ℕ counted procedures_in y)) h
 
-within_block : (b : Block) (x : Block-F Decl Block) → out-Block b ≡ x → within b ≡ fold append_names [] (map within_decl x.decls)
+pub within_block : (b : Block) (x : Block-F Decl Block) → out-Block b ≡ x → within b ≡ fold append_names [] (map within_decl x.decls)
 unfolding within_decl within
 within_block b x h = fold_out-Block Counts Counts decl_layer block_layer b ∙ ap (λ (y : Block-F Decl Block). fold append_names [] (map within_decl y.decls)) h
 

@@ -1,3 +1,4 @@
 pub mod Numbered
+pub mod Counted
 pub mod Sensed
 pub mod Inside

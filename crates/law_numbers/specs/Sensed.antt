@@ -1,5 +1,5 @@
 -- That names mean behind the declarations of a block what the rules say, by number.
-use Rattle.std.specs.Prelude.{◌≡◌, ℕ, ◌==◌, false, List, [], ◌∷◌, ◌++◌, length, Option, None, Ok}
+use Rattle.std.specs.Prelude.{◌≡◌, ℕ, ◌==◌, false, List, [], length, Option, None, Ok}
 use Rattle.m2_tree.specs.declared.name.Ident.{Ident}
 use Rattle.m2_tree.specs.declared.decl.Decl.{Decl}
 use Rattle.typed_tree.specs.declared.meaning.Meaning.{Meaning}
@@ -7,27 +7,15 @@ use Rattle.typed_tree.specs.Names.{find_name}
 use Rattle.check_scope.specs.declared.scope.Scope.{Scope}
 use Rattle.check_scope.specs.Elaborated.{Gathers}
 use Rattle.check_scope.specs.Scopes.{looked_up}
-use Rattle.check_block.specs.Nesting.{within_decl, ends_from}
 use Rattle.check_block.specs.Declarations.{declared_block}
 use Rattle.def_typing.specs.Things.{Standing}
 use Rattle.def_typing.specs.Declarations.{Declared, declarations_of, in_order, AllStand}
 use Rattle.def_typing.specs.Bodies.{Place}
 use Rattle.def_typed.specs.Named.{named, named_by}
 use Rattle.def_typed.specs.Blocks.{Before, MeansBehind}
+use Rattle.law_numbers.specs.Counted.{AreCounted}
 use Rattle.law_typing.specs.Judging.{Judges}
 use Rattle.law_typing.specs.Exact.{Knows, TakenAs, is_nested}
-
--- of each procedure of declarations, and of those in it, how many procedures stand within
-abbrev pub within_all : List Decl → List ℕ
-within_all [] = []
-within_all (d ∷ ds) = within_decl d ++ within_all ds
-
--- The numbers behind these procedures are among those that were counted for the module.
-pub record AreCounted (ends : List ℕ) (first : ℕ) (ds : List Decl) : Type 0 where
-  pub before : List ℕ
-  pub after : List ℕ
-  pub all : ends ≡ before ++ (ends_from first (within_all ds) ++ after)
-  pub here : length before ≡ first
 
 -- what is known where a block begins
 pub record Begins (g : Gathers) (j : Judges g) (exports : ℕ → Ident → Standing) (p : Place)

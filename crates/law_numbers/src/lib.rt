@@ -7,13 +7,14 @@
 //!   await their headings. So a fact that these keep is kept by all declarations.
 //! - `proofs/Variables` and `proofs/Declaring` number variables, and `proofs/Headings` procedures. `proofs/Blocks` puts both
 //!   together.
-//! - `proofs/Within` counts procedures in procedures, `proofs/Finding` finds a heading by its number, and `proofs/Senses` says
+//! - `proofs/Within` and `proofs/Counting` count procedures in procedures, `proofs/Finding` finds a heading by its number, and `proofs/Senses` says
 //!   what each name means. `proofs/Formals` numbers formals, and `proofs/Inside` says what names mean behind them.
 #![tactic(auto)]
 
 ghost use Rattle.check_scope.specs.Elaborated.{every, least};
 ghost use Rattle.law_typing.specs.Judging.{all_of_them, the_least};
 ghost use Rattle.law_numbers.specs.Numbered.{BlocksAreNumbered};
+ghost use Rattle.law_numbers.specs.Counted.{ModulesAreCounted, BlocksAreCounted};
 ghost use Rattle.law_numbers.specs.Sensed.{SensesAreKnown};
 ghost use Rattle.law_numbers.specs.Inside.{InsidesAreKnown};
 
@@ -23,6 +24,13 @@ ghost use Rattle.law_numbers.specs.Inside.{InsidesAreKnown};
 pub fn number_laws()
     ensures every_rule { BlocksAreNumbered every }
     ensures least_rule { BlocksAreNumbered least }
+{}
+
+/// The numbers that the checker counts for procedures in procedures are those that are counted in the text: in each procedure
+/// of a module behind those that stand in the procedures in front, and in a procedure of a procedure behind its own number.
+pub fn counting_laws()
+    ensures modules { ModulesAreCounted }
+    ensures blocks { BlocksAreCounted }
 {}
 
 /// If nothing is reported of the declarations of a block, and if it is known what names mean where the block begins, it is
