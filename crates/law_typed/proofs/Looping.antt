@@ -186,10 +186,13 @@ module _ (g : Gathers) (j : Judges g) (lawful : Lawful g j) (exports : ℕ → I
       where
         by : (c : Control) (q : TypeNo × Range) → c.of ≡ q.0 → c.base ≡ q.1.base → IsC name q.0 q.1 → ((r : TypeNo × Range) → IsC name r.0 r.1 → r ≡ q) → Placed (named w.senses.level (w.senses.of_names name)) c → IsControlled name c
         by c q of base has one n = record {
-            range = q.1; control = subst (λ (t : TypeNo). IsC name t q.1) (sym of) has; base = base; place = rules.controls n;
-            one = λ t r m. let e = one (t, r) m in (ap (λ (z : TypeNo × Range). z.0) e ∙ sym of, ap (λ (z : TypeNo × Range). z.1.base) e ∙ sym base);
-            one_place = λ t p m. place m;
-          }
+          range = q.1;
+          control = subst (λ (t : TypeNo). IsC name t q.1) (sym of) has;
+          base = base;
+          place = rules.controls n;
+          one = λ t r m. let e = one (t, r) m in (ap (λ (z : TypeNo × Range). z.0) e ∙ sym of, ap (λ (z : TypeNo × Range). z.1.base) e ∙ sym base);
+          one_place = λ t p m. place m;
+        }
           where
             place : {t : TypeNo} {p : Place} → Ct name t p → p ≡ c.place
             place (rules.controls h) = let e = sym n ∙ h in cc e
@@ -211,11 +214,11 @@ module _ (g : Gathers) (j : Judges g) (lawful : Lawful g j) (exports : ℕ → I
 
     course_by : (name : Ident) (start limit : Expr) (by : Option Expr) {v : Result Control g.Reported} → IfMeant (IsControlled name) v → IfMeant (IsCourse name start limit by) (went start limit by v)
     course_by name start limit by (meant c i) = if_then (if_both g (if_both g {P = λ d. d ≡ c} (meant c refl) (start_so c.of _ start)) (if_both g (limit_so c.base _ limit) (step_so by))) (λ p q. meant _ (record {
-          control = subst (IsControlled name) (sym q.0.0) i;
-          starts = subst (λ (d : Control). IsOne (Gives s.types w.spot.names exports w.senses d.of start) p.0.1) (sym q.0.0) q.0.1;
-          limits = subst (λ (d : Control). IsOne (L d.base limit) p.1.0) (sym q.0.0) q.1.0;
-          steps = q.1.1;
-        }))
+      control = subst (IsControlled name) (sym q.0.0) i;
+      starts = subst (λ (d : Control). IsOne (Gives s.types w.spot.names exports w.senses d.of start) p.0.1) (sym q.0.0) q.0.1;
+      limits = subst (λ (d : Control). IsOne (L d.base limit) p.1.0) (sym q.0.0) q.1.0;
+      steps = q.1.1;
+    }))
     course_by name start limit by (not_meant r) = refused_four r _ _ _
 
     pub course_so : (name : Ident) (start limit : Expr) (by : Option Expr) → IfMeant (IsCourse name start limit by) (course_of g s name (meanings_of g start) (meanings_of g limit) (meant_if g by))

@@ -25,7 +25,6 @@ use Rattle.check_const_ops.specs.declared.operator.BinaryOp.{BinaryOp}
 use Rattle.check_const_ops.specs.declared.operator.BinaryOp.TheVariants.{Plus, Minus, Times, Over, Div, Mod, And, Or, Relation}
 use Rattle.check_const_ops.specs.Operands.{is_number}
 use Rattle.check_const_ops.specs.Operate.{binary, takes}
-
 use Rattle.check_operator.specs.declared.computed.Computed.{Computed}
 use Rattle.check_operator.specs.declared.computed.Computed.TheVariants as computed
 use Rattle.check_operator.specs.declared.side.Amount.{Amount as Sided}

@@ -293,9 +293,9 @@ module _ (g : Gathers) (j : Judges g) (lawful : Lawful g j) (exports : ℕ → I
 
     for_one : (k : Known w s a) (name : Ident) (start limit : Expr) (by : Option Expr) {body : List Stmt} {c : Course} {xs : List TypedStmt} → IsCourse g j lawful exports w s k.of_spot.of_names k.of_senses k.of_spot.of_own name start limit by c → IsOne (All body) xs → IsOne (R (layer.For name start limit by body)) (step.For c.control.place c.control.of c.start c.limit c.by xs)
     for_one k name start limit by {body = body} {c = c} {xs = xs} i o = record {
-          holds = rules.for_loop i.control.control i.control.place i.starts.holds (subst (λ (b : TypeNo). Limits s.types exports w b limit c.limit) i.control.base i.limits.holds) i.steps.holds o.holds;
-          alone = λ z m. alone m;
-        }
+      holds = rules.for_loop i.control.control i.control.place i.starts.holds (subst (λ (b : TypeNo). Limits s.types exports w b limit c.limit) i.control.base i.limits.holds) i.steps.holds o.holds;
+      alone = λ z m. alone m;
+    }
       where
         alone : {z : TypedStmt} → R (layer.For name start limit by body) z → z ≡ step.For c.control.place c.control.of c.start c.limit c.by xs
         alone (rules.for_loop {t = t} {r = r} {place = p} {x = x} {y = y} {n = n} {xs = ys} m q u l d b) =
