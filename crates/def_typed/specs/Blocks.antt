@@ -17,13 +17,13 @@ use Rattle.def_typing.specs.Bodies.{formal_named}
 use Rattle.def_typed.specs.Numbers.{variables_in, variable_at, headings_in, new_headings, nested_numbers}
 
 -- Constants, types and standard procedures have no code.
-abbrev pub HasNoCode : Standing → Type 0
-HasNoCode (Known (AVariable t)) = ⊥
-HasNoCode (Known (AnOpenArray t)) = ⊥
-HasNoCode (Known (AProcedure t)) = ⊥
-HasNoCode (Known (ANested t)) = ⊥
-HasNoCode (Known (AModule k)) = ⊥
-HasNoCode other = Unit {0}
+abbrev pub StandsWithoutCode : Standing → Type 0
+StandsWithoutCode (Known (AVariable t)) = ⊥
+StandsWithoutCode (Known (AnOpenArray t)) = ⊥
+StandsWithoutCode (Known (AProcedure t)) = ⊥
+StandsWithoutCode (Known (ANested t)) = ⊥
+StandsWithoutCode (Known (AModule k)) = ⊥
+StandsWithoutCode other = Unit {0}
 
 -- where a block begins
 pub record Before : Type 0 where
@@ -61,7 +61,7 @@ module _ (q : Before) (taken : List ℕ → Bool) (awaited : List ℕ → Option
         → names name ≡ Known (ANested t)
         → MeansBehind name (Some (meaning.LocalProcedure
         (record { level = q.level; number = n; heading = t })))
-    without_code : HasNoCode (names name) → MeansBehind name None
+    without_code : StandsWithoutCode (names name) → MeansBehind name None
 
 -- ---- where a procedure begins
 

@@ -34,7 +34,7 @@ use Rattle.def_typing.specs.TypeExprs.{Added, Setting, next_type}
 use Rattle.def_typing.specs.Bodies.{Place}
 use Rattle.def_typed.specs.Named.{named, named_by}
 use Rattle.def_typed.specs.Numbers.{variables_by, variables_in, variable_at, headings_by, headings_in, unless_awaited, new_headings, nested_by, next_nested, nested_numbers}
-use Rattle.def_typed.specs.Blocks.{HasNoCode, Before, MeansBehind, from_outside, a_variable, of_module, of_procedure, without_code}
+use Rattle.def_typed.specs.Blocks.{StandsWithoutCode, Before, MeansBehind, from_outside, a_variable, of_module, of_procedure, without_code}
 use Rattle.law_typing.specs.Judging.{Judges}
 use Rattle.law_typing.specs.Exact.{of_local, standing, Sees, sees, sees_nothing, sees_headless, sees_unknown, Knows, TakenAs, is_taken, awaits, not_taken, IsAsBefore, as_before, has_heading, is_nested}
 use Rattle.law_typing.proofs.Combining.{Lawful}
@@ -124,25 +124,25 @@ named_there (rules.farther {x = x} {front = front} i) = among_left (x.what ∷ [
 
 -- ---- standings without code
 
-front_no_code : (d : Declaration) → HasNoCode (in_front_of d)
+front_no_code : (d : Declaration) → StandsWithoutCode (in_front_of d)
 front_no_code (OfConstant c) = tt
 front_no_code (OfType d) = tt
 front_no_code (OfVariables v) = tt
 front_no_code (OfProcedure h) = tt
 
-broken_no_code : (d : Declaration) → HasNoCode (without d)
+broken_no_code : (d : Declaration) → StandsWithoutCode (without d)
 broken_no_code (OfConstant c) = tt
 broken_no_code (OfType d) = tt
 broken_no_code (OfVariables v) = tt
 broken_no_code (OfProcedure h) = tt
 
-no_code : (l : ℕ) (m : Meaning) → HasNoCode (standing m) → None ≡ named_by l m
+no_code : (l : ℕ) (m : Meaning) → StandsWithoutCode (standing m) → None ≡ named_by l m
 no_code l (meaning.Constant v) h = refl
 no_code l (meaning.Type t n) h = refl
 no_code l (meaning.Variable v) h = absurd h
 no_code l (meaning.Local v) h = by_kind v.kind h
   where
-    by_kind : (k : _) → HasNoCode (of_local v.of k) → None ≡ named_by l (meaning.Local v)
+    by_kind : (k : _) → StandsWithoutCode (of_local v.of k) → None ≡ named_by l (meaning.Local v)
     by_kind kind.Variable h = absurd h
     by_kind kind.Value h = absurd h
     by_kind kind.Alias h = absurd h
@@ -300,15 +300,15 @@ module _ (g : Gathers) (j : Judges g) (lawful : Lawful g j) (exports : ℕ → I
       let inside = b.nested l in
       meant (nested_means name n t k (entry_as {V = λ u. Headed (Ok (meaning.LocalProcedure (record { level = s.level; number = n; heading = u })))} e
       (nested_in s.types.home s.level ends s sd p.awaited awaits_here waits_here (outermost l) inside.0 ds numbered.headings inside.1 h n i)) m w)
-  known_by name _ (without_code h) m w = λ l. no_code l m (subst HasNoCode (stands name m w) h)
+  known_by name _ (without_code h) m w = λ l. no_code l m (subst StandsWithoutCode (stands name m w) h)
 
   -- ---- each name means something, if it has code
 
   abbrev Some_sense : Ident → Type 0
   Some_sense name = (o : Option Meaning) × Is name o
 
-  none : (name : Ident) (r : Standing) → names name ≡ r → HasNoCode r → Some_sense name
-  none name r e h = (None, without_code (subst HasNoCode (sym e) h))
+  none : (name : Ident) (r : Standing) → names name ≡ r → StandsWithoutCode r → Some_sense name
+  none name r e h = (None, without_code (subst StandsWithoutCode (sym e) h))
 
   procedure_by : (name : Ident) (h : Heading) (t : TypeNo) (o : Bool) → (q.level == 0) ≡ o → p.taken name.name ≡ false → Among (OfProcedure h) (declarations_of ds) → h.name.name ≡ name.name
       → names name ≡ Known (rules.procedure (not o) t) → Some_sense name
