@@ -4,3 +4,5 @@ pub mod Expressions
 pub mod Statements
 pub mod Numbers
 pub mod Blocks
+pub mod Bodies
+pub mod Modules

@@ -192,52 +192,53 @@ module _ (types : Types) (exports : ℕ → Ident → Standing) where
         → AreLabels w base (i ∷ is) (record { low = n; high = m } ∷ ls)
 
   mutual
-    pub data Means : Site → Stmt → TypedStmt → Type 0 where
-      as_written : {w : Site} {s : Stmt} {x : TypedStmt} → Reads w (out-Stmt s) x → Means w s x
+    pub data MeansStatement : Site → Stmt → TypedStmt → Type 0 where
+      as_written : {w : Site} {s : Stmt} {x : TypedStmt} → MeansForm w (out-Stmt s) x
+          → MeansStatement w s x
 
-    pub data Reads : Site → Stmt-F Rest Stmt Arm → TypedStmt → Type 0 where
+    pub data MeansForm : Site → Stmt-F Rest Stmt Arm → TypedStmt → Type 0 where
       assignment : {w : Site} {d : Designator} {e : Expr} {x : TypedStmt} → Assigns w d e x
-          → Reads w (layer.Assign d e) x
+          → MeansForm w (layer.Assign d e) x
       call : {w : Site} {d : Designator} {args : Option (List Expr)} {x : TypedStmt}
-          → Acts w d (arguments args) x → Reads w (layer.Call d args) x
+          → Acts w d (arguments args) x → MeansForm w (layer.Call d args) x
       choice : {w : Site} {c : Expr} {body : List Stmt} {rest : Rest} {x : TypedExpr}
           {xs : List TypedStmt} {otherwise : Option (List TypedStmt)} → Yields w boolean c x
           → AllMean w body xs → RestMeans w (out-Rest rest) otherwise
-          → Reads w (layer.If c body rest) (step.If x xs otherwise)
+          → MeansForm w (layer.If c body rest) (step.If x xs otherwise)
       selection : {w : Site} {e : Expr} {arms : List Arm} {last : Option (List Stmt)}
           {base : TypeNo} {x : TypedExpr} {xs : List TypedArm}
           {otherwise : Option (List TypedStmt)} → Measures w e base x → ArmsMean w base arms xs
           → RestMeans w (layer.Else last) otherwise
-          → Reads w (layer.Case e arms last) (step.Case x xs otherwise)
+          → MeansForm w (layer.Case e arms last) (step.Case x xs otherwise)
       while_loop : {w : Site} {c : Expr} {body : List Stmt} {x : TypedExpr} {xs : List TypedStmt}
           → Yields w boolean c x → AllMean w body xs
-          → Reads w (layer.While c body) (step.While x xs)
+          → MeansForm w (layer.While c body) (step.While x xs)
       repeat_loop : {w : Site} {body : List Stmt} {c : Expr} {xs : List TypedStmt} {x : TypedExpr}
           → AllMean w body xs → Yields w boolean c x
-          → Reads w (layer.Repeat body c) (step.Repeat xs x)
+          → MeansForm w (layer.Repeat body c) (step.Repeat xs x)
       bare_loop : {w : Site} {body : List Stmt} {xs : List TypedStmt} → AllMean (in_loop w) body xs
-          → Reads w (layer.Loop body) (step.Loop xs)
-      exit : {w : Site} {at : Pos} → Reads w (layer.Exit at) step.Exit
+          → MeansForm w (layer.Loop body) (step.Loop xs)
+      exit : {w : Site} {at : Pos} → MeansForm w (layer.Exit at) step.Exit
       return : {w : Site} {at : Pos} → w.spot.gives ≡ Nothing
-          → Reads w (layer.Return at None) step.Return
+          → MeansForm w (layer.Return at None) step.Return
       give : {w : Site} {at : Pos} {e : Expr} {t : TypeNo} {x : TypedExpr}
           → w.spot.gives ≡ AResult t → Yields w t e x
-          → Reads w (layer.Return at (Some e)) (step.Give t x)
+          → MeansForm w (layer.Return at (Some e)) (step.Give t x)
       for_loop : {w : Site} {name : Ident} {start limit : Expr} {by : Option Expr}
           {body : List Stmt} {t : TypeNo} {r : Range} {place : Place} {x y : TypedExpr} {n : ℤ}
           {xs : List TypedStmt} → IsControl types w.spot.names exports w.spot.own name t r
           → Controls w name t place → Yields w t start x → Limits w r.base limit y → Steps w by n
           → AllMean w body xs
-          → Reads w (layer.For name start limit by body) (step.For place t x y n xs)
+          → MeansForm w (layer.For name start limit by body) (step.For place t x y n xs)
       with_record : {w : Site} {d : Designator} {body : List Stmt} {t : TypeNo} {place : Place}
           {fields : List (List ℕ × TypeNo)} {xs : List TypedStmt} → IsVariable w d t place
           → IsMade types t (shape.Record fields) → AllMean (in_with t fields w) body xs
-          → Reads w (layer.With d body) (step.With place xs)
+          → MeansForm w (layer.With d body) (step.With place xs)
 
     pub data AllMean : Site → List Stmt → List TypedStmt → Type 0 where
       no_statement : {w : Site} → AllMean w [] []
       one_statement : {w : Site} {s : Stmt} {ss : List Stmt} {x : TypedStmt} {xs : List TypedStmt}
-          → Means w s x → AllMean w ss xs → AllMean w (s ∷ ss) (x ∷ xs)
+          → MeansStatement w s x → AllMean w ss xs → AllMean w (s ∷ ss) (x ∷ xs)
 
     -- What follows the first part of an IF, and the ELSE of a CASE. An ELSIF is an IF in the ELSE.
     pub data RestMeans : Site → Rest-F Rest Stmt Arm → Option (List TypedStmt) → Type 0 where

@@ -1,5 +1,5 @@
 -- The headings of a block, found by their numbers.
-use Rattle.std.proofs.Common.{◌≡◌, ℕ, zero, suc, ◌+◌, ◌==◌, Bool, true, false, List, [], ◌∷◌, ◌++◌, length, Option, Some, None, Ok, ◌⊎◌, inl, inr, refl, sym, ap, subst, ◌∙◌, append_assoc, arith}
+use Rattle.std.proofs.Common.{◌≡◌, ℕ, zero, suc, ◌+◌, ◌==◌, ◌≤◌, ◌<◌, eq-or-lt_of_le, Bool, true, false, List, [], ◌∷◌, ◌++◌, length, Option, Some, None, Ok, ◌⊎◌, inl, inr, refl, sym, ap, subst, ◌∙◌, append_assoc, arith}
 use Rattle.std.specs.Prelude.{slice_get}
 use Rattle.std.specs.Option.{unwrap_or}
 use Rattle.std.proofs.lemmas.List.{length-append}
@@ -15,6 +15,7 @@ use Rattle.check_scope.specs.declared.known.Origin.TheVariants.{Here}
 use Rattle.check_scope.specs.declared.scope.Scope.{Scope}
 use Rattle.check_block.specs.Nesting.{within_decl, within, ends_from, number_behind}
 use Rattle.def_typing.specs.Parts.{Among, here, later}
+use Rattle.def_typing.specs.Bodies.{IsNoProcedure}
 use Rattle.def_typed.specs.Numbers.{headings_by, headings_in, procedures_in, nested_by, next_nested, nested_numbers, unless_awaited, new_headings}
 use Rattle.law_numbers.specs.Numbered.{Entry, AreHeaded, no_heading, new_heading, awaited_heading, nested_heading}
 use Rattle.law_numbers.specs.Counted.{within_all, AreCounted}
@@ -47,7 +48,7 @@ next_is before rest n e k = ap (λ (i : ℕ). unwrap_or (slice_get (before ++ k 
 -- ---- what is counted behind a declaration
 
 module _ (ends : List ℕ) (n : ℕ) (d : Decl) (ds : List Decl) (c : AreCounted ends n (d ∷ ds)) where
-  plainly : within_decl d ≡ [] → AreCounted ends n ds
+  pub plainly : within_decl d ≡ [] → AreCounted ends n ds
   plainly w = record { before = c.before; after = c.after; all = c.all ∙ ap (λ (ws : List ℕ). c.before ++ (ends_from n (ws ++ within_all ds) ++ c.after)) w; here = c.here }
 
   -- behind a procedure and those in it
@@ -84,6 +85,47 @@ module _ (ends : List ℕ) (n : ℕ) (d : Decl) (ds : List Decl) (c : AreCounted
           let h = c.here in omega (arith, e, f, g, h);
     }
 
+  -- behind a declaration that is no procedure
+  pub behind_other : IsNoProcedure (out-Decl d) → AreCounted ends n ds
+  behind_other i = by (out-Decl d) refl i
+    where
+      by : (y : Decl-F Decl Block) → out-Decl d ≡ y → IsNoProcedure y → AreCounted ends n ds
+      by (layer.Constants cs) e i = plainly (within_is d (layer.Constants cs) e)
+      by (layer.Types ts) e i = plainly (within_is d (layer.Types ts) e)
+      by (layer.Variables vs) e i = plainly (within_is d (layer.Variables vs) e)
+      by (layer.Procedure h b) e i = absurd i
+
+-- ---- the headings of a module
+
+module _ {T : Type 0} (home level : ℕ) (ends : List ℕ) (start s : Scope T) (l : (level == 0) ≡ true) where
+  abbrev IsThere : Heading → Type 0
+  IsThere h = (a : ModuleProcedure) × Entry s h.name.name (Headed (Ok (meaning.Procedure a)))
+
+  pub heading_there : {m n m' n' : ℕ} {hs : List Heading} → AreHeaded home level ends start s m n hs m' n' → (h : Heading) → Among h hs → IsThere h
+  heading_there no_heading h i = elim i [ ]
+  heading_there (new_heading {h = k} t z w x r) h i = elim (first_or i) [ inl e ↦ subst IsThere (sym e) (_, x) | inr i ↦ heading_there r h i ]
+  heading_there (awaited_heading {h = k} p w x r) h i = elim (first_or i) [ inl e ↦ subst IsThere (sym e) (p, x) | inr i ↦ heading_there r h i ]
+  heading_there (nested_heading t z x r) h i = absurd (clash l z)
+
+  -- Each number from the first new one on has a heading.
+  pub new_number_there : {m n m' n' : ℕ} {hs : List Heading} → AreHeaded home level ends start s m n hs m' n' → (k : ℕ) → m ≤ k → k < m'
+      → (h : Heading) × Among h hs × (a : ModuleProcedure) × Entry s h.name.name (Headed (Ok (meaning.Procedure a))) × (a.number ≡ k)
+  new_number_there {m = m} no_heading k x y = absurd (never m k x y)
+    where
+      never : (m k : ℕ) → m ≤ k → k < m → ⊥
+      never m k x y = omega (arith, x, y)
+  new_number_there {m = m} {m' = m'} (new_heading {h = h} {hs = hs} t z w e r) k x y = by_place (λ l. new_number_there r k l y) (nat_cases m k x)
+    where
+      nat_cases : (m k : ℕ) → m ≤ k → (m ≡ k) ⊎ (m + 1 ≤ k)
+      nat_cases m k x = elim (eq-or-lt_of_le x) [ inl e ↦ inl e | inr l ↦ inr (omega (arith, l)) ]
+
+      by_place : (m + 1 ≤ k → (x : Heading) × Among x hs × (a : ModuleProcedure) × Entry s x.name.name (Headed (Ok (meaning.Procedure a))) × (a.number ≡ k)) → (m ≡ k) ⊎ (m + 1 ≤ k)
+          → (x : Heading) × Among x (h ∷ hs) × (a : ModuleProcedure) × Entry s x.name.name (Headed (Ok (meaning.Procedure a))) × (a.number ≡ k)
+      by_place more (inl q) = (h, here, _, e, q)
+      by_place more (inr l) = let n = more l in (n.0, later n.1, n.2, n.3, n.4)
+  new_number_there (awaited_heading p w x r) k l y = let n = new_number_there r k l y in (n.0, later n.1, n.2, n.3, n.4)
+  new_number_there (nested_heading t z x r) k i y = absurd (clash l z)
+
 module _ {T : Type 0} (home level : ℕ) (ends : List ℕ) (start s : Scope T) (awaited : List ℕ → Option TypeNo)
     (awaits : (n : List ℕ) (p : ModuleProcedure) → Entry start n (Declared Here (Ok (meaning.Procedure p))) → awaited n ≡ Some p.heading)
     (waits : (n : List ℕ) (t : TypeNo) → awaited n ≡ Some t → (p : ModuleProcedure) × Entry start n (Declared Here (Ok (meaning.Procedure p)))) where
@@ -115,6 +157,21 @@ module _ {T : Type 0} (home level : ℕ) (ends : List ℕ) (start s : Scope T) (
   heading_of_module l (awaited_heading {h = k} {hs = ks} p w x r) i h e =
       heading_of_module l r i h (sym (ap (λ (o : Option TypeNo). slice_get (unless_awaited o k (new_headings awaited ks)) i) (awaits k.name.name p w)) ∙ e)
   heading_of_module l (nested_heading t z x r) i h e = absurd (clash l z)
+
+  -- how many there are, with those that were there
+  pub headings_count : (level == 0) ≡ true → {m n m' n' : ℕ} {hs : List Heading} → Heads m n hs m' n' → m' ≡ m + length (new_headings awaited hs)
+  headings_count l no_heading = omega arith
+  headings_count l {m = m} (new_heading {h = k} {hs = ks} t z w x r) =
+      let c = headings_count l r in
+      let e : length (unless_awaited (awaited k.name.name) k (new_headings awaited ks)) ≡ suc (length (new_headings awaited ks)) =
+      ap (λ (o : Option TypeNo). length (unless_awaited o k (new_headings awaited ks))) (not_awaited k.name.name w (awaited k.name.name) refl) in
+      omega (arith, c, e)
+  headings_count l {m = m} (awaited_heading {h = k} {hs = ks} p w x r) =
+      let c = headings_count l r in
+      let e : length (unless_awaited (awaited k.name.name) k (new_headings awaited ks)) ≡ length (new_headings awaited ks) =
+      ap (λ (o : Option TypeNo). length (unless_awaited o k (new_headings awaited ks))) (awaits k.name.name p w) in
+      omega (arith, c, e)
+  headings_count l (nested_heading t z x r) = absurd (clash l z)
 
   -- ---- in a procedure
 

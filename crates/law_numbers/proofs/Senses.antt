@@ -1,5 +1,5 @@
 -- What names mean behind the declarations of a block, by number.
-use Rattle.std.proofs.Common.{◌≡◌, ℕ, zero, suc, ◌+◌, ◌==◌, Bool, true, false, List, [], ◌∷◌, ◌++◌, length, Option, Some, None, Result, Ok, ◌⊎◌, inl, inr, refl, sym, ap, subst, ◌∙◌}
+use Rattle.std.proofs.Common.{◌≡◌, ℕ, zero, suc, ◌+◌, ◌==◌, ◌≤◌, ◌<◌, Bool, true, false, List, [], ◌∷◌, ◌++◌, length, Option, Some, None, Result, Ok, ◌⊎◌, inl, inr, refl, sym, ap, subst, ◌∙◌}
 use Rattle.std.specs.Prelude.{map, slice_get, not}
 use Rattle.m2_tree.specs.declared.name.Ident.{Ident}
 use Rattle.m2_tree.specs.declared.pos.Pos.{Pos}
@@ -42,7 +42,7 @@ use Rattle.law_typing.proofs.Blocks.{block_answers}
 use Rattle.law_numbers.specs.Numbered.{Entry, AreNumbered}
 use Rattle.law_numbers.specs.Sensed.{Begins, AreSensed, SensesAreKnown}
 use Rattle.law_numbers.proofs.Blocks.{headed, block_numbered}
-use Rattle.law_numbers.proofs.Finding.{heading_of_module, nested_in}
+use Rattle.law_numbers.proofs.Finding.{heading_there, new_number_there, headings_count, heading_of_module, nested_in}
 
 -- ---- places in lists
 
@@ -88,7 +88,7 @@ headed_by (layer.Types ts) m = let r = mapped OfType ts m in let e = r.1 in absu
 headed_by (layer.Variables vs) m = let r = mapped OfVariables vs m in let e = r.1 in absurd cc
 headed_by {h = h} (layer.Procedure x b) m = subst (λ (k : Heading). Among h (k ∷ [])) (same_heading (only m)) here
 
-headings_there : {h : Heading} (ds : List Decl) → Among (OfProcedure h) (declarations_of ds) → Among h (headings_in ds)
+pub headings_there : {h : Heading} (ds : List Decl) → Among (OfProcedure h) (declarations_of ds) → Among h (headings_in ds)
 headings_there [] m = elim m [ ]
 headings_there (d ∷ ds) m = elim (among_both (declared_by (out-Decl d)) (declarations_of ds) m) [
   | inl a ↦ among_left (headings_in ds) (headed_by (out-Decl d) a)
@@ -136,7 +136,7 @@ broken_no_code (OfType d) = tt
 broken_no_code (OfVariables v) = tt
 broken_no_code (OfProcedure h) = tt
 
-no_code : (l : ℕ) (m : Meaning) → StandsWithoutCode (standing m) → None ≡ named_by l m
+pub no_code : (l : ℕ) (m : Meaning) → StandsWithoutCode (standing m) → None ≡ named_by l m
 no_code l (meaning.Constant v) h = refl
 no_code l (meaning.Type t n) h = refl
 no_code l (meaning.Variable v) h = absurd h
@@ -154,14 +154,14 @@ no_code l meaning.Ahead h = refl
 no_code l (meaning.Standard f) h = refl
 no_code l (meaning.Module k) h = absurd h
 
-variable_stands : (b : Bool) (home level n : ℕ) (t : TypeNo) → standing (variable_at b home level n t) ≡ Known (AVariable t)
+pub variable_stands : (b : Bool) (home level n : ℕ) (t : TypeNo) → standing (variable_at b home level n t) ≡ Known (AVariable t)
 variable_stands true home level n t = refl
 variable_stands false home level n t = refl
 
 -- ---- what awaits its heading
 
 module _ {g : Gathers} {j : Judges g} where
-  awaits_as : {b : Bool} {u : Option TypeNo} {o : Option (Entered g.Reported)} → TakenAs g j b u o → (p : ModuleProcedure) → o ≡ Some (Declared Here (Ok (meaning.Procedure p))) → u ≡ Some p.heading
+  pub awaits_as : {b : Bool} {u : Option TypeNo} {o : Option (Entered g.Reported)} → TakenAs g j b u o → (p : ModuleProcedure) → o ≡ Some (Declared Here (Ok (meaning.Procedure p))) → u ≡ Some p.heading
   awaits_as (is_taken s) p e = by_standing s e
     where
       by_standing : {u : _} {m : Result Meaning g.Reported} → standing_from u m ≡ Taken → ◌≡◌ {A = Option (Entered g.Reported)} (Some (Declared u m)) (Some (Declared Here (Ok (meaning.Procedure p)))) → None ≡ Some p.heading
@@ -195,6 +195,36 @@ module _ (g : Gathers) (j : Judges g) where
   before_means : (at : Pos) (far : Sight g.Reported) {a b : Option (Entered g.Reported)} → IsAsBefore a b → ◌≡◌ {A = Looks} (means_as g at (or_around b far)) (means_as g at (or_around a far))
   before_means at far as_before = refl
   before_means at far (has_heading p) = refl
+
+-- ---- what stands under the name of a heading
+
+module _ (g : Gathers) (j : Judges g) (exports : ℕ → Ident → Standing) (p : Place) (q : Before) (s : Scope g.Reported) (ends : List ℕ) (ds : List Decl) (b : Begins g j exports p q s ends ds)
+    (fine : (declared_block g ends (s, Ok tt) q.nested ds).1 ≡ Ok tt) where
+  abbrev Behind : Scope g.Reported
+  Behind = (declared_block g ends (s, Ok tt) q.nested ds).0
+
+  abbrev outermost_there : {o : Bool} → (q.level == 0) ≡ o → (s.level == 0) ≡ o
+  outermost_there e = ap (λ (l : ℕ). l == 0) b.of_level ∙ e
+
+  pub module_entry : (q.level == 0) ≡ true → (h : Heading) → Among h (headings_in ds) → (a : ModuleProcedure) × Entry Behind h.name.name (Headed (Ok (meaning.Procedure a)))
+  module_entry l h i = heading_there s.types.home s.level ends s Behind (outermost_there l) (block_numbered g ends s q.nested ds fine).headings h i
+
+  pub new_entry : (q.level == 0) ≡ true → (k : ℕ) → length s.procedures ≤ k → k < length Behind.procedures
+      → (h : Heading) × Among h (headings_in ds) × (a : ModuleProcedure) × Entry Behind h.name.name (Headed (Ok (meaning.Procedure a))) × (a.number ≡ k)
+  new_entry l k x y =
+      let n = block_numbered g ends s q.nested ds fine in
+      new_number_there s.types.home s.level ends s Behind (outermost_there l) n.headings k x (subst (λ (e : ℕ). k < e) n.procedures y)
+
+  pub headings_counted : (q.level == 0) ≡ true → length Behind.procedures ≡ length s.procedures + length (new_headings p.awaited (headings_in ds))
+  headings_counted l =
+      let n = block_numbered g ends s q.nested ds fine in
+      n.procedures ∙ headings_count s.types.home s.level ends s Behind p.awaited (λ n a e. awaits_as (b.takes n) a e) (λ n t e. waits_as (b.takes n) t e) (outermost_there l) n.headings
+
+  pub nested_entry : (l : (q.level == 0) ≡ false) → (h : Heading) (n : ℕ) → Among (h, n) (nested_numbers q.nested ds)
+      → (t : TypeNo) × Entry Behind h.name.name (Headed (Ok (meaning.LocalProcedure (record { level = s.level; number = n; heading = t }))))
+  nested_entry l h n i =
+      let inside = b.nested l in
+      nested_in s.types.home s.level ends s Behind p.awaited (λ n a e. awaits_as (b.takes n) a e) (λ n t e. waits_as (b.takes n) t e) (outermost_there l) inside.0 ds (block_numbered g ends s q.nested ds fine).headings inside.1 h n i
 
 module _ (g : Gathers) (j : Judges g) (lawful : Lawful g j) (exports : ℕ → Ident → Standing) (p : Place) (q : Before) (s : Scope g.Reported) (ends : List ℕ) (ds : List Decl) (b : Begins g j exports p q s ends ds)
     (fine : (declared_block g ends (s, Ok tt) q.nested ds).1 ≡ Ok tt) (whole : List Resolved) (text : in_order whole ≡ declarations_of ds) (names : Ident → Standing)
@@ -293,7 +323,7 @@ module _ (g : Gathers) (j : Judges g) (lawful : Lawful g j) (exports : ℕ → I
       meant (variable_means name i t k (entry_as {V = λ u. Declared Here (Ok (variable_at (s.level == 0) s.types.home s.level (length s.variables + i) u))} n (let r = numbered.variables i x e in (r.0, r.1))) m w)
   known_by name _ (of_module i {h = h} {t = t} l e n k) m w =
       meant (module_means name (q.procedures + i) t k
-      (subst (λ (v : ℕ). (u : TypeNo) × Entry sd name.name (Headed (Ok (meaning.Procedure (record { home = s.types.home; number = v + i; heading = u }))))) b.procedures
+      (subst (λ (v : ℕ). (u : TypeNo) × Entry sd name.name (Headed (Ok (meaning.Procedure (record { home = s.types.home; number = v + i; heading = u }))))) (b.procedures l)
       (entry_as {V = λ u. Headed (Ok (meaning.Procedure (record { home = s.types.home; number = length s.procedures + i; heading = u })))} n
       (heading_of_module s.types.home s.level ends s sd p.awaited awaits_here waits_here (outermost l) numbered.headings i h e))) m w)
   known_by name _ (of_procedure {n = n} {h = h} {t = t} l i e k) m w =

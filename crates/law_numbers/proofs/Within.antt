@@ -6,7 +6,8 @@ use Rattle.m2_tree.specs.declared.decl.Decl.{Decl, Decl-F, out-Decl, roll-Decl, 
 use Rattle.m2_tree.specs.declared.decl.Decl.TheOpen as layer
 use Rattle.m2_tree.specs.declared.decl.Block.{Block, Block-F, out-Block, roll-Block, out-roll-Block, map-Block, fold_out-Block, ind-Block}
 use Rattle.check_block.specs.Nesting.{decl_layer, block_layer, append_names, within_decl, within}
-use Rattle.def_typed.specs.Numbers.{counted_decl, counted_block, procedures_in}
+use Rattle.def_typed.specs.Numbers.{counted_decl, counted_block, procedures_in, next_nested}
+use Rattle.law_numbers.specs.Counted.{behind_nested}
 
 abbrev counted : Decl → ℕ
 counted = fold-Decl ℕ ℕ counted_decl counted_block
@@ -71,3 +72,24 @@ step_block x y q =
 
 pub procedures_counted : (b : Block) → length (within b) ≡ procedures_in b
 procedures_counted = ind-Block PD PB step_decl step_block
+
+-- ---- the number behind a block
+
+next_counts : (n : ℕ) (d : Decl) (y : Decl-F Decl Block) → out-Decl d ≡ y → next_nested n y ≡ n + counted d
+next_counts n d (layer.Constants cs) e = let c = counted_is d (layer.Constants cs) e in omega (arith, c)
+next_counts n d (layer.Types ts) e = let c = counted_is d (layer.Types ts) e in omega (arith, c)
+next_counts n d (layer.Variables vs) e = let c = counted_is d (layer.Variables vs) e in omega (arith, c)
+next_counts n d (layer.Procedure h b) e = let c = counted_is d (layer.Procedure h b) e in omega (arith, c)
+
+behind_counts : (m n : ℕ) (ds : List Decl) → behind_nested (m + n) ds ≡ m + fold (λ n k. n + k) n (map counted ds)
+behind_counts m n [] = refl
+behind_counts m n (d ∷ ds) =
+    let e = next_counts (m + n) d (out-Decl d) refl in
+    let q : next_nested (m + n) (out-Decl d) ≡ m + (n + counted d) = omega (arith, e) in
+    ap (λ (k : ℕ). behind_nested k ds) q ∙ behind_counts m (n + counted d) ds
+
+-- Behind a block stands its first number and as many more as there are procedures in it.
+pub block_behind : (n : ℕ) (b : Block) → behind_nested n (out-Block b).decls ≡ n + procedures_in b
+block_behind n b =
+    let z : n ≡ n + 0 = omega arith in
+    ap (λ (k : ℕ). behind_nested k (out-Block b).decls) z ∙ behind_counts n 0 (out-Block b).decls ∙ ap (λ (k : ℕ). n + k) (sym (counted_block_is b (out-Block b) refl))

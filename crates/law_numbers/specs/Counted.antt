@@ -5,12 +5,17 @@ use Rattle.m2_tree.specs.declared.decl.Decl.{Decl, out-Decl}
 use Rattle.m2_tree.specs.declared.decl.Decl.TheOpen as layer
 use Rattle.m2_tree.specs.declared.decl.Block.{Block, out-Block}
 use Rattle.check_block.specs.Nesting.{within_decl, ends_from, procedure_ends}
-use Rattle.def_typed.specs.Numbers.{procedures_in, behind_inside}
+use Rattle.def_typed.specs.Numbers.{procedures_in, next_nested, behind_inside}
 
 -- of each procedure of declarations, and of those in it, how many procedures stand within
 abbrev pub within_all : List Decl → List ℕ
 within_all [] = []
 within_all (d ∷ ds) = within_decl d ++ within_all ds
+
+-- the number behind procedures of a procedure
+abbrev pub behind_nested : (n : ℕ) → List Decl → ℕ
+behind_nested n [] = n
+behind_nested n (d ∷ ds) = behind_nested (next_nested n (out-Decl d)) ds
 
 -- The numbers behind these procedures are among those that were counted for the module.
 pub record AreCounted (ends : List ℕ) (first : ℕ) (ds : List Decl) : Type 0 where

@@ -1,5 +1,5 @@
 -- That names mean behind the declarations of a block what the rules say, by number.
-use Rattle.std.specs.Prelude.{◌≡◌, ℕ, ◌==◌, false, List, [], length, Option, None, Ok}
+use Rattle.std.specs.Prelude.{◌≡◌, ℕ, ◌==◌, true, false, List, [], length, Option, None, Ok}
 use Rattle.m2_tree.specs.declared.name.Ident.{Ident}
 use Rattle.m2_tree.specs.declared.decl.Decl.{Decl}
 use Rattle.typed_tree.specs.declared.meaning.Meaning.{Meaning}
@@ -26,7 +26,8 @@ pub record Begins (g : Gathers) (j : Judges g) (exports : ℕ → Ident → Stan
   pub of_home : s.types.home ≡ q.home
   pub of_level : s.level ≡ q.level
   pub variables : length s.variables ≡ q.variables
-  pub procedures : length s.procedures ≡ q.procedures
+  -- those of the module count where it begins
+  pub procedures : (q.level == 0) ≡ true → length s.procedures ≡ q.procedures
   -- Seen from any level, names mean what the scope has.
   pub means : (name : Ident) (m : Meaning) → looked_up g s name ≡ Ok m
       → (level : ℕ) → named level (q.of_names name) ≡ named_by level m

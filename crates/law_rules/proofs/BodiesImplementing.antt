@@ -1,12 +1,11 @@
 -- Implementations are answered exactly.
-use Rattle.std.proofs.Common.{◌≡◌, ℕ, Bool, true, false, cond, List, [], ◌∷◌, ◌++◌, Option, Some, None, Result, Ok, Err, ◌⊎◌, inl, inr, refl, sym, ap, subst, ◌∙◌, arith}
+use Rattle.std.proofs.Common.{◌≡◌, ℕ, ◌<◌, Bool, true, false, cond, List, [], ◌∷◌, ◌++◌, length, Option, Some, None, Result, Ok, Err, ◌⊎◌, inl, inr, refl, sym, ap, subst, ◌∙◌, arith, append_assoc, append-nil}
 use Rattle.std.specs.List.{fold}
 use Rattle.std.specs.Option.{is_some}
 use Rattle.m2_rule.specs.declared.breach.Breach.{Breach}
 use Rattle.m2_rule.specs.declared.rule.Rule.TheVariants as rule
 use Rattle.m2_tree.specs.Names.{same_name}
 use Rattle.m2_tree.specs.declared.name.Ident.{Ident}
-use Rattle.m2_tree.specs.declared.decl.Decl.TheOpen as layer
 use Rattle.m2_tree.specs.declared.decl.Block.{Block}
 use Rattle.m2_tree.specs.declared.decl.Contents.{Contents}
 use Rattle.m2_tree.specs.declared.decl.Contents.TheVariants as contents
@@ -14,7 +13,9 @@ use Rattle.m2_tree.specs.declared.decl.Module.{Module}
 use Rattle.typed_tree.specs.declared.meaning.LocalVariable.{LocalVariable}
 use Rattle.typed_tree.specs.declared.meaning.Meaning.{Meaning}
 use Rattle.typed_tree.specs.declared.meaning.Meaning.TheVariants as meaning
+use Rattle.typed_tree.specs.declared.meaning.Procedure.{Procedure as ModuleProcedure}
 use Rattle.typed_tree.specs.declared.table.Table.{Table}
+use Rattle.typed_tree.specs.declared.typed_module.TypedModule.{TypedModule}
 use Rattle.typed_tree.specs.declared.types.TypeNo.{TypeNo}
 use Rattle.typed_tree.specs.Names.{find_name}
 use Rattle.check_scope.specs.declared.known.Known.{Known}
@@ -28,8 +29,8 @@ use Rattle.check_definition.specs.Predeclared.{console, first_scope}
 use Rattle.check_block.specs.Headings.{standing_from}
 use Rattle.check_block.specs.declared.heading.Standing.TheVariants as heading
 use Rattle.check_body.specs.Checks.{elaborate_body, body_module}
-use Rattle.check_body.specs.Checked.{of_contents}
-use Rattle.check_body.specs.Own.{implementation_scope}
+use Rattle.check_body.specs.Checked.{of_contents, of_body}
+use Rattle.check_body.specs.Own.{with_heading_of, with_exported_heading, implementation_scope}
 use Rattle.def_typing.specs.Operators.{◌!◌}
 use Rattle.def_typing.specs.Things as things
 use Rattle.def_typing.specs.Things.{Headless, Standing, Unknown}
@@ -37,7 +38,12 @@ use Rattle.def_typing.specs.Parts.{Among, here, later}
 use Rattle.def_typing.specs.Imports as imports
 use Rattle.def_typing.specs.Imports.{Imported, all_imported, Origin, Itself, Exported, is_there, is_given, Brings}
 use Rattle.def_typing.specs.Bodies.{BrokenBlock, LacksHeading}
+use Rattle.def_typed.specs.Named.{named, named_by}
+use Rattle.def_typed.specs.Blocks.{StandsWithoutCode}
+use Rattle.def_typed.specs.Modules.{heading_type, heading_types, MeansBefore, of_definition, of_import, without_code, MeansModule}
+use Rattle.law_numbers.proofs.Senses.{no_code}
 use Rattle.law_typing.specs.Judging.{Judges}
+use Rattle.law_typed.specs.Typed.{IsOne}
 use Rattle.law_typing.specs.Exact.{standing, is_own_variable, Sees, sees, Knows, knows_nothing, Repeats, of_heading, of_declaration, TakenAs, is_taken, awaits, not_taken, AreOnce, no_names, one_name}
 use Rattle.law_typing.proofs.Combining.{Lawful, Decided, holds, fails_it, accounts_one}
 use Rattle.law_typing.proofs.Entering.{name_decided, entered_all, once_more}
@@ -50,9 +56,12 @@ use Rattle.law_rules.proofs.Once.{imports_once}
 use Rattle.law_rules.proofs.Starting.{meaning_known, meaning_headed}
 use Rattle.law_rules.proofs.Outside.{definitions_known}
 use Rattle.law_rules.specs.Bodies.{KnowsPlace, IsTyped, IsAnswered, is_refused, HasNoDefinition, an_implementation, a_definition, LonelyAreRefused, IsForeign, ExportForeign, IsTakenBy, by_definition, by_import, by_none, awaited_type, is_variable_of, declares, implementation_place, IsNoLocal, IsDefined, IsImplementationExact, ImplementationsAreExact, ImplementationsAreKnown}
-use Rattle.law_rules.proofs.Seeing.{looked_around}
+use Rattle.law_rules.proofs.Seeing.{looked_around, sees_ok}
+use Rattle.law_rules.proofs.Meant as block_meanings
+use Rattle.law_rules.proofs.MeantImports.{copy_is, variables_are}
+use Rattle.law_rules.proofs.MeantModules.{Outside, tree, one_tree}
 use Rattle.law_rules.proofs.Moduling.{Moduled, Breaks, module_read, read_from, module_told}
-use Rattle.law_rules.proofs.BodiesOutside.{brought_foreign, first_foreign}
+use Rattle.law_rules.proofs.BodiesOutside.{codeless_by, first_codeless, brought_foreign, first_foreign}
 use Rattle.law_rules.proofs.Programs.{Finds, answered_by}
 
 -- ---- the names of the definition
@@ -296,6 +305,28 @@ module _ (g : Gathers) (j : Judges g) (lawful : Lawful g j) (own : Table) (m : M
       (λ n. (taken_there n (mine n) refl (i.decided n)).1),
     )
 
+-- ---- what the definition exports
+
+heading_is : (ts : List TypeNo) (m : Meaning) → with_heading_of ts m ≡ ts ++ heading_type m
+heading_is ts (meaning.Constant v) = sym (append-nil ts)
+heading_is ts (meaning.Type t n) = sym (append-nil ts)
+heading_is ts (meaning.Variable v) = sym (append-nil ts)
+heading_is ts (meaning.Local v) = sym (append-nil ts)
+heading_is ts (meaning.Field f) = sym (append-nil ts)
+heading_is ts (meaning.Procedure p) = refl
+heading_is ts (meaning.LocalProcedure p) = sym (append-nil ts)
+heading_is ts meaning.Ahead = sym (append-nil ts)
+heading_is ts (meaning.Standard f) = sym (append-nil ts)
+heading_is ts (meaning.Module k) = sym (append-nil ts)
+
+headings_are : (ts : List TypeNo) (es : List imports.Entry) → fold with_exported_heading ts es ≡ ts ++ heading_types es
+headings_are ts [] = sym (append-nil ts)
+headings_are ts (e ∷ es) = headings_are (with_exported_heading ts e) es ∙ ap (λ (us : List TypeNo). us ++ heading_types es) (heading_is ts e.1) ∙ append_assoc ts (heading_type e.1) (heading_types es)
+
+-- Each number of its procedures has a name.
+abbrev pub HasHeadings : Table → Type 0
+HasHeadings own = (k : ℕ) → k < length (heading_types own.exported) → (x : List ℕ) × (a : ModuleProcedure) × (a.number ≡ k) × (find_name x own.exported ≡ Some (meaning.Procedure a))
+
 -- ---- answers
 
 module _ (g : Gathers) (j : Judges g) (lawful : Lawful g j) (associates : Associates g) (found : Finds g j) (own : Table) (m : Module) (tables : List Table) (defined : IsDefined own) (foreign : ExportForeign own.number tables) (exports : ℕ → Ident → Standing) (outside names : Ident → Standing)
@@ -311,12 +342,81 @@ module _ (g : Gathers) (j : Judges g) (lawful : Lawful g j) (associates : Associ
       (subst (λ (ts : List Table). Moduled g j lawful (IsTyped m (read_from g j lawful associates exports m (first g j lawful own m tables defined) (declares own) (i g j lawful own m tables defined) (implementation_place own names taken) (at g j lawful own m tables defined foreign exports outside names knows sound stands taken takes) (once g j lawful own m tables defined) (no_repeats g j lawful own m tables defined foreign exports outside names knows sound stands taken takes) b (Some own))) (Breaks g j lawful associates exports m (first g j lawful own m tables defined) (declares own) (i g j lawful own m tables defined) (implementation_place own names taken) (at g j lawful own m tables defined foreign exports outside names knows sound stands taken takes) (once g j lawful own m tables defined) (no_repeats g j lawful own m tables defined foreign exports outside names knows sound stands taken takes) b (Some own)) (of_contents g (elaborate_body g) home m (Some own) ts m.contents)) e
       (subst (λ (c : Contents). Moduled g j lawful (IsTyped m (read_from g j lawful associates exports m (first g j lawful own m tables defined) (declares own) (i g j lawful own m tables defined) (implementation_place own names taken) (at g j lawful own m tables defined foreign exports outside names knows sound stands taken takes) (once g j lawful own m tables defined) (no_repeats g j lawful own m tables defined foreign exports outside names knows sound stands taken takes) b (Some own))) (Breaks g j lawful associates exports m (first g j lawful own m tables defined) (declares own) (i g j lawful own m tables defined) (implementation_place own names taken) (at g j lawful own m tables defined foreign exports outside names knows sound stands taken takes) (once g j lawful own m tables defined) (no_repeats g j lawful own m tables defined foreign exports outside names knows sound stands taken takes) b (Some own)) (of_contents g (elaborate_body g) home m (Some own) tables c)) (sym q) (module_told g j lawful associates exports m (first g j lawful own m tables defined) (declares own) (i g j lawful own m tables defined) (implementation_place own names taken) (at g j lawful own m tables defined foreign exports outside names knows sound stands taken takes) (once g j lawful own m tables defined) (no_repeats g j lawful own m tables defined foreign exports outside names knows sound stands taken takes) b (Some own))))
 
-  implementation_answers : IsImplementationExact g j own m given tables exports names taken b
+  abbrev implementation_answers : IsImplementationExact g j own m given tables exports names taken b
   implementation_answers = record { end = read_from g j lawful associates exports m (first g j lawful own m tables defined) (declares own) (i g j lawful own m tables defined) (implementation_place own names taken) (at g j lawful own m tables defined foreign exports outside names knows sound stands taken takes) (once g j lawful own m tables defined) (no_repeats g j lawful own m tables defined foreign exports outside names knows sound stands taken takes) b (Some own); read = module_read g j lawful associates exports m (first g j lawful own m tables defined) (declares own) (i g j lawful own m tables defined) (implementation_place own names taken) (at g j lawful own m tables defined foreign exports outside names knows sound stands taken takes) (once g j lawful own m tables defined) (no_repeats g j lawful own m tables defined foreign exports outside names knows sound stands taken takes) b (Some own); answered = answer }
+
+  -- ---- its typed tree
+
+  abbrev Brought : Ident → Origin → Meaning → Type 0
+  Brought name o x = There g j lawful own m tables defined name.name o x
+
+  brought_looked : (name : Ident) (o : Origin) (x : Meaning) → Brought name o x → looked_up g (start g j lawful own m tables defined) name ≡ Ok x
+  brought_looked name o x w = looked_around g (start g j lawful own m tables defined) 0 refl name ∙ ap (λ (k : Option (Known g.Reported)). looked g j lawful own m tables defined k name) ((i g j lawful own m tables defined).brought name.name o x w)
+
+  own_looked : (name : Ident) (x : Meaning) → find_name name.name own.exported ≡ Some x → looked_up g (start g j lawful own m tables defined) name ≡ Ok x
+  own_looked name x w = looked_around g (start g j lawful own m tables defined) 0 refl name ∙ ap (λ (k : Option (Known g.Reported)). looked g j lawful own m tables defined k name) (own_there g j lawful own m tables defined name.name x w)
+
+  first_looked : (name : Ident) → find_name name.name own.exported ≡ None → looked_up g (first_scope own.number tables) name ≡ looked_up g (first g j lawful own m tables defined) name
+  first_looked name w = looked_around g (first_scope own.number tables) 0 refl name
+      ∙ ap (λ (k : Option (Known g.Reported)). looked g j lawful own m tables defined k name) (sym (own_found g j lawful own m tables defined name.name ∙ ap (λ (o : Option Meaning). declared_as g.Reported o None) w))
+      ∙ sym (looked_around g (first g j lawful own m tables defined) 0 refl name)
+
+  codeless : (name : Ident) {s : Standing} → find_name name.name own.exported ≡ None → ((o : Origin) (x : Meaning) → Brought name o x → ⊥) → StandsFor tables (declares own) (all_imported m.imports) outside name s → StandsWithoutCode s
+  codeless name n c (importing.imported o x w) = absurd (c o x w)
+  codeless name n c (importing.from_outside d) = codeless_by g j (knows.of_names name) (λ x w. first_codeless g own.number tables name x (first_looked name n ∙ w))
+
+  abbrev Before : Ident → Option Meaning → Type 0
+  Before = MeansBefore tables own.exported (all_imported m.imports) names
+
+  each_by : (name : Ident) (o : Option Meaning) → find_name name.name own.exported ≡ o → ((o : Origin) × (x : Meaning) × Brought name o x) ⊎ ((o : Origin) (x : Meaning) → Brought name o x → ⊥) → (o : Option Meaning) × Before name o
+  each_by name (Some w) n d = (Some w, of_definition n)
+  each_by name None n (inl (o, x, w)) = (Some x, of_import o w)
+  each_by name None n (inr c) = (None, without_code (codeless name n c (stands name)))
+
+  known_by : (name : Ident) (o : Option Meaning) → Before name o → (w : Meaning) → looked_up g (start g j lawful own m tables defined) name ≡ Ok w → (l : ℕ) → named l o ≡ named_by l w
+  known_by name _ (of_definition {m = x} n) w q l = ap (λ (m : Meaning). named_by l m) (same_ok g j lawful own m tables defined (sym (own_looked name x n) ∙ q))
+  known_by name _ (of_import o {m = x} n) w q l = ap (λ (m : Meaning). named_by l m) (same_ok g j lawful own m tables defined (sym (brought_looked name o x n) ∙ q))
+  known_by name _ (without_code h) w q l = no_code l w (subst StandsWithoutCode (sees_ok g j w ((at g j lawful own m tables defined foreign exports outside names knows sound stands taken takes).names.of_names name) q) h)
+
+  module _ (heads : HasHeadings own) (imports_once : AreOnce own.imports) where
+    outside_known : Outside g j lawful associates exports m (first g j lawful own m tables defined) (declares own) (i g j lawful own m tables defined) (implementation_place own names taken) (at g j lawful own m tables defined foreign exports outside names knows sound stands taken takes) (once g j lawful own m tables defined) (no_repeats g j lawful own m tables defined foreign exports outside names knows sound stands taken takes) b (Some own) own.number tables own.exported own.imports
+    outside_known = record {
+      of_home = refl;
+      of_level = refl;
+      deep = omega arith;
+      of_tables = refl;
+      variables = variables_are [] own.exported;
+      procedures = headings_are [] own.exported;
+      each = λ name. each_by name (find_name name.name own.exported) refl ((i g j lawful own m tables defined).decided name.name);
+      known = known_by;
+      own_imports = copy_is own.imports imports_once;
+      imports_once = imports_once;
+      headed = λ k x. let r = heads k x in (r.0, r.1, r.2, own_there g j lawful own m tables defined r.0 (meaning.Procedure r.1) r.3);
+    }
+
+    is_body : (home : ℕ) {r : Result TypedModule g.Reported} → body_module g home m (Some own) given ≡ r → of_body g (elaborate_body g) (first g j lawful own m tables defined) (Some own) m b ≡ r
+    is_body home r = sym (ap (λ (ts : List Table). of_contents g (elaborate_body g) home m (Some own) ts m.contents) (sym e) ∙ ap (λ (c : Contents). of_contents g (elaborate_body g) home m (Some own) tables c) q) ∙ r
+
+    implementation_tree : block_meanings.Finds g j → (home : ℕ) (t : TypedModule) → body_module g home m (Some own) given ≡ Ok t → IsOne (MeansModule own.number tables own.exported own.imports m exports implementation_answers.read) t
+    implementation_tree finds home t r = record {
+      holds = tree g j lawful associates exports m (first g j lawful own m tables defined) (declares own) (i g j lawful own m tables defined) (implementation_place own names taken) (at g j lawful own m tables defined foreign exports outside names knows sound stands taken takes) (once g j lawful own m tables defined) (no_repeats g j lawful own m tables defined foreign exports outside names knows sound stands taken takes) b (Some own) own.number tables own.exported own.imports finds outside_known t (is_body home r);
+      alone = one_tree g j lawful associates exports m (first g j lawful own m tables defined) (declares own) (i g j lawful own m tables defined) (implementation_place own names taken) (at g j lawful own m tables defined foreign exports outside names knows sound stands taken takes) (once g j lawful own m tables defined) (no_repeats g j lawful own m tables defined foreign exports outside names knows sound stands taken takes) b (Some own) own.number tables own.exported own.imports finds outside_known t (is_body home r);
+    }
 
 pub implementations_answer : (g : Gathers) (j : Judges g) → Lawful g j → Associates g → Finds g j → ImplementationsAreExact g j
 implementations_answer g j lawful associates found own m given tables e defined foreign exports outside names knows sound stands taken takes b q =
     implementation_answers g j lawful associates found own m tables defined foreign exports outside names knows sound stands taken takes b given e q
+
+-- The same with the typed tree.
+pub implementations_have_trees : (g : Gathers) (j : Judges g) (lawful : Lawful g j) (associates : Associates g) (found : Finds g j) → block_meanings.Finds g j
+    → (own : Table) (m : Module) (imported tables : List Table) (e : tables ≡ imported ++ console ∷ []) (defined : IsDefined own) → HasHeadings own → AreOnce own.imports → (foreign : ExportForeign own.number tables) (exports : ℕ → Ident → Standing) (outside names : Ident → Standing)
+    (knows : Knows g j outside exports (implementation_scope own tables)) (sound : AreSound outside) (stands : (name : Ident) → StandsFor tables (declares own) (all_imported m.imports) outside name (names name))
+    (taken : List ℕ → Bool) (takes : (n : List ℕ) → IsTakenBy tables (declares own) (all_imported m.imports) n (taken n)) (b : Block) (q : m.contents ≡ contents.Implementation b)
+    → (home : ℕ) (t : TypedModule) → body_module g home m (Some own) imported ≡ Ok t
+    → IsOne (MeansModule own.number tables own.exported own.imports m exports (implementations_answer g j lawful associates found own m imported tables e defined foreign exports outside names knows sound stands taken takes b q).read) t
+unfolding implementations_answer
+implementations_have_trees g j lawful associates found finds own m given tables e defined heads listed_once foreign exports outside names knows sound stands taken takes b q home t r =
+    implementation_tree g j lawful associates found own m tables defined foreign exports outside names knows sound stands taken takes b given e q heads listed_once finds home t r
 
 pub implementations_known : (g : Gathers) (j : Judges g) → Lawful g j → ImplementationsAreKnown g j
 implementations_known g j lawful own m tables defined = let d = definitions_known g j lawful own.number m tables in all_known g j lawful own m tables defined d.0 d.1 d.4 d.5

@@ -35,7 +35,7 @@ use Rattle.def_typing.specs.Things.{Standing}
 use Rattle.def_typing.specs.Parts.{Among, here, later}
 use Rattle.def_typing.specs.Declarations.{Declaration}
 use Rattle.def_typing.specs.Definitions.{Context, Placed, AllFollow, nothing_follows, one_follows}
-use Rattle.def_typing.specs.Imports.{Entry}
+use Rattle.def_typing.specs.Imports.{Entry, Imported, all_imported}
 use Rattle.law_typing.specs.Judging.{Judges}
 use Rattle.law_typing.specs.Exact.{standing, Sees, sees, Exports as Exports_as, has_exported, Knows, is_own_variable, TakenAs, is_taken, awaits, not_taken, AreOnce, no_names, one_name}
 use Rattle.law_typing.proofs.Heading.{nil_right, append_assoc}
@@ -44,7 +44,7 @@ use Rattle.law_typing.proofs.Combining.{Lawful}
 use Rattle.law_typing.proofs.Entering.{once_more}
 use Rattle.law_rules.specs.Importing.{with_declared}
 use Rattle.law_rules.specs.Defining.{IsTable, IsAnswered, is_table, is_refused, IsDefinitionExact}
-use Rattle.law_rules.specs.Exports.{IsEntry, a_constant, a_type, a_variable, a_procedure, Lists, no_name, a_name, AreExported, nothing_exported, one_exports}
+use Rattle.law_rules.specs.Exports.{IsEntry, a_constant, a_type, a_variable, a_procedure, Lists, no_name, a_name, AreModules, AreExported, nothing_exported, one_exports}
 use Rattle.law_rules.specs.Importers.{IsTableOf, is_answered, CanBeImported, of_console, of_definition, TablesAreForeign, awaits_heading, OwnNamesAreKnown, NamesAgree}
 use Rattle.law_rules.proofs.Among.{among_split}
 use Rattle.law_rules.proofs.Keys.{entered_last, entered_other, there_found}
@@ -138,6 +138,9 @@ module _ (g : Gathers) (j : Judges g) (lawful : Lawful g j) (found : Finds g j) 
     pub homes : (p : Placed) → Among p whole → p.at.types.home ≡ number
     pub exported : AreExported exports 0 0 whole t.exported
     pub numbered : t.number ≡ number
+    pub tables : List Table
+    pub front : List Imported
+    pub imported : AreModules tables front t.imports
 
   lonely : (m : Module) {t : Table} → ◌≡◌ {A = Result Table g.Reported} (report g m.name.pos rule.LonelyModule) (Ok t) → ⊥
   lonely m q = absurd cc
@@ -149,7 +152,7 @@ module _ (g : Gathers) (j : Judges g) (lawful : Lawful g j) (found : Finds g j) 
   answered_by {number = number} {m = m} {tables = tables} {exports = exports} {t = t} d q = by d.answered q
     where
       by : {Breaks : Breach → Type 0} {r : Result Table g.Reported} → IsAnswered g j (IsTable number m tables exports d.whole d.last) Breaks r → r ≡ Ok t → Answered number t
-      by (is_table u i n) q = record { exports = exports; whole = d.whole; homes = λ p w. home_at d.follow p w; exported = subst (λ (t : Table). AreExported exports 0 0 d.whole t.exported) (one_table q) i.of_exports; numbered = subst (λ (t : Table). t.number ≡ number) (one_table q) i.of_number }
+      by (is_table u i n) q = record { exports = exports; whole = d.whole; homes = λ p w. home_at d.follow p w; exported = subst (λ (t : Table). AreExported exports 0 0 d.whole t.exported) (one_table q) i.of_exports; numbered = subst (λ (t : Table). t.number ≡ number) (one_table q) i.of_number; tables = tables; front = all_imported m.imports; imported = subst (λ (t : Table). AreModules tables (all_imported m.imports) t.imports) (one_table q) i.of_imports }
       by (is_refused r a f b) q = absurd cc
 
   answered_of : (number : ℕ) (m : Module) (given : List Table) (t : Table) → definition_table g number m given ≡ Ok t → (c : Contents) → m.contents ≡ c → Answered number t

@@ -137,7 +137,7 @@ module _ (g : Gathers) (j : Judges g) (lawful : Lawful g j) (exports : ℕ → I
   abbrev Name : Ident → Type 0
   Name = NameIs g j lawful exports sight around no_withs_now refl sight_knows h
 
-  around_known : (name : Ident) (m : Meaning) → looked_up g around name ≡ Ok m → looked_up g v name ≡ Ok m
+  pub around_known : (name : Ident) (m : Meaning) → looked_up g around name ≡ Ok m → looked_up g v name ≡ Ok m
   around_known = known_around g j p.taken block front start.level v seen exports names knows_names no_withs_now places ahead sight sees
 
   formal_own : (f : Formal) (l n : ℕ) {m : Meaning} → meaning.Local (record { level = l; number = n; kind = formal_kind f; of = f.of }) ≡ m → false ≡ is_own_variable entered.0 m
@@ -211,7 +211,7 @@ module _ (g : Gathers) (j : Judges g) (lawful : Lawful g j) (exports : ℕ → I
   abbrev Else : Breach → Type 0
   Else f = Repeats g j names v f ⊎ Breaks start.types exports p.names p.taken p.awaited (is_nested start) block whole f
 
-  of_formals : (f : Breach) → Repeats g j sight around f ⊎ ((x : Section) × Among x h.formals × BrokenTypeName sight exports x.of.of f) → Else f
+  pub of_formals : (f : Breach) → Repeats g j sight around f ⊎ ((x : Section) × Among x h.formals × BrokenTypeName sight exports x.of.of f) → Else f
   of_formals f (inl o) = inl (sight_repeats f o)
   of_formals f (inr z) = inr (formal_refused g j exports p.names start p.taken p.awaited block whole order v knows front names all sight sees h headed z.0 z.1 f z.2)
 

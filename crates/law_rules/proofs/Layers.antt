@@ -20,7 +20,7 @@ use Rattle.def_typing.specs.Parts.{Among, here, later}
 
 -- ---- lists
 
-fold_agrees : {A X Y : Type 0} (f : A → Y → A) (k : A → X → A) (h : X → Y) → ((a : A) (x : X) → f a (h x) ≡ k a x) → (a : A) (xs : List X) → fold f a (map h xs) ≡ fold k a xs
+pub fold_agrees : {A X Y : Type 0} (f : A → Y → A) (k : A → X → A) (h : X → Y) → ((a : A) (x : X) → f a (h x) ≡ k a x) → (a : A) (xs : List X) → fold f a (map h xs) ≡ fold k a xs
 fold_agrees f k h e a [] = refl
 fold_agrees f k h e a (x ∷ xs) = ap (λ b. fold f b (map h xs)) (e a x) ∙ fold_agrees f k h e (k a x) xs
 

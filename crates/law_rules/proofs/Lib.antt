@@ -41,8 +41,13 @@ pub mod Placing
 pub mod Owning
 pub mod Entering
 pub mod Stating
+pub mod MeantLists
+pub mod MeantStatements
+pub mod Meant
 pub mod Whole
 pub mod Moduling
+pub mod MeantImports
+pub mod MeantModules
 pub mod BodiesOutside
 pub mod Programs
 pub mod BodiesImplementing

@@ -34,7 +34,22 @@ use Rattle.law_typing.proofs.Combining.{Lawful, Tells, silent, tells, tells_as, 
 use Rattle.law_rules.specs.Importing.{imported_all, AreImportsExact}
 use Rattle.law_rules.proofs.Following.{Associates, block_moves}
 use Rattle.law_rules.specs.Bodies.{KnowsPlace, IsTyped}
-use Rattle.law_rules.proofs.Whole.{more_tells, told, blocks_done, Turn, of_block, whole, block, sd, Else, declared_refused, last, walked, walk_there, Said, statements_refused, is_read}
+use Rattle.law_rules.proofs.Whole.{more_tells, told, blocks_done, Turn, of_block, whole, block, sd, Else, declared_refused, last, walked, walk_there, Said, statements_refused, is_read, block_meant}
+use Rattle.law_rules.proofs.Meant.{Finds, beside_fine, never_broken, Starts, IsMeant}
+
+one_body : {R : Type 0} {xs ys : List TypedStmt} → ◌≡◌ {A = Result (List TypedStmt) R} (Ok xs) (Ok ys) → xs ≡ ys
+one_body e = cc e
+
+-- a module that is answered
+both_answered : (g : Gathers) (of : List TypedStmt → TypedModule) (a : Result (Unit {0}) g.Reported) (x : Result (List TypedStmt) g.Reported) {t : TypedModule}
+    → both g a x ▷ (λ p. Ok (of p.1)) ≡ Ok t → (a ≡ Ok tt) × (xs : List TypedStmt) × (x ≡ Ok xs) × (t ≡ of xs)
+both_answered g of (Ok u) (Ok xs) {t = t} e = (refl, xs, refl, same e)
+  where
+    same : {R : Type 0} {a b : TypedModule} → ◌≡◌ {A = Result TypedModule R} (Ok a) (Ok b) → b ≡ a
+    same e = cc e
+both_answered g of (Ok u) (Err y) e = absurd cc
+both_answered g of (Err y) (Ok xs) e = absurd cc
+both_answered g of (Err y) (Err z) e = absurd cc
 
 module _ (g : Gathers) (j : Judges g) (lawful : Lawful g j) where
   -- a module, or what is reported
@@ -57,30 +72,30 @@ module _ (g : Gathers) (j : Judges g) (lawful : Lawful g j) (associates : Associ
   abbrev pub start : Scope g.Reported
   start = record s { own = (imported_all g s m.imports).0.own }
 
-  abbrev ds : List Decl
+  abbrev pub ds : List Decl
   ds = (out-Block b).decls
 
-  abbrev ends : List ℕ
+  abbrev pub ends : List ℕ
   ends = procedure_ends ds
 
-  abbrev modules : List (List ℕ × ℕ)
+  abbrev pub modules : List (List ℕ × ℕ)
   modules = (numbered_modules s.tables).0
 
   abbrev said_of_imports : Result (Unit {0}) g.Reported
   said_of_imports = (imported_all g s m.imports).1
 
-  abbrev inner : (d : Decl) (h : Heading) (c : Block) → Among d ds → out-Decl d ≡ layer.Procedure h c → Turn g j lawful associates exports c
+  abbrev pub inner : (d : Decl) (h : Heading) (c : Block) → Among d ds → out-Decl d ≡ layer.Procedure h c → Turn g j lawful associates exports c
   inner d h c n e = blocks_done g j lawful associates exports c
 
   -- ---- from a scope behind the imports
 
-  abbrev declared_from : Scope g.Reported → Declared g.Reported
+  abbrev pub declared_from : Scope g.Reported → Declared g.Reported
   declared_from x = declared_block g ends (x, said_of_imports) 0 ds
 
-  abbrev begun_from : Scope g.Reported → Walk g.Reported
+  abbrev pub begun_from : Scope g.Reported → Walk g.Reported
   begun_from x = record { scope = (declared_from x).0; so_far = beside g (declared_from x).1 (reported_of_lack g m.name.pos (declared_from x).0); bodies = no_bodies (declared_from x).0.procedures }
 
-  abbrev checked_from : Scope g.Reported → Checked g.Reported
+  abbrev pub checked_from : Scope g.Reported → Checked g.Reported
   checked_from x = with_statements (elaborate_body g) None (out-Block b).body (bodies_checked g (elaborate_body g) ends None (declared_from x).2 (begun_from x) ds)
 
   abbrev module_from : Scope g.Reported → Result TypedModule g.Reported
@@ -145,3 +160,47 @@ module _ (g : Gathers) (j : Judges g) (lawful : Lawful g j) (associates : Associ
   module_told = subst (λ (x : Scope g.Reported). Moduled g j lawful (IsTyped m read_from) Breaks (module_from x)) (sym i.rest)
       (module_by g j lawful (λ xs. typed_module (last g j lawful associates exports b inner p start None at ends None 0 (begun_from start) moved.0).scope modules own_table m (checked_from start).0.bodies xs)
       (λ xs. record { of_name = refl; of_types = refl }) (last g j lawful associates exports b inner p start None at ends None 0 (begun_from start) moved.0).so_far (Said g j lawful associates exports b inner p start None at ends None 0 (begun_from start) moved.0) (none_else all_told))
+
+  -- ---- what it means
+
+  abbrev pub P : Place
+  P = record p { nested = is_nested start }
+
+  pub record IsModuleMeant (t : TypedModule) : Type 0 where
+    pub block : IsMeant g j exports P start (no_bodies (declared_from start).0.procedures) ends None module_read (last g j lawful associates exports b inner p start None at ends None 0 (begun_from start) moved.0, Said g j lawful associates exports b inner p start None at ends None 0 (begun_from start) moved.0)
+    pub fine : (declared_block g ends (start, Ok tt) 0 ds).1 ≡ Ok tt
+    pub lacks : (f : Breach) → LacksHere f → ⊥
+    pub is : t ≡ typed_module (last g j lawful associates exports b inner p start None at ends None 0 (begun_from start) moved.0).scope modules own_table m (last g j lawful associates exports b inner p start None at ends None 0 (begun_from start) moved.0).bodies block.body
+
+  abbrev of_statements : List TypedStmt → TypedModule
+  of_statements xs = typed_module (last g j lawful associates exports b inner p start None at ends None 0 (begun_from start) moved.0).scope modules own_table m (last g j lawful associates exports b inner p start None at ends None 0 (begun_from start) moved.0).bodies xs
+
+  module _ (finds : Finds g j) (st : Starts g j exports P start 0 None ends ds) (t : TypedModule) (e : of_body g (elaborate_body g) s own_table m b ≡ Ok t) where
+    is_answer : module_from start ≡ Ok t
+    is_answer = ap module_from (sym i.rest) ∙ e
+
+    answer : ((last g j lawful associates exports b inner p start None at ends None 0 (begun_from start) moved.0).so_far ≡ Ok tt) × (xs : List TypedStmt) × (Said g j lawful associates exports b inner p start None at ends None 0 (begun_from start) moved.0 ≡ Ok xs) × (t ≡ of_statements xs)
+    answer = both_answered g of_statements (last g j lawful associates exports b inner p start None at ends None 0 (begun_from start) moved.0).so_far (Said g j lawful associates exports b inner p start None at ends None 0 (begun_from start) moved.0) is_answer
+
+    nothing_said : ((begun_from start).so_far ≡ Ok tt) × ((walked g j lawful associates exports b inner p start None at ends None 0 (begun_from start) moved.0).said ≡ Ok tt)
+    nothing_said = beside_fine g (begun_from start).so_far (walked g j lawful associates exports b inner p start None at ends None 0 (begun_from start) moved.0).said (sym (walked g j lawful associates exports b inner p start None at ends None 0 (begun_from start) moved.0).sum ∙ answer.0)
+
+    nothing_declared : ((declared_from start).1 ≡ Ok tt) × (reported_of_lack g m.name.pos (declared_from start).0 ≡ Ok tt)
+    nothing_declared = beside_fine g (declared_from start).1 (reported_of_lack g m.name.pos (declared_from start).0) nothing_said.0
+
+    nothing_imported : (said_of_imports ≡ Ok tt) × ((declared_block g ends (start, Ok tt) 0 ds).1 ≡ Ok tt)
+    nothing_imported = beside_fine g said_of_imports (declared_block g ends (start, Ok tt) 0 ds).1 (sym moved.1 ∙ nothing_declared.0)
+
+    its_block : IsMeant g j exports P start (no_bodies (declared_from start).0.procedures) ends None module_read (last g j lawful associates exports b inner p start None at ends None 0 (begun_from start) moved.0, Said g j lawful associates exports b inner p start None at ends None 0 (begun_from start) moved.0)
+    its_block = block_meant g j lawful associates exports b inner p start None at ends None 0 (begun_from start) moved.0 finds st nothing_imported.1 nothing_said.1 refl answer.1 answer.2
+
+    same_body : answer.1 ≡ its_block.body
+    same_body = one_body (sym answer.2 ∙ its_block.is_body)
+
+    pub module_meant : IsModuleMeant t
+    module_meant = record {
+      block = its_block;
+      fine = nothing_imported.1;
+      lacks = λ f l. never_broken g j lawful lack_told nothing_declared.1 f l;
+      is = answer.3 ∙ ap of_statements same_body;
+    }

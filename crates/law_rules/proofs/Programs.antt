@@ -1,9 +1,8 @@
 -- Programs are answered exactly.
-use Rattle.std.proofs.Common.{◌≡◌, ℕ, Bool, true, false, List, [], ◌∷◌, ◌++◌, Option, None, Result, Ok, Err, ◌⊎◌, inl, inr, refl, sym, ap, subst, ◌∙◌, arith}
+use Rattle.std.proofs.Common.{◌≡◌, ℕ, ◌<◌, Bool, true, false, List, [], ◌∷◌, ◌++◌, Option, Some, None, Result, Ok, Err, ◌⊎◌, inl, inr, refl, sym, ap, subst, ◌∙◌, arith}
 use Rattle.std.specs.List.{Contains}
 use Rattle.m2_rule.specs.declared.breach.Breach.{Breach}
 use Rattle.m2_tree.specs.declared.name.Ident.{Ident}
-use Rattle.m2_tree.specs.declared.decl.Decl.TheOpen as layer
 use Rattle.m2_tree.specs.declared.decl.Block.{Block}
 use Rattle.m2_tree.specs.declared.decl.Contents.{Contents}
 use Rattle.m2_tree.specs.declared.decl.Contents.TheVariants as contents
@@ -22,17 +21,21 @@ use Rattle.check_definition.specs.Predeclared.{console, first_scope}
 use Rattle.check_block.specs.Headings.{standing_from}
 use Rattle.check_block.specs.declared.heading.Standing.TheVariants as heading
 use Rattle.check_body.specs.Checks.{elaborate_body, body_module}
-use Rattle.check_body.specs.Checked.{of_contents}
+use Rattle.check_body.specs.Checked.{of_contents, of_body}
 use Rattle.def_typing.specs.Things as things
 use Rattle.def_typing.specs.Things.{Headless, Standing, Unknown}
-use Rattle.def_typing.specs.Parts.{Among}
 use Rattle.def_typing.specs.Imports as imports
 use Rattle.def_typing.specs.Imports.{all_imported, Origin, Itself, Exported, Brings}
 use Rattle.def_typing.specs.Declarations as rules
 use Rattle.def_typing.specs.Bodies.{BrokenBlock}
+use Rattle.def_typed.specs.Named.{named, named_by}
+use Rattle.def_typed.specs.Blocks.{StandsWithoutCode}
+use Rattle.def_typed.specs.Modules.{MeansBefore, of_definition, of_import, without_code, MeansModule}
+use Rattle.law_numbers.proofs.Senses.{no_code}
 use Rattle.law_least_definition.specs.Least as least_rules
 use Rattle.law_least_body.proofs.Bodies.{checked_reports}
 use Rattle.law_typing.specs.Judging.{Judges, all_of_them, the_least}
+use Rattle.law_typed.specs.Typed.{IsOne}
 use Rattle.law_typing.specs.Exact.{no_names, is_own_variable, Knows, knows_nothing, Repeats, of_heading, of_declaration, TakenAs, is_taken, not_taken, AreOnce}
 use Rattle.law_typing.proofs.Combining.{Lawful}
 use Rattle.law_rules.specs.Importing as importing
@@ -43,9 +46,11 @@ use Rattle.law_rules.specs.Defining.{none, IsTaken, by_import, by_none, AreSound
 use Rattle.law_rules.proofs.Once.{imports_once}
 use Rattle.law_rules.proofs.Starting.{meaning_known, meaning_headed}
 use Rattle.law_rules.specs.Bodies.{KnowsPlace, IsTyped, IsAnswered, is_module, is_refused, IsForeign, ExportForeign, program_place, IsProgramExact, ProgramsAreExact}
-use Rattle.law_rules.proofs.Seeing.{looked_around}
+use Rattle.law_rules.proofs.Seeing.{looked_around, sees_ok}
 use Rattle.law_rules.proofs.Moduling.{Moduled, a_module, a_refusal, Breaks, LacksHere, module_read, read_from, module_told}
-use Rattle.law_rules.proofs.BodiesOutside.{brought_foreign, first_foreign}
+use Rattle.law_rules.proofs.BodiesOutside.{codeless_by, first_codeless, brought_foreign, first_foreign}
+use Rattle.law_rules.proofs.Meant as block_meanings
+use Rattle.law_rules.proofs.MeantModules.{Outside, tree, one_tree}
 
 -- ---- if a module has no answer, something is reported
 
@@ -167,9 +172,67 @@ module _ (g : Gathers) (j : Judges g) (lawful : Lawful g j) (associates : Associ
         (subst (λ (ts : List Table). Moduled g j lawful (IsTyped m (read_from g j lawful associates exports m first none i (program_place names taken) at once no_repeats b None)) (Breaks g j lawful associates exports m first none i (program_place names taken) at once no_repeats b None) (of_contents g (elaborate_body g) home m None ts m.contents)) e
         (subst (λ (c : Contents). Moduled g j lawful (IsTyped m (read_from g j lawful associates exports m first none i (program_place names taken) at once no_repeats b None)) (Breaks g j lawful associates exports m first none i (program_place names taken) at once no_repeats b None) (of_contents g (elaborate_body g) home m None tables c)) (sym q) (module_told g j lawful associates exports m first none i (program_place names taken) at once no_repeats b None)))
 
-    program_answers : IsProgramExact g j home m given tables exports names taken b
+    abbrev program_answers : IsProgramExact g j home m given tables exports names taken b
     program_answers = record { end = read_from g j lawful associates exports m first none i (program_place names taken) at once no_repeats b None; read = module_read g j lawful associates exports m first none i (program_place names taken) at once no_repeats b None; answered = answer }
+
+    -- ---- its typed tree
+
+    brought_looked : (name : Ident) (o : Origin) (x : Meaning) → There name.name o x → looked_up g start name ≡ Ok x
+    brought_looked name o x w = looked_around g start 0 refl name ∙ ap (λ (k : Option (Known g.Reported)). looked k name) (i.brought name.name o x w)
+
+    codeless : (name : Ident) {s : Standing} → ((o : Origin) (x : Meaning) → There name.name o x → ⊥) → StandsFor tables none (all_imported m.imports) outside name s → StandsWithoutCode s
+    codeless name c (importing.imported o x w) = absurd (c o x w)
+    codeless name c (importing.from_outside d) = codeless_by g j (knows.of_names name) (λ x w. first_codeless g home tables name x w)
+
+    abbrev Before : Ident → Option Meaning → Type 0
+    Before = MeansBefore tables [] (all_imported m.imports) names
+
+    each_by : (name : Ident) → ((o : Origin) × (x : Meaning) × There name.name o x) ⊎ ((o : Origin) (x : Meaning) → There name.name o x → ⊥) → (o : Option Meaning) × Before name o
+    each_by name (inl (o, x, w)) = (Some x, of_import o w)
+    each_by name (inr c) = (None, without_code (codeless name c (stands name)))
+
+    known_by : (name : Ident) (o : Option Meaning) → Before name o → (w : Meaning) → looked_up g start name ≡ Ok w → (l : ℕ) → named l o ≡ named_by l w
+    known_by name _ (of_definition e) w q l = absurd cc
+    known_by name _ (of_import o {m = x} b) w q l = ap (λ (m : Meaning). named_by l m) (same_ok (sym (brought_looked name o x b) ∙ q))
+    known_by name _ (without_code h) w q l = no_code l w (subst StandsWithoutCode (sees_ok g j w (at.names.of_names name) q) h)
+
+    outside_known : Outside g j lawful associates exports m first none i (program_place names taken) at once no_repeats b None home tables [] []
+    outside_known = record {
+      of_home = refl;
+      of_level = refl;
+      deep = omega arith;
+      of_tables = refl;
+      variables = refl;
+      procedures = refl;
+      each = λ name. each_by name (i.decided name.name);
+      known = known_by;
+      own_imports = refl;
+      imports_once = no_names;
+      headed = λ k x. absurd (not_less k x);
+    }
+      where
+        not_less : (k : ℕ) → k < 0 → ⊥
+        not_less k x = omega (arith, x)
+
+    is_body : {r : Result TypedModule g.Reported} → body_module g home m None given ≡ r → of_body g (elaborate_body g) first None m b ≡ r
+    is_body r = sym (ap (λ (ts : List Table). of_contents g (elaborate_body g) home m None ts m.contents) (sym e) ∙ ap (λ (c : Contents). of_contents g (elaborate_body g) home m None tables c) q) ∙ r
+
+    program_tree : block_meanings.Finds g j → (t : TypedModule) → body_module g home m None given ≡ Ok t → IsOne (MeansModule home tables [] [] m exports program_answers.read) t
+    program_tree finds t r = record {
+      holds = tree g j lawful associates exports m first none i (program_place names taken) at once no_repeats b None home tables [] [] finds outside_known t (is_body r);
+      alone = one_tree g j lawful associates exports m first none i (program_place names taken) at once no_repeats b None home tables [] [] finds outside_known t (is_body r);
+    }
 
 pub programs_answer : (g : Gathers) (j : Judges g) → Lawful g j → Associates g → Finds g j → ProgramsAreExact g j
 programs_answer g j lawful associates found home m given tables e foreign exports outside names knows sound stands taken takes b q =
     program_answers g j lawful associates found home m tables foreign exports outside names knows sound stands taken takes b given e q
+
+-- The same with the typed tree.
+pub programs_have_trees : (g : Gathers) (j : Judges g) (lawful : Lawful g j) (associates : Associates g) (found : Finds g j) → block_meanings.Finds g j
+    → (home : ℕ) (m : Module) (imported tables : List Table) (e : tables ≡ imported ++ console ∷ []) (foreign : ExportForeign home tables) (exports : ℕ → Ident → Standing) (outside names : Ident → Standing)
+    (knows : Knows g j outside exports (first_scope home tables)) (sound : AreSound outside) (stands : (name : Ident) → StandsFor tables none (all_imported m.imports) outside name (names name))
+    (taken : List ℕ → Bool) (takes : (n : List ℕ) → IsTaken tables (all_imported m.imports) n (taken n)) (b : Block) (q : m.contents ≡ contents.Program b)
+    → (t : TypedModule) → body_module g home m None imported ≡ Ok t → IsOne (MeansModule home tables [] [] m exports (programs_answer g j lawful associates found home m imported tables e foreign exports outside names knows sound stands taken takes b q).read) t
+unfolding programs_answer
+programs_have_trees g j lawful associates found finds home m given tables e foreign exports outside names knows sound stands taken takes b q t r =
+    program_tree g j lawful associates found home m tables foreign exports outside names knows sound stands taken takes b given e q finds t r

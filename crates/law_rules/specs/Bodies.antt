@@ -4,7 +4,6 @@ use Rattle.std.specs.Option.{is_some}
 use Rattle.m2_rule.specs.declared.breach.Breach.{Breach}
 use Rattle.m2_rule.specs.declared.rule.Rule.TheVariants as rule
 use Rattle.m2_tree.specs.declared.name.Ident.{Ident}
-use Rattle.m2_tree.specs.declared.decl.Decl.TheOpen as layer
 use Rattle.m2_tree.specs.declared.decl.Block.{Block}
 use Rattle.m2_tree.specs.declared.decl.Def.{Def}
 use Rattle.m2_tree.specs.declared.decl.Contents.{Contents}

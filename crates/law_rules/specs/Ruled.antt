@@ -1,5 +1,5 @@
 -- That the rules of the language decide what is answered of a module.
-use Rattle.std.specs.Prelude.{◌≡◌, ℕ, Bool, List, [], ◌∷◌, ◌++◌, None}
+use Rattle.std.specs.Prelude.{◌≡◌, ℕ, Bool, List, [], ◌∷◌, ◌++◌, None, Some, Ok}
 use Rattle.m2_rule.specs.declared.rule.Rule.TheVariants as rule
 use Rattle.m2_tree.specs.declared.name.Ident.{Ident}
 use Rattle.m2_tree.specs.declared.decl.Block.{Block}
@@ -7,6 +7,7 @@ use Rattle.m2_tree.specs.declared.decl.Def.{Def}
 use Rattle.m2_tree.specs.declared.decl.Contents.TheVariants as contents
 use Rattle.m2_tree.specs.declared.decl.Module.{Module}
 use Rattle.typed_tree.specs.declared.table.Table.{Table}
+use Rattle.typed_tree.specs.declared.typed_module.TypedModule.{TypedModule}
 use Rattle.check_scope.specs.Elaborated.{least}
 use Rattle.check_definition.specs.Predeclared.{console, first_scope}
 use Rattle.check_body.specs.Own.{implementation_scope}
@@ -15,7 +16,9 @@ use Rattle.def_typing.specs.Operators.{◌!◌}
 use Rattle.def_typing.specs.Things.{Standing}
 pub use Rattle.def_typing.specs.Parts.{Among, here, later}
 use Rattle.def_typing.specs.Imports.{all_imported}
+use Rattle.def_typed.specs.Modules.{MeansModule}
 use Rattle.law_typing.specs.Judging.{the_least}
+use Rattle.law_typed.specs.Typed.{IsOne}
 use Rattle.law_typing.specs.Exact.{Knows}
 use Rattle.law_rules.specs.Importing.{StandsFor}
 use Rattle.law_rules.specs.Defining.{none, IsTaken, AreSound, IsDefinitionExact}
@@ -61,6 +64,9 @@ pub record IsProgramRuled (home : ℕ) (m : Module) (imported : List Table) (b :
   pub takes : (n : List ℕ) → IsTaken (with_console imported) (all_imported m.imports) n (taken n)
   pub exact : IsProgramExact least the_least home m imported (with_console imported) exports names
       taken b
+  -- The typed tree that is answered is the one that the rules give.
+  pub typed : (t : TypedModule) → body_module least home m None imported ≡ Ok t
+      → IsOne (MeansModule home (with_console imported) [] [] m exports exact.read) t
 
 -- The same of an implementation, by the table of its definition.
 pub record IsImplementationRuled (own : Table) (m : Module) (imported : List Table) (b : Block)
@@ -79,6 +85,10 @@ pub record IsImplementationRuled (own : Table) (m : Module) (imported : List Tab
       → IsTakenBy (with_console imported) (declares own) (all_imported m.imports) n (taken n)
   pub exact : IsImplementationExact least the_least own m imported (with_console imported) exports
       names taken b
+  -- The typed tree that is answered is the one that the rules give.
+  pub typed : (home : ℕ) (t : TypedModule) → body_module least home m (Some own) imported ≡ Ok t
+      → IsOne (MeansModule own.number (with_console imported) own.exported own.imports m exports
+      exact.read) t
 
 -- An implementation without a definition is refused.
 abbrev pub IsLonely : (home : ℕ) → Module → List Table → Type 0

@@ -16,6 +16,9 @@
 //!   where the block of a procedure begins.
 //! - `proofs/Stating` has statements, and `proofs/Whole` the induction over blocks. `proofs/Moduling` puts a module together,
 //!   `proofs/BodiesOutside` says what every module knows, `proofs/Programs` and `proofs/BodiesImplementing` what is known where they begin.
+//! - The same induction says which typed tree a block has, by the rules of `def_typed`: `proofs/Meant` says what is known by
+//!   number, `proofs/MeantLists` where procedures are put and how they are counted, and `proofs/MeantStatements` what statements mean.
+//!   `proofs/MeantImports` has the modules that are imported, and `proofs/MeantModules` the typed module.
 
 ghost use Rattle.check_scope.specs.Elaborated.{every, least};
 ghost use Rattle.law_typing.specs.Judging.{all_of_them, the_least};

@@ -7,7 +7,8 @@
 //! - `specs/Importing`, `Defining`, `Exports`, `Importers` and `Bodies` say what is answered of each of them, and `specs/Ruled`
 //!   what is known of a module by the rules, and what is answered of it.
 //! - `importing`, `defining` and `bodies` say which files of `proofs` have what.
-//! - `proofs/ModulesTables` says what tables of definitions do not export, and `proofs/Ruled` puts the laws together.
+//! - `proofs/ModulesTables` says what tables of definitions do not export, and that their procedures are numbered. `proofs/Ruled`
+//!   puts the laws together.
 #![tactic(auto)]
 
 mod bodies;
@@ -26,8 +27,9 @@ pub use importing::{
 };
 
 /// A definition has a table exactly if no rule is broken in it, and a program or an implementation has a typed module exactly if
-/// no rule is broken in it. Else the least of the broken rules is reported, by place and then by number. The tables that a body
-/// imports from are those of definitions. An implementation without a definition is refused.
+/// no rule is broken in it. Else the least of the broken rules is reported, by place and then by number. The typed module is the
+/// one that the rules of `def_typed` give, and there is no other. The tables that a body imports from are those of definitions.
+/// An implementation without a definition is refused.
 pub fn rule_laws()
     ensures definitions { DefinitionsAreRuled }
     ensures programs { ProgramsAreRuled }

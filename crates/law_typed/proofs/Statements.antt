@@ -50,7 +50,7 @@ use Rattle.law_typing.proofs.Trees.{statement_tree, IsStmtTree, tree_assignment,
 use Rattle.def_typed.specs.Named.{Variable}
 use Rattle.def_typed.specs.Expressions.{Names, Gives}
 use Rattle.def_typed.specs.Statements as rules
-use Rattle.def_typed.specs.Statements.{Site, in_with, Means, Reads, AllMean, RestMeans, ArmsMean, AreLabels, Measures, Limits, Steps, Controls}
+use Rattle.def_typed.specs.Statements.{Site, in_with, MeansStatement, MeansForm, AllMean, RestMeans, ArmsMean, AreLabels, Measures, Limits, Steps, Controls}
 use Rattle.law_typed.specs.Typed.{IsOne, IsNamed, KnowsSite}
 use Rattle.law_typed.proofs.Meant.{IfMeant, meant, not_meant, if_as, if_then, if_both, if_right, if_where, if_sorted, if_equal, if_ahead}
 use Rattle.law_typed.proofs.Expressions.{designator_named}
@@ -67,7 +67,7 @@ module _ (g : Gathers) (j : Judges g) (lawful : Lawful g j) (exports : ℕ → I
 
   module _ (w : Site) (s : Scope g.Reported) (a : Around g.Reported) where
     abbrev R : Stmt-F Rest Stmt Arm → TypedStmt → Type 0
-    R = Reads s.types exports w
+    R = MeansForm s.types exports w
 
     abbrev All : List Stmt → List TypedStmt → Type 0
     All = AllMean s.types exports w
@@ -79,7 +79,7 @@ module _ (g : Gathers) (j : Judges g) (lawful : Lawful g j) (exports : ℕ → I
     Y = Gives s.types w.spot.names exports w.senses
 
     abbrev StmtSo : Stmt → Type 0
-    StmtSo x = IfMeant (IsOne (Means s.types exports w x)) (stmt g x s a)
+    StmtSo x = IfMeant (IsOne (MeansStatement s.types exports w x)) (stmt g x s a)
 
     abbrev LayerSo : Stmt-F Rest Stmt Arm → Type 0
     LayerSo y = IfMeant (IsOne (R y)) (stmt_layer g (opened_stmt g y) s a)
@@ -93,13 +93,13 @@ module _ (g : Gathers) (j : Judges g) (lawful : Lawful g j) (exports : ℕ → I
     abbrev RestLayerSo : Rest-F Rest Stmt Arm → Type 0
     RestLayerSo y = IfMeant (IsOne (RM y)) (rest_layer g (opened_rest g y) s a)
 
-    read : {x : Stmt} {z : TypedStmt} → Means s.types exports w x z → R (out-Stmt x) z
+    read : {x : Stmt} {z : TypedStmt} → MeansStatement s.types exports w x z → R (out-Stmt x) z
     read (rules.as_written r) = r
 
     by_layer : {x : Stmt} (y : Stmt-F Rest Stmt Arm) → out-Stmt x ≡ y → LayerSo y → StmtSo x
-    by_layer {x = x} y h c = subst (λ (q : Elaborates g.Reported). IfMeant (IsOne (Means s.types exports w x)) (q s a)) (sym (stmt_is g x y h)) (if_as (λ z o. one o) c)
+    by_layer {x = x} y h c = subst (λ (q : Elaborates g.Reported). IfMeant (IsOne (MeansStatement s.types exports w x)) (q s a)) (sym (stmt_is g x y h)) (if_as (λ z o. one o) c)
       where
-        one : {z : TypedStmt} → IsOne (R y) z → IsOne (Means s.types exports w x) z
+        one : {z : TypedStmt} → IsOne (R y) z → IsOne (MeansStatement s.types exports w x) z
         one {z = z} o = record { holds = rules.as_written (subst (λ (y : Stmt-F Rest Stmt Arm). R y z) (sym h) o.holds); alone = λ v m. o.alone v (subst (λ (y : Stmt-F Rest Stmt Arm). R y v) h (read m)) }
 
     by_rest : (x : Rest) (y : Rest-F Rest Stmt Arm) → out-Rest x ≡ y → RestLayerSo y → RestSo x
@@ -125,17 +125,17 @@ module _ (g : Gathers) (j : Judges g) (lawful : Lawful g j) (exports : ℕ → I
         alone _ rules.no_statement = refl
     list_from (x ∷ xs) so h = by_stmt (λ to. list_from xs to (λ y m. h y (later m))) (h x here)
       where
-        joined : {z : TypedStmt} {zs : List TypedStmt} → IsOne (Means s.types exports w x) z → Listed (so ++ z ∷ []) xs zs → Listed so (x ∷ xs) zs
+        joined : {z : TypedStmt} {zs : List TypedStmt} → IsOne (MeansStatement s.types exports w x) z → Listed (so ++ z ∷ []) xs zs → Listed so (x ∷ xs) zs
         joined {z = z} o r = (z ∷ r.0, r.1 ∙ append_assoc so (z ∷ []) r.0, record { holds = rules.one_statement o.holds r.2.holds; alone = λ ys a. alone ys a })
           where
             alone : (ys : List TypedStmt) → All (x ∷ xs) ys → ys ≡ z ∷ r.0
             alone _ (rules.one_statement {x = y} {xs = ys} p q) = cc (o.alone y p, r.2.alone ys q)
 
-        by_stmt : {z : Result TypedStmt g.Reported} → ((to : List TypedStmt) → IfMeant (Listed to xs) (fold (with_stmt g s a) (Ok to) (map (stmt g) xs))) → IfMeant (IsOne (Means s.types exports w x)) z → IfMeant (Listed so (x ∷ xs)) (fold (with_stmt g s a) (with_next g (Ok so) z) (map (stmt g) xs))
+        by_stmt : {z : Result TypedStmt g.Reported} → ((to : List TypedStmt) → IfMeant (Listed to xs) (fold (with_stmt g s a) (Ok to) (map (stmt g) xs))) → IfMeant (IsOne (MeansStatement s.types exports w x)) z → IfMeant (Listed so (x ∷ xs)) (fold (with_stmt g s a) (with_next g (Ok so) z) (map (stmt g) xs))
         by_stmt r (meant z o) = if_as (λ zs q. joined o q) (r (so ++ z ∷ []))
         by_stmt r (not_meant k) = broken_list xs k
 
-    list_so : (xs : List Stmt) → ((x : Stmt) → Among x xs → StmtSo x) → ListSo xs
+    pub list_so : (xs : List Stmt) → ((x : Stmt) → Among x xs → StmtSo x) → ListSo xs
     list_so xs h = if_as (λ zs r. subst (IsOne (All xs)) (sym r.1) r.2) (list_from xs [] h)
 
     -- ---- what an IF, a WHILE and a REPEAT are made of
@@ -308,10 +308,10 @@ module _ (g : Gathers) (j : Judges g) (lawful : Lawful g j) (exports : ℕ → I
 
   -- ---- LOOP and WITH
 
-  loop_one : {w : Site} (s : Scope g.Reported) {body : List Stmt} {xs : List TypedStmt} → IsOne (AllMean s.types exports (rules.in_loop w) body) xs → IsOne (Reads s.types exports w (layer.Loop body)) (step.Loop xs)
+  loop_one : {w : Site} (s : Scope g.Reported) {body : List Stmt} {xs : List TypedStmt} → IsOne (AllMean s.types exports (rules.in_loop w) body) xs → IsOne (MeansForm s.types exports w (layer.Loop body)) (step.Loop xs)
   loop_one {w = w} s {body = body} {xs = xs} o = record { holds = rules.bare_loop o.holds; alone = λ z m. alone m }
     where
-      alone : {z : TypedStmt} → Reads s.types exports w (layer.Loop body) z → z ≡ step.Loop xs
+      alone : {z : TypedStmt} → MeansForm s.types exports w (layer.Loop body) z → z ≡ step.Loop xs
       alone (rules.bare_loop {xs = ys} m) = cc (o.alone ys m)
 
   looping : {w : Site} {s : Scope g.Reported} {a : Around g.Reported} → Known w s a → Known (rules.in_loop w) s (in_loop a)
@@ -353,13 +353,13 @@ module _ (g : Gathers) (j : Judges g) (lawful : Lawful g j) (exports : ℕ → I
     abbrev Inner : TypeNo → List (List ℕ × TypeNo) → List TypedStmt → Type 0
     Inner t fields = AllMean s.types exports (in_with t fields w) body
 
-    with_one : {t : TypeNo} {p : Place} {fields : List (List ℕ × TypeNo)} {xs : List TypedStmt} → IsNamed (Names s.types w.spot.names exports w.senses d) (designated.Variable t p) → IsMade s.types t (shape.Record fields) → IsOne (Inner t fields) xs → IsOne (Reads s.types exports w (layer.With d body)) (step.With p xs)
+    with_one : {t : TypeNo} {p : Place} {fields : List (List ℕ × TypeNo)} {xs : List TypedStmt} → IsNamed (Names s.types w.spot.names exports w.senses d) (designated.Variable t p) → IsMade s.types t (shape.Record fields) → IsOne (Inner t fields) xs → IsOne (MeansForm s.types exports w (layer.With d body)) (step.With p xs)
     with_one {t = t} {p = p} {fields = fields} {xs = xs} n m o = record { holds = rules.with_record (n.holds (Variable t p) refl) m o.holds; alone = λ z h. alone h }
       where
         same_fields : {fs : List (List ℕ × TypeNo)} → shape.Record fs ≡ shape.Record fields → fs ≡ fields
         same_fields e = cc e
 
-        alone : {z : TypedStmt} → Reads s.types exports w (layer.With d body) z → z ≡ step.With p xs
+        alone : {z : TypedStmt} → MeansForm s.types exports w (layer.With d body) z → z ≡ step.With p xs
         alone (rules.with_record {t = u} {place = q} {fields = fs} {xs = ys} v i b) =
             let z = n.alone (Variable u q) v in
             let h1 : u ≡ t = cc z in
@@ -381,8 +381,8 @@ module _ (g : Gathers) (j : Judges g) (lawful : Lawful g j) (exports : ℕ → I
 
   case_so : (w : Site) (s : Scope g.Reported) (a : Around g.Reported) (k : Known w s a) (e : Expr) (arms : List Arm) (last : Option (List Stmt)) {y : Result (Option (List TypedStmt)) g.Reported} {r : Result (TypeNo × TypedExpr) g.Reported}
       → IfMeant (IsMeasured g j lawful exports w s k.of_spot.of_names k.of_senses e) r → ((x : Arm) → Among x arms → ListSo w s a (out-Arm x).body) → IfMeant (IsOne (RestMeans s.types exports w (layer.Else last))) y
-      → IfMeant (IsOne (Reads s.types exports w (layer.Case e arms last))) (case_statement g r (arms_of g s a (base_in r) (map (arm g) arms)) y)
-  case_so w s a k e arms last (meant q i) h o = if_then (if_both g {P = λ v. v ≡ q} (meant q refl) (if_both g (arms_so w s a k q.0 arms h) o)) (λ p u. meant _ (subst (λ (v : TypeNo × TypedExpr). IsOne (Reads s.types exports w (layer.Case e arms last)) (step.Case v.1 p.1.0 p.1.1)) (sym u.0) (case_one w s a k i u.1.0 u.1.1)))
+      → IfMeant (IsOne (MeansForm s.types exports w (layer.Case e arms last))) (case_statement g r (arms_of g s a (base_in r) (map (arm g) arms)) y)
+  case_so w s a k e arms last (meant q i) h o = if_then (if_both g {P = λ v. v ≡ q} (meant q refl) (if_both g (arms_so w s a k q.0 arms h) o)) (λ p u. meant _ (subst (λ (v : TypeNo × TypedExpr). IsOne (MeansForm s.types exports w (layer.Case e arms last)) (step.Case v.1 p.1.0 p.1.1)) (sym u.0) (case_one w s a k i u.1.0 u.1.1)))
   case_so w s a k e arms last (not_meant r) h o = refused_case r _ _
 
   call_so : (w : Site) (s : Scope g.Reported) (a : Around g.Reported) (k : Known w s a) (d : Designator) (args : Option (List Expr)) → LayerSo w s a (layer.Call d args)

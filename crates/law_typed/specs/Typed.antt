@@ -30,7 +30,7 @@ use Rattle.law_typing.specs.Judging.{Judges}
 use Rattle.law_typing.specs.Exact.{Knows, KnowsSpot}
 use Rattle.def_typed.specs.Named.{Named, Variable, OpenArray, Procedure, Nested, Module, named, named_by, Senses}
 use Rattle.def_typed.specs.Expressions.{Names, Designates, Computes, Gives, ArePassed}
-use Rattle.def_typed.specs.Statements.{Site, Means}
+use Rattle.def_typed.specs.Statements.{Site, MeansStatement}
 
 -- It is the one thing of which this holds.
 pub record IsOne {A : Type 0} (P : A → Type 0) (x : A) : Type 0 where
@@ -134,4 +134,4 @@ module _ (g : Gathers) (j : Judges g) where
   StatementsAreMeant =
       (exports : ℕ → Ident → Standing) (w : Site) (s : Scope g.Reported) (a : Around g.Reported)
       → KnowsSite exports w s a → (x : Stmt) (y : TypedStmt) → stmt g x s a ≡ Ok y
-      → IsOne (Means s.types exports w x) y
+      → IsOne (MeansStatement s.types exports w x) y

@@ -23,8 +23,8 @@ pub use typed_tree::TypedModule as Typed;
 
 /// Checks a program module or an implementation module, from the tables of the definitions that it
 /// imports and, for an implementation, from the table of its own definition. It answers the module
-/// if no rule is broken, and else the least rule that is, by place and then by number. The only
-/// error is that memory ran out.
+/// if no rule is broken, with the one typed tree that the rules give, and else the least rule that
+/// is broken, by place and then by number. The only error is that memory ran out.
 pub fn check(
     alloc: Global,
     number: u32,
