@@ -55,7 +55,8 @@ use Rattle.law_rules.specs.Defining.{AreSound}
 use Rattle.law_rules.proofs.Once.{imports_once}
 use Rattle.law_rules.proofs.Starting.{meaning_known, meaning_headed}
 use Rattle.law_rules.proofs.Outside.{definitions_known}
-use Rattle.law_rules.specs.Bodies.{KnowsPlace, IsTyped, IsAnswered, is_refused, HasNoDefinition, an_implementation, a_definition, LonelyAreRefused, IsForeign, ExportForeign, IsTakenBy, by_definition, by_import, by_none, awaited_type, is_variable_of, declares, implementation_place, IsNoLocal, IsDefined, IsImplementationExact, ImplementationsAreExact, ImplementationsAreKnown}
+use Rattle.law_rules.specs.Blocks.{KnowsPlace}
+use Rattle.law_rules.specs.Bodies.{IsTyped, IsAnswered, is_refused, HasNoDefinition, an_implementation, a_definition, LonelyAreRefused, IsForeign, ExportForeign, IsTakenBy, by_definition, by_import, by_none, awaited_type, is_variable_of, declares, implementation_place, IsNoLocal, IsDefined, IsImplementationExact, ImplementationsAreExact, ImplementationsAreKnown}
 use Rattle.law_rules.proofs.Seeing.{looked_around, sees_ok}
 use Rattle.law_rules.proofs.Meant as block_meanings
 use Rattle.law_rules.proofs.MeantImports.{copy_is, variables_are}

@@ -31,7 +31,7 @@ use Rattle.def_typing.specs.Bodies.{is_formal, SeenAs, InsideAs, BodyGives, is_d
 use Rattle.law_typing.specs.Judging.{Judges}
 use Rattle.law_typing.specs.Exact.{is_own_variable, Knows, KnowsOwn, Repeats, RepeatsResult, is_nested, IsAsBefore}
 use Rattle.law_typing.proofs.Combining.{Lawful}
-use Rattle.law_rules.specs.Bodies.{KnowsPlace}
+use Rattle.law_rules.specs.Blocks.{KnowsPlace}
 use Rattle.law_rules.proofs.BodiesKeeping.{Keeps}
 use Rattle.law_rules.proofs.Reading.{All, AddedAll, Breaks, never_ahead, HeadingAt, heading_at}
 use Rattle.law_rules.proofs.Seeing.{PlaceIs, In, seen_there, seen_knows, seen_repeats, known_around}

@@ -52,7 +52,7 @@ use Rattle.law_typing.proofs.Entering.{name_decided}
 use Rattle.law_numbers.proofs.Senses.{headings_there, awaits_as, new_entry, headings_counted}
 use Rattle.law_rules.specs.Importing.{imported_all, AreImportsExact}
 use Rattle.law_rules.proofs.Following.{Associates}
-use Rattle.law_rules.specs.Bodies.{KnowsPlace}
+use Rattle.law_rules.specs.Blocks.{KnowsPlace}
 use Rattle.law_rules.proofs.Whole.{of_block, whole}
 use Rattle.law_rules.proofs.Meant.{Finds, Numbers, Starts, Exporting}
 use Rattle.law_rules.proofs.MeantImports.{imports_are, imports_one}

@@ -33,7 +33,8 @@ use Rattle.law_typing.specs.Exact.{Repeats, AreOnce, is_nested}
 use Rattle.law_typing.proofs.Combining.{Lawful, Tells, silent, tells, tells_as, beside_tells}
 use Rattle.law_rules.specs.Importing.{imported_all, AreImportsExact}
 use Rattle.law_rules.proofs.Following.{Associates, block_moves}
-use Rattle.law_rules.specs.Bodies.{KnowsPlace, IsTyped}
+use Rattle.law_rules.specs.Blocks.{KnowsPlace}
+use Rattle.law_rules.specs.Bodies.{IsTyped}
 use Rattle.law_rules.proofs.Whole.{more_tells, told, blocks_done, Turn, of_block, whole, block, sd, Else, declared_refused, last, walked, walk_there, Said, statements_refused, is_read, block_meant}
 use Rattle.law_rules.proofs.Meant.{Finds, beside_fine, never_broken, Starts, IsMeant}
 

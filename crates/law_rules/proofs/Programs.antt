@@ -45,7 +45,8 @@ use Rattle.law_rules.proofs.Following.{Associates}
 use Rattle.law_rules.specs.Defining.{none, IsTaken, by_import, by_none, AreSound}
 use Rattle.law_rules.proofs.Once.{imports_once}
 use Rattle.law_rules.proofs.Starting.{meaning_known, meaning_headed}
-use Rattle.law_rules.specs.Bodies.{KnowsPlace, IsTyped, IsAnswered, is_module, is_refused, IsForeign, ExportForeign, program_place, IsProgramExact, ProgramsAreExact}
+use Rattle.law_rules.specs.Blocks.{KnowsPlace}
+use Rattle.law_rules.specs.Bodies.{IsTyped, IsAnswered, is_module, is_refused, IsForeign, ExportForeign, program_place, IsProgramExact, ProgramsAreExact}
 use Rattle.law_rules.proofs.Seeing.{looked_around, sees_ok}
 use Rattle.law_rules.proofs.Moduling.{Moduled, a_module, a_refusal, Breaks, LacksHere, module_read, read_from, module_told}
 use Rattle.law_rules.proofs.BodiesOutside.{codeless_by, first_codeless, brought_foreign, first_foreign}

@@ -76,7 +76,7 @@ use Rattle.law_numbers.proofs.Blocks.{block_numbered}
 use Rattle.law_numbers.proofs.Senses.{variable_stands, module_entry, nested_entry, senses_known}
 use Rattle.law_numbers.proofs.Inside.{insides_known}
 use Rattle.law_rules.proofs.Following.{Associates, block_moves}
-use Rattle.law_rules.specs.Bodies.{KnowsPlace, BlocksAreWhole}
+use Rattle.law_rules.specs.Blocks.{KnowsPlace, BlocksAreWhole}
 use Rattle.law_rules.proofs.BodiesKeeping.{Grows, Keeps}
 use Rattle.law_rules.proofs.Layers.{checks_written, checks_is, written, block_is, all_blocks}
 use Rattle.law_rules.proofs.Extending.{Extends, extends_then, extends_behind}

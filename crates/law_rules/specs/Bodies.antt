@@ -1,5 +1,5 @@
--- What is answered of a block with all that stands in it.
-use Rattle.std.specs.Prelude.{◌≡◌, ◌⊎◌, ℕ, ◌<◌, ◌==◌, ◌&&◌, Bool, true, false, List, [], ◌∷◌, ◌++◌, length, Option, Some, None, Result, Ok, Err}
+-- What is answered of programs and implementations.
+use Rattle.std.specs.Prelude.{◌≡◌, ◌⊎◌, ℕ, ◌==◌, Bool, true, false, List, [], ◌∷◌, ◌++◌, Option, Some, None, Result, Ok, Err}
 use Rattle.std.specs.Option.{is_some}
 use Rattle.m2_rule.specs.declared.breach.Breach.{Breach}
 use Rattle.m2_rule.specs.declared.rule.Rule.TheVariants as rule
@@ -9,24 +9,16 @@ use Rattle.m2_tree.specs.declared.decl.Def.{Def}
 use Rattle.m2_tree.specs.declared.decl.Contents.{Contents}
 use Rattle.m2_tree.specs.declared.decl.Contents.TheVariants as contents
 use Rattle.m2_tree.specs.declared.decl.Module.{Module}
-use Rattle.typed_tree.specs.declared.meaning.LocalVariable.{LocalVariable}
 use Rattle.typed_tree.specs.declared.meaning.Meaning.{Meaning}
 use Rattle.typed_tree.specs.declared.meaning.Meaning.TheVariants as meaning
 use Rattle.typed_tree.specs.declared.table.Table.{Table}
 use Rattle.typed_tree.specs.declared.types.TypeNo.{TypeNo}
-use Rattle.typed_tree.specs.declared.typed_module.Which.{Which}
 use Rattle.typed_tree.specs.declared.typed_module.TypedModule.{TypedModule}
 use Rattle.typed_tree.specs.declared.known_types.Types.{Types}
 use Rattle.typed_tree.specs.Names.{find_name}
-use Rattle.check_scope.specs.declared.scope.Scope.{Scope}
-use Rattle.check_scope.specs.Elaborated.{Gathers, beside}
-use Rattle.check_scope.specs.Scopes.{looked_up}
-use Rattle.check_stmt_parts.specs.Control.{is_own}
+use Rattle.check_scope.specs.Elaborated.{Gathers}
 use Rattle.check_definition.specs.Predeclared.{console, first_scope}
-use Rattle.check_body.specs.declared.procedure.Walk.{Walk}
-use Rattle.check_body.specs.Inside.{reported_in}
-use Rattle.check_body.specs.Bodies.{Checked, checks_block}
-use Rattle.check_body.specs.Checks.{elaborate_body, body_module}
+use Rattle.check_body.specs.Checks.{body_module}
 use Rattle.check_body.specs.Own.{with_own_types, implementation_scope}
 use Rattle.def_typing.specs.Operators.{◌!◌}
 use Rattle.def_typing.specs.Things.{Standing}
@@ -35,51 +27,10 @@ use Rattle.def_typing.specs.Returns.{Nothing}
 use Rattle.def_typing.specs.Imports as imports
 use Rattle.def_typing.specs.Imports.{all_imported}
 use Rattle.def_typing.specs.Bodies.{Place, Reads, BrokenBlock, LacksHeading}
-use Rattle.law_typing.specs.Judging.{Judges, Accounts, Reports}
-use Rattle.law_typing.specs.Exact.{Knows, KnowsOwn, KnowsResult, TakenAs, RepeatsResult, AreOnce, is_nested}
-use Rattle.law_rules.specs.Importing.{StandsFor}
+use Rattle.law_typing.specs.Judging.{Judges, Accounts}
+use Rattle.law_typing.specs.Known.{Knows, AreOnce}
+use Rattle.law_rules.specs.Standing.{StandsFor}
 use Rattle.law_rules.specs.Defining.{none, IsTaken, AreSound, met_types}
-
--- what is known where a block begins
-pub record KnowsPlace (g : Gathers) (j : Judges g) (exports : ℕ → Ident → Standing) (p : Place)
-    (s : Scope g.Reported) (returns : Option (Result TypeNo g.Reported)) : Type 0 where
-  pub names : Knows g j p.names exports s
-  pub no_withs : s.withs ≡ []
-  pub own : KnowsOwn g j p.own s
-  pub takes : (n : List ℕ) → TakenAs g j (p.taken n) (p.awaited n) (find_name n s.own)
-  pub gives : KnowsResult g j p.gives returns
-  pub nested : p.nested ≡ is_nested s
-  pub level : s.level < length s.outer
-  -- Local variables that are known there belong to procedures around, or are formals.
-  pub locals : (name : Ident) (v : LocalVariable) → looked_up g s name ≡ Ok (meaning.Local v)
-      → (is_nested s ≡ true) × (v.level < length s.outer)
-      × ((is_own v.kind && (v.level == s.level)) ≡ false)
-
--- what is reported of a block: of its declarations and of its procedures, and of its statements
-abbrev pub reported_of : (g : Gathers) → Checked g.Reported → Result (Unit {0}) g.Reported
-reported_of g c = beside g c.0.so_far (reported_in c.1)
-
--- what is known of a block that is checked from this walk on
-pub record IsBlockWhole (g : Gathers) (j : Judges g) (exports : ℕ → Ident → Standing) (p : Place)
-    (returns : Option (Result TypeNo g.Reported)) (b : Block) (w : Walk g.Reported)
-    (c : Checked g.Reported) : Type 0 where
-  -- how the rules read it, up to the types that are known behind it
-  pub read : Reads exports p w.scope.types b c.0.scope.types
-  -- Exactly the broken rules are reported.
-  pub reported : Reports g j (RepeatsResult g j p.names w.scope returns) (BrokenBlock exports read)
-      (reported_of g c)
-
--- Blocks are answered exactly, with all procedures inside.
-abbrev pub BlocksAreWhole : (g : Gathers) → Judges g → Type 0
-BlocksAreWhole g j =
-    (exports : ℕ → Ident → Standing) (p : Place) (w : Walk g.Reported)
-    (returns : Option (Result TypeNo g.Reported))
-    → KnowsPlace g j exports p w.scope returns → w.so_far ≡ Ok tt
-    → (ends : List ℕ) (around : Option Which) (b : Block)
-    → IsBlockWhole g j exports p returns b w
-    (checks_block g (elaborate_body g) ends b around returns w)
-
--- ---- modules
 
 -- what is said of the typed module here: its name, and the types that are known behind its bodies
 pub record IsTyped (m : Module) (end : Types) (t : TypedModule) : Type 0 where

@@ -21,8 +21,8 @@ use Rattle.def_typing.specs.Definitions.{Context, Placed, AllFollow}
 use Rattle.def_typing.specs.Imports as imports
 use Rattle.def_typing.specs.Imports.{Imported, all_imported, Origin, Brings}
 use Rattle.law_typing.specs.Judging.{Judges, Accounts}
-use Rattle.law_typing.specs.Exact.{standing, Knows}
-use Rattle.law_rules.specs.Importing.{StandsFor}
+use Rattle.law_typing.specs.Known.{standing, Knows}
+use Rattle.law_rules.specs.Standing.{StandsFor}
 use Rattle.law_rules.specs.Exports.{AreExported, AreModules, all_reached, AreMet, own_met}
 
 -- ---- declarations of a definition

@@ -23,7 +23,7 @@ use Rattle.def_typing.specs.TypeExprs.{constants_listed, Member}
 use Rattle.def_typing.specs.Declarations.{Declaration, OfConstant, OfType, OfVariables, OfProcedure, names_of, constants_of}
 use Rattle.def_typing.specs.Definitions.{Placed, Means}
 use Rattle.def_typing.specs.Imports.{Entry, Imported, OfModule, FromModule, OfName, IsFoundAt}
-use Rattle.law_typing.specs.Exact.{standing}
+use Rattle.law_typing.specs.Known.{standing}
 
 -- How many names come with a type that is declared: its own, and the constants of an enumeration.
 abbrev pub names_in_layer : TypeExpr-F TypeExpr Field → ℕ

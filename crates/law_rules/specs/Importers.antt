@@ -12,25 +12,14 @@ use Rattle.typed_tree.specs.declared.table.Table.{Table}
 use Rattle.typed_tree.specs.Names.{find_name}
 use Rattle.check_scope.specs.declared.scope.Scope.{Scope}
 use Rattle.check_scope.specs.Elaborated.{Gathers}
-use Rattle.check_definition.specs.Predeclared.{console}
 use Rattle.check_definition.specs.Compiled.{definition_table}
 use Rattle.def_typing.specs.Things.{Standing}
 use Rattle.def_typing.specs.Parts.{Among}
+pub use Rattle.law_rules.specs.Tables.{IsTableOf, is_answered, CanBeImported, of_console, of_definition}
 use Rattle.law_typing.specs.Judging.{Judges}
 use Rattle.law_typing.specs.Exact.{Knows, TakenAs, AreOnce}
 use Rattle.law_rules.specs.Importing.{AreForeign, with_declared}
 use Rattle.law_rules.specs.Defining.{IsDefinitionExact}
-
--- the table of a definition
-pub data IsTableOf (g : Gathers) (number : ℕ) (t : Table) : Type 0 where
-  is_answered : (m : Module) (imported : List Table)
-      → definition_table g number m imported ≡ Ok t → IsTableOf g number t
-
--- a table that a module of this number can import from
-pub data CanBeImported (g : Gathers) (home : ℕ) (t : Table) : Type 0 where
-  of_console : t ≡ console → CanBeImported g home t
-  of_definition : (number : ℕ) → IsTableOf g number t → (number ≡ home → ⊥)
-      → CanBeImported g home t
 
 -- No table of another module exports a variable of the module itself.
 abbrev pub TablesAreForeign : Gathers → Type 0

@@ -27,8 +27,9 @@ use Rattle.def_typing.specs.Things.{Standing}
 use Rattle.def_typing.specs.Parts.{Among}
 use Rattle.def_typing.specs.Imports as rules
 use Rattle.def_typing.specs.Imports.{Imported, all_imported, Itself, Exported, Brings, BrokenIn}
+pub use Rattle.law_rules.specs.Standing.{StandsFor, imported, from_outside}
 use Rattle.law_typing.specs.Judging.{Judges, Reports}
-use Rattle.law_typing.specs.Exact.{standing, is_own_variable, Knows, KnowsOwn, Repeats, TakenAs, is_nested, IsBlockExact}
+use Rattle.law_typing.specs.Exact.{is_own_variable, Knows, KnowsOwn, Repeats, TakenAs, is_nested, IsBlockExact}
 
 abbrev pub origin : rules.Origin → Origin
 origin (Itself k) = Module k
@@ -39,14 +40,6 @@ pub data OwnAs {T : Type 0} : Bool → Option (Known T) → Type 0 where
   is_own : {m : Result Meaning T} → OwnAs true (Some (Declared Here m))
   -- Nothing is known of it, or it is declared behind the imports.
   not_own : {k : Option (Known T)} → is_free k ≡ true → OwnAs false k
-
--- what a name stands for behind imports
-pub data StandsFor (tables : List Table) (own : List ℕ → Bool) (front : List Imported)
-    (outside : Ident → Standing) (name : Ident) : Standing → Type 0 where
-  imported : (s : rules.Origin) (m : Meaning) → Brings tables own front name.name s m
-      → StandsFor tables own front outside name (standing m)
-  from_outside : ((s : rules.Origin) (m : Meaning) → Brings tables own front name.name s m → ⊥)
-      → StandsFor tables own front outside name (outside name)
 
 -- whether it is a variable that counts as the module's own: no imported one does
 pub data IsOwn (tables : List Table) (own : List ℕ → Bool) (front : List Imported)

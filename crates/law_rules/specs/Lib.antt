@@ -1,6 +1,9 @@
+pub mod Standing
+pub mod Tables
 pub mod Importing
 pub mod Exports
 pub mod Defining
 pub mod Importers
+pub mod Blocks
 pub mod Bodies
 pub mod Ruled

@@ -18,11 +18,11 @@ pub use Rattle.def_typing.specs.Parts.{Among, here, later}
 use Rattle.def_typing.specs.Imports.{all_imported}
 use Rattle.def_typed.specs.Modules.{MeansModule}
 use Rattle.law_typing.specs.Judging.{the_least}
-use Rattle.law_typed.specs.Typed.{IsOne}
-use Rattle.law_typing.specs.Exact.{Knows}
-use Rattle.law_rules.specs.Importing.{StandsFor}
+use Rattle.law_typed.specs.One.{IsOne}
+use Rattle.law_typing.specs.Known.{Knows}
+use Rattle.law_rules.specs.Standing.{StandsFor}
 use Rattle.law_rules.specs.Defining.{none, IsTaken, AreSound, IsDefinitionExact}
-pub use Rattle.law_rules.specs.Importers.{IsTableOf, is_answered, CanBeImported, of_definition}
+pub use Rattle.law_rules.specs.Tables.{IsTableOf, is_answered, CanBeImported, of_definition}
 use Rattle.law_rules.specs.Bodies.{declares, IsTakenBy, IsAnswered, IsProgramExact, IsImplementationExact}
 
 -- the tables that a module is checked with: the table of Console is always there

@@ -22,7 +22,8 @@
 
 ghost use Rattle.check_scope.specs.Elaborated.{every, least};
 ghost use Rattle.law_typing.specs.Judging.{all_of_them, the_least};
-ghost use Rattle.law_rules.specs.Bodies.{BlocksAreWhole, ProgramsAreExact, ImplementationsAreExact, LonelyAreRefused, ImplementationsAreKnown};
+ghost use Rattle.law_rules.specs.Blocks.{BlocksAreWhole};
+ghost use Rattle.law_rules.specs.Bodies.{ProgramsAreExact, ImplementationsAreExact, LonelyAreRefused, ImplementationsAreKnown};
 
 /// What is reported of a block are exactly the rules that are broken in its declarations, in the blocks of its procedures, in
 /// any depth, and in its statements.

@@ -13,6 +13,7 @@ use Rattle.typed_tree.specs.declared.computed.TypedExpr.TheVariants as expr
 use Rattle.typed_tree.specs.declared.meaning.Meaning.{Meaning}
 use Rattle.typed_tree.specs.declared.shape.Formal.{Formal}
 use Rattle.typed_tree.specs.declared.statement.TypedStmt.{TypedStmt}
+pub use Rattle.law_typed.specs.One.{IsOne}
 use Rattle.check_scope.specs.declared.scope.Scope.{Scope}
 use Rattle.check_scope.specs.Elaborated.{Gathers, ◌▷◌}
 use Rattle.check_scope.specs.Scopes.{looked_up}
@@ -31,11 +32,6 @@ use Rattle.law_typing.specs.Exact.{Knows, KnowsSpot}
 use Rattle.def_typed.specs.Named.{Named, Variable, OpenArray, Procedure, Nested, Module, named, named_by, Senses}
 use Rattle.def_typed.specs.Expressions.{Names, Designates, Computes, Gives, ArePassed}
 use Rattle.def_typed.specs.Statements.{Site, MeansStatement}
-
--- It is the one thing of which this holds.
-pub record IsOne {A : Type 0} (P : A → Type 0) (x : A) : Type 0 where
-  pub holds : P x
-  pub alone : (y : A) → P y → y ≡ x
 
 -- ---- the code of what is elaborated
 

@@ -1,5 +1,5 @@
 -- What is elaborated, and what it stands for.
-use Rattle.std.specs.Prelude.{◌≡◌, ◌⊎◌, ◌&&◌, ◌==◌, Bool, true, false, not, ℕ, ℤ, List, [], ◌∷◌, Option, Some, None, Result, Ok, Err, slice_get, map}
+use Rattle.std.specs.Prelude.{◌≡◌, ◌⊎◌, ◌&&◌, ◌==◌, Bool, true, false, not, ℕ, ℤ, List, [], Option, Some, None, Result, Ok, Err, map}
 use Rattle.m2_rule.specs.declared.rule.Rule.TheVariants as rule
 use Rattle.m2_tree.specs.declared.pos.Pos.{Pos}
 use Rattle.m2_tree.specs.declared.name.Ident.{Ident}
@@ -12,16 +12,12 @@ use Rattle.typed_tree.specs.declared.computed.TypedExpr.{TypedExpr}
 use Rattle.typed_tree.specs.declared.computed.LocalProcedure.{LocalProcedure}
 use Rattle.typed_tree.specs.declared.computed.Place.{Place}
 use Rattle.typed_tree.specs.declared.computed.Slot.{Slot}
-use Rattle.typed_tree.specs.declared.meaning.LocalKind.{LocalKind}
-use Rattle.typed_tree.specs.declared.meaning.LocalKind.TheVariants as local
 use Rattle.typed_tree.specs.declared.meaning.Value.{Value as ConstantValue}
-use Rattle.typed_tree.specs.declared.meaning.Value.TheVariants as value
 use Rattle.typed_tree.specs.declared.meaning.Meaning.{Meaning}
 use Rattle.typed_tree.specs.declared.meaning.Meaning.TheVariants as meaning
 use Rattle.typed_tree.specs.declared.meaning.Procedure.{Procedure as ModuleProcedure}
 use Rattle.typed_tree.specs.declared.meaning.Standard.{Standard}
 use Rattle.m2_rule.specs.declared.breach.Breach.{Breach}
-use Rattle.check_scope.specs.declared.meaningless.Meaningless.{Meaningless}
 use Rattle.check_scope.specs.declared.meaningless.Meaningless.TheVariants as meaningless
 use Rattle.check_scope.specs.declared.known.Known.{Known as KnownName}
 use Rattle.check_scope.specs.declared.known.Known.TheVariants.{Declared, Headed}
@@ -30,7 +26,6 @@ use Rattle.check_scope.specs.declared.known.Origin.TheVariants.{Here}
 use Rattle.check_scope.specs.declared.scope.Scope.{Scope}
 use Rattle.check_scope.specs.Elaborated.{Gathers, ◌▷◌}
 use Rattle.check_scope.specs.Scopes.{looked_up}
-use Rattle.check_const.specs.Denote.{exported_by}
 use Rattle.check_operator.specs.declared.computed.Computed.{Computed}
 use Rattle.check_operator.specs.declared.computed.Computed.TheVariants as computed
 use Rattle.check_operator.specs.declared.computed.Designated.{Designated}
@@ -72,19 +67,14 @@ use Rattle.def_typing.specs.Declarations.{AnyDeclares, Declared as Resolved, dec
 use Rattle.check_stmt.specs.Statements.{stmt}
 use Rattle.def_typing.specs.Statements.{Spot, Obeys, Broken}
 use Rattle.check_expr.specs.Meanings.{meanings_of, head, part, value_of}
-use Rattle.def_typing.specs.Amounts.{Constant, Value}
-use Rattle.def_typing.specs.Operators.{◌!◌, Kind, Scalar, Set, Text, Routine, Procedure, Whole, Untaken}
-use Rattle.def_typing.specs.Things.{Thing, AValue, AVariable, AnOpenArray, AType, AProcedure, ANested, AStandard, AModule, Headless, Standing, Known, Ahead, Undeclared, NotExported, Unknown}
+use Rattle.def_typing.specs.Amounts.{Value}
+use Rattle.def_typing.specs.Operators.{Kind, Scalar, Set, Routine, Procedure, Whole, Untaken}
+use Rattle.def_typing.specs.Things.{Thing, AValue, AVariable, AnOpenArray, AType, AProcedure, ANested, AStandard, AModule, Headless, Standing, Known, Unknown}
 use Rattle.def_typing.specs.Expressions.{Has, BrokenAsValue, BrokenAsConstant}
+pub use Rattle.law_typing.specs.Known.{kind_of, of_local, standing, Sees, sees, sees_nothing, sees_headless, sees_unknown, Exports, has_exported, has_nothing, Knows, AreOnce, no_names, one_name}
 use Rattle.law_typing.specs.Judging.{Judges, Answers, Reports}
 
 -- ---- what is elaborated
-
-abbrev pub kind_of : ConstantValue → Kind
-kind_of (value.Number n) = Scalar (Constant None n)
-kind_of (value.Scalar s) = Scalar (Constant (Some s.base) s.number)
-kind_of (value.Set bits) = Set (Some bits)
-kind_of (value.Text text) = Text text
 
 -- the code that is made of an expression has no part in what it has
 pub data IsKind : Computed → Kind → Type 0 where
@@ -113,23 +103,6 @@ pub data IsThing : Designated → Thing → Type 0 where
 
 -- ---- what is known of names
 
-abbrev pub of_local : TypeNo → LocalKind → Standing
-of_local t local.Open = Known (AnOpenArray t)
-of_local t other = Known (AVariable t)
-
--- what a name of this meaning stands for
-abbrev pub standing : Meaning → Standing
-standing (meaning.Constant v) = Known (AValue (kind_of v))
-standing (meaning.Type t n) = Known (AType t)
-standing (meaning.Variable v) = Known (AVariable v.of)
-standing (meaning.Local v) = of_local v.of v.kind
-standing (meaning.Field f) = Known (AVariable f.of)
-standing (meaning.Procedure p) = Known (AProcedure p.heading)
-standing (meaning.LocalProcedure p) = Known (ANested p.heading)
-standing meaning.Ahead = Ahead
-standing (meaning.Standard f) = Known (AStandard f)
-standing (meaning.Module k) = Known (AModule k)
-
 -- the variables that the module declares, or the procedure itself
 abbrev pub is_own_variable : {T : Type 0} → Scope T → Meaning → Bool
 is_own_variable s (meaning.Variable v) = v.home == s.types.home
@@ -137,25 +110,6 @@ is_own_variable s (meaning.Local v) = is_own v.kind && (v.level == s.level)
 is_own_variable s other = false
 
 module _ (g : Gathers) (j : Judges g) where
-  -- what a name stands for, and what is looked up of it at a place
-  pub data Sees (at : Pos) : Standing → Result Meaning (Meaningless g.Reported) → Type 0 where
-    sees : (m : Meaning) → Sees at (standing m) (Ok m)
-    sees_nothing : Sees at Undeclared (Err (meaningless.Broken (g.one (at ! rule.Undeclared))))
-    sees_headless : (r : g.Reported) → Sees at (Known Headless) (Err (meaningless.Headless r))
-    sees_unknown : (r : g.Reported) → Sees at Unknown (Err (meaningless.Broken r))
-
-  -- what a module exports by a name
-  pub data Exports : Standing → Option Meaning → Type 0 where
-    has_exported : (m : Meaning) → Exports (standing m) (Some m)
-    has_nothing : Exports NotExported None
-
-  -- Names stand for what the scope knows of them, and names of modules for what the tables have.
-  pub record Knows (names : Ident → Standing) (exports : ℕ → Ident → Standing)
-      (s : Scope g.Reported) : Type 0 where
-    pub of_names : (name : Ident) → Sees name.pos (names name) (looked_up g s name)
-    pub of_modules : (k : ℕ) (name : Ident)
-        → Exports (exports k name) (exported_by name.name (slice_get s.tables k))
-
   -- what the use of a name repeats of its declaration
   pub data Repeats (names : Ident → Standing) (s : Scope g.Reported) (f : Breach) : Type 0 where
     of_heading : {name : Ident} {r : g.Reported} → names name ≡ Known Headless
@@ -218,12 +172,6 @@ AllOwn outer s exports outside taken awaited ds whole own =
     (name : Ident)
     → IsOwn s.types exports outside taken awaited (is_nested s) (declarations_of ds) outer whole
     name (own name)
-
--- Each name is there once.
-pub data AreOnce {V : Type 0} : List (List ℕ × V) → Type 0 where
-  no_names : AreOnce []
-  one_name : {e : List ℕ × V} {es : List (List ℕ × V)} → find_name e.0 es ≡ None → AreOnce es
-      → AreOnce (e ∷ es)
 
 -- what is known of a name that a block does not declare, before its declarations and behind them
 pub data IsAsBefore {T : Type 0} : Option (KnownName T) → Option (KnownName T) → Type 0 where

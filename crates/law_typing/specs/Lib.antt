@@ -1,2 +1,3 @@
 pub mod Judging
+pub mod Known
 pub mod Exact
