@@ -2,108 +2,131 @@
 import re
 
 USE = re.compile(r"(pub )?use Rattle\.(\w+)\.(specs(?:\.\w+)+)(?:\.\{([^}]*)\}| as (\S+))?\s*$")
-HEAD = re.compile(r"((?:(?:abbrev|unfoldable|pub) )*)(?:(data|record) ([^\s({:]+)|([^\s(){}]+)(?= :(?:\s|$)))")
-MADE = re.compile(r"(?:pub )?([^\s(){}:]+(?: [^\s(){}:]+)*)(?: (:))?(?:\s|$)")
+SIGNATURE = re.compile(r"(?:(?:abbrev|unfoldable|pub) )*(?:(data|record) ([^\s({:]+)|([^\s(){}]+)(?= :(?:\s|$)))")
+CONSTRUCTORS = re.compile(r"(?:pub )?([^\s(){}:]+(?: [^\s(){}:]+)*)(?: (:))?(?:\s|$)")
 BLOCK = re.compile(r"(?:abbrev )?(mutual|module)\b")
-TOKEN = re.compile(r"[^\s(){}\[\],;]+")
+WORD = re.compile(r"[^\s(){}\[\],;]+")
+
+
+def words_of(name):
+    """The words by which a name is found: an operator has those between its places."""
+    return [it for it in name.split("◌") if it]
 
 
 class Part:
-    """A definition: its name, its lines, and the words on them. Lines of a module's head count with each part in it."""
+    """A definition: its name, those of its constructors, its lines, and the words on them. The lines and words of a module's
+    head count with each part in it."""
 
-    def __init__(self, name):
-        self.name, self.lines, self.words, self.made, self.heads = name, [], set(), set(), []
+    def __init__(self, name, heads):
+        self.name, self.made, self.lines, self.words = name, set(), [], set()
+        for head in heads:
+            self.lines += head.lines
+            self.words |= head.words
+
+    def add(self, number, bare):
+        self.lines.append(number)
+        self.words.update(WORD.findall(bare))
+
+
+class Head:
+    """The head of a module, or of definitions that name one another."""
+
+    def __init__(self, indent, lines):
+        self.indent, self.lines, self.words = indent, lines, set()
+
+    def add(self, number, bare):
+        self.lines.append(number)
+        self.words.update(WORD.findall(bare))
+
+
+class Reader:
+    """Reads the lines of a file, but for its uses, into parts."""
+
+    def __init__(self):
+        self.parts, self.heads, self.comments = [], [], []
+        self.part = self.open_head = self.body = None
+        self.is_data = self.names_go_on = False
+
+    def line(self, number, bare, indent):
+        if self.open_head:
+            self.head_line(number, bare)
+        elif self.body is not None and indent >= self.body:
+            self.body_line(number, bare, indent)
+        elif bare.startswith("--"):
+            self.comments.append(number)
+        else:
+            self.body = None
+            self.heads = [it for it in self.heads if it.indent < indent]
+            self.definition_line(number, bare, indent)
+
+    def head_line(self, number, bare):
+        self.open_head.add(number, bare)
+        if bare.endswith("where"):
+            self.open_head = None
+
+    def body_line(self, number, bare, indent):
+        """A line of a data or of a record. A list of constructors may go on over lines."""
+        self.part.add(number, bare)
+        if not self.is_data or bare.startswith("--") or (indent != self.body and not self.names_go_on):
+            return
+        found = CONSTRUCTORS.match(bare)
+        if found:
+            self.part.made.update(found.group(1).split())
+            self.names_go_on = found.group(2) is None and found.end() == len(bare)
+
+    def definition_line(self, number, bare, indent):
+        block, signature = BLOCK.match(bare), SIGNATURE.match(bare)
+        if block:
+            head = Head(indent, self.comments)
+            head.add(number, bare)
+            self.heads.append(head)
+            self.comments = []
+            self.open_head = head if block.group(1) == "module" and not bare.endswith("where") else None
+            return
+        if signature and indent == (self.heads[-1].indent + 2 if self.heads else 0):
+            self.begin(signature, indent)
+        if self.part:
+            self.part.lines += self.comments
+            self.comments = []
+            self.part.add(number, bare)
+
+    def begin(self, signature, indent):
+        kind, declared, defined = signature.groups()
+        self.part = Part(declared or defined, self.heads)
+        self.parts.append(self.part)
+        if kind:
+            self.body, self.is_data, self.names_go_on = indent + 2, kind == "data", False
 
 
 class Parts:
     """The parts of a file, by their names and by those of constructors, and what it takes from other files."""
 
     def __init__(self, text):
-        self.parts, self.names, self.taken, self.aliases, self.passed_on = [], {}, {}, {}, set()
-        self.read(text.split("\n"))
-        for part in self.parts:
-            for name in {part.name, *part.made}:
-                for word in filter(None, name.split("◌")):
-                    self.names.setdefault(word, []).append(part)
-
-    def read(self, lines):
-        heads, current, inside, waiting, in_head = [], None, None, [], None
-        for number, line in enumerate(lines):
+        self.names, self.taken, self.aliases = {}, {}, {}
+        reader = Reader()
+        for number, line in enumerate(text.split("\n")):
             bare, indent = line.strip(), len(line) - len(line.lstrip())
-            if not bare:
-                continue
-            if in_head is not None:
-                in_head[1].append(number)
-                in_head[2].update(TOKEN.findall(bare))
-                in_head = None if bare.endswith("where") else in_head
-                continue
-            if indent == 0 and self.take(bare):
-                continue
-            if bare.startswith("--"):
-                if inside is not None and indent > inside:
-                    current.lines.append(number)
-                else:
-                    waiting.append(number)
-                continue
-            if inside is not None and indent > inside:
-                self.add(current, number, bare)
-                self.make(current, bare, indent)
-                continue
-            inside = None
-            while heads and heads[-1][0] >= indent:
-                heads.pop()
-            block = BLOCK.match(bare)
-            if block:
-                head = (indent, [number, *waiting], set(TOKEN.findall(bare)))
-                waiting = []
-                heads.append(head)
-                in_head = head if block.group(1) == "module" and not bare.endswith("where") else None
-                continue
-            named = HEAD.match(bare)
-            level = heads[-1][0] + 2 if heads else 0
-            if named and indent == level:
-                current = Part(named.group(3) or named.group(4))
-                current.lines += waiting
-                waiting = []
-                current.heads = [tuple(head[1]) for head in heads]
-                for head in heads:
-                    current.words |= head[2]
-                self.parts.append(current)
-                if named.group(2):
-                    inside, self.body, self.open, self.is_data = indent, indent + 2, False, named.group(2) == "data"
-            if current is not None:
-                current.lines += waiting
-                waiting = []
-                self.add(current, number, bare)
-
-    @staticmethod
-    def add(part, number, bare):
-        part.lines.append(number)
-        part.words.update(TOKEN.findall(bare))
-
-    def make(self, part, bare, indent):
-        """Takes the names of constructors from a line of a data; a list of names may go on over lines."""
-        made = MADE.match(bare) if self.is_data and (indent == self.body or self.open) else None
-        if made:
-            part.made.update(made.group(1).split())
-            self.open = made.group(2) is None and made.end() == len(bare)
+            if bare.startswith(("use ", "pub use ")) and indent == 0:
+                self.take(bare)
+            elif bare:
+                reader.line(number, bare, indent)
+        self.parts = reader.parts
+        for part in self.parts:
+            for word in {it for name in {part.name, *part.made} for it in words_of(name)}:
+                self.names.setdefault(word, []).append(part)
 
     def take(self, bare):
         use = USE.match(bare)
         if not use:
-            return bare.startswith(("use ", "pub use "))
-        passed_on, crate, path, names, alias = use.groups()
-        if alias:
-            self.aliases[alias] = (crate, path)
-        for it in filter(None, (it.strip() for it in (names or "").split(","))):
+            return
+        _, crate, path, names, alias = use.groups()
+        if not names:
+            self.aliases[alias or path.split(".")[-1]] = (crate, path)
+            return
+        for it in filter(None, (it.strip() for it in names.split(","))):
             other, _, own = it.partition(" as ")
-            for word in filter(None, (own or other).split("◌")):
+            for word in words_of(own or other):
                 self.taken[word] = (crate, path, other)
-            if passed_on:
-                self.passed_on.add(other)
-        if not names and not alias:
-            self.aliases[path.split(".")[-1]] = (crate, path)
-        return True
 
     def named_by(self, part):
         """What a part names: (None, name) of this file, or ((crate, path), name) of another one."""
