@@ -48,6 +48,7 @@ use Rattle.law_typing.specs.Exact.{standing, is_own_variable, Sees, sees, Knows,
 use Rattle.law_typing.proofs.Combining.{Lawful, Decided, holds, fails_it, accounts_one}
 use Rattle.law_typing.proofs.Entering.{name_decided, entered_all, once_more}
 use Rattle.law_rules.specs.Importing as importing
+use Rattle.law_rules.specs.Outside.{own_or}
 use Rattle.law_rules.specs.Importing.{origin, with_declared, StandsFor, imported_all, AreImportsExact}
 use Rattle.law_rules.proofs.Implementing.{implementation_imports}
 use Rattle.law_rules.proofs.Following.{Associates}
@@ -276,28 +277,22 @@ module _ (g : Gathers) (j : Judges g) (lawful : Lawful g j) (own : Table) (m : M
   taken_there n false e (inr c) = (false, by_none e c)
 
   module _ (exports : ℕ → Ident → Standing) (around : Ident → Standing) (knows : Knows g j around exports (first_scope own.number tables)) (sound : AreSound around) where
-    abbrev standing_of : Option Meaning → Standing → Standing
-    standing_of (Some w) s = standing w
-    standing_of None s = s
+    abbrev pub outside : Ident → Standing
+    outside name = own_or (find_name name.name own.exported) (around name)
 
-    abbrev outside : Ident → Standing
-    outside name = standing_of (find_name name.name own.exported) (around name)
-
-    sees_first : (name : Ident) (o : Option Meaning) → find_name name.name own.exported ≡ o → Sees g j name.pos (standing_of o (around name)) (looked_up g first name)
+    sees_first : (name : Ident) (o : Option Meaning) → find_name name.name own.exported ≡ o → Sees g j name.pos (own_or o (around name)) (looked_up g first name)
     sees_first name (Some w) e = subst (λ (r : Result Meaning (Meaningless g.Reported)). Sees g j name.pos (standing w) r)
         (ap (λ (k : Option (Known g.Reported)). looked k name) (sym (own_found name.name ∙ ap (λ (o : Option Meaning). declared_as g.Reported o None) e)) ∙ sym (looked_around g first 0 refl name)) (sees w)
     sees_first name None e = subst (λ (r : Result Meaning (Meaningless g.Reported)). Sees g j name.pos (around name) r)
         (looked_around g (first_scope own.number tables) 0 refl name ∙ ap (λ (k : Option (Known g.Reported)). looked k name) (sym (own_found name.name ∙ ap (λ (o : Option Meaning). declared_as g.Reported o None) e)) ∙ sym (looked_around g first 0 refl name)) (knows.of_names name)
 
-    sound_at : (o : Option Meaning) (name : Ident) → (standing_of o (around name) ≡ Unknown → ⊥) × (standing_of o (around name) ≡ things.Known Headless → ⊥)
+    sound_at : (o : Option Meaning) (name : Ident) → (own_or o (around name) ≡ Unknown → ⊥) × (own_or o (around name) ≡ things.Known Headless → ⊥)
     sound_at (Some w) name = (meaning_known w, meaning_headed w)
     sound_at None name = sound name
 
-    pub all_known : (exports : ℕ → Ident → Standing) × (outside : Ident → Standing) × (names : Ident → Standing) × (taken : List ℕ → Bool) × Knows g j outside exports first × AreSound outside
+    pub names_around : (names : Ident → Standing) × (taken : List ℕ → Bool) × Knows g j outside exports first × AreSound outside
         × ((name : Ident) → StandsFor tables mine (all_imported m.imports) outside name (names name)) × ((n : List ℕ) → IsTakenBy tables mine (all_imported m.imports) n (taken n))
-    all_known = (
-      exports,
-      outside,
+    names_around = (
       (i.stand outside).0,
       (λ n. (taken_there n (mine n) refl (i.decided n)).0),
       record { of_names = λ name. sees_first name (find_name name.name own.exported) refl; of_modules = λ k name. knows.of_modules k name },
@@ -305,6 +300,10 @@ module _ (g : Gathers) (j : Judges g) (lawful : Lawful g j) (own : Table) (m : M
       (i.stand outside).1,
       (λ n. (taken_there n (mine n) refl (i.decided n)).1),
     )
+
+    pub all_known : (exports : ℕ → Ident → Standing) × (outside : Ident → Standing) × (names : Ident → Standing) × (taken : List ℕ → Bool) × Knows g j outside exports first × AreSound outside
+        × ((name : Ident) → StandsFor tables mine (all_imported m.imports) outside name (names name)) × ((n : List ℕ) → IsTakenBy tables mine (all_imported m.imports) n (taken n))
+    all_known = let k = names_around in (exports, outside, k.0, k.1, k.2, k.3, k.4, k.5)
 
 -- ---- what the definition exports
 

@@ -52,4 +52,5 @@ pub mod BodiesOutside
 pub mod Programs
 pub mod BodiesImplementing
 pub mod ModulesTables
+pub mod Predeclared
 pub mod Ruled

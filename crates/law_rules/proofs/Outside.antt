@@ -105,7 +105,7 @@ module _ (g : Gathers) (j : Judges g) where
   exports_it None = has_nothing
   exports_it (Some m) = has_exported m
 
-  taken_by : (tables : List Table) (front : List Imported) (n : List ℕ) → ((u : imports.Origin) × (m : Meaning) × Brings tables none front n u m) ⊎ ((u : imports.Origin) (m : Meaning) → Brings tables none front n u m → ⊥) → (b : Bool) × IsTaken tables front n b
+  pub taken_by : (tables : List Table) (front : List Imported) (n : List ℕ) → ((u : imports.Origin) × (m : Meaning) × Brings tables none front n u m) ⊎ ((u : imports.Origin) (m : Meaning) → Brings tables none front n u m → ⊥) → (b : Bool) × IsTaken tables front n b
   taken_by tables front n (inl q) = (true, by_import q.0 q.1 q.2)
   taken_by tables front n (inr c) = (false, by_none c)
 

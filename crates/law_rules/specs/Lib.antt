@@ -1,4 +1,5 @@
 pub mod Standing
+pub mod Outside
 pub mod Tables
 pub mod Importing
 pub mod Exports

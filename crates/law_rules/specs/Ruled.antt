@@ -9,8 +9,7 @@ use Rattle.m2_tree.specs.declared.decl.Module.{Module}
 use Rattle.typed_tree.specs.declared.table.Table.{Table}
 use Rattle.typed_tree.specs.declared.typed_module.TypedModule.{TypedModule}
 use Rattle.check_scope.specs.Elaborated.{least}
-use Rattle.check_definition.specs.Predeclared.{console, first_scope}
-use Rattle.check_body.specs.Own.{implementation_scope}
+use Rattle.check_definition.specs.Predeclared.{console}
 use Rattle.check_body.specs.Checks.{body_module}
 use Rattle.def_typing.specs.Operators.{◌!◌}
 use Rattle.def_typing.specs.Things.{Standing}
@@ -19,9 +18,9 @@ use Rattle.def_typing.specs.Imports.{all_imported}
 use Rattle.def_typed.specs.Modules.{MeansModule}
 use Rattle.law_typing.specs.Judging.{the_least}
 use Rattle.law_typed.specs.One.{IsOne}
-use Rattle.law_typing.specs.Known.{Knows}
 use Rattle.law_rules.specs.Standing.{StandsFor}
-use Rattle.law_rules.specs.Defining.{none, IsTaken, AreSound, IsDefinitionExact}
+use Rattle.law_rules.specs.Outside.{stands_predeclared, stands_own, stands_exported}
+use Rattle.law_rules.specs.Defining.{none, IsTaken, IsDefinitionExact}
 pub use Rattle.law_rules.specs.Tables.{IsTableOf, is_answered, CanBeImported, of_definition}
 use Rattle.law_rules.specs.Bodies.{declares, IsTakenBy, IsAnswered, IsProgramExact, IsImplementationExact}
 
@@ -33,62 +32,52 @@ with_console imported = imported ++ console ∷ []
 abbrev pub AreImported : (home : ℕ) → List Table → Type 0
 AreImported home imported = (t : Table) → Among t imported → CanBeImported least home t
 
--- What names stand for in a definition is known by the rules: outside, and behind its imports. It
--- has a table exactly if no rule is broken in it, and else the least of the broken ones is
--- reported.
+-- What names stand for behind the imports of a definition is known by the rules. It has a table
+-- exactly if no rule is broken in it, and else the least of the broken ones is reported.
 pub record IsDefinitionRuled (home : ℕ) (m : Module) (imported : List Table) (defs : List Def)
     : Type 0 where
-  pub exports : ℕ → Ident → Standing
-  pub outside : Ident → Standing
   pub names : Ident → Standing
   pub taken : List ℕ → Bool
-  pub known : Knows least the_least outside exports (first_scope home (with_console imported))
-  pub sound : AreSound outside
   pub stand : (name : Ident)
-      → StandsFor (with_console imported) none (all_imported m.imports) outside name (names name)
+      → StandsFor (with_console imported) none (all_imported m.imports) stands_predeclared name
+      (names name)
   pub takes : (n : List ℕ) → IsTaken (with_console imported) (all_imported m.imports) n (taken n)
-  pub exact : IsDefinitionExact least the_least home m imported (with_console imported) exports
-      names taken defs
+  pub exact : IsDefinitionExact least the_least home m imported (with_console imported)
+      (stands_exported (with_console imported)) names taken defs
 
 -- The same of a program and its typed module.
 pub record IsProgramRuled (home : ℕ) (m : Module) (imported : List Table) (b : Block)
     : Type 0 where
-  pub exports : ℕ → Ident → Standing
-  pub outside : Ident → Standing
   pub names : Ident → Standing
   pub taken : List ℕ → Bool
-  pub known : Knows least the_least outside exports (first_scope home (with_console imported))
-  pub sound : AreSound outside
   pub stand : (name : Ident)
-      → StandsFor (with_console imported) none (all_imported m.imports) outside name (names name)
+      → StandsFor (with_console imported) none (all_imported m.imports) stands_predeclared name
+      (names name)
   pub takes : (n : List ℕ) → IsTaken (with_console imported) (all_imported m.imports) n (taken n)
-  pub exact : IsProgramExact least the_least home m imported (with_console imported) exports names
+  pub exact : IsProgramExact least the_least home m imported (with_console imported)
+      (stands_exported (with_console imported)) names
       taken b
   -- The typed tree that is answered is the one that the rules give.
   pub typed : (t : TypedModule) → body_module least home m None imported ≡ Ok t
-      → IsOne (MeansModule home (with_console imported) [] [] m exports exact.read) t
+      → IsOne (MeansModule home (with_console imported) [] [] m
+      (stands_exported (with_console imported)) exact.read) t
 
 -- The same of an implementation, by the table of its definition.
 pub record IsImplementationRuled (own : Table) (m : Module) (imported : List Table) (b : Block)
     : Type 0 where
-  pub exports : ℕ → Ident → Standing
-  pub outside : Ident → Standing
   pub names : Ident → Standing
   pub taken : List ℕ → Bool
-  pub known : Knows least the_least outside exports
-      (implementation_scope own (with_console imported))
-  pub sound : AreSound outside
   pub stand : (name : Ident)
-      → StandsFor (with_console imported) (declares own) (all_imported m.imports) outside name
-      (names name)
+      → StandsFor (with_console imported) (declares own) (all_imported m.imports)
+      (stands_own own.exported) name (names name)
   pub takes : (n : List ℕ)
       → IsTakenBy (with_console imported) (declares own) (all_imported m.imports) n (taken n)
-  pub exact : IsImplementationExact least the_least own m imported (with_console imported) exports
-      names taken b
+  pub exact : IsImplementationExact least the_least own m imported (with_console imported)
+      (stands_exported (with_console imported)) names taken b
   -- The typed tree that is answered is the one that the rules give.
   pub typed : (home : ℕ) (t : TypedModule) → body_module least home m (Some own) imported ≡ Ok t
-      → IsOne (MeansModule own.number (with_console imported) own.exported own.imports m exports
-      exact.read) t
+      → IsOne (MeansModule own.number (with_console imported) own.exported own.imports m
+      (stands_exported (with_console imported)) exact.read) t
 
 -- An implementation without a definition is refused.
 abbrev pub IsLonely : (home : ℕ) → Module → List Table → Type 0
