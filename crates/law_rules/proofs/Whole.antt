@@ -976,13 +976,13 @@ module _ (g : Gathers) (j : Judges g) (lawful : Lawful g j) (associates : Associ
           alone = λ of_exports k q number rs vs xs m. alone of_exports k q number rs vs xs m;
         }
           where
-            abbrev_numbered : (q : Before) → Numbers g j exports p start (length begins.bodies.locals) ends ds q → Numbered q
-            abbrev_numbered q number = subst (λ (n : ℕ). Numbers g j exports p start n ends ds q) counted_there number
+            numbered_from : (q : Before) → Numbers g j exports p start (length begins.bodies.locals) ends ds q → Numbered q
+            numbered_from q number = subst (λ (n : ℕ). Numbers g j exports p start n ends ds q) counted_there number
 
             holds : (of_exports : ℕ → Ident → Option Meaning) → Exporting g j exports of_exports start.tables → (q : Before) → Numbers g j exports p start (length begins.bodies.locals) ends ds q
                 → MeansBlock exports of_exports is_read q around walk_meant.routines variables xs
             holds of_exports k q there =
-                let number = abbrev_numbered q there in
+                let number = numbered_from q there in
                 let of_names : Ident → Option Meaning = λ name. ((sensed fine q number).each name).0 in
                 let senses : Senses q of_names = λ name. ((sensed fine q number).each name).1 in (
                   of_names,
@@ -995,7 +995,7 @@ module _ (g : Gathers) (j : Judges g) (lawful : Lawful g j) (associates : Associ
             alone : (of_exports : ℕ → Ident → Option Meaning) → Exporting g j exports of_exports start.tables → (q : Before) → Numbers g j exports p start (length begins.bodies.locals) ends ds q
                 → (rs : Routines) (vs : List TypeNo) (ys : List TypedStmt) → MeansBlock exports of_exports is_read q around rs vs ys → (rs ≡ walk_meant.routines) × (vs ≡ variables) × (ys ≡ xs)
             alone of_exports k q there rs vs ys (of_names, senses, types, bodies, body) =
-                let number = abbrev_numbered q there in (
+                let number = numbered_from q there in (
                   walk_holds.1 of_exports k q number of_names senses rs (subst (λ (n : ℕ). MeansBodies exports of_exports walk_there.0 q of_names around n rs) (sym (first_is of_exports k q number of_names senses)) bodies),
                   types_one names types_here types,
                   (body_one of_exports k q number of_names senses xs e).alone ys body,

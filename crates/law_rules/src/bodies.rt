@@ -7,7 +7,7 @@
 //! headings that its definition awaits. These laws hold of the elaboration in `check_body`, of all that it gathers and of the
 //! least refusal alike.
 //!
-//! - `specs/Bodies` says what is answered of a block, of a program and of an implementation.
+//! - `specs/Blocks` says what is answered of a block, and `specs/Bodies` of a program and of an implementation.
 //! - `proofs/BodiesKeeping` says what each declaration keeps of a scope, `proofs/Extending` that types stay, and `proofs/Layers` how all
 //!   blocks are met.
 //! - `proofs/Reading` has what names stand for behind all declarations of a block, `proofs/Placing` where they stand in its scope,

@@ -4,11 +4,12 @@
 //! by them. Here this is proved of imports, of definitions with what they export, and of blocks with all procedures inside; and
 //! then of whole modules, which `build` cites.
 //!
-//! - `specs/Importing`, `Defining`, `Exports`, `Importers` and `Bodies` say what is answered of each of them, and `specs/Ruled`
-//!   what is known of a module by the rules, and what is answered of it.
+//! - `specs/Importing`, `Defining`, `Exports`, `Importers`, `Blocks` and `Bodies` say what is answered of each of them.
+//!   `specs/Outside` says what names stand for before imports, `specs/Standing` behind them, and `specs/Tables` which tables are
+//!   those of definitions. `specs/Ruled` says what is known of a module by the rules, and what is answered of it.
 //! - `importing`, `defining` and `bodies` say which files of `proofs` have what.
-//! - `proofs/ModulesTables` says what tables of definitions do not export, and that their procedures are numbered. `proofs/Ruled`
-//!   puts the laws together.
+//! - `proofs/ModulesTables` says what tables of definitions do not export, and that their procedures are numbered.
+//!   `proofs/Predeclared` says what every module knows, and `proofs/Ruled` puts the laws together.
 #![tactic(auto)]
 
 mod bodies;
