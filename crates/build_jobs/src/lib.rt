@@ -11,6 +11,7 @@ mod contents;
 mod file;
 mod made;
 mod modules;
+mod options;
 mod outcome;
 mod reading;
 mod runner;
@@ -19,7 +20,8 @@ mod texts;
 
 pub use contents::compile;
 pub use file::SourceFile;
+pub use options::{MAX_PAGES, Options};
 pub use outcome::Compiled;
-pub use pool_board::Gate;
+pub use pool_board::{Gate, MAX_WORKERS};
 pub use reading::{Read, read_text};
 pub use runner::Runner;

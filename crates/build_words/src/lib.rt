@@ -1,9 +1,9 @@
 //! The words that the command lines of programs over builds share: the options of a build, and the files of a program.
 #![tactic(auto)]
 
+use build_jobs::{MAX_PAGES, MAX_WORKERS, Options};
 use clap::{Arg, ArgAction, ArgMatches};
 use command_words::{COMMAND_LINE, Exit, are_named, number_option, strings_of};
-use m2c::{MAX_PAGES, MAX_WORKERS, Options};
 use std::alloc::Global;
 
 /// The name of the option of the workers, and of the word for files.

@@ -8,7 +8,7 @@ ghost use Rattle.layout_storage.specs.Sizes.{size, offset};
 ghost use Rattle.layout_storage.specs.Shapes.{tree};
 ghost use Rattle.emit_buffer.specs.Frames.{setting_of};
 ghost use Rattle.emit_buffer.specs.Drafts.{put};
-ghost use Rattle.def_scheme.specs.Coded.{extend_word, copy};
+ghost use Rattle.def_scheme.specs.Coded.{extend_word};
 ghost use Rattle.def_scheme.specs.Functions.{prologue, limit_check, enter_code, link_kept, word_kept, value_kept, bytes_code, open_copied, formal_kept, formals_kept};
 ghost use Rattle.emit_proc.specs.Kept.{own, word_at, copy_begun, copy_made};
 

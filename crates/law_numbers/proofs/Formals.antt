@@ -169,8 +169,8 @@ module _ (n : List ℕ) where
     sections_at [] fs ok q i f y e = absurd cc
     sections_at (x ∷ xs) fs ok q i f y e = by_place (ok x here) (split_first x.names (names_in xs) f) (λ k. sections_at xs (with_section g s fs x) (λ z m. ok z (later m)) k)
       where
-        abbrev_rest : Type 0
-        abbrev_rest = find_name n (with_section g s fs x).0 ≡ None → (i : ℕ) → IsFirstAt n (names_in xs) i → (y : Section) → formal_named n xs ≡ Some y
+        IsNamed : Type 0
+        IsNamed = find_name n (with_section g s fs x).0 ≡ None → (i : ℕ) → IsFirstAt n (names_in xs) i → (y : Section) → formal_named n xs ≡ Some y
             → At y (length (with_section g s fs x).1 + i) (find_name n (fold (with_section g s) (with_section g s fs x) xs).0)
 
         here_at : (z : Fine x) → IsFirstAt n x.names i → find_name n (with_section g s fs x).0 ≡ Some (entry s.level (length fs.1 + i) (Ok z.0))
@@ -182,7 +182,7 @@ module _ (n : List ℕ) where
         same_section : IsFirstAt n x.names i → x ≡ y
         same_section f = some_same (sym (ap (λ (b : Bool). cond b (Some x) (formal_named n xs)) (first_among f)) ∙ e)
 
-        by_place : Fine x → Splits x.names (names_in xs) i → abbrev_rest → At y (length fs.1 + i) (find_name n (fold (with_section g s) (with_section g s fs x) xs).0)
+        by_place : Fine x → Splits x.names (names_in xs) i → IsNamed → At y (length fs.1 + i) (find_name n (fold (with_section g s) (with_section g s fs x) xs).0)
         by_place z (inl f) more = subst (λ (y : Section). At y (length fs.1 + i) (find_name n (fold (with_section g s) (with_section g s fs x) xs).0)) (same_section f)
             (z.0, z.1, sections_stay xs (with_section g s fs x) (entry s.level (length fs.1 + i) (Ok z.0)) (here_at z f))
         by_place z (inr r) more =

@@ -7,4 +7,5 @@ pub mod SoundModule
 pub mod SoundStmt
 pub mod SoundTypes
 pub mod Limits
+pub mod Lines
 pub mod Names

@@ -14,7 +14,7 @@ use Rattle.write_directory.specs.Calls.{Call, module_file}
 use Rattle.write_directory.specs.Saves.{Saves}
 use Rattle.m2c.specs.declared.files.Outcome.TheVariants as outcome
 use Rattle.m2c.specs.Build.{IsBuilt}
-use Rattle.m2c.specs.Endings.{line_of}
+use Rattle.m2_tree.specs.Lines.{line_of}
 use Rattle.m2c.specs.Compiles.{IsRefused, IsSaved}
 
 module _ {S : Type 0} (reported : S → Option (List ℕ)) (failed : S → ℕ) where

@@ -16,10 +16,11 @@ use Rattle.m2c.specs.declared.ending.Ending.{Ending}
 use Rattle.m2c.specs.declared.ending.Ending.TheVariants.{Unbuilt, Unread, Refused, Saved}
 use Rattle.m2c.specs.declared.files.BuildFault.{BuildFault}
 use Rattle.m2c.specs.declared.files.BuildFault.TheVariants.{Workers, Pages, NoMemory, NoEncoding}
-use Rattle.m2c.specs.declared.files.Options.{Options}
+pub use Rattle.build_jobs.specs.declared.options.Options.{Options}
 use Rattle.m2c.specs.declared.files.Outcome.TheVariants as outcome
 use Rattle.m2c.specs.Build.{IsBuilt}
-use Rattle.m2c.specs.Endings.{status, words, line_of}
+use Rattle.m2c.specs.Endings.{status, words}
+use Rattle.m2_tree.specs.Lines.{line_of}
 
 -- ---- the options
 

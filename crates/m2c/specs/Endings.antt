@@ -1,16 +1,14 @@
 -- The status of a compilation, and what is said of it.
 use Rattle.std.specs.Prelude.{ℕ, true, false, List, [], ◌++◌, Ok, Err, if◌then◌else◌, codes, decimal}
-use Rattle.std.specs.String.{string_bytes}
 use Rattle.pool_board.specs.Seats.{max_workers}
 use Rattle.def_scheme.specs.Modules.{max_pages}
-use Rattle.m2_tree.specs.declared.refusal.Refusal.{Refusal}
 use Rattle.write_directory.specs.declared.fault.SaveFault.{SaveFault}
 use Rattle.write_directory.specs.declared.fault.SaveFault.TheVariants as save
 use Rattle.m2c.specs.declared.ending.Ending.{Ending}
 use Rattle.m2c.specs.declared.ending.Ending.TheVariants.{Unbuilt, Unread, Refused, Saved}
 use Rattle.m2c.specs.declared.files.BuildFault.{BuildFault}
 use Rattle.m2c.specs.declared.files.BuildFault.TheVariants as build
-use Rattle.m2c.specs.declared.files.Options.{Options}
+use Rattle.build_jobs.specs.declared.options.Options.{Options}
 
 abbrev pub status : Ending → ℕ
 status (Unbuilt build.Workers) = 2
@@ -21,12 +19,6 @@ status (Unread name) = 3
 status (Refused all) = if all then 1 else 3
 status (Saved (Ok _)) = 0
 status (Saved (Err fault)) = 3
-
--- the line of a refusal
-abbrev pub line_of : Refusal → List ℕ
-line_of r =
-    string_bytes r.file ++ codes ":" ++ decimal r.pos.line ++ codes ":" ++ decimal r.pos.col
-    ++ codes ": refusal " ++ decimal r.number ++ codes "\n"
 
 -- an option takes a number up to this one
 abbrev pub range_words : (front option : List ℕ) (most given : ℕ) → List ℕ

@@ -7,11 +7,11 @@ ghost use Rattle.m2c.specs.Build.{IsBuilt};
 ghost use Rattle.m2c.specs.Compiles.{AreFine, Checks, ComesOf, Comes, Compiles};
 
 use crate::ending::Ending;
-use crate::files::{BuildFault, MAX_PAGES, Options, Outcome, build};
+use crate::files::{BuildFault, Outcome, build};
 use crate::say::{print_refusals, write_ending};
 use crate::sources::read_files;
-use build_jobs::SourceFile;
-use pool_board::{MAX_WORKERS, Open};
+use build_jobs::{MAX_PAGES, MAX_WORKERS, Options, SourceFile};
+use pool_board::Open;
 use run_directory::{InDir, Sink};
 use std::alloc::Global;
 use std::thread::Threads;

@@ -6,25 +6,13 @@ ghost use Rattle.def_scheme.specs.Modules.{max_pages};
 ghost use Rattle.m2c.specs.Build.{AreAlike, IsBuilt};
 
 use crate::outcome::outcome_of;
-use build_jobs::{Runner, SourceFile};
+use build_jobs::{MAX_PAGES, MAX_WORKERS, Options, Runner, SourceFile};
 use m2_tree::Refusal;
-use pool_board::{Gate, MAX_WORKERS};
+use pool_board::Gate;
 use std::alloc::{AllocError, Global};
 use std::thread::Threads;
 use thiserror::Error;
 use wasm_tree::EncodeError;
-
-/// How many pages of 65536 bytes a program's memory may have.
-pub const MAX_PAGES: u32 = 1024;
-
-/// What a build is asked for.
-#[derive(Clone, Copy, Debug)]
-pub struct Options {
-    /// How many threads work, from 1 to `MAX_WORKERS`.
-    pub workers: usize,
-    /// How many pages of 65536 bytes the memory has, from 1 to `MAX_PAGES`.
-    pub pages: u32,
-}
 
 /// What a build comes to.
 #[derive(Debug, Drop)]

@@ -3,13 +3,14 @@
 ghost use Rattle.std.specs.Prelude.{◌≡◌, ◌<◌, ◌^◌, ◌+◌, Bool};
 ghost use Rattle.std.specs.List.{flat_map};
 ghost use Rattle.run_directory.specs.Reported.{Says};
-ghost use Rattle.m2c.specs.Endings.{status, words, range_words, fault_words, unread_words, save_words, line_of};
+ghost use Rattle.m2c.specs.Endings.{status, words, range_words, fault_words, unread_words, save_words};
+ghost use Rattle.m2_tree.specs.Lines.{line_of};
 
 use crate::ending::Ending;
-use crate::files::{BuildFault, MAX_PAGES, Options};
+use crate::files::BuildFault;
+use build_jobs::{MAX_PAGES, MAX_WORKERS, Options};
 use itoa::Buffer;
 use m2_tree::Refusal;
-use pool_board::MAX_WORKERS;
 use run_directory::{InDir, Sink, say_all};
 use write_directory::SaveFault;
 

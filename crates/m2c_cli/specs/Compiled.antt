@@ -5,8 +5,7 @@ use Rattle.system_streams.specs.declared.stream.LineStream.{LineStream}
 use Rattle.system_streams.specs.declared.reading.InFolder.{InFolder}
 use Rattle.system_streams.specs.declared.writing.OutFolder.{OutFolder}
 use Rattle.system_streams.specs.Folders.{any_files}
-use Rattle.m2c.specs.declared.files.Options.{Options}
-use Rattle.m2c.specs.Compiles.{Compiles}
+use Rattle.m2c.specs.Compiles.{Compiles, Options}
 
 -- From one state to the next the files of these names were asked for, and gave what was noted. The
 -- streams took what a compilation of these files prints, the folder was asked for what it saves,

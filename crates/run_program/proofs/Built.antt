@@ -5,7 +5,7 @@ use Rattle.pool_board.specs.Seats.{max_workers}
 use Rattle.def_scheme.specs.Modules.{max_pages}
 use Rattle.m2c.specs.declared.files.BuildFault.{BuildFault}
 use Rattle.m2c.specs.declared.files.BuildFault.TheVariants.{Workers, Pages, NoMemory, NoEncoding}
-use Rattle.m2c.specs.declared.files.Options.{Options}
+use Rattle.build_jobs.specs.declared.options.Options.{Options}
 use Rattle.m2c.specs.declared.files.Outcome.{Outcome}
 use Rattle.m2c.specs.Compiles.{AreFine, AreWorkers}
 use Rattle.run_program.specs.declared.fault.ProgramFault.{ProgramFault}

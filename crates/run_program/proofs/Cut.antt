@@ -17,7 +17,7 @@ use Rattle.wasm_engine.specs.Instances.{modules_of as linked_modules, config_of,
 use Rattle.wasm_engine.proofs.Runs.{run-zero, with_bytes-nil}
 use Rattle.run_directory.specs.Reported.{HasRun, IsRun, Printed}
 use Rattle.build_jobs.specs.declared.file.SourceFile.{SourceFile}
-use Rattle.m2c.specs.declared.files.Options.{Options}
+use Rattle.build_jobs.specs.declared.options.Options.{Options}
 use Rattle.m2c.specs.Compiles.{AreFine}
 use Rattle.run_program.specs.declared.fault.ProgramFault.{ProgramFault}
 use Rattle.run_program.specs.declared.fault.ProgramFault.TheVariants.{Workers, Pages, NoMemory, NoEncoding, Write}

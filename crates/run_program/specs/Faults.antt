@@ -6,7 +6,7 @@ use Rattle.wasm_engine.specs.declared.engine.RunFault.{RunFault}
 use Rattle.wasm_engine.specs.declared.engine.RunFault.TheVariants as run
 use Rattle.m2c.specs.declared.files.BuildFault.{BuildFault}
 use Rattle.m2c.specs.declared.files.BuildFault.TheVariants as build
-use Rattle.m2c.specs.declared.files.Options.{Options}
+use Rattle.build_jobs.specs.declared.options.Options.{Options}
 use Rattle.m2c.specs.Compiles.{AreFine, AreWorkers}
 use Rattle.run_program.specs.declared.fault.ProgramFault.{ProgramFault}
 use Rattle.run_program.specs.declared.fault.ProgramFault.TheVariants.{Workers, Pages, NoMemory, NoEncoding, Write}

@@ -3,7 +3,7 @@
 ghost use Rattle.std.specs.Prelude.{◌≡◌, ◌<◌, ◌^◌, ◌+◌, ℕ, Bool, IsOk, length, take};
 ghost use Rattle.std.specs.List.{flat_map};
 ghost use Rattle.run_directory.specs.Reported.{Says};
-ghost use Rattle.m2c.specs.Endings.{line_of};
+ghost use Rattle.m2_tree.specs.Lines.{line_of};
 
 use crate::explaining::explanation;
 use build_jobs::SourceFile;

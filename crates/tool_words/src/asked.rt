@@ -1,6 +1,6 @@
 //! What the command line asks for.
 
-use m2c::Options;
+use build_jobs::Options;
 
 /// How refusals are shown.
 #[derive(Clone, Copy, PartialEq, Eq)]

@@ -1,6 +1,6 @@
 use Rattle.std.proofs.Common.{ap}
 use Rattle.run_directory.proofs.Saying.{not_said}
-use Rattle.m2c.specs.Endings.{line_of}
+use Rattle.m2_tree.specs.Lines.{line_of}
 use Rattle.m2c.proofs.Building.{said_more}
 use Rattle.m2c.proofs.say.print_refusals.Goals as goal
 

@@ -5,7 +5,7 @@ use Rattle.std.proofs.lemmas.Result.{err_from_is_err_and}
 use Rattle.m2_tree.specs.declared.refusal.Refusal.{Refusal}
 use Rattle.run_directory.specs.Reported.{Says}
 use Rattle.run_directory.proofs.Saying.{not_said, said}
-use Rattle.m2c.specs.Endings.{line_of}
+use Rattle.m2_tree.specs.Lines.{line_of}
 use Rattle.show_refusals.proofs.Lines.{said_more, err_not_ok}
 use Rattle.show_refusals.proofs.showing.show.Goals as goal
 
