@@ -35,9 +35,9 @@ hostile: build
 browser:
 	tools/try_hosts
 
-# The gate: no source makes up want of memory or has a number without a name, definitions are laid out, the pages of m2 are those
-# of docs/ and so are the numbers of definitions and the index of rules, each edit still fits its file, and a sample of requests
-# for memory is refused.
+# The gate: no source makes up want of memory or has a number without a name, no crate lists a library that it does not name,
+# definitions are laid out, the pages of m2 are those of docs/ and so are the numbers of definitions and the index of rules, each
+# edit still fits its file, and a sample of requests for memory is refused.
 # Then every proof from nothing, the tests, the programs and the edits of must-fail/, which the prover must refuse.
 test:
 	tools/check_sources
