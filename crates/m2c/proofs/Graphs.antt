@@ -42,7 +42,6 @@ use Rattle.law_nothing_missing.proofs.Programs.{strict_runs, nothing_lacks}
 use Rattle.law_modules.proofs.Placed.{modules_link}
 use Rattle.law_graph.proofs.Outcomes.{graph_or_refused}
 use Rattle.law_programs.proofs.Links.{slots_few, link_valid}
-use Rattle.m2c.proofs.Least.{all_least}
 use Rattle.m2c.proofs.Ruled.{all_ruled}
 use Rattle.m2c.proofs.Readings.{files_are_read}
 use Rattle.m2c.proofs.Valid.{all_valid}
@@ -173,7 +172,6 @@ module _ (files : List SourceFile) (fs : List (List ℕ × Module)) (numbers : L
         all_jobs = jobs;
         starts = starts;
         graph = have;
-        least = all_least fs;
         ruled = all_ruled fs numbers jobs starts have.is_graph;
         none = none;
         program = p;
@@ -202,7 +200,6 @@ module _ (files : List SourceFile) (fs : List (List ℕ × Module)) (numbers : L
     all_jobs = jobs;
     starts = starts;
     graph = have;
-    least = all_least fs;
     ruled = all_ruled fs numbers jobs starts have.is_graph;
     none = none;
     program = its.program;

@@ -1,8 +1,6 @@
 -- What is reported of a module is the least of all rules that it breaks.
-use Rattle.std.proofs.Common.{inl, inr, ℕ, Bool, true, false, cond, List, [], ◌∷◌, Option, Some, None, Result, refl}
-use Rattle.std.specs.Prelude.{All}
+use Rattle.std.proofs.Common.{inl, inr, ℕ, Bool, true, false, cond, List, [], Option, Some, None, Result, refl}
 use Rattle.std.specs.List.{list_all}
-use Rattle.std.proofs.lemmas.List.Elements.{All-nil, All-cons}
 use Rattle.m2_tree.specs.declared.decl.Contents.{Contents}
 use Rattle.m2_tree.specs.declared.decl.Contents.TheVariants as contents
 use Rattle.m2_tree.specs.declared.decl.Module.{Module}
@@ -17,7 +15,7 @@ use Rattle.law_least_body.proofs.Bodies.{checked_reports}
 use Rattle.build_jobs.specs.declared.outcome.Compiled.TheVariants.{Blocked}
 use Rattle.build_jobs.specs.Own.{own_table, tables_behind}
 use Rattle.build_jobs.specs.Compiling.{compilation_of, is_sound, of_checked, of_contents, of_definition, of_fit, tables_of}
-use Rattle.m2c.specs.Least.{breaches_of, all_broken, ReportsLeast, IsLeastReported}
+use Rattle.m2c.specs.Least.{breaches_of, all_broken, ReportsLeast, ModulesReportLeast}
 
 definition_least : (r : Result Table Breach) (all : Result Table (List Breach)) → Reports r all → ReportsLeast (breaches_of all) (of_definition r)
 definition_least _ _ (fine t) = refl
@@ -41,10 +39,6 @@ module_least : (m : Module) (n : ℕ) (tables : List Table) (sound : Bool) → R
 module_least m n tables true = contents_least m n tables m.contents
 module_least m n tables false = tt
 
-pub least_reported : (m : Module) → IsLeastReported m
+pub modules_report_least : ModulesReportLeast
 unfolding compilation_of
-least_reported m n needed = module_least m n (tables_of needed) (list_all is_sound needed)
-
-pub all_least : (trees : List (List ℕ × Module)) → All (λ f. IsLeastReported f.1) trees
-all_least [] = All-nil (λ (f : List ℕ × Module). IsLeastReported f.1)
-all_least (f ∷ fs) = All-cons (λ (f : List ℕ × Module). IsLeastReported f.1) f fs (least_reported f.1) (all_least fs)
+modules_report_least m n needed = module_least m n (tables_of needed) (list_all is_sound needed)

@@ -33,7 +33,6 @@ use Rattle.build_jobs.specs.declared.reading.Read.{Read}
 use Rattle.build_jobs.specs.declared.reading.Read.TheVariants as read
 use Rattle.build_jobs.specs.declared.outcome.Compiled.{Compiled}
 use Rattle.build_jobs.specs.declared.outcome.Compiled.TheVariants as jobs
-use Rattle.m2c.specs.Least.{IsLeastReported}
 use Rattle.m2c.specs.Ruled.{AreRuled}
 use Rattle.m2c.specs.Order.{AreInOrder}
 use Rattle.build_jobs.specs.Reading.{AreRead}
@@ -182,15 +181,14 @@ pub record HaveGraph (files : List SourceFile) (trees : List (List ℕ × Module
   pub is_graph : IsGraph (number_files 0 trees) numbers all_jobs starts
   pub each : CompileEach (number_files 0 trees) numbers
 
--- Modules break rules. The least of them is reported of each module, by place and then by number.
--- Which are broken the rules of the language decide.
+-- Modules break rules. The rules of the language decide which are broken, and the least of them is
+-- reported of each module, by place and then by number.
 pub record AreUncompiled (files : List SourceFile) (refusals : List Refusal) : Type 0 where
   pub trees : List (List ℕ × Module)
   pub numbers : List ℕ
   pub all_jobs : List (List ℕ)
   pub starts : List ℕ
   pub graph : HaveGraph files trees numbers all_jobs starts
-  pub least : All (λ f. IsLeastReported f.1) trees
   pub ruled : AreRuled (modules trees) numbers all_jobs
   pub some : refused_by trees numbers all_jobs ≢ []
   pub reported : AreReported (refused_by trees numbers all_jobs) refusals
@@ -216,7 +214,6 @@ pub record IsTooLarge (files : List SourceFile) (pages : ℕ) (refusals : List R
   pub all_jobs : List (List ℕ)
   pub starts : List ℕ
   pub graph : HaveGraph files trees numbers all_jobs starts
-  pub least : All (λ f. IsLeastReported f.1) trees
   pub ruled : AreRuled (modules trees) numbers all_jobs
   pub none : refused_by trees numbers all_jobs ≡ []
   pub program : Modules
@@ -237,7 +234,6 @@ pub record IsProgram (files : List SourceFile) (pages : ℕ) (link : List ℕ)
   pub all_jobs : List (List ℕ)
   pub starts : List ℕ
   pub graph : HaveGraph files trees numbers all_jobs starts
-  pub least : All (λ f. IsLeastReported f.1) trees
   pub ruled : AreRuled (modules trees) numbers all_jobs
   pub none : refused_by trees numbers all_jobs ≡ []
   pub program : Modules
@@ -272,9 +268,3 @@ AreAlike (outcome.Refused rs) (outcome.Built link built) = ⊥
 AreAlike (outcome.Built link built) (outcome.Refused qs) = ⊥
 AreAlike (outcome.Built link built) (outcome.Built other others) =
     (link.items ≡ other.items) × (map name_bytes built.items ≡ map name_bytes others.items)
-
--- files have at most one outcome in a number of pages
-abbrev pub OneOutcome : Type 0
-OneOutcome =
-    (files : List SourceFile) (pages : ℕ) (one other : Outcome)
-    → IsBuilt files pages one → IsBuilt files pages other → AreAlike one other

@@ -43,9 +43,9 @@ ReportsLeast breaches (jobs.Refused f) =
     IsLeast f breaches ⊎ ((breaches ≡ []) × (f.number ≡ number_of rule.LargeStorage))
 ReportsLeast breaches jobs.Blocked = Unit {0}
 
--- the same of a module, whatever became of those that it needs
-abbrev pub IsLeastReported : Module → Type 0
-IsLeastReported m =
-    (number : ℕ) (needed : List Compiled)
+-- the same of every module, whatever became of those that it needs
+abbrev pub ModulesReportLeast : Type 0
+ModulesReportLeast =
+    (m : Module) (number : ℕ) (needed : List Compiled)
     → ReportsLeast (all_broken m number (tables_of needed) m.contents)
     (compilation_of m number needed)

@@ -1,4 +1,4 @@
--- All files have an outcome, in every number of pages.
+-- All files have an outcome, in every number of pages, and no two that differ.
 use Rattle.std.specs.Prelude.{◌≡◌, ◌≢◌, ◌⊎◌, ℕ, ◌*◌, ◌<◌, ◌≤◌, List, []}
 use Rattle.m2_tree.specs.declared.decl.Module.{Module}
 use Rattle.m2_graph.specs.Files.{number_files}
@@ -9,7 +9,8 @@ use Rattle.build_jobs.specs.declared.file.SourceFile.{SourceFile}
 use Rattle.build_jobs.specs.declared.reading.Read.{Read}
 use Rattle.build_jobs.specs.Reading.{AreRead}
 use Rattle.m2c.specs.Modules.{AreTyped}
-use Rattle.m2c.specs.Build.{modules, refused_of, refused_by, data_and_stack, AreTrees, HaveGraph, IsProgram}
+use Rattle.m2c.specs.declared.files.Outcome.{Outcome}
+use Rattle.m2c.specs.Build.{modules, refused_of, refused_by, data_and_stack, AreTrees, HaveGraph, IsProgram, IsBuilt, AreAlike}
 
 -- Texts break rules of tokens or of the grammar.
 pub record BreakTexts (files : List SourceFile) : Type 0 where
@@ -62,3 +63,9 @@ HaveOutcome files pages =
 abbrev pub FilesHaveOutcomes : Type 0
 FilesHaveOutcomes =
     (files : List SourceFile) (pages : ℕ) → 1 ≤ pages → pages ≤ max_pages → HaveOutcome files pages
+
+-- files have at most one outcome in a number of pages
+abbrev pub OneOutcome : Type 0
+OneOutcome =
+    (files : List SourceFile) (pages : ℕ) (one other : Outcome)
+    → IsBuilt files pages one → IsBuilt files pages other → AreAlike one other

@@ -1,8 +1,8 @@
 //! Laws of builds. There is no code here but what names them.
 
-ghost use Rattle.m2c.specs.Build.{OneOutcome};
 ghost use Rattle.m2c.specs.Encodings.{ProgramsFit};
-ghost use Rattle.m2c.specs.Outcomes.{FilesHaveOutcomes};
+ghost use Rattle.m2c.specs.Least.{ModulesReportLeast};
+ghost use Rattle.m2c.specs.Outcomes.{FilesHaveOutcomes, OneOutcome};
 ghost use Rattle.m2c.specs.Readings.{TreesOrRefusals};
 
 /// Files have at most one outcome in a number of pages. It does not matter who asks for it, or with which workers.
@@ -19,6 +19,11 @@ pub fn encoding_laws()
 /// program does not fit, or there are modules for it.
 pub fn files_laws()
     ensures { FilesHaveOutcomes }
+{}
+
+/// What is reported of a module is the least of all refusals that its elaboration gathers, by place and then by number.
+pub fn least_laws()
+    ensures { ModulesReportLeast }
 {}
 
 /// All texts have trees, or some are refused, and these refusals are reported. It does not matter what their bytes are.

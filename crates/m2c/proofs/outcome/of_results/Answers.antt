@@ -6,7 +6,6 @@ use Rattle.std.specs.Borrow.{Bor}
 use Rattle.m2_emit.specs.declared.emitted.ModuleBytes.{ModuleBytes}
 use Rattle.build_jobs.specs.Borrowed.{borrow_trees}
 use Rattle.m2c.specs.Build.{report_of, refused_by}
-use Rattle.m2c.proofs.Least.{all_least}
 use Rattle.m2c.proofs.Ruled.{all_ruled}
 use Rattle.m2c.proofs.Two.{none_reported}
 use Rattle.m2c.proofs.Graphs.{refusals_are, started_are}
@@ -32,7 +31,6 @@ returns-then-not-is_empty c =
       all_jobs = map items_of g.jobs.items;
       starts = g.starts.items;
       graph = c.requires.graph;
-      least = all_least (borrow_trees c.args.trees.now);
       ruled = all_ruled (borrow_trees c.args.trees.now) g.files.items (map items_of g.jobs.items) g.starts.items c.requires.graph.is_graph;
       some = λ e. let none : rs.items ≡ [] = none_reported rs.items (all ∙ e) in
           let zero : vec_len rs ≡ 0 = omega (arith, rs.ok.0, ap (λ (xs : List Refusal). length xs) none) in
