@@ -33,6 +33,7 @@ use Rattle.check_type_expr.specs.Cells.{count_at, array_cells, is_index}
 use Rattle.check_type_expr.specs.Subranges.{bound_of, subrange_between, under}
 use Rattle.check_type_expr.specs.Fields.{no_fields, with_name}
 use Rattle.check_type_expr.specs.Headings.{procedure_type}
+use Rattle.m2_tree.specs.Limits.{max_cells, max_constants}
 
 -- ---- new types: each constructor makes one
 
@@ -57,7 +58,7 @@ reported_at g (Some name) = report g name.pos rule.ConstantCount
 
 -- the 257th constant
 abbrev pub too_many : (g : Gathers) → List Ident → Result (Unit {0}) g.Reported
-too_many g names = reported_at g (slice_get names 256)
+too_many g names = reported_at g (slice_get names max_constants)
 
 abbrev pub enumeration_constant : TypeNo → ℤ → Meaning
 enumeration_constant t n = meaning.Constant (value.Scalar (record { of = t; base = t; number = n }))
@@ -162,7 +163,7 @@ nothing_of t = t ▷ λ x. Ok tt
 
 abbrev pub record_in : (g : Gathers) → Pos → Fields → Result Made g.Reported
 record_in g at fs =
-    reported_where g (nat_lt 131072 fs.cells) at rule.LargeType
+    reported_where g (nat_lt max_cells fs.cells) at rule.LargeType
     (Ok (record { shape = shape.Record fs.names; cells = fs.cells }))
 
 abbrev pub record_of : (g : Gathers) → Pos → Fields → Result (Unit {0}) g.Reported

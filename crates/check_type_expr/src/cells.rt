@@ -23,8 +23,8 @@ pub fn count_at(types: &Types, t: TypeNo) -> u32
                 return 0;
             }
             let distance = s.high.abs_diff(s.low);
-            if distance > 131_072 {
-                131_073
+            if distance > u64::from(MAX_CELLS) {
+                MAX_CELLS + 1
             } else {
                 distance as u32 + 1
             }
@@ -37,7 +37,11 @@ pub fn plus(a: u32, b: u32) -> u32
     ensures { result ≡ plus a b }
 {
     let sum = u64::from(a) + u64::from(b);
-    if sum > 131_072 { 131_073 } else { sum as u32 }
+    if sum > u64::from(MAX_CELLS) {
+        MAX_CELLS + 1
+    } else {
+        sum as u32
+    }
 }
 
 /// The cells of an array of `count` elements.
@@ -47,7 +51,7 @@ pub fn array_cells(at: Pos, count: u32, cells: u32) -> Elaborated<u32>
     match u64::from(count).checked_mul(u64::from(cells)) {
         None => report(at, Rule::LargeType),
         Some(all) => {
-            if all > 131_072 {
+            if all > u64::from(MAX_CELLS) {
                 return report(at, Rule::LargeType);
             }
             Ok(all as u32)

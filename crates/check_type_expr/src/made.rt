@@ -6,7 +6,7 @@ ghost use Rattle.check_scope.specs.Elaborated.{least};
 ghost use Rattle.check_expr.specs.Meanings.{part};
 ghost use Rattle.check_type_expr.specs.Made.{with_made, enumeration, scalar_named, bound_at, subrange, simple_place, simple_type, array_of, index_type, array_made, nothing_of, record_of, type_of, with_field_list, field_list};
 
-use crate::cells::{array_cells, count_at, is_index};
+use crate::cells::{MAX_CELLS, array_cells, count_at, is_index};
 use crate::field::{Fields, no_fields, with_names};
 use crate::heading::procedure_type;
 use crate::named::{first_of, named_type};
@@ -21,6 +21,9 @@ use typed_tree::{
     Home, INTEGER, Made, Meaning, Scalar, ScalarValue, Shape, TypeNo, Types, Value, cells_of,
     scalar_of,
 };
+
+/// How many constants an enumeration may have.
+const MAX_CONSTANTS: usize = 256;
 
 /// Makes a type.
 pub fn with_made(
@@ -63,7 +66,7 @@ fn enumeration(
         }),
         cells: 1,
     })?;
-    let mut elaborated = match names.get(256) {
+    let mut elaborated = match names.get(MAX_CONSTANTS) {
         None => Ok(()),
         Some(name) => report(name.pos, Rule::ConstantCount),
     };
@@ -240,7 +243,7 @@ fn record_of(at: Pos, fields: Fields, elaborated: Elaborated<()>) -> Elaborated<
     match elaborated {
         Err(breach) => Err(breach),
         Ok(()) => {
-            if fields.cells > 131_072 {
+            if fields.cells > MAX_CELLS {
                 return report(at, Rule::LargeType);
             }
             Ok(Made {

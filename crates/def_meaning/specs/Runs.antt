@@ -2,7 +2,7 @@
 use Rattle.std.specs.Prelude.{ℕ, suc, ◌+◌, ◌-◌, ◌*◌, [], ◌∷◌, length, map}
 use Rattle.typed_tree.specs.declared.typed_module.TypedModule.{TypedModule}
 use Rattle.layout_storage.specs.Types.{row, frame_of}
-use Rattle.layout_storage.specs.Sizes.{size}
+use Rattle.layout_storage.specs.Sizes.{size, page_size}
 use Rattle.layout_storage.specs.Frames.{module_row}
 use Rattle.layout_storage.specs.Texts.{module_texts, characters}
 use Rattle.def_meaning.specs.Store.{fresh}
@@ -20,7 +20,7 @@ data_size (m ∷ ms) = size (module_row m) + characters (module_texts m) + data_
 
 -- the storage of calls: what the pages leave, of which each body takes a frame while it runs
 abbrev pub storage : Modules → (pages : ℕ) → ℕ
-storage p pages = pages * 65536 - data_size p
+storage p pages = pages * page_size - data_size p
 
 abbrev pub body_frame : ℕ
 body_frame = size (frame_of [])

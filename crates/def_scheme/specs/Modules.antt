@@ -15,7 +15,7 @@ use Rattle.wasm_tree.specs.declared.module.Data.{Data}
 use Rattle.wasm_tree.specs.declared.module.WModule.{WModule}
 use Rattle.typed_tree.specs.declared.typed_module.TypedModule.{TypedModule}
 use Rattle.typed_tree.specs.declared.typed_module.Which.TheVariants as which
-use Rattle.layout_storage.specs.Sizes.{size}
+use Rattle.layout_storage.specs.Sizes.{size, page_size}
 use Rattle.layout_storage.specs.Frames.{module_row}
 use Rattle.layout_storage.specs.Texts.{Texts, characters, module_texts}
 use Rattle.def_scheme.specs.Scheme.{body_types, own_imports, imported_globals, host_imports, constant_global, exported_as, base_name, text_name, tab_name, type_from}
@@ -25,9 +25,13 @@ use Rattle.def_scheme.specs.Exprs.{Numbered}
 use Rattle.def_scheme.specs.Functions.{functions_from, module_function}
 use Rattle.def_scheme.specs.Signatures.{Signatures, signatures_needed, in_order, number_of, type_of}
 
--- a program's memory has at most this many pages, of 65536 bytes
+-- a program's memory has at most this many pages
 abbrev pub max_pages : ℕ
 max_pages = 1024
+
+-- the least bytes that its stack has
+abbrev pub least_stack : ℕ
+least_stack = 4096
 
 -- ---- the module of a body
 
@@ -145,7 +149,7 @@ link_of ms pages = record {
   tables =
       record { limits = record { min = 1 + all_slots ms; max = Some (1 + all_slots ms) } } ∷ [];
   memories = record { limits = record { min = pages; max = Some pages } } ∷ [];
-  globals = constant_global (65536 * pages) ∷ globals_from 0 1 ms;
+  globals = constant_global (page_size * pages) ∷ globals_from 0 1 ms;
   exports = exported_as (codes "memory") (exported.Memory 0)
       ∷ exported_as (codes "table") (exported.Table 0)
       ∷ exported_as (codes "limit") (exported.Global 0) ∷ (exports_from 1 ms

@@ -115,10 +115,26 @@ all_values (x ∷ xs) = values_of x + all_values xs
 abbrev pub span_of : List Label → ℕ
 span_of labels = suc (unsigned_abs (greatest_of labels -ℤ least_of labels))
 
+-- A table has at most this many arms and places, and at least this many values, and at most this
+-- many places for a value.
+abbrev pub max_arms : ℕ
+max_arms = 16
+
+abbrev pub max_span : ℕ
+max_span = 1024
+
+abbrev pub least_values : ℕ
+least_values = 4
+
+abbrev pub max_spread : ℕ
+max_spread = 4
+
 abbrev pub is_dense : (arms : ℕ) → List Label → Bool
 is_dense arms labels =
-    nat_le arms 16 && (nat_le 4 (all_values labels) && (nat_le (span_of labels) 1024
-    && nat_le (span_of labels) (4 * all_values labels)))
+    nat_le arms max_arms
+    && (nat_le least_values (all_values labels)
+    && (nat_le (span_of labels) max_span
+    && nat_le (span_of labels) (max_spread * all_values labels)))
 
 abbrev pub has_label : ℤ → Arm → Bool
 has_label v x = list_any (λ y. int_le y.low v && int_le v y.high) x.labels

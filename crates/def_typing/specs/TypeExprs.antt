@@ -30,6 +30,7 @@ use Rattle.def_typing.specs.Headings.{begins_at, procedure_made, AreParameters, 
 use Rattle.def_typing.specs.Things.{AValue, Standing, Known}
 use Rattle.def_typing.specs.TypeNames.{NamesType, BrokenTypeName}
 use Rattle.def_typing.specs.Subranges.{IsSubrange, BrokenSubrange}
+use Rattle.m2_tree.specs.Limits.{max_cells, max_constants}
 
 -- A name that is there already is refused.
 abbrev pub Twice : (List ℕ → Type 0) → List Ident → Breach → Type 0
@@ -137,8 +138,8 @@ module _ (exports : ℕ → Ident → Standing) (w : Setting) where
   pub data IsSimpleType : Simple → Added → TypeNo → Type 0 where
     named : {q : Qualified} {t : TypeNo} → NamesType w.names exports q t
         → IsSimpleType (simple.Named q) nothing_added t
-    -- An enumeration has at most 256 constants, with names that are new.
-    enumeration : {at : Pos} {xs : List Ident} → slice_get xs 256 ≡ None
+    -- An enumeration has at most max_constants constants, with names that are new.
+    enumeration : {at : Pos} {xs : List Ident} → slice_get xs max_constants ≡ None
         → ((f : Breach) → Twice (λ n. w.there n ≡ true) xs f → ⊥)
         → IsSimpleType (simple.Enumeration at xs) (enumeration_added (next_type w.types) xs)
         (next_type w.types)
@@ -165,7 +166,7 @@ module _ (exports : ℕ → Ident → Standing) (w : Setting) where
         → BrokenSimpleType (simple.Named q) f
     constant_twice : {at : Pos} {xs : List Ident} {f : Breach}
         → Twice (λ n. w.there n ≡ true) xs f → BrokenSimpleType (simple.Enumeration at xs) f
-    too_many : {at : Pos} {xs : List Ident} {x : Ident} → slice_get xs 256 ≡ Some x
+    too_many : {at : Pos} {xs : List Ident} {x : Ident} → slice_get xs max_constants ≡ Some x
         → BrokenSimpleType (simple.Enumeration at xs) (x.pos ! rule.ConstantCount)
     in_subrange : {of : Option Qualified} {at : Pos} {low high : Expr} {f : Breach}
         → BrokenSubrange w.types w.names exports low high of f
@@ -220,23 +221,23 @@ module _ (exports : ℕ → Ident → Standing) where
     pub data IsTypeOf : Setting → TypeExpr → Added → TypeNo → Type 0 where
       is_simple : {w : Setting} {e : TypeExpr} {x : Simple} {a : Added} {t : TypeNo}
           → out-TypeExpr e ≡ layer.Simple x → IsSimpleType exports w x a t → IsTypeOf w e a t
-      -- An array has at most 131072 cells.
+      -- An array has at most max_cells cells.
       is_array : {w : Setting} {e of : TypeExpr} {at : Pos} {index : Simple} {a b : Added}
           {i t : TypeNo} → out-TypeExpr e ≡ layer.Array at index of
           → IsSimpleType exports w index a i → IsIndex (behind w a).types i
           → IsTypeOf (behind w a) of b t
-          → nat_lt 131072 (size_of (behind (behind w a) b).types i t) ≡ false
+          → nat_lt max_cells (size_of (behind (behind w a) b).types i t) ≡ false
           → IsTypeOf w e (array_added w a b i t) (next_type (behind (behind w a) b).types)
       is_procedure : {w : Setting} {e : TypeExpr} {at : Pos} {xs : List Parameter}
           {q : Option Qualified} {s : Signature} → out-TypeExpr e ≡ layer.Procedure at xs q
           → AreParameters w.types w.names exports xs s.formals
           → GivesBack w.types w.names exports q s.result
           → IsTypeOf w e (type_added (procedure_made s)) (next_type w.types)
-      -- A record has at most 131072 cells, and no name twice.
+      -- A record has at most max_cells cells, and no name twice.
       is_record : {w : Setting} {e : TypeExpr} {at : Pos} {fields : List Field} {a : Added}
           {list : List (List ℕ × TypeNo)} {n : ℕ} → out-TypeExpr e ≡ layer.Record at fields
           → AreFields w fields a list n → ((f : Breach) → Twice (λ n. ⊥) (field_names fields) f → ⊥)
-          → nat_lt 131072 n ≡ false
+          → nat_lt max_cells n ≡ false
           → IsTypeOf w e (both_added a (type_added (record_made list n)))
           (next_type (behind w a).types)
 
@@ -300,7 +301,7 @@ module _ (exports : ℕ → Ident → Standing) where
           {i t : TypeNo} → out-TypeExpr e ≡ layer.Array at index of
           → IsSimpleType exports w index a i → IsIndex (behind w a).types i
           → IsTypeOf (behind w a) of b t
-          → nat_lt 131072 (size_of (behind (behind w a) b).types i t) ≡ true
+          → nat_lt max_cells (size_of (behind (behind w a) b).types i t) ≡ true
           → BrokenType w e (at ! rule.LargeType)
       in_fields : {w : Setting} {e : TypeExpr} {at : Pos} {fields : List Field} {f : Breach}
           → out-TypeExpr e ≡ layer.Record at fields → BrokenFields w fields f → BrokenType w e f
@@ -310,7 +311,7 @@ module _ (exports : ℕ → Ident → Standing) where
       too_many_cells : {w : Setting} {e : TypeExpr} {at : Pos} {fields : List Field} {a : Added}
           {list : List (List ℕ × TypeNo)} {n : ℕ} → out-TypeExpr e ≡ layer.Record at fields
           → AreFields w fields a list n → ((f : Breach) → Twice (λ n. ⊥) (field_names fields) f → ⊥)
-          → nat_lt 131072 n ≡ true → BrokenType w e (at ! rule.LargeType)
+          → nat_lt max_cells n ≡ true → BrokenType w e (at ! rule.LargeType)
 
     pub data BrokenFields : Setting → List Field → Breach → Type 0 where
       in_first : {w : Setting} {f : Field} {rest : List Field} {b : Breach}

@@ -1,13 +1,16 @@
 -- When the arms of a CASE are chosen by a table.
 use Rattle.std.specs.Prelude.{ℕ, suc, ◌+◌, ◌*◌, ◌-ℤ◌, min, unsigned_abs, nat_le, Bool, ◌&&◌, Option, Some, None, if◌then◌else◌}
 use Rattle.typed_tree.specs.declared.statement.Label.{Label}
-use Rattle.def_scheme.specs.Steps.{lesser, greater, values_of}
+use Rattle.def_scheme.specs.Steps.{lesser, greater, values_of, max_arms, max_span, least_values, max_spread}
 use Rattle.emit_stmt.specs.declared.plan.Bounds.{Bounds}
 use Rattle.emit_stmt.specs.declared.plan.Plan.{Plan}
 
--- this many of something, or 4096 if they are more
+-- up to here values are counted
+abbrev pub max_counted : ℕ
+max_counted = 4096
+
 abbrev pub few : ℕ → ℕ
-few n = min n 4096
+few n = min n max_counted
 
 abbrev pub with_few : ℕ → Label → ℕ
 with_few n x = few (n + few (values_of x))
@@ -27,7 +30,9 @@ gap_of b = unsigned_abs (b.greatest -ℤ b.least)
 
 abbrev pub dense : (arms gap values : ℕ) → Bool
 dense n gap values =
-    nat_le n 16 && (nat_le 4 values && (nat_le (suc gap) 1024 && nat_le (suc gap) (4 * values)))
+    nat_le n max_arms
+    && (nat_le least_values values
+    && (nat_le (suc gap) max_span && nat_le (suc gap) (max_spread * values)))
 
 abbrev pub plan_by : (arms : ℕ) → Option Bounds → Option Plan
 plan_by n None = None

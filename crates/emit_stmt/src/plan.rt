@@ -10,7 +10,22 @@ use std::alloc::Global;
 use typed_tree::{Label, TypedArm};
 use wasm_tree::{EncodeError, small};
 
-/// The least and the greatest value of labels, and how many values they have, or 4096.
+/// Up to here values are counted.
+const MAX_COUNTED: u64 = 4096;
+
+/// A table has at most this many arms.
+const MAX_ARMS: usize = 16;
+
+/// A table has at least this many values.
+const LEAST_VALUES: u32 = 4;
+
+/// A table has at most this many places.
+const MAX_SPAN: u64 = 1024;
+
+/// A table has at most this many places for a value.
+const MAX_SPREAD: u64 = 4;
+
+/// The least and the greatest value of labels, and how many values they have, up to `MAX_COUNTED`.
 #[derive(Clone, Copy, PartialEq, Eq)]
 pub struct Bounds {
     pub least: i64,
@@ -25,18 +40,18 @@ pub struct Plan {
     pub span: usize,
 }
 
-/// This many of something, or 4096 if they are more.
+/// This many of something, or `MAX_COUNTED` if they are more.
 fn few(n: u64) -> u32
     ensures { result ≡ few n }
 {
-    n.min(4096) as u32
+    n.min(MAX_COUNTED) as u32
 }
 
-/// How many values a label has, or 4096.
+/// How many values a label has, or `MAX_COUNTED`.
 fn values_of(label: Label) -> u32
     ensures { result ≡ few (values_of label) }
 {
-    few(label.high.abs_diff(label.low).min(4095) + 1)
+    few(label.high.abs_diff(label.low).min(MAX_COUNTED - 1) + 1)
 }
 
 fn lesser(x: i64, y: i64) -> i64
@@ -100,10 +115,14 @@ fn plan_by(count: usize, bounds: Option<Bounds>) -> Option<Plan>
         Some(bounds) => {
             let gap = bounds.greatest.abs_diff(bounds.least);
             let values = bounds.values;
-            if count <= 16 && values >= 4 && gap < 1024 && gap < 4 * u64::from(values) {
+            if count <= MAX_ARMS
+                && values >= LEAST_VALUES
+                && gap < MAX_SPAN
+                && gap < MAX_SPREAD * u64::from(values)
+            {
                 return Some(Plan {
                     least: bounds.least,
-                    span: gap.min(1023) as usize + 1,
+                    span: gap.min(MAX_SPAN - 1) as usize + 1,
                 });
             }
             None

@@ -17,6 +17,7 @@ use Rattle.law_encoding.specs.Nesting.{◌⊔◌, deepest_of, case_levels, depth
 use Rattle.law_encoding.specs.TypedNesting.{depth_body, depth_bodies}
 use Rattle.law_encoding.specs.CodeNesting.{levels, function_levels}
 use Rattle.law_encoding.specs.Counted.{AtMost}
+pub use Rattle.wasm_code.specs.Instructions.{max_levels}
 
 -- what an expression without brackets nests: one level, and one more as a second operand of a
 -- relation, of a sum and of a term
@@ -26,10 +27,6 @@ expression_levels = 4
 -- at each of the parser's levels a CASE, and at last an expression
 abbrev pub most_nesting : ℕ
 most_nesting = case_levels * max_nesting + expression_levels
-
--- the most levels that the blocks of a WebAssembly module may nest
-abbrev pub max_levels : ℕ
-max_levels = 4096
 
 -- The tree of a text nests no deeper than the parser's limit allows.
 abbrev pub TreesAreShallow : Type 0

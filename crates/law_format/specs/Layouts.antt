@@ -12,6 +12,7 @@ use Rattle.wasm_tree.specs.declared.module.Element.{Element}
 use Rattle.wasm_tree.specs.declared.module.Body.{Body}
 use Rattle.wasm_tree.specs.declared.module.Data.{Data}
 use Rattle.wasm_tree.specs.Format.{Format}
+use Rattle.wasm_code.specs.Bytes as byte
 use Rattle.wasm_code.specs.Number.{unsigned}
 use Rattle.wasm_code.specs.Parts.{◌·◌, as_value, entries}
 use Rattle.wasm_code.specs.Instructions.{code}
@@ -83,23 +84,24 @@ pub record Layout : Type 0 where
 
 abbrev pub last_marks : Layout → List Mark
 last_marks l =
-    section_marks 9 (entry_marks element_cells) l.elements
-    ++ (section_marks 10 bodies_marks l.bodies
-    ++ (section_marks 11 (entry_marks data_cells) l.segments ++ Last ∷ []))
+    section_marks byte.element_section (entry_marks element_cells) l.elements
+    ++ (section_marks byte.code_section bodies_marks l.bodies
+    ++ (section_marks byte.data_section (entry_marks data_cells) l.segments ++ Last ∷ []))
 
 abbrev pub middle_marks : Layout → List Mark
 middle_marks l =
-    section_marks 4 (entry_marks (plain table_type)) l.tables
-    ++ (section_marks 5 (entry_marks (plain memory_type)) l.memories
-    ++ (section_marks 6 (entry_marks global_cells) l.globals
-    ++ (section_marks 7 (entry_marks (plain export)) l.exports ++ last_marks l)))
+    section_marks byte.table_section (entry_marks (plain table_type)) l.tables
+    ++ (section_marks byte.memory_section (entry_marks (plain memory_type)) l.memories
+    ++ (section_marks byte.global_section (entry_marks global_cells) l.globals
+    ++ (section_marks byte.export_section (entry_marks (plain export)) l.exports ++ last_marks l)))
 
 abbrev pub layout_marks : Layout → List Mark
 layout_marks l =
     byte_marks (others header)
-    ++ (section_marks 1 (entry_marks func_type_cells) l.types
-    ++ (section_marks 2 (entry_marks import_cells) l.imports
-    ++ (section_marks 3 (entry_marks (plain unsigned)) l.functions ++ middle_marks l)))
+    ++ (section_marks byte.type_section (entry_marks func_type_cells) l.types
+    ++ (section_marks byte.import_section (entry_marks import_cells) l.imports
+    ++ (section_marks byte.function_section (entry_marks (plain unsigned)) l.functions
+    ++ middle_marks l)))
 
 -- ---- which of them can be encoded
 

@@ -16,6 +16,7 @@ use Rattle.wasm_tree.specs.declared.module.Element.{Element}
 use Rattle.wasm_tree.specs.declared.module.Locals.{Locals}
 use Rattle.wasm_tree.specs.declared.module.Data.{Data}
 use Rattle.wasm_tree.specs.Format.{Format}
+use Rattle.wasm_code.specs.Bytes as byte
 use Rattle.wasm_code.specs.Number.{unsigned, signed32, signed64}
 use Rattle.wasm_code.specs.Opcode.{numeric_opcode, load_opcode, store_opcode}
 use Rattle.wasm_code.specs.Parts.{vector, with_size, bytes_left, name}
@@ -66,7 +67,7 @@ vector_cells cells xs = others (unsigned.encoding (length xs)) ++ flat_map cells
 
 abbrev pub func_type_cells : FuncType → List Cell
 func_type_cells t =
-    (OtherByte, 0x60) ∷ (vector_cells value_type_cells t.params
+    (OtherByte, byte.func_type) ∷ (vector_cells value_type_cells t.params
     ++ vector_cells value_type_cells t.results)
 
 -- ---- code
@@ -77,40 +78,41 @@ opcode b bytes = (Opcode, b) ∷ others bytes
 
 abbrev pub else_cells : Option (List (List Cell)) → List Cell
 else_cells None = []
-else_cells (Some is) = (Opcode, 0x05) ∷ flat_map (λ i. i) is
+else_cells (Some is) = (Opcode, byte.else) ∷ flat_map (λ i. i) is
 
 -- an instruction, from the cells of each one inside it
 abbrev pub cells_step : Instr-F (List Cell) → List Cell
-cells_step layer.Unreachable = opcode 0x00 []
+cells_step layer.Unreachable = opcode byte.unreachable []
 cells_step (layer.Block t is) =
-    (Opcode, 0x02) ∷ (block_type_cells t ++ (flat_map (λ i. i) is ++ opcode 0x0B []))
+    (Opcode, byte.block) ∷ (block_type_cells t ++ (flat_map (λ i. i) is ++ opcode byte.end []))
 cells_step (layer.Loop t is) =
-    (Opcode, 0x03) ∷ (block_type_cells t ++ (flat_map (λ i. i) is ++ opcode 0x0B []))
+    (Opcode, byte.loop) ∷ (block_type_cells t ++ (flat_map (λ i. i) is ++ opcode byte.end []))
 cells_step (layer.If t is third) =
-    (Opcode, 0x04) ∷ (block_type_cells t ++ (flat_map (λ i. i) is ++ (else_cells third
-    ++ opcode 0x0B [])))
-cells_step (layer.Br l) = opcode 0x0C (unsigned.encoding l)
-cells_step (layer.BrIf l) = opcode 0x0D (unsigned.encoding l)
-cells_step (layer.BrTable ls l) = opcode 0x0E ((vector unsigned).encoding ls ++ unsigned.encoding l)
-cells_step layer.Return = opcode 0x0F []
-cells_step (layer.Call f) = opcode 0x10 (unsigned.encoding f)
-cells_step (layer.CallIndirect t) = opcode 0x11 (unsigned.encoding t ++ 0x00 ∷ [])
-cells_step layer.Drop = opcode 0x1A []
-cells_step (layer.LocalGet x) = opcode 0x20 (unsigned.encoding x)
-cells_step (layer.LocalSet x) = opcode 0x21 (unsigned.encoding x)
-cells_step (layer.LocalTee x) = opcode 0x22 (unsigned.encoding x)
-cells_step (layer.GlobalGet x) = opcode 0x23 (unsigned.encoding x)
+    (Opcode, byte.if) ∷ (block_type_cells t ++ (flat_map (λ i. i) is ++ (else_cells third
+    ++ opcode byte.end [])))
+cells_step (layer.Br l) = opcode byte.br (unsigned.encoding l)
+cells_step (layer.BrIf l) = opcode byte.br_if (unsigned.encoding l)
+cells_step (layer.BrTable ls l) =
+    opcode byte.br_table ((vector unsigned).encoding ls ++ unsigned.encoding l)
+cells_step layer.Return = opcode byte.return []
+cells_step (layer.Call f) = opcode byte.call (unsigned.encoding f)
+cells_step (layer.CallIndirect t) = opcode byte.call_indirect (unsigned.encoding t ++ 0x00 ∷ [])
+cells_step layer.Drop = opcode byte.drop []
+cells_step (layer.LocalGet x) = opcode byte.local_get (unsigned.encoding x)
+cells_step (layer.LocalSet x) = opcode byte.local_set (unsigned.encoding x)
+cells_step (layer.LocalTee x) = opcode byte.local_tee (unsigned.encoding x)
+cells_step (layer.GlobalGet x) = opcode byte.global_get (unsigned.encoding x)
 cells_step (layer.Load l) = opcode (load_opcode l) (0x00 ∷ 0x00 ∷ [])
 cells_step (layer.Store w) = opcode (store_opcode w) (0x00 ∷ 0x00 ∷ [])
-cells_step (layer.I32Const n) = opcode 0x41 (signed32.encoding n)
-cells_step (layer.I64Const n) = opcode 0x42 (signed64.encoding n)
+cells_step (layer.I32Const n) = opcode byte.i32_const (signed32.encoding n)
+cells_step (layer.I64Const n) = opcode byte.i64_const (signed64.encoding n)
 cells_step (layer.Numeric n) = opcode (numeric_opcode n) []
 
 unfoldable pub instr_cells : Instr → List Cell
 instr_cells = fold-Instr (List Cell) cells_step
 
 abbrev pub code_cells : List Instr → List Cell
-code_cells is = flat_map instr_cells is ++ opcode 0x0B []
+code_cells is = flat_map instr_cells is ++ opcode byte.end []
 
 -- ---- the entries of sections
 
@@ -119,13 +121,14 @@ import_kind_cells (imported.Function t) = others (import_kind.encoding (imported
 import_kind_cells (imported.Table t) = others (import_kind.encoding (imported.Table t))
 import_kind_cells (imported.Memory t) = others (import_kind.encoding (imported.Memory t))
 import_kind_cells (imported.Global t) =
-    (OtherByte, 0x03) ∷ (value_type_cells t ++ (OtherByte, 0x00) ∷ [])
+    (OtherByte, byte.of_global) ∷ (value_type_cells t ++ (OtherByte, byte.immutable) ∷ [])
 
 abbrev pub import_cells : Import → List Cell
 import_cells i = plain name i.module_name ++ (plain name i.name ++ import_kind_cells i.kind)
 
 abbrev pub global_cells : Global → List Cell
-global_cells g = (value_type_cells g.value_type ++ (OtherByte, 0x00) ∷ []) ++ code_cells g.value
+global_cells g =
+    (value_type_cells g.value_type ++ (OtherByte, byte.immutable) ∷ []) ++ code_cells g.value
 
 abbrev pub element_cells : Element → List Cell
 element_cells e =

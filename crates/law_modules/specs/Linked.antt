@@ -13,7 +13,7 @@ use Rattle.wasm_tree.specs.Validity.{AreDistinct}
 use Rattle.wasm_tree.specs.Machine.{Activation, Going}
 use Rattle.wasm_tree.specs.Linking.{link}
 use Rattle.typed_tree.specs.declared.typed_module.TypedModule.{TypedModule}
-use Rattle.layout_storage.specs.Sizes.{size}
+use Rattle.layout_storage.specs.Sizes.{size, page_size}
 use Rattle.layout_storage.specs.Frames.{module_row}
 use Rattle.layout_storage.specs.Texts.{characters, module_texts}
 use Rattle.def_scheme.specs.Modules.{slots, functions, all_characters, part_of, all_slots, stack_begin, calls_from, typed_module, typed_link}
@@ -130,7 +130,7 @@ link_instance p = record {
 -- ---- the store
 
 abbrev pub link_values : Program → (pages : ℕ) → List Value
-link_values p pages = I32 (65536 * pages) ∷ values 0 1 p
+link_values p pages = I32 (page_size * pages) ∷ values 0 1 p
 
 abbrev pub slots_in : Program → ℕ
 slots_in p = all_slots (map part_of p)
@@ -157,7 +157,7 @@ store p pages spare before rest = record {
 
 -- all of them
 abbrev pub linked_store : Program → (pages : ℕ) → Store
-linked_store p pages = store p pages (65536 * pages - bytes_in p) p []
+linked_store p pages = store p pages (page_size * pages - bytes_in p) p []
 
 -- link's run, before its first instruction
 abbrev pub begin : Program → Activation
@@ -181,7 +181,7 @@ pub record IsLinkable (p : Program) (pages : ℕ) : Type 0 where
   pub distinct : AreDistinct (names p)
   pub imports : All (λ m. All (IsAmong (names p)) (imported_names m)) p
   pub memory : 1 ≤ pages
-  pub room : bytes_in p ≤ 65536 * pages
+  pub room : bytes_in p ≤ page_size * pages
 
 abbrev pub ModulesLink : Type 0
 ModulesLink = (p : Program) (pages : ℕ) → IsLinkable p pages

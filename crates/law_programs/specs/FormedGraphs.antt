@@ -11,6 +11,8 @@ use Rattle.law_well_formed.specs.FormedKnown.{fits_module}
 use Rattle.law_programs.specs.FormedCoherent.{trees_of, AreBodiesIn}
 use Rattle.law_programs.specs.FormedTrees.{fits_contents}
 use Rattle.law_simulation.specs.Modules.{AreModules}
+use Rattle.layout_storage.specs.Sizes.{page_size}
+use Rattle.def_scheme.specs.Modules.{least_stack, max_pages}
 
 -- nothing of the module is too large
 pub record IsFit (m : TypedModule) : Type 0 where
@@ -29,6 +31,6 @@ GraphsAreModules =
     → AreBodiesIn (trees_of fs) files jobs starts p
     → AllByRecursion IsFit p
     → (pages : ℕ)
-    → bytes_in p + 4096 ≤ 65536 * pages
-    → pages ≤ 1024
+    → bytes_in p + least_stack ≤ page_size * pages
+    → pages ≤ max_pages
     → AreModules p

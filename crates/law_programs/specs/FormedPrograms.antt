@@ -11,6 +11,7 @@ use Rattle.law_modules.specs.WellFormed.{IsWellFormed}
 use Rattle.law_well_formed.specs.Formed.{Holds}
 use Rattle.build_jobs.specs.Compiling.{tables_of, typed_body}
 use Rattle.build_jobs.specs.Encoded.{needed_of}
+use Rattle.wasm_tree.specs.Limits.{max_memory}
 
 -- the modules of files
 abbrev pub trees_of : List (List ℕ × Module) → List Module
@@ -32,6 +33,6 @@ ProgramsAreValid = JobsMake (λ t. IsValid (typed_module t))
 
 -- and so is link, if it has an encoding and no two modules of the program have one name
 abbrev pub LinksAreValid : Type 0
-LinksAreValid = (ms : List TypedModule) (pages : ℕ) → pages ≤ 65536
+LinksAreValid = (ms : List TypedModule) (pages : ℕ) → pages ≤ max_memory
     → module_fits (typed_link ms pages) ≡ true → AreDistinct (map (λ m. m.name) ms)
     → IsValid (typed_link ms pages)

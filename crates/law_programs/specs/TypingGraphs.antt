@@ -9,6 +9,8 @@ use Rattle.law_well_formed.specs.FormedKnown.{fits_module}
 use Rattle.law_programs.specs.FormedCoherent.{trees_of, AreBodiesIn}
 use Rattle.law_programs.specs.FormedTrees.{fits_contents}
 use Rattle.law_simulation.specs.Modules.{AreTypedModules}
+use Rattle.layout_storage.specs.Sizes.{page_size}
+use Rattle.def_scheme.specs.Modules.{least_stack, max_pages}
 
 -- The files have this graph, and their trees fit, with the statements in them. There is room for
 -- the bodies that start in the pages.
@@ -22,6 +24,6 @@ GraphsAreTyped =
     → (p : Program)
     → AreBodiesIn (trees_of fs) files jobs starts p
     → (pages : ℕ)
-    → bytes_in p + 4096 ≤ 65536 * pages
-    → pages ≤ 1024
+    → bytes_in p + least_stack ≤ page_size * pages
+    → pages ≤ max_pages
     → AreTypedModules p pages

@@ -12,6 +12,8 @@ use Rattle.law_simulation.specs.RunsPrograms.{ground, fixtures_of}
 use Rattle.law_simulation.specs.Linked.{IsLinked}
 use Rattle.law_simulation.specs.Knows.{IsCoherent}
 use Rattle.law_simulation.specs.Modules.{AreModules, AreTypedModules}
+use Rattle.layout_storage.specs.Sizes.{page_size}
+use Rattle.def_scheme.specs.Modules.{least_stack, max_pages}
 
 -- linking gives each module what the code of typed bodies looks for
 abbrev pub ModulesLinked : Type 0
@@ -30,8 +32,8 @@ abbrev pub TypedBehave : Type 0
 TypedBehave =
     (p : Program) (pages : ℕ)
     → IsLinkable p pages
-    → bytes_in p + 4096 ≤ 65536 * pages
-    → pages ≤ 1024
+    → bytes_in p + least_stack ≤ page_size * pages
+    → pages ≤ max_pages
     → 1 + slots_in p < 2 ^ 32
     → AreModules p
     → AreTypedModules p pages

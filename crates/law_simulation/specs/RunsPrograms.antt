@@ -7,7 +7,7 @@ use Rattle.law_effect.specs.Bytes.{byte}
 use Rattle.law_effect.specs.Effect.{Fixed, nest_calls}
 use Rattle.typed_tree.specs.declared.typed_module.TypedModule.{TypedModule}
 use Rattle.layout_storage.specs.Types.{Ty, Hidden, row, IsFit}
-use Rattle.layout_storage.specs.Sizes.{offset}
+use Rattle.layout_storage.specs.Sizes.{offset, page_size}
 use Rattle.layout_storage.specs.Shapes.{tree}
 use Rattle.layout_storage.specs.Frames.{module_row}
 use Rattle.layout_storage.specs.Texts.{characters, module_texts}
@@ -26,7 +26,7 @@ abbrev pub module_type : TypedModule → Ty
 module_type m = row (map (tree m.types) m.variables ++ Hidden (characters (module_texts m)) ∷ [])
 
 abbrev pub first_bytes : Program → (pages : ℕ) → List ℕ
-first_bytes p pages = image p ++ replicate (65536 * pages - bytes_in p) 0
+first_bytes p pages = image p ++ replicate (page_size * pages - bytes_in p) 0
 
 -- the instances of all modules, with the texts that stand there when the program begins
 abbrev pub ground : Program → (pages : ℕ) → Ground
@@ -34,7 +34,7 @@ ground p pages = record {
   program = p;
   base = map module_type p;
   texts = λ l k. byte (offset (row (map module_type p)) l + k) (first_bytes p pages);
-  limit = 65536 * pages;
+  limit = page_size * pages;
 }
 
 -- the variables are of types of the language, and the texts are bytes

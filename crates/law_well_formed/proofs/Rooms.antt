@@ -7,7 +7,7 @@ use Rattle.typed_tree.specs.declared.typed_module.Routine.{Routine}
 use Rattle.typed_tree.specs.declared.typed_module.TypedModule.{TypedModule}
 use Rattle.layout_storage.specs.Sizes.{size}
 use Rattle.layout_storage.specs.Frames.{frame}
-use Rattle.layout_storage.specs.Layouts.{most, with_size, with_frame, least_with, data_too_large}
+use Rattle.layout_storage.specs.Layouts.{max_storage, with_size, with_frame, least_with, data_too_large}
 use Rattle.law_well_formed.proofs.ImportsLists.{all_each}
 use Rattle.law_well_formed.specs.FormedFrames.{HasRoom, FramesHaveRoom}
 
@@ -16,12 +16,12 @@ pub record Fits (found : Option Pos) (n : ℕ) : Type 0 where
   pub before : found ≡ None
   pub small : n < 2 ^ 31
 
-fits_by : (b : Bool) (found : Option Pos) (n : ℕ) (at : Pos) → nat_lt most n ≡ b → (if b then Some (least_with found at) else found) ≡ None → Fits found n
+fits_by : (b : Bool) (found : Option Pos) (n : ℕ) (at : Pos) → nat_lt max_storage n ≡ b → (if b then Some (least_with found at) else found) ≡ None → Fits found n
 fits_by true found n at h e = absurd cc
 fits_by false found n at h e = record { before = e; small = grind (arith, h) }
 
 fits : (found : Option Pos) (n : ℕ) (at : Pos) → with_size found n at ≡ None → Fits found n
-fits found n at e = fits_by (nat_lt most n) found n at refl e
+fits found n at e = fits_by (nat_lt max_storage n) found n at refl e
 
 -- the same of the frames of a list
 all_fit : (m : TypedModule) (found : Option Pos) (rs : List Routine) → fold (with_frame m.types) found rs ≡ None → (found ≡ None) × AllByRecursion (HasRoom m) rs

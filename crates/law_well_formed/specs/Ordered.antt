@@ -15,6 +15,7 @@ use Rattle.check_type_expr.specs.Cells.{count_at}
 use Rattle.layout_storage.specs.Shapes.{shape_tree, known_trees, tree}
 use Rattle.law_modules.specs.There.{is_type_from, is_type, are_whole}
 pub use Rattle.law_modules.specs.There.{result_named, named_by}
+pub use Rattle.m2_tree.specs.Limits.{max_cells}
 
 -- ---- types that are known
 
@@ -29,10 +30,6 @@ abbrev pub AreKnown : Types → List TypeNo → Type 0
 AreKnown types ts = AllByRecursion (λ t. is_known types t ≡ true) ts
 
 -- ---- cells
-
--- how many cells a type has at most
-abbrev pub max_cells : ℕ
-max_cells = 131072
 
 abbrev pub cells_of_fields : Types → List (List ℕ × TypeNo) → ℕ
 cells_of_fields types [] = 0

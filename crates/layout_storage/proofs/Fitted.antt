@@ -20,7 +20,7 @@ use Rattle.layout_storage.specs.Types.{Ty, Cell, Hidden, Array, Nothing, Field, 
 use Rattle.layout_storage.specs.Sizes.{Room, One, Two, Four, bytes_in, room_of, size, offset}
 use Rattle.layout_storage.specs.Shapes.{Trees, shape_tree, or_nothing, in_module, scalar_kind, scalar_tree, tree_from, with_made, module_trees, with_module, other_trees, known_trees, tree}
 use Rattle.layout_storage.specs.Extents.{element_tree}
-use Rattle.layout_storage.specs.Layouts.{most}
+use Rattle.layout_storage.specs.Layouts.{max_storage}
 use Rattle.layout_storage.specs.Fitting.{type_fits, made_type, numbers_fit, module_fits, types_fit}
 use Rattle.layout_storage.proofs.Sized.{less_capped}
 
@@ -34,12 +34,12 @@ not_true : (b : Bool) → not b ≡ true → b ≡ false
 not_true true h = cc h
 not_true false h = refl
 
-small : (t : Ty) → type_fits t ≡ true → size t ≤ most
-small t h = ltb-false most (size t) (not_true (nat_lt most (size t)) h)
+small : (t : Ty) → type_fits t ≡ true → size t ≤ max_storage
+small t h = ltb-false max_storage (size t) (not_true (nat_lt max_storage (size t)) h)
 
 -- a test of a capped size is one of the size
-pub fits_is : (n : ℕ) (t : Ty) → n ≡ cap_size (size t) → not (nat_lt most n) ≡ type_fits t
-fits_is n t e = ap (λ (k : ℕ). not (nat_lt most k)) e ∙ ap not (less_capped (size t))
+pub fits_is : (n : ℕ) (t : Ty) → n ≡ cap_size (size t) → not (nat_lt max_storage n) ≡ type_fits t
+fits_is n t e = ap (λ (k : ℕ). not (nat_lt max_storage k)) e ∙ ap not (less_capped (size t))
 
 -- ---- numbers
 
@@ -122,37 +122,37 @@ module _ (types : Types) (fit : types_fit types ≡ true) where
       ((entry_fits types types.others true parts_fit.0).1 h k) (nat_eq h types.home) refl
       (ap (λ (es : List (ℕ × ℕ)). lookup (nat_eq h) es) (sym lengths_known) ∙ lookup_length (nat_eq h) (known_trees types) ∙ q)
 
-  at_number : (home n : ℕ) (ts : List Ty) → lookup (nat_eq home) (known_trees types) ≡ Some ts → (x : Option Ty) → slice_get ts n ≡ x → size (in_module (lookup (nat_eq home) (known_trees types)) n) ≤ most
+  at_number : (home n : ℕ) (ts : List Ty) → lookup (nat_eq home) (known_trees types) ≡ Some ts → (x : Option Ty) → slice_get ts n ≡ x → size (in_module (lookup (nat_eq home) (known_trees types)) n) ≤ max_storage
   unfolding size
   at_number home n ts e None f =
-      subst (λ (o : Option (List Ty)). size (in_module o n) ≤ most) (sym e) (subst (λ (x : Option Ty). size (or_nothing x) ≤ most) (sym f) (lit≤ tt))
+      subst (λ (o : Option (List Ty)). size (in_module o n) ≤ max_storage) (sym e) (subst (λ (x : Option Ty). size (or_nothing x) ≤ max_storage) (sym f) (lit≤ tt))
   at_number home n ts e (Some t) f =
       small (tree types (made_type home n)) (number_fits types home (length ts) n (of_length home (length ts) (ap (λ (o : Option (List Ty)). option_map length o) e)) (slice_get_within ts n t f))
 
-  in_home : (home n : ℕ) (o : Option (List Ty)) → lookup (nat_eq home) (known_trees types) ≡ o → size (in_module (lookup (nat_eq home) (known_trees types)) n) ≤ most
+  in_home : (home n : ℕ) (o : Option (List Ty)) → lookup (nat_eq home) (known_trees types) ≡ o → size (in_module (lookup (nat_eq home) (known_trees types)) n) ≤ max_storage
   unfolding size
-  in_home home n None e = subst (λ (o : Option (List Ty)). size (in_module o n) ≤ most) (sym e) (lit≤ tt)
+  in_home home n None e = subst (λ (o : Option (List Ty)). size (in_module o n) ≤ max_storage) (sym e) (lit≤ tt)
   in_home home n (Some ts) e = at_number home n ts e (slice_get ts n) refl
 
-  room_small : (r : Room) → bytes_in r ≤ most
+  room_small : (r : Room) → bytes_in r ≤ max_storage
   room_small One = lit≤ tt
   room_small Two = lit≤ tt
   room_small Four = lit≤ tt
 
-  scalar_small : (t : TypeNo) (o : Option Range) → size (scalar_tree t o) ≤ most
+  scalar_small : (t : TypeNo) (o : Option Range) → size (scalar_tree t o) ≤ max_storage
   unfolding size
   scalar_small t None = lit≤ tt
   scalar_small t (Some s) = room_small (room_of (scalar_kind t s))
 
-  from_small : (t : TypeNo) (h : Home) → size (tree_from (known_trees types) t h) ≤ most
+  from_small : (t : TypeNo) (h : Home) → size (tree_from (known_trees types) t h) ≤ max_storage
   from_small t Predeclared = scalar_small t (predeclared_scalar t.number)
   from_small t (Module home) = in_home home t.number (lookup (nat_eq home) (known_trees types)) refl
 
-  pub all_small : (t : TypeNo) → size (tree types t) ≤ most
+  pub all_small : (t : TypeNo) → size (tree types t) ≤ max_storage
   all_small t = from_small t t.home
 
 -- what is not cut
-pub uncut : (n : ℕ) → n ≤ most → cap_size n ≡ n
+pub uncut : (n : ℕ) → n ≤ max_storage → cap_size n ≡ n
 uncut n h = omega arith
 
 -- ---- components
@@ -204,12 +204,12 @@ pub element_exact : (types : Types) (t : TypeNo) (n : ℕ) → n ≡ cap_size (s
     → (k : ℕ) (u : Ty) → component (tree types t) (k ∷ []) ≡ Some u → n ≡ size (element_tree (tree types t))
 element_exact types t n e f k u h =
     let l : size (element_tree (tree types t)) ≤ size (tree types t) = element_within (tree types t) k u h in
-    let m : size (tree types t) ≤ most = all_small types f t in
+    let m : size (tree types t) ≤ max_storage = all_small types f t in
     e ∙ uncut (size (element_tree (tree types t))) (omega arith)
 
 pub field_exact : (types : Types) (t : TypeNo) (k n : ℕ) → n ≡ cap_size (offset (tree types t) (k ∷ [])) → types_fit types ≡ true
     → (u : Ty) → component (tree types t) (k ∷ []) ≡ Some u → n ≡ offset (tree types t) (k ∷ [])
 field_exact types t k n e f u h =
     let l : offset (tree types t) (k ∷ []) ≤ size (tree types t) = within (tree types t) k u h in
-    let m : size (tree types t) ≤ most = all_small types f t in
+    let m : size (tree types t) ≤ max_storage = all_small types f t in
     e ∙ uncut (offset (tree types t) (k ∷ [])) (omega arith)

@@ -17,7 +17,7 @@ use Rattle.layout_storage.specs.Frames.{frame, module_row}
 use Rattle.layout_storage.specs.Texts.{characters, module_texts}
 use Rattle.layout_storage.specs.Extents.{row_of, start_in}
 use Rattle.layout_storage.specs.Rows.{frame_row}
-use Rattle.layout_storage.specs.Layouts.{most, FramesFit, AllFits, IsLayout, routine_of}
+use Rattle.layout_storage.specs.Layouts.{max_storage, FramesFit, AllFits, IsLayout, routine_of}
 use Rattle.layout_storage.proofs.Rows.{fields_row, row_is, offset_nil, start_is}
 use Rattle.layout_storage.proofs.Sized.{frame_size}
 
@@ -29,7 +29,7 @@ within [] k = omega arith
 within (t ∷ ts) zero = let e : offset t [] ≡ 0 = offset_nil t in omega (arith, e)
 within (t ∷ ts) (suc k) = let l : offset (row ts) (k ∷ []) ≤ size (row ts) = within ts k in omega (arith, l)
 
-kept_whole : (n : ℕ) → n ≤ most → cap_size n ≡ n
+kept_whole : (n : ℕ) → n ≤ max_storage → cap_size n ≡ n
 kept_whole n l = omega (arith, l)
 
 from_nothing : (n : ℕ) → cap_size (0 + n) ≡ cap_size n
@@ -39,7 +39,7 @@ start_at : (ts : List Ty) (k : ℕ) → start_in (row_of 0 (map size ts)) k ≡ 
 start_at ts k = subst (λ (ns : List ℕ). start_in (row_of 0 ns) k ≡ cap_size (offset (row ts) (k ∷ []))) (fields_row ts)
     (start_is 0 (row ts) k (row_is ts) ∙ from_nothing (offset (row ts) (k ∷ [])))
 
-small_enough : (n k b : ℕ) → n ≤ k → k + b ≤ most → n ≤ most
+small_enough : (n k b : ℕ) → n ≤ k → k + b ≤ max_storage → n ≤ max_storage
 small_enough n k b l h = omega (arith, l, h)
 
 pub offset_fits : (m : TypedModule) (x : Layout) → IsLayout m x → AllFits m → (k n : ℕ) → n ≡ start_in x.variables k → n ≡ offset (module_row m) (k ∷ [])

@@ -20,16 +20,16 @@ use Rattle.layout_storage.specs.Frames.{frame, module_row, variable_trees}
 use Rattle.layout_storage.specs.Texts.{characters, module_texts}
 use Rattle.layout_storage.specs.Extents.{total}
 use Rattle.layout_storage.specs.Rows.{variables_row, frame_row}
-use Rattle.layout_storage.specs.Layouts.{most, too_large, least_with, with_size, with_frame, data_too_large, with_routine, together, IsWithoutFrames, IsChecked, FramesFit, AllFits}
+use Rattle.layout_storage.specs.Layouts.{max_storage, too_large, least_with, with_size, with_frame, data_too_large, with_routine, together, IsWithoutFrames, IsChecked, FramesFit, AllFits}
 use Rattle.layout_storage.proofs.Capping.{sum_both, from_nought}
 use Rattle.layout_storage.proofs.Rows.{fields_row, fields_sum, row_is}
 
-less_case : (n : ℕ) (b : Bool) → nat_lt most n ≡ b → nat_lt most (cap_size n) ≡ b
-less_case n true e = let h : most < n = ltb-true most n e in lt-ltb most (cap_size n) (omega arith)
-less_case n false e = let h : n ≤ most = ltb-false most n e in le-ltb most (cap_size n) (omega arith)
+less_case : (n : ℕ) (b : Bool) → nat_lt max_storage n ≡ b → nat_lt max_storage (cap_size n) ≡ b
+less_case n true e = let h : max_storage < n = ltb-true max_storage n e in lt-ltb max_storage (cap_size n) (omega arith)
+less_case n false e = let h : n ≤ max_storage = ltb-false max_storage n e in le-ltb max_storage (cap_size n) (omega arith)
 
-pub less_capped : (n : ℕ) → nat_lt most (cap_size n) ≡ nat_lt most n
-less_capped n = less_case n (nat_lt most n) refl
+pub less_capped : (n : ℕ) → nat_lt max_storage (cap_size n) ≡ nat_lt max_storage n
+less_capped n = less_case n (nat_lt max_storage n) refl
 
 abbrev sized : Option Pos → Pos → Bool → Option Pos
 sized found at true = Some (least_with found at)
@@ -40,7 +40,7 @@ same_sized found n at true = refl
 same_sized found n at false = refl
 
 size_capped : (found : Option Pos) (n : ℕ) (at : Pos) → with_size found (cap_size n) at ≡ with_size found n at
-size_capped found n at = same_sized found n at (nat_lt most (cap_size n)) ∙ ap (λ (b : Bool). sized found at b) (less_capped n) ∙ sym (same_sized found n at (nat_lt most n))
+size_capped found n at = same_sized found n at (nat_lt max_storage (cap_size n)) ∙ ap (λ (b : Bool). sized found at b) (less_capped n) ∙ sym (same_sized found n at (nat_lt max_storage n))
 
 -- ---- rows and frames
 
@@ -89,20 +89,20 @@ checked m x h found ps ls all e f g a =
 
 -- ---- where nothing is reported, all fits
 
-size_none : (found : Option Pos) (n : ℕ) (at : Pos) (b : Bool) → nat_lt most n ≡ b → (if b then Some (least_with found at) else found) ≡ None → (found ≡ None) × (n ≤ most)
+size_none : (found : Option Pos) (n : ℕ) (at : Pos) (b : Bool) → nat_lt max_storage n ≡ b → (if b then Some (least_with found at) else found) ≡ None → (found ≡ None) × (n ≤ max_storage)
 size_none found n at true e h = cc h
-size_none found n at false e h = (h, ltb-false most n e)
+size_none found n at false e h = (h, ltb-false max_storage n e)
 
 frames_none : (types : Types) (found : Option Pos) (rs : List Routine) → fold (with_frame types) found rs ≡ None → (found ≡ None) × FramesFit types rs
 frames_none types found [] h = (h, tt)
 frames_none types found (r ∷ rs) h =
     let p = frames_none types (with_frame types found r) rs h in
-    let q = size_none found (size (frame types r)) r.pos (nat_lt most (size (frame types r))) refl p.0 in
+    let q = size_none found (size (frame types r)) r.pos (nat_lt max_storage (size (frame types r))) refl p.0 in
     (q.0, (q.1, p.1))
 
 pub all_fits : (m : TypedModule) → too_large m ≡ None → AllFits m
 all_fits m h =
     let l = frames_none m.types (fold (with_frame m.types) (data_too_large m) m.procedures) m.locals h in
     let p = frames_none m.types (data_too_large m) m.procedures l.0 in
-    let d = size_none None (size (module_row m) + characters (module_texts m)) m.pos (nat_lt most (size (module_row m) + characters (module_texts m))) refl p.0 in
+    let d = size_none None (size (module_row m) + characters (module_texts m)) m.pos (nat_lt max_storage (size (module_row m) + characters (module_texts m))) refl p.0 in
     record { bytes = d.1; procedures = p.1; locals = l.1 }

@@ -1,5 +1,5 @@
--- Whether each type that a module knows has at most 16777216 bytes, so that its sizes and offsets
--- are not cut.
+-- Whether each type that a module knows has at max_storage 16777216 bytes, so that its sizes and
+-- offsets are not cut.
 use Rattle.std.specs.Prelude.{ℕ, zero, suc, Bool, true, not, ◌&&◌, nat_lt, List, length}
 use Rattle.std.specs.List.{fold}
 use Rattle.typed_tree.specs.declared.types.Home.TheVariants.{Module}
@@ -9,10 +9,10 @@ use Rattle.typed_tree.specs.declared.known_types.Types.{Types}
 use Rattle.layout_storage.specs.Types.{Ty}
 use Rattle.layout_storage.specs.Sizes.{size}
 use Rattle.layout_storage.specs.Shapes.{tree}
-use Rattle.layout_storage.specs.Layouts.{most}
+use Rattle.layout_storage.specs.Layouts.{max_storage}
 
 abbrev pub type_fits : Ty → Bool
-type_fits t = not (nat_lt most (size t))
+type_fits t = not (nat_lt max_storage (size t))
 
 abbrev pub made_type : (home number : ℕ) → TypeNo
 made_type home n = record { home = Module home; number = n }

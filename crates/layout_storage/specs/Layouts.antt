@@ -22,8 +22,8 @@ use Rattle.layout_storage.specs.Counted.{character_count}
 -- ---- what does not fit
 
 -- how many bytes the variables and texts of a module may have, and a frame
-abbrev pub most : ℕ
-most = 16777216
+abbrev pub max_storage : ℕ
+max_storage = 16777216
 
 abbrev pub is_before : Pos → Pos → Bool
 is_before p q = nat_lt p.line q.line || (p.line == q.line && nat_lt p.col q.col)
@@ -34,7 +34,7 @@ least_with (Some q) p = if is_before p q then p else q
 
 -- one more size, with its place
 abbrev pub with_size : Option Pos → ℕ → Pos → Option Pos
-with_size found n at = if nat_lt most n then Some (least_with found at) else found
+with_size found n at = if nat_lt max_storage n then Some (least_with found at) else found
 
 abbrev pub with_frame : Types → Option Pos → Routine → Option Pos
 with_frame types found r = with_size found (size (frame types r)) r.pos
@@ -63,11 +63,11 @@ pub record IsLayout (m : TypedModule) (x : Layout) : Type 0 where
 
 abbrev pub FramesFit : Types → List Routine → Type 0
 FramesFit types [] = Unit {0}
-FramesFit types (r ∷ rs) = (size (frame types r) ≤ most) × FramesFit types rs
+FramesFit types (r ∷ rs) = (size (frame types r) ≤ max_storage) × FramesFit types rs
 
 -- so what is kept of the variables and of frames is not cut
 pub record AllFits (m : TypedModule) : Type 0 where
-  pub bytes : size (module_row m) + characters (module_texts m) ≤ most
+  pub bytes : size (module_row m) + characters (module_texts m) ≤ max_storage
   pub procedures : FramesFit m.types m.procedures
   pub locals : FramesFit m.types m.locals
 

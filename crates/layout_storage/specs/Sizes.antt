@@ -49,3 +49,7 @@ offset (Array n t) (i ∷ p) = i * size t + offset t p
 offset Nothing (i ∷ p) = 0
 offset (Field t others) (zero ∷ p) = offset t p
 offset (Field t others) (suc i ∷ p) = size t + offset others (i ∷ p)
+
+-- the bytes of a page of memory
+abbrev pub page_size : ℕ
+page_size = 65536

@@ -46,6 +46,9 @@ pub struct Frames {
     pub too_large: Option<Pos>,
 }
 
+/// How many bytes the variables and texts of a module may have, and a frame.
+const MAX_STORAGE: u32 = 16_777_216;
+
 fn is_before(p: Pos, q: Pos) -> bool
     ensures { result ≡ is_before p q }
 {
@@ -55,7 +58,7 @@ fn is_before(p: Pos, q: Pos) -> bool
 fn with_size(found: Option<Pos>, bytes: u32, at: Pos) -> Option<Pos>
     ensures { result ≡ with_size found bytes at }
 {
-    if bytes <= 16_777_216 {
+    if bytes <= MAX_STORAGE {
         return found;
     }
     match found {

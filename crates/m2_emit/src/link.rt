@@ -15,7 +15,7 @@ use std::alloc::{AllocError, Global};
 use tree_parts::Items;
 use wasm_tree::{
     Code, EncodeError, Export, ExportKind, FuncType, Function, Global as Constant, Limits,
-    MemoryType, Op, TableType, ValueType, WModule, plus,
+    MemoryType, Op, PAGE_SIZE, TableType, ValueType, WModule, plus,
 };
 
 /// Where the stack begins: behind the variables and texts of all modules.
@@ -162,7 +162,7 @@ pub fn link_of(alloc: Global, modules: &[&ModuleBytes], pages: u32) -> Result<WM
     let slots = fixed_limits(plus(1, all_slots(modules)?)?);
     let stack = stack_begin(modules)?;
     let run = helper(alloc, 0, calls(alloc, stack, modules)?);
-    let mut globals = one(alloc, constant_global(alloc, 65536 * pages)?)?;
+    let mut globals = one(alloc, constant_global(alloc, PAGE_SIZE * pages)?)?;
     push_globals(alloc, &mut globals, modules)?;
     Ok(WModule {
         types: link_types(alloc)?,

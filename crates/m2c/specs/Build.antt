@@ -22,7 +22,7 @@ use Rattle.def_meaning.specs.Environment.{Modules}
 use Rattle.def_meaning.specs.Answer.{halt_status, Ended}
 use Rattle.def_meaning.specs.Runs.{data_size, run}
 use Rattle.law_nothing_missing.specs.Runs.{strict_run}
-use Rattle.def_scheme.specs.Modules.{typed_module, typed_link}
+use Rattle.def_scheme.specs.Modules.{typed_module, typed_link, least_stack}
 use Rattle.m2_emit.specs.declared.emitted.ModuleBytes.{ModuleBytes}
 use Rattle.law_simulation.specs.Behaves.{Behaves}
 use Rattle.law_orders.specs.Order.{IsOrder}
@@ -38,6 +38,7 @@ use Rattle.m2c.specs.Order.{AreInOrder}
 use Rattle.build_jobs.specs.Reading.{AreRead}
 use Rattle.build_jobs.specs.Jobs.{all_compiled}
 use Rattle.m2c.specs.Modules.{result_of, modules_at, AreTyped}
+use Rattle.layout_storage.specs.Sizes.{page_size}
 
 -- ---- what is reported
 
@@ -195,7 +196,7 @@ pub record AreUncompiled (files : List SourceFile) (refusals : List Refusal) : T
 
 -- the bytes of the variables and texts of a program, and of the least stack that it may have
 abbrev pub data_and_stack : Modules → ℕ
-data_and_stack p = data_size p + 4096
+data_and_stack p = data_size p + least_stack
 
 -- the file of the program module
 abbrev pub is_program_part : Contents → Bool
@@ -218,7 +219,7 @@ pub record IsTooLarge (files : List SourceFile) (pages : ℕ) (refusals : List R
   pub none : refused_by trees numbers all_jobs ≡ []
   pub program : Modules
   pub typed : AreTyped (modules trees) numbers all_jobs starts program
-  pub too_large : 65536 * pages < data_and_stack program
+  pub too_large : page_size * pages < data_and_stack program
   pub reported :
       AreReported (reported_at (program_file trees) 1 1 (number_of rule.LargeProgram) ∷ []) refusals
 
@@ -238,7 +239,7 @@ pub record IsProgram (files : List SourceFile) (pages : ℕ) (link : List ℕ)
   pub none : refused_by trees numbers all_jobs ≡ []
   pub program : Modules
   pub typed : AreTyped (modules trees) numbers all_jobs starts program
-  pub fits : data_and_stack program ≤ 65536 * pages
+  pub fits : data_and_stack program ≤ page_size * pages
   pub code : IsCode program pages link built
   pub links : (c : Config) × (linked (typed_link program pages ∷ map typed_module program) ≡ Ok c)
   pub valid : All IsValid (typed_link program pages ∷ map typed_module program)

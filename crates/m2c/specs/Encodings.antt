@@ -8,6 +8,7 @@ use Rattle.def_scheme.specs.Modules.{max_pages, typed_module, typed_link}
 use Rattle.build_jobs.specs.declared.file.SourceFile.{SourceFile}
 use Rattle.m2c.specs.Modules.{AreTyped}
 use Rattle.m2c.specs.Build.{modules, refused_by, data_and_stack, HaveGraph}
+use Rattle.layout_storage.specs.Sizes.{page_size}
 
 -- No module of the files breaks a rule, and the data of the program fits into the pages. Then the
 -- module link has an encoding, and so has the module of each body: all numbers of its code fit, and
@@ -23,5 +24,5 @@ ProgramsFit =
     → (pages : ℕ)
     → 1 ≤ pages
     → pages ≤ max_pages
-    → data_and_stack p ≤ 65536 * pages
+    → data_and_stack p ≤ page_size * pages
     → list_all module_fits (typed_link p pages ∷ map typed_module p) ≡ true

@@ -11,6 +11,7 @@ use Rattle.build_jobs.specs.Reading.{AreRead}
 use Rattle.m2c.specs.Modules.{AreTyped}
 use Rattle.m2c.specs.declared.files.Outcome.{Outcome}
 use Rattle.m2c.specs.Build.{modules, refused_of, refused_by, data_and_stack, AreTrees, HaveGraph, IsProgram, IsBuilt, AreAlike}
+use Rattle.layout_storage.specs.Sizes.{page_size}
 
 -- Texts break rules of tokens or of the grammar.
 pub record BreakTexts (files : List SourceFile) : Type 0 where
@@ -43,7 +44,7 @@ pub record AreLarge (files : List SourceFile) (pages : ℕ) : Type 0 where
   pub none : refused_by trees numbers all_jobs ≡ []
   pub program : Modules
   pub typed : AreTyped (modules trees) numbers all_jobs starts program
-  pub too_large : 65536 * pages < data_and_stack program
+  pub too_large : page_size * pages < data_and_stack program
 
 -- There are modules for the program: the bytes of link, and a name and bytes for each other.
 pub record HaveModules (files : List SourceFile) (pages : ℕ) : Type 0 where

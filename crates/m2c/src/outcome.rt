@@ -2,7 +2,8 @@
 
 ghost use Rattle.std.specs.Prelude.{◌≡◌, ◌≤◌, ◌+◌, ◌*◌, ◌∷◌, [], length, map, nat_lt, IfOk};
 ghost use Rattle.m2_emit.specs.Emitted.{parts};
-ghost use Rattle.def_scheme.specs.Modules.{max_pages, stack_begin};
+ghost use Rattle.layout_storage.specs.Sizes.{page_size};
+ghost use Rattle.def_scheme.specs.Modules.{least_stack, max_pages, stack_begin};
 ghost use Rattle.m2_graph.specs.Files.{number_files};
 ghost use Rattle.m2_graph.specs.Graph.{CompileEach};
 ghost use Rattle.m2_graph.specs.Jobs.{ArePlaces};
@@ -29,13 +30,10 @@ use pool_board::Gate;
 use std::alloc::{AllocError, AllocFailed, Global};
 use std::thread;
 use std::thread::Threads;
-use wasm_tree::EncodeError;
+use wasm_tree::{EncodeError, PAGE_SIZE};
 
 /// The least stack, in bytes, that a program has.
 const LEAST_STACK: u64 = 4096;
-
-/// A page of memory, in bytes.
-const PAGE: u64 = 65536;
 
 fn is_program(tree: &Module) -> bool
     ensures { result ≡ is_program_part tree.now.contents }
@@ -85,9 +83,9 @@ fn too_large(alloc: Global, trees: &[(&str, &Module)]) -> Result<Vec<Refusal>, A
 fn is_too_large(modules: &[&ModuleBytes], pages: u32) -> bool
     requires { length modules.now ≤ max_files }
     ensures { let ms = parts (map (λ m. m.now) modules.now) in
-        result ≡ nat_lt (65536 * pages) (stack_begin ms + 4096) }
+        result ≡ nat_lt (page_size * pages) (stack_begin ms + least_stack) }
 {
-    data_size(modules) + LEAST_STACK > PAGE * u64::from(pages)
+    data_size(modules) + LEAST_STACK > u64::from(PAGE_SIZE) * u64::from(pages)
 }
 
 /// The modules of the program that a graph has, if no module breaks a rule and the data fits.
@@ -108,7 +106,8 @@ fn build_modules(
     requires modules { map (λ m. m.now) modules.now
         ≡ start_modules (borrow_trees trees.now) graph.now.files.items
         (map (λ j. j.items) graph.now.jobs.items) graph.now.starts.items }
-    requires fits { stack_begin (parts (map (λ m. m.now) modules.now)) + 4096 ≤ 65536 * pages }
+    requires fits { stack_begin (parts (map (λ m. m.now) modules.now)) + least_stack
+        ≤ page_size * pages }
     ensures { IfOk result (IsBuilt files.now pages) }
 {
     let link = emit_link(alloc, modules, pages)?;

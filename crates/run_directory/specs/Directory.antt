@@ -22,10 +22,14 @@ abbrev pub begins_with_letter : List ℕ → Bool
 begins_with_letter [] = false
 begins_with_letter (c ∷ cs) = is_ascii_alphabetic c
 
--- a letter, then letters and digits, 64 at most, and not link
+-- the characters of a name
+abbrev pub max_name : ℕ
+max_name = 64
+
+-- a letter, then letters and digits, and not link
 abbrev pub is_module_name : List ℕ → Bool
 is_module_name name =
-    begins_with_letter name && list_all is_ascii_alphanumeric name && nat_le (length name) 64
+    begins_with_letter name && list_all is_ascii_alphanumeric name && nat_le (length name) max_name
     && not (bytes_eq name link_name)
 
 -- M for tab.M

@@ -11,6 +11,9 @@ ghost use Rattle.run_directory.specs.Directory.{begins_with_letter, is_module_na
 use std::alloc::{AllocError, Global};
 use wasm_tree::Export;
 
+/// How many characters a name may have.
+const MAX_NAME: usize = 64;
+
 fn begins_with_letter(name: &[u8]) -> bool
     ensures { result ≡ begins_with_letter name.now }
 {
@@ -32,11 +35,11 @@ fn is_same(name: &[u8], other: &[u8]) -> bool
     name == other
 }
 
-/// Whether this is a module's name: a letter, then letters and digits, 64 at most, and not link.
+/// Whether this is a module's name: a letter, then letters and digits, `MAX_NAME` at most, and not link.
 fn is_module_name(name: &[u8]) -> bool
     ensures { result ≡ is_module_name name.now }
 {
-    begins_with_letter(name) && is_word(name) && name.len() <= 64 && !is_same(name, b"link")
+    begins_with_letter(name) && is_word(name) && name.len() <= MAX_NAME && !is_same(name, b"link")
 }
 
 /// The module that an export of this name stands for: M for `tab.M`.

@@ -22,6 +22,7 @@ use Rattle.wasm_tree.specs.declared.module.Function.{Function}
 use Rattle.wasm_tree.specs.declared.module.Data.{Data}
 use Rattle.wasm_tree.specs.declared.module.WModule.{WModule}
 use Rattle.wasm_tree.specs.Format.{Format, Reading, ◌>>=◌, byte_at, skip}
+use Rattle.wasm_code.specs.Bytes as byte
 use Rattle.wasm_code.specs.Number.{unsigned}
 use Rattle.wasm_code.specs.Instructions.{value_type, code}
 use Rattle.wasm_code.specs.Parts.{◌▸◌, ◌◂◌, ◌·◌, as_value, vector, close_part, with_size, bytes_left, section, name}
@@ -31,7 +32,7 @@ use Rattle.wasm_code.specs.Parts.{◌▸◌, ◌◂◌, ◌·◌, as_value, vect
 unfoldable pub func_type : Format FuncType
 func_type =
     as_value (λ p. record { params = p.0; results = p.1 }) (λ t. (t.params, t.results))
-    (0x60 ▸ vector value_type · vector value_type)
+    (byte.func_type ▸ vector value_type · vector value_type)
 
 abbrev pub limits_encoding : Limits → List ℕ
 limits_encoding l = elim l.max [
@@ -58,7 +59,7 @@ limits = record {
 }
 
 unfoldable pub table_type : Format TableType
-table_type = as_value (λ l. record { limits = l }) (λ t. t.limits) (0x70 ▸ limits)
+table_type = as_value (λ l. record { limits = l }) (λ t. t.limits) (byte.func_ref ▸ limits)
 
 unfoldable pub memory_type : Format MemoryType
 memory_type = as_value (λ l. record { limits = l }) (λ t. t.limits) limits
@@ -66,18 +67,23 @@ memory_type = as_value (λ l. record { limits = l }) (λ t. t.limits) limits
 -- ---- the parts of a module (5.5)
 
 abbrev pub import_kind_encoding : ImportKind → List ℕ
-import_kind_encoding (imported.Function t) = 0x00 ∷ unsigned.encoding t
-import_kind_encoding (imported.Table t) = 0x01 ∷ table_type.encoding t
-import_kind_encoding (imported.Memory t) = 0x02 ∷ memory_type.encoding t
-import_kind_encoding (imported.Global t) = 0x03 ∷ value_type.encoding t ++ 0x00 ∷ []
+import_kind_encoding (imported.Function t) = byte.of_function ∷ unsigned.encoding t
+import_kind_encoding (imported.Table t) = byte.of_table ∷ table_type.encoding t
+import_kind_encoding (imported.Memory t) = byte.of_memory ∷ memory_type.encoding t
+import_kind_encoding (imported.Global t) =
+    byte.of_global ∷ value_type.encoding t ++ byte.immutable ∷ []
 
 abbrev pub import_kind_of : ℕ → List ℕ → Reading ImportKind
 import_kind_of b bytes =
-    if b == 0x00 then (unsigned.reading bytes >>= λ t. Ok (imported.Function t.0, t.1))
-    else (if b == 0x01 then (table_type.reading bytes >>= λ t. Ok (imported.Table t.0, t.1))
-    else (if b == 0x02 then (memory_type.reading bytes >>= λ t. Ok (imported.Memory t.0, t.1))
-    else (if b == 0x03
-    then (value_type.reading bytes >>= λ t. skip 0x00 t.1 >>= λ s. Ok (imported.Global t.0, s.1))
+    if b == byte.of_function then (unsigned.reading bytes >>= λ t. Ok (imported.Function t.0, t.1))
+    else (if b == byte.of_table
+    then (table_type.reading bytes >>= λ t. Ok (imported.Table t.0, t.1))
+    else (if b == byte.of_memory
+    then (memory_type.reading bytes >>= λ t. Ok (imported.Memory t.0, t.1))
+    else (if b == byte.of_global
+    then (value_type.reading bytes >>= λ t.
+    skip byte.immutable t.1 >>= λ s.
+    Ok (imported.Global t.0, s.1))
     else Err Malformed)))
 
 abbrev pub import_kind_fits : ImportKind → Bool
@@ -101,20 +107,22 @@ import =
 unfoldable pub global : Format Global
 global =
     as_value (λ p. record { value_type = p.0; value = p.1 }) (λ g. (g.value_type, g.value))
-    ((value_type ◂ 0x00) · code)
+    ((value_type ◂ byte.immutable) · code)
 
 abbrev pub export_kind_encoding : ExportKind → List ℕ
-export_kind_encoding (exported.Function i) = 0x00 ∷ unsigned.encoding i
-export_kind_encoding (exported.Table i) = 0x01 ∷ unsigned.encoding i
-export_kind_encoding (exported.Memory i) = 0x02 ∷ unsigned.encoding i
-export_kind_encoding (exported.Global i) = 0x03 ∷ unsigned.encoding i
+export_kind_encoding (exported.Function i) = byte.of_function ∷ unsigned.encoding i
+export_kind_encoding (exported.Table i) = byte.of_table ∷ unsigned.encoding i
+export_kind_encoding (exported.Memory i) = byte.of_memory ∷ unsigned.encoding i
+export_kind_encoding (exported.Global i) = byte.of_global ∷ unsigned.encoding i
 
 abbrev pub export_kind_of : ℕ → List ℕ → Reading ExportKind
 export_kind_of b bytes =
-    if b == 0x00 then (unsigned.reading bytes >>= λ i. Ok (exported.Function i.0, i.1))
-    else (if b == 0x01 then (unsigned.reading bytes >>= λ i. Ok (exported.Table i.0, i.1))
-    else (if b == 0x02 then (unsigned.reading bytes >>= λ i. Ok (exported.Memory i.0, i.1))
-    else (if b == 0x03 then (unsigned.reading bytes >>= λ i. Ok (exported.Global i.0, i.1))
+    if b == byte.of_function then (unsigned.reading bytes >>= λ i. Ok (exported.Function i.0, i.1))
+    else (if b == byte.of_table then (unsigned.reading bytes >>= λ i. Ok (exported.Table i.0, i.1))
+    else (if b == byte.of_memory
+    then (unsigned.reading bytes >>= λ i. Ok (exported.Memory i.0, i.1))
+    else (if b == byte.of_global
+    then (unsigned.reading bytes >>= λ i. Ok (exported.Global i.0, i.1))
     else Err Malformed)))
 
 abbrev pub export_kind_fits : ExportKind → Bool
@@ -208,7 +216,7 @@ abbrev pub code_section : (types : List ℕ) → List ℕ → Reading (List Func
 code_section [] bytes = Ok ([], bytes)
 code_section (t ∷ ts) [] = Err Malformed
 code_section (t ∷ ts) (b ∷ bytes) =
-    if b == 10 then code_content (t ∷ ts) bytes else Err OutsideProfile
+    if b == byte.code_section then code_content (t ∷ ts) bytes else Err OutsideProfile
 
 -- nothing may follow the last section
 abbrev pub at_end : List ℕ → Result (Unit {0}) WFault
@@ -218,16 +226,16 @@ at_end (b ∷ bytes) = Err OutsideProfile
 unfoldable pub module_at : List ℕ → Reading WModule
 module_at bytes = do
   start ← skip_all header bytes
-  types ← (section 1 func_type).reading start
-  imports ← (section 2 import).reading types.1
-  uses ← (section 3 unsigned).reading imports.1
-  tables ← (section 4 table_type).reading uses.1
-  memories ← (section 5 memory_type).reading tables.1
-  globals ← (section 6 global).reading memories.1
-  exports ← (section 7 export).reading globals.1
-  elements ← (section 9 element_segment).reading exports.1
+  types ← (section byte.type_section func_type).reading start
+  imports ← (section byte.import_section import).reading types.1
+  uses ← (section byte.function_section unsigned).reading imports.1
+  tables ← (section byte.table_section table_type).reading uses.1
+  memories ← (section byte.memory_section memory_type).reading tables.1
+  globals ← (section byte.global_section global).reading memories.1
+  exports ← (section byte.export_section export).reading globals.1
+  elements ← (section byte.element_section element_segment).reading exports.1
   functions ← code_section uses.0 elements.1
-  segments ← (section 11 data_segment).reading functions.1
+  segments ← (section byte.data_section data_segment).reading functions.1
   end ← at_end segments.1
   Ok (
     record {
@@ -254,25 +262,29 @@ bodies_encoding fs = unsigned.encoding (length fs) ++ flat_map body_encoding fs
 abbrev pub code_encoding : List Function → List ℕ
 code_encoding [] = []
 code_encoding (f ∷ fs) =
-    10 ∷ unsigned.encoding (length (bodies_encoding (f ∷ fs))) ++ bodies_encoding (f ∷ fs)
+    byte.code_section ∷ unsigned.encoding (length (bodies_encoding (f ∷ fs)))
+    ++ bodies_encoding (f ∷ fs)
 
 abbrev pub types_of : List Function → List ℕ
 types_of fs = map (λ f. f.type_index) fs
 
 unfoldable pub first_sections : WModule → List ℕ
 first_sections m =
-    header ++ (section 1 func_type).encoding m.types ++ (section 2 import).encoding m.imports
-    ++ (section 3 unsigned).encoding (types_of m.functions)
+    header ++ (section byte.type_section func_type).encoding m.types
+    ++ (section byte.import_section import).encoding m.imports
+    ++ (section byte.function_section unsigned).encoding (types_of m.functions)
 
 unfoldable pub middle_sections : WModule → List ℕ
 middle_sections m =
-    (section 4 table_type).encoding m.tables ++ (section 5 memory_type).encoding m.memories
-    ++ (section 6 global).encoding m.globals ++ (section 7 export).encoding m.exports
+    (section byte.table_section table_type).encoding m.tables
+    ++ (section byte.memory_section memory_type).encoding m.memories
+    ++ (section byte.global_section global).encoding m.globals
+    ++ (section byte.export_section export).encoding m.exports
 
 unfoldable pub last_sections : WModule → List ℕ
 last_sections m =
-    (section 9 element_segment).encoding m.elements ++ code_encoding m.functions
-    ++ (section 11 data_segment).encoding m.data
+    (section byte.element_section element_segment).encoding m.elements ++ code_encoding m.functions
+    ++ (section byte.data_section data_segment).encoding m.data
 
 unfoldable pub module_encoding : WModule → List ℕ
 module_encoding m = first_sections m ++ middle_sections m ++ last_sections m
@@ -281,17 +293,17 @@ module_encoding m = first_sections m ++ middle_sections m ++ last_sections m
 -- part is too long
 unfoldable pub module_fits : WModule → Bool
 module_fits m =
-    (section 1 func_type).fits m.types
-    && (section 2 import).fits m.imports
-    && (section 3 unsigned).fits (types_of m.functions)
-    && (section 4 table_type).fits m.tables
-    && (section 5 memory_type).fits m.memories
-    && (section 6 global).fits m.globals
-    && (section 7 export).fits m.exports
-    && (section 9 element_segment).fits m.elements
+    (section byte.type_section func_type).fits m.types
+    && (section byte.import_section import).fits m.imports
+    && (section byte.function_section unsigned).fits (types_of m.functions)
+    && (section byte.table_section table_type).fits m.tables
+    && (section byte.memory_section memory_type).fits m.memories
+    && (section byte.global_section global).fits m.globals
+    && (section byte.export_section export).fits m.exports
+    && (section byte.element_section element_segment).fits m.elements
     && list_all (λ f. body.fits f.body) m.functions
     && nat_lt (length (bodies_encoding m.functions)) (2 ^ 32)
-    && (section 11 data_segment).fits m.data
+    && (section byte.data_section data_segment).fits m.data
 
 abbrev pub binary : Format WModule
 binary = record { encoding = module_encoding; reading = module_at; fits = module_fits }

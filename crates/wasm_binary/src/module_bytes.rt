@@ -2,6 +2,7 @@
 
 ghost use Rattle.std.specs.Prelude.{◌≡◌, ◌≢◌, Err, IsOk, ◌++◌, List, ℕ, true, false, ◌&&◌, [], map, OnOk, IfOk, Ok, MatchResult, ◌⊎◌, length, nat_lt, ◌^◌};
 ghost use Rattle.std.specs.List.{list_all};
+ghost use Rattle.wasm_code.specs.Bytes as byte;
 ghost use Rattle.wasm_code.specs.Number.{unsigned};
 ghost use Rattle.wasm_code.specs.Parts.{section};
 ghost use Rattle.wasm_tree.specs.Format.{Format, Gives};
@@ -12,7 +13,7 @@ ghost use Rattle.wasm_tree.specs.declared.module.WModule.{WModule};
 use crate::binary::{Binary, body_over, section, write_section};
 use std::alloc::{AllocError, Global};
 use tree_parts::Items;
-use wasm_code::{Writer, close_part, front, skip, unsigned_at};
+use wasm_code::{Writer, byte, close_part, front, skip, unsigned_at};
 use wasm_tree::{EncodeError, Function, WFault, WModule};
 
 /// The magic number and the version.
@@ -95,7 +96,7 @@ fn code_section_at<'a>(
     }
     match bytes {
         [] => Err(WFault::Malformed),
-        [10, rest @ ..] => code_content_at(alloc, types, rest),
+        [byte::CODE_SECTION, rest @ ..] => code_content_at(alloc, types, rest),
         [_, ..] => Err(WFault::OutsideProfile),
     }
 }
@@ -118,16 +119,16 @@ fn module_at(alloc: Global, bytes: &[u8]) -> Result<WModule, WFault>
     ensures memory { result ≡ Err WFault.NoMemory → IsOk (skip_all header bytes.now) }
 {
     let rest = skip_all_at(&HEADER, bytes)?;
-    let (types, rest) = section(alloc, 1, rest)?;
-    let (imports, rest) = section(alloc, 2, rest)?;
-    let (uses, rest) = section::<u32>(alloc, 3, rest)?;
-    let (tables, rest) = section(alloc, 4, rest)?;
-    let (memories, rest) = section(alloc, 5, rest)?;
-    let (globals, rest) = section(alloc, 6, rest)?;
-    let (exports, rest) = section(alloc, 7, rest)?;
-    let (elements, rest) = section(alloc, 9, rest)?;
+    let (types, rest) = section(alloc, byte::TYPE_SECTION, rest)?;
+    let (imports, rest) = section(alloc, byte::IMPORT_SECTION, rest)?;
+    let (uses, rest) = section::<u32>(alloc, byte::FUNCTION_SECTION, rest)?;
+    let (tables, rest) = section(alloc, byte::TABLE_SECTION, rest)?;
+    let (memories, rest) = section(alloc, byte::MEMORY_SECTION, rest)?;
+    let (globals, rest) = section(alloc, byte::GLOBAL_SECTION, rest)?;
+    let (exports, rest) = section(alloc, byte::EXPORT_SECTION, rest)?;
+    let (elements, rest) = section(alloc, byte::ELEMENT_SECTION, rest)?;
     let (functions, rest) = code_section_at(alloc, uses.as_slice(), rest)?;
-    let (data, rest) = section(alloc, 11, rest)?;
+    let (data, rest) = section(alloc, byte::DATA_SECTION, rest)?;
     at_end(rest)?;
     Ok(WModule {
         types,
@@ -171,7 +172,7 @@ fn write_code_section(out: &mut Writer, functions: &[Function]) -> Result<(), En
     }
     let mut content = out.nested();
     write_bodies(&mut content, functions)?;
-    out.byte(10)?;
+    out.byte(byte::CODE_SECTION)?;
     out.sized(content.as_slice())
 }
 
@@ -203,47 +204,54 @@ fn types_of(alloc: Global, functions: &[Function]) -> Result<Vec<u32>, AllocErro
 fn write_first(out: &mut Writer, uses: &[u32], tree: &WModule) -> Result<(), EncodeError>
     requires { uses.now ≡ types_of tree.now.functions }
     ensures written { OnOk result (out.new ≡ out.old ++ first_sections tree.now) }
-    ensures types { OnOk result ((section 1 func_type).fits tree.now.types ≡ true) }
-    ensures imports { OnOk result ((section 2 import).fits tree.now.imports ≡ true) }
-    ensures uses { OnOk result ((section 3 unsigned).fits uses.now ≡ true) }
+    ensures types { OnOk result ((section byte.type_section func_type).fits tree.now.types ≡ true) }
+    ensures imports { OnOk result
+        ((section byte.import_section import).fits tree.now.imports ≡ true) }
+    ensures uses { OnOk result ((section byte.function_section unsigned).fits uses.now ≡ true) }
     ensures unfit { result ≡ Err EncodeError.NoEncoding → module_fits tree.now ≡ false }
 {
     out.bytes(&HEADER)?;
-    write_section(out, 1, tree.types.as_slice())?;
-    write_section(out, 2, tree.imports.as_slice())?;
-    write_section(out, 3, uses)
+    write_section(out, byte::TYPE_SECTION, tree.types.as_slice())?;
+    write_section(out, byte::IMPORT_SECTION, tree.imports.as_slice())?;
+    write_section(out, byte::FUNCTION_SECTION, uses)
 }
 
 /// The sections of tables, memories, globals and exports.
 #[tactic(auto, using(crate::proofs::Whole::unfit_tables, crate::proofs::Whole::unfit_memories, crate::proofs::Whole::unfit_globals, crate::proofs::Whole::unfit_exports), unfolding(crate::specs::Binary::middle_sections))]
 fn write_middle(out: &mut Writer, tree: &WModule) -> Result<(), EncodeError>
     ensures written { OnOk result (out.new ≡ out.old ++ middle_sections tree.now) }
-    ensures tables { OnOk result ((section 4 table_type).fits tree.now.tables ≡ true) }
-    ensures memories { OnOk result ((section 5 memory_type).fits tree.now.memories ≡ true) }
-    ensures globals { OnOk result ((section 6 global).fits tree.now.globals ≡ true) }
-    ensures exports { OnOk result ((section 7 export).fits tree.now.exports ≡ true) }
+    ensures tables { OnOk result
+        ((section byte.table_section table_type).fits tree.now.tables ≡ true) }
+    ensures memories { OnOk result
+        ((section byte.memory_section memory_type).fits tree.now.memories ≡ true) }
+    ensures globals { OnOk result
+        ((section byte.global_section global).fits tree.now.globals ≡ true) }
+    ensures exports { OnOk result
+        ((section byte.export_section export).fits tree.now.exports ≡ true) }
     ensures unfit { result ≡ Err EncodeError.NoEncoding → module_fits tree.now ≡ false }
 {
-    write_section(out, 4, tree.tables.as_slice())?;
-    write_section(out, 5, tree.memories.as_slice())?;
-    write_section(out, 6, tree.globals.as_slice())?;
-    write_section(out, 7, tree.exports.as_slice())
+    write_section(out, byte::TABLE_SECTION, tree.tables.as_slice())?;
+    write_section(out, byte::MEMORY_SECTION, tree.memories.as_slice())?;
+    write_section(out, byte::GLOBAL_SECTION, tree.globals.as_slice())?;
+    write_section(out, byte::EXPORT_SECTION, tree.exports.as_slice())
 }
 
 /// The sections of elements, code and data.
 #[tactic(auto, using(crate::proofs::Whole::unfit_elements, crate::proofs::Whole::unfit_code, crate::proofs::Whole::unfit_contents), unfolding(crate::specs::Binary::last_sections))]
 fn write_last(out: &mut Writer, tree: &WModule) -> Result<(), EncodeError>
     ensures written { OnOk result (out.new ≡ out.old ++ last_sections tree.now) }
-    ensures elements { OnOk result ((section 9 element_segment).fits tree.now.elements ≡ true) }
+    ensures elements { OnOk result
+        ((section byte.element_section element_segment).fits tree.now.elements ≡ true) }
     ensures bodies { OnOk result (list_all (λ f. body.fits f.body) tree.now.functions ≡ true) }
     ensures size { OnOk result
         (nat_lt (length (bodies_encoding tree.now.functions)) (2 ^ 32) ≡ true) }
-    ensures contents { OnOk result ((section 11 data_segment).fits tree.now.data ≡ true) }
+    ensures contents { OnOk result
+        ((section byte.data_section data_segment).fits tree.now.data ≡ true) }
     ensures unfit { result ≡ Err EncodeError.NoEncoding → module_fits tree.now ≡ false }
 {
-    write_section(out, 9, tree.elements.as_slice())?;
+    write_section(out, byte::ELEMENT_SECTION, tree.elements.as_slice())?;
     write_code_section(out, tree.functions.as_slice())?;
-    write_section(out, 11, tree.data.as_slice())
+    write_section(out, byte::DATA_SECTION, tree.data.as_slice())
 }
 
 #[tactic(auto, using(crate::proofs::Whole::whole_fits), unfolding(crate::specs::Binary::module_encoding))]

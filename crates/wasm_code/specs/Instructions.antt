@@ -13,6 +13,7 @@ use Rattle.wasm_tree.specs.declared.instr.Instr.{Instr, Instr-F, fold-Instr}
 use Rattle.wasm_tree.specs.declared.instr.Instr.TheOpen as layer
 use Rattle.wasm_tree.specs.declared.instr.Instr.TheVariants.{Unreachable, Block, Loop, If, Br, BrIf, BrTable, Return, Call, CallIndirect, Drop, LocalGet, LocalSet, LocalTee, GlobalGet, Load, Store, I32Const, I64Const, Numeric}
 use Rattle.wasm_tree.specs.Format.{Format, Reading, ◌>>=◌, byte_at, skip}
+use Rattle.wasm_code.specs.Bytes as byte
 use Rattle.wasm_code.specs.declared.code.Ending.{Ending}
 use Rattle.wasm_code.specs.declared.code.Ending.TheVariants.{End, Else}
 use Rattle.wasm_code.specs.Number.{unsigned, signed32, signed64}
@@ -22,14 +23,14 @@ use Rattle.wasm_code.specs.Parts.{vector}
 -- ---- types of values (5.3.1)
 
 abbrev pub value_type_encoding : ValueType → List ℕ
-value_type_encoding I32 = 0x7F ∷ []
-value_type_encoding I64 = 0x7E ∷ []
+value_type_encoding I32 = byte.i32 ∷ []
+value_type_encoding I64 = byte.i64 ∷ []
 
 abbrev pub value_type_of : ℕ → List ℕ → Reading ValueType
 value_type_of b bytes =
-    if b == 0x7F
+    if b == byte.i32
     then Ok (I32, bytes)
-    else (if b == 0x7E then Ok (I64, bytes) else Err OutsideProfile)
+    else (if b == byte.i64 then Ok (I64, bytes) else Err OutsideProfile)
 
 unfoldable pub value_type : Format ValueType
 value_type = record {
@@ -41,12 +42,14 @@ value_type = record {
 -- ---- instructions (5.4)
 
 abbrev pub block_type_encoding : Option ValueType → List ℕ
-block_type_encoding None = 0x40 ∷ []
+block_type_encoding None = byte.no_result ∷ []
 block_type_encoding (Some t) = value_type_encoding t
 
 abbrev pub block_type_of : ℕ → List ℕ → Reading (Option ValueType)
 block_type_of b bytes =
-    if b == 0x40 then Ok (None, bytes) else (value_type_of b bytes >>= λ t. Ok (Some t.0, t.1))
+    if b == byte.no_result
+    then Ok (None, bytes)
+    else (value_type_of b bytes >>= λ t. Ok (Some t.0, t.1))
 
 unfoldable pub block_type : Format (Option ValueType)
 block_type = record {
@@ -58,30 +61,31 @@ block_type = record {
 -- the side of an if behind its else
 abbrev pub else_encoding : Option (List (List ℕ)) → List ℕ
 else_encoding None = []
-else_encoding (Some is) = 0x05 ∷ concat is
+else_encoding (Some is) = byte.else ∷ concat is
 
 -- an instruction, if each one inside it is given by its encoding
 abbrev pub encoding_step : Instr-F (List ℕ) → List ℕ
-encoding_step layer.Unreachable = 0x00 ∷ []
-encoding_step (layer.Block t is) = 0x02 ∷ block_type.encoding t ++ concat is ++ 0x0B ∷ []
-encoding_step (layer.Loop t is) = 0x03 ∷ block_type.encoding t ++ concat is ++ 0x0B ∷ []
+encoding_step layer.Unreachable = byte.unreachable ∷ []
+encoding_step (layer.Block t is) = byte.block ∷ block_type.encoding t ++ concat is ++ byte.end ∷ []
+encoding_step (layer.Loop t is) = byte.loop ∷ block_type.encoding t ++ concat is ++ byte.end ∷ []
 encoding_step (layer.If t is others) =
-    0x04 ∷ block_type.encoding t ++ concat is ++ (else_encoding others ++ 0x0B ∷ [])
-encoding_step (layer.Br l) = 0x0C ∷ unsigned.encoding l
-encoding_step (layer.BrIf l) = 0x0D ∷ unsigned.encoding l
-encoding_step (layer.BrTable ls l) = 0x0E ∷ (vector unsigned).encoding ls ++ unsigned.encoding l
-encoding_step layer.Return = 0x0F ∷ []
-encoding_step (layer.Call f) = 0x10 ∷ unsigned.encoding f
-encoding_step (layer.CallIndirect t) = 0x11 ∷ unsigned.encoding t ++ 0x00 ∷ []
-encoding_step layer.Drop = 0x1A ∷ []
-encoding_step (layer.LocalGet x) = 0x20 ∷ unsigned.encoding x
-encoding_step (layer.LocalSet x) = 0x21 ∷ unsigned.encoding x
-encoding_step (layer.LocalTee x) = 0x22 ∷ unsigned.encoding x
-encoding_step (layer.GlobalGet x) = 0x23 ∷ unsigned.encoding x
+    byte.if ∷ block_type.encoding t ++ concat is ++ (else_encoding others ++ byte.end ∷ [])
+encoding_step (layer.Br l) = byte.br ∷ unsigned.encoding l
+encoding_step (layer.BrIf l) = byte.br_if ∷ unsigned.encoding l
+encoding_step (layer.BrTable ls l) =
+    byte.br_table ∷ (vector unsigned).encoding ls ++ unsigned.encoding l
+encoding_step layer.Return = byte.return ∷ []
+encoding_step (layer.Call f) = byte.call ∷ unsigned.encoding f
+encoding_step (layer.CallIndirect t) = byte.call_indirect ∷ unsigned.encoding t ++ 0x00 ∷ []
+encoding_step layer.Drop = byte.drop ∷ []
+encoding_step (layer.LocalGet x) = byte.local_get ∷ unsigned.encoding x
+encoding_step (layer.LocalSet x) = byte.local_set ∷ unsigned.encoding x
+encoding_step (layer.LocalTee x) = byte.local_tee ∷ unsigned.encoding x
+encoding_step (layer.GlobalGet x) = byte.global_get ∷ unsigned.encoding x
 encoding_step (layer.Load l) = load_opcode l ∷ 0x00 ∷ 0x00 ∷ []
 encoding_step (layer.Store w) = store_opcode w ∷ 0x00 ∷ 0x00 ∷ []
-encoding_step (layer.I32Const n) = 0x41 ∷ signed32.encoding n
-encoding_step (layer.I64Const n) = 0x42 ∷ signed64.encoding n
+encoding_step (layer.I32Const n) = byte.i32_const ∷ signed32.encoding n
+encoding_step (layer.I64Const n) = byte.i64_const ∷ signed64.encoding n
 encoding_step (layer.Numeric n) = numeric_opcode n ∷ []
 
 unfoldable pub instr_encoding : Instr → List ℕ
@@ -133,42 +137,43 @@ memory_of b bytes = memory_reading (load_of b) (store_of b) (numeric_of b) bytes
 -- the same of those that drop an operand, name a variable or push a constant, too (5.4.2, 5.4.3)
 unfoldable pub variable_of : ℕ → List ℕ → Reading Instr
 variable_of b bytes =
-    if b == 0x1A then Ok (Drop, bytes)
-    else (if b == 0x20 then (unsigned.reading bytes >>= λ x. Ok (LocalGet x.0, x.1))
-    else (if b == 0x21 then (unsigned.reading bytes >>= λ x. Ok (LocalSet x.0, x.1))
-    else (if b == 0x22 then (unsigned.reading bytes >>= λ x. Ok (LocalTee x.0, x.1))
-    else (if b == 0x23 then (unsigned.reading bytes >>= λ x. Ok (GlobalGet x.0, x.1))
-    else (if b == 0x41 then (signed32.reading bytes >>= λ n. Ok (I32Const n.0, n.1))
-    else (if b == 0x42 then (signed64.reading bytes >>= λ n. Ok (I64Const n.0, n.1))
+    if b == byte.drop then Ok (Drop, bytes)
+    else (if b == byte.local_get then (unsigned.reading bytes >>= λ x. Ok (LocalGet x.0, x.1))
+    else (if b == byte.local_set then (unsigned.reading bytes >>= λ x. Ok (LocalSet x.0, x.1))
+    else (if b == byte.local_tee then (unsigned.reading bytes >>= λ x. Ok (LocalTee x.0, x.1))
+    else (if b == byte.global_get then (unsigned.reading bytes >>= λ x. Ok (GlobalGet x.0, x.1))
+    else (if b == byte.i32_const then (signed32.reading bytes >>= λ n. Ok (I32Const n.0, n.1))
+    else (if b == byte.i64_const then (signed64.reading bytes >>= λ n. Ok (I64Const n.0, n.1))
     else memory_of b bytes))))))
 
 -- the same of those that go elsewhere, too (5.4.1)
 unfoldable pub plain_of : ℕ → List ℕ → Reading Instr
 plain_of b bytes =
-    if b == 0x00 then Ok (Unreachable, bytes)
-    else (if b == 0x0C then (unsigned.reading bytes >>= λ l. Ok (Br l.0, l.1))
-    else (if b == 0x0D then (unsigned.reading bytes >>= λ l. Ok (BrIf l.0, l.1))
-    else (if b == 0x0E
+    if b == byte.unreachable then Ok (Unreachable, bytes)
+    else (if b == byte.br then (unsigned.reading bytes >>= λ l. Ok (Br l.0, l.1))
+    else (if b == byte.br_if then (unsigned.reading bytes >>= λ l. Ok (BrIf l.0, l.1))
+    else (if b == byte.br_table
     then ((vector unsigned).reading bytes >>= λ ls.
     unsigned.reading ls.1 >>= λ l.
     Ok (BrTable ls.0 l.0, l.1))
-    else (if b == 0x0F then Ok (Return, bytes)
-    else (if b == 0x10 then (unsigned.reading bytes >>= λ f. Ok (Call f.0, f.1))
-    else (if b == 0x11
+    else (if b == byte.return then Ok (Return, bytes)
+    else (if b == byte.call then (unsigned.reading bytes >>= λ f. Ok (Call f.0, f.1))
+    else (if b == byte.call_indirect
     then (unsigned.reading bytes >>= λ t. skip 0x00 t.1 >>= λ s. Ok (CallIndirect t.0, s.1))
     else variable_of b bytes))))))
 
 -- whether the opcode begins an instruction that holds others
 abbrev pub opens : ℕ → Bool
-opens b = (b == 0x02) || (b == 0x03) || (b == 0x04)
+opens b = (b == byte.block) || (b == byte.loop) || (b == byte.if)
 
 -- the instruction with one sequence that an opcode of this kind begins
 abbrev pub one_sided : ℕ → Option ValueType → List Instr → Instr
-one_sided b t is = if b == 0x02 then Block t is else (if b == 0x03 then Loop t is else If t is None)
+one_sided b t is =
+    if b == byte.block then Block t is else (if b == byte.loop then Loop t is else If t is None)
 
 -- what ends a sequence
 abbrev pub ending_of : ℕ → Option Ending
-ending_of b = if b == 0x0B then Some End else (if b == 0x05 then Some Else else None)
+ending_of b = if b == byte.end then Some End else (if b == byte.else then Some Else else None)
 
 abbrev pub Sequence : Type 0
 Sequence = List Instr × Ending
@@ -199,7 +204,7 @@ abbrev pub closing : (inner : List ℕ → Reading Sequence) → ℕ → Option 
     → Ending → List ℕ → Reading Instr
 closing inner b t is End bytes = Ok (one_sided b t is, bytes)
 closing inner b t is Else bytes =
-    if b == 0x04
+    if b == byte.if
     then (with_end (inner bytes) >>= λ others. Ok (If t is (Some others.0), others.1))
     else Err OutsideProfile
 
@@ -216,11 +221,14 @@ code_in levels bytes = sequence (nested_instruction levels) (length bytes) bytes
 
 abbrev pub code_within : (levels : ℕ) → Format (List Instr)
 code_within levels = record {
-  encoding = λ is. flat_map instr_encoding is ++ 0x0B ∷ [];
+  encoding = λ is. flat_map instr_encoding is ++ byte.end ∷ [];
   reading = λ bytes. with_end (code_in levels bytes);
   fits = λ is. list_all (λ i. instr_fits i levels) is;
 }
 
--- code, in which blocks nest at most 4096 deep
+-- how deep blocks nest in code
+abbrev pub max_levels : ℕ
+max_levels = 4096
+
 unfoldable pub code : Format (List Instr)
-code = code_within 4096
+code = code_within max_levels

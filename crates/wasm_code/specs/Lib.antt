@@ -1,3 +1,4 @@
+pub mod Bytes
 pub mod Opcode
 pub mod Instructions
 pub mod ScratchStack

@@ -6,6 +6,7 @@ use Rattle.wasm_tree.specs.declared.code.Op.TheVariants as op
 use Rattle.wasm_tree.specs.declared.instr.Instr.{Instr}
 use Rattle.wasm_tree.specs.Code.{flat_one, flat, label_of}
 use Rattle.wasm_tree.specs.Format.{Reading, ◌>>=◌}
+use Rattle.wasm_code.specs.Bytes as byte
 use Rattle.wasm_code.specs.declared.code.Ending.{Ending}
 use Rattle.wasm_code.specs.Number.{unsigned}
 use Rattle.wasm_code.specs.Instructions.{Sequence, closing, code_in}
@@ -22,7 +23,7 @@ is_plain _ = true
 -- the operation with one sequence, of this many, that an opcode of this kind begins
 abbrev pub one_sided_op : ℕ → Option ValueType → (count : ℕ) → Op
 one_sided_op b t n =
-    if b == 0x02 then op.Block t n else (if b == 0x03 then op.Loop t n else op.If t n)
+    if b == byte.block then op.Block t n else (if b == byte.loop then op.Loop t n else op.If t n)
 
 -- a scratch, and on it an instruction that is read
 abbrev pub onto : List Op → Reading Instr → Reading (List Op)

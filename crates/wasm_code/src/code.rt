@@ -6,23 +6,21 @@ ghost use Rattle.wasm_tree.specs.Code.{tree, head, behind, label_of};
 ghost use Rattle.wasm_tree.specs.Format.{Format, Gives};
 ghost use Rattle.wasm_tree.specs.declared.code.Op.TheVariants.{Br, IfElse};
 ghost use Rattle.wasm_tree.specs.declared.instr.Instr.TheVariants as instr;
+ghost use Rattle.wasm_code.specs.Bytes as byte;
 ghost use Rattle.wasm_code.specs.Number.{unsigned, signed32, signed64};
 ghost use Rattle.wasm_code.specs.Parts.{many, vector};
 ghost use Rattle.wasm_code.specs.Instructions.{block_type, no_offset, memory_of, variable_of, plain_of, opens, ending_of, instr_of, code_in, nested_instruction, code_within, instr_encoding, code};
 ghost use Rattle.wasm_code.specs.ScratchStack.{is_plain, one_sided_op, onto, onto_sequence, onto_code, sides_of};
 
-use crate::fits::code_fits;
+use crate::fits::{MAX_LEVELS, code_fits};
 use crate::opcode::{load_of, load_opcode, numeric_of, numeric_opcode, store_of, store_opcode};
-use crate::{Writer, byte_at, signed32_at, signed64_at, skip, unsigned_at};
+use crate::{Writer, byte, byte_at, signed32_at, signed64_at, skip, unsigned_at};
 use std::alloc::{AllocError, Global};
 use tree_parts::Items;
 use wasm_tree::{Code, EncodeError, Op, ValueType, WFault, behind, first_of, label_of, split_ops};
 
 /// How many bytes an operation takes about, for which there is room before code is written.
 const BYTES_OF_AN_OP: usize = 2;
-
-/// How deep blocks may nest.
-const DEEPEST: u16 = 4096;
 
 /// What stands behind instructions in a row.
 #[derive(Clone, Copy)]
@@ -36,8 +34,8 @@ fn ending_of(opcode: u8) -> Option<Ending>
     ensures { result ≡ ending_of opcode }
 {
     match opcode {
-        0x0B => Some(Ending::End),
-        0x05 => Some(Ending::Else),
+        byte::END => Some(Ending::End),
+        byte::ELSE => Some(Ending::Else),
         _ => None,
     }
 }
@@ -46,7 +44,7 @@ fn ending_of(opcode: u8) -> Option<Ending>
 fn opens(opcode: u8) -> bool
     ensures { result ≡ opens opcode }
 {
-    opcode == 0x02 || opcode == 0x03 || opcode == 0x04
+    opcode == byte::BLOCK || opcode == byte::LOOP || opcode == byte::IF
 }
 
 /// The two bytes of zero behind a load or a store: its hint and its offset.
@@ -161,28 +159,28 @@ fn variable_onto<'a>(scratch: &mut Vec<Op>, opcode: u8, bytes: &'a [u8]) -> Resu
         (onto scratch.old.items (variable_of opcode bytes.now)) }
 {
     match opcode {
-        0x1A => put(scratch, Op::Drop, bytes),
-        0x20 => {
+        byte::DROP => put(scratch, Op::Drop, bytes),
+        byte::LOCAL_GET => {
             let (local, rest) = unsigned_at(bytes)?;
             put(scratch, Op::LocalGet(local), rest)
         }
-        0x21 => {
+        byte::LOCAL_SET => {
             let (local, rest) = unsigned_at(bytes)?;
             put(scratch, Op::LocalSet(local), rest)
         }
-        0x22 => {
+        byte::LOCAL_TEE => {
             let (local, rest) = unsigned_at(bytes)?;
             put(scratch, Op::LocalTee(local), rest)
         }
-        0x23 => {
+        byte::GLOBAL_GET => {
             let (global, rest) = unsigned_at(bytes)?;
             put(scratch, Op::GlobalGet(global), rest)
         }
-        0x41 => {
+        byte::I32_CONST => {
             let (number, rest) = signed32_at(bytes)?;
             put(scratch, Op::I32Const(number), rest)
         }
-        0x42 => {
+        byte::I64_CONST => {
             let (number, rest) = signed64_at(bytes)?;
             put(scratch, Op::I64Const(number), rest)
         }
@@ -203,26 +201,26 @@ fn plain_onto<'a>(
         (onto scratch.old.items (plain_of opcode bytes.now)) }
 {
     match opcode {
-        0x00 => put(scratch, Op::Unreachable, bytes),
-        0x0C => {
+        byte::UNREACHABLE => put(scratch, Op::Unreachable, bytes),
+        byte::BR => {
             let (label, rest) = unsigned_at(bytes)?;
             put(scratch, Op::Br(label), rest)
         }
-        0x0D => {
+        byte::BR_IF => {
             let (label, rest) = unsigned_at(bytes)?;
             put(scratch, Op::BrIf(label), rest)
         }
-        0x0E => {
+        byte::BR_TABLE => {
             let (labels, rest) = labels_at(alloc, bytes)?;
             let (last, rest) = unsigned_at(rest)?;
             put_table(scratch, labels.as_slice(), last, rest)
         }
-        0x0F => put(scratch, Op::Return, bytes),
-        0x10 => {
+        byte::RETURN => put(scratch, Op::Return, bytes),
+        byte::CALL => {
             let (function, rest) = unsigned_at(bytes)?;
             put(scratch, Op::Call(function), rest)
         }
-        0x11 => {
+        byte::CALL_INDIRECT => {
             let (type_index, rest) = unsigned_at(bytes)?;
             let rest = skip(0x00, rest)?;
             put(scratch, Op::CallIndirect(type_index), rest)
@@ -238,9 +236,9 @@ fn block_type_at(bytes: &[u8]) -> Result<(Option<ValueType>, &[u8]), WFault>
     ensures memory { result ≢ Err WFault.NoMemory }
 {
     match byte_at(bytes)? {
-        (0x40, rest) => Ok((None, rest)),
-        (0x7F, rest) => Ok((Some(ValueType::I32), rest)),
-        (0x7E, rest) => Ok((Some(ValueType::I64), rest)),
+        (byte::NO_RESULT, rest) => Ok((None, rest)),
+        (byte::I32, rest) => Ok((Some(ValueType::I32), rest)),
+        (byte::I64, rest) => Ok((Some(ValueType::I64), rest)),
         _ => Err(WFault::OutsideProfile),
     }
 }
@@ -251,8 +249,8 @@ fn one_sided(opcode: u8, kind: Option<ValueType>, count: u32) -> Op
     ensures { result ≡ one_sided_op opcode kind count }
 {
     match opcode {
-        0x02 => Op::Block(kind, count),
-        0x03 => Op::Loop(kind, count),
+        byte::BLOCK => Op::Block(kind, count),
+        byte::LOOP => Op::Loop(kind, count),
         _ => Op::If(kind, count),
     }
 }
@@ -315,7 +313,7 @@ fn sides_onto<'a>(
             Ok(rest)
         }
         Ending::Else => {
-            if opcode != 0x04 {
+            if opcode != byte::IF {
                 return Err(WFault::OutsideProfile);
             }
             let second = scratch.len();
@@ -430,7 +428,7 @@ pub fn code_over<'a>(
     ensures shorter { IfOk result (λ x. length x.1.now ≤ length bytes.now) }
 {
     scratch.clear();
-    let rest = code_within(alloc, DEEPEST, scratch, bytes)?;
+    let rest = code_within(alloc, MAX_LEVELS, scratch, bytes)?;
     let code = taken_off(scratch)?;
     Ok((code, rest))
 }
@@ -464,9 +462,9 @@ fn write_block_type(out: &mut Writer, kind: Option<ValueType>) -> Result<(), All
     ensures { OnOk result (out.new ≡ out.old ++ block_type.encoding kind) }
 {
     match kind {
-        None => out.byte(0x40),
-        Some(ValueType::I32) => out.byte(0x7F),
-        Some(ValueType::I64) => out.byte(0x7E),
+        None => out.byte(byte::NO_RESULT),
+        Some(ValueType::I32) => out.byte(byte::I32),
+        Some(ValueType::I64) => out.byte(byte::I64),
     }
 }
 
@@ -485,25 +483,25 @@ fn write_labels(out: &mut Writer, labels: &[Op]) -> Result<(), AllocError>
 fn write_table(out: &mut Writer, labels: &[Op], last: u32) -> Result<(), AllocError>
     ensures { OnOk result
         (out.new ≡ out.old
-        ++ (0x0E ∷ (vector unsigned).encoding (map label_of labels.now)
+        ++ (byte.br_table ∷ (vector unsigned).encoding (map label_of labels.now)
         ++ unsigned.encoding last)) }
 {
-    out.byte(0x0E)?;
+    out.byte(byte::BR_TABLE)?;
     write_labels(out, labels)?;
     out.unsigned(u64::from(last))
 }
 
 fn write_i32(out: &mut Writer, number: u32) -> Result<(), AllocError>
-    ensures { OnOk result (out.new ≡ out.old ++ (0x41 ∷ signed32.encoding number)) }
+    ensures { OnOk result (out.new ≡ out.old ++ (byte.i32_const ∷ signed32.encoding number)) }
 {
-    out.byte(0x41)?;
+    out.byte(byte::I32_CONST)?;
     out.signed32(number)
 }
 
 fn write_i64(out: &mut Writer, number: u64) -> Result<(), AllocError>
-    ensures { OnOk result (out.new ≡ out.old ++ (0x42 ∷ signed64.encoding number)) }
+    ensures { OnOk result (out.new ≡ out.old ++ (byte.i64_const ∷ signed64.encoding number)) }
 {
-    out.byte(0x42)?;
+    out.byte(byte::I64_CONST)?;
     out.signed64(number)
 }
 
@@ -535,10 +533,10 @@ fn write_block(
     ensures { OnOk result
         (out.new ≡ out.old
         ++ (opcode ∷ block_type.encoding kind ++ flat_map instr_encoding (tree ops.now)
-        ++ 0x0B ∷ [])) }
+        ++ byte.end ∷ [])) }
 {
     write_opened(out, opcode, kind, ops)?;
-    out.byte(0x0B)
+    out.byte(byte::END)
 }
 
 /// Appends an `if` with two sides.
@@ -551,13 +549,13 @@ fn write_sides(
 ) -> Result<(), AllocError>
     ensures { OnOk result
         (out.new ≡ out.old
-        ++ (0x04 ∷ block_type.encoding kind ++ flat_map instr_encoding (tree ops.now)
-        ++ (0x05 ∷ flat_map instr_encoding (tree others.now) ++ 0x0B ∷ []))) }
+        ++ (byte.if ∷ block_type.encoding kind ++ flat_map instr_encoding (tree ops.now)
+        ++ (byte.else ∷ flat_map instr_encoding (tree others.now) ++ byte.end ∷ []))) }
 {
-    write_opened(out, 0x04, kind, ops)?;
-    out.byte(0x05)?;
+    write_opened(out, byte::IF, kind, ops)?;
+    out.byte(byte::ELSE)?;
     write_ops(out, others)?;
-    out.byte(0x0B)
+    out.byte(byte::END)
 }
 
 /// Appends the instruction that this operation begins, of which those behind it may be a part.
@@ -566,28 +564,28 @@ fn write_op(out: &mut Writer, op: Op, rest: &[Op]) -> Result<(), AllocError>
     ensures { OnOk result (out.new ≡ out.old ++ instr_encoding (head tree op rest.now)) }
 {
     match op {
-        Op::Unreachable => out.byte(0x00),
-        Op::Block(kind, count) => write_block(out, 0x02, kind, split_ops(rest, count).0),
-        Op::Loop(kind, count) => write_block(out, 0x03, kind, split_ops(rest, count).0),
-        Op::If(kind, count) => write_block(out, 0x04, kind, split_ops(rest, count).0),
+        Op::Unreachable => out.byte(byte::UNREACHABLE),
+        Op::Block(kind, count) => write_block(out, byte::BLOCK, kind, split_ops(rest, count).0),
+        Op::Loop(kind, count) => write_block(out, byte::LOOP, kind, split_ops(rest, count).0),
+        Op::If(kind, count) => write_block(out, byte::IF, kind, split_ops(rest, count).0),
         Op::IfElse(kind, count, second) => {
             let (ops, more) = split_ops(rest, count);
             write_sides(out, kind, ops, split_ops(more, second).0)
         }
-        Op::Br(label) => write_indexed(out, 0x0C, label),
-        Op::BrIf(label) => write_indexed(out, 0x0D, label),
+        Op::Br(label) => write_indexed(out, byte::BR, label),
+        Op::BrIf(label) => write_indexed(out, byte::BR_IF, label),
         Op::BrTable(count, last) => write_table(out, split_ops(rest, count).0, last),
-        Op::Return => out.byte(0x0F),
-        Op::Call(function) => write_indexed(out, 0x10, function),
+        Op::Return => out.byte(byte::RETURN),
+        Op::Call(function) => write_indexed(out, byte::CALL, function),
         Op::CallIndirect(type_index) => {
-            write_indexed(out, 0x11, type_index)?;
+            write_indexed(out, byte::CALL_INDIRECT, type_index)?;
             out.byte(0x00)
         }
-        Op::Drop => out.byte(0x1A),
-        Op::LocalGet(local) => write_indexed(out, 0x20, local),
-        Op::LocalSet(local) => write_indexed(out, 0x21, local),
-        Op::LocalTee(local) => write_indexed(out, 0x22, local),
-        Op::GlobalGet(global) => write_indexed(out, 0x23, global),
+        Op::Drop => out.byte(byte::DROP),
+        Op::LocalGet(local) => write_indexed(out, byte::LOCAL_GET, local),
+        Op::LocalSet(local) => write_indexed(out, byte::LOCAL_SET, local),
+        Op::LocalTee(local) => write_indexed(out, byte::LOCAL_TEE, local),
+        Op::GlobalGet(global) => write_indexed(out, byte::GLOBAL_GET, global),
         Op::Load(load) => write_no_offset(out, load_opcode(load)),
         Op::Store(width) => write_no_offset(out, store_opcode(width)),
         Op::I32Const(number) => write_i32(out, number),
@@ -622,6 +620,6 @@ pub fn write_code(out: &mut Writer, ops: &[Op]) -> Result<(), EncodeError>
     }
     out.reserve(ops.len().saturating_mul(BYTES_OF_AN_OP))?;
     write_ops(out, ops)?;
-    out.byte(0x0B)?;
+    out.byte(byte::END)?;
     Ok(())
 }

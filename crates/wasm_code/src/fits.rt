@@ -11,7 +11,7 @@ ghost use Rattle.wasm_code.specs.Inside.{fits_inside};
 use wasm_tree::{Op, behind, first_of, label_of, split_ops};
 
 /// How deep blocks may nest.
-const MAX_LEVELS: u16 = 4096;
+pub const MAX_LEVELS: u16 = 4096;
 
 /// A table has fewer labels.
 const MAX_LABELS: usize = 4294967296;

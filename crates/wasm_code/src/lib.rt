@@ -4,6 +4,7 @@
 //! `Writer` appends bytes.
 #![tactic(auto)]
 
+pub mod byte;
 mod code;
 mod fits;
 mod name;

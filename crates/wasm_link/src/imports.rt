@@ -12,8 +12,8 @@ use crate::types::{agrees, is_same_value_type};
 use std::alloc::AllocError;
 use tree_parts::at;
 use wasm_tree::{
-    Export, ExportKind, Extern, Import, ImportKind, Instance, Limits, Store, Value, ValueType,
-    WFault, WModule,
+    Export, ExportKind, Extern, Import, ImportKind, Instance, Limits, PAGE_SIZE, Store, Value,
+    ValueType, WFault, WModule,
 };
 use wasm_valid::ValidModule;
 
@@ -120,7 +120,7 @@ fn suits_memory(store: &Store, limits: Limits, address: usize) -> bool
 {
     match at(store.memories.as_slice(), address) {
         None => false,
-        Some(memory) => has_limits(limits, memory.bytes.len() / 65536, memory.max),
+        Some(memory) => has_limits(limits, memory.bytes.len() / PAGE_SIZE as usize, memory.max),
     }
 }
 

@@ -10,8 +10,8 @@ ghost use Rattle.wasm_link.specs.Placed.{link_result};
 use std::alloc::{AllocError, Global};
 use tree_parts::{Items, at};
 use wasm_tree::{
-    Callee, Function, Global as Constant, Instance, Memory, MemoryType, Op, Store, Table,
-    TableType, Value, WFault,
+    Callee, Function, Global as Constant, Instance, Memory, MemoryType, Op, PAGE_SIZE, Store,
+    Table, TableType, Value, WFault,
 };
 
 fn with_function(
@@ -95,7 +95,7 @@ pub fn with_tables(
 fn fresh_memory(alloc: Global, memory: MemoryType) -> Result<Memory, AllocError>
     ensures { IfOk result (λ m. m ≡ fresh_memory memory) }
 {
-    let bytes = vec![in alloc; 0u8; 65536 * memory.limits.min as usize]?;
+    let bytes = vec![in alloc; 0u8; PAGE_SIZE as usize * memory.limits.min as usize]?;
     Ok(Memory {
         bytes: Items::from_vec(bytes),
         max: memory.limits.max,

@@ -1,3 +1,4 @@
+pub mod Limits
 pub mod Code
 pub mod Format
 pub mod Validity

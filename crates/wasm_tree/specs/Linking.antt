@@ -37,6 +37,7 @@ use Rattle.wasm_tree.specs.declared.store.Store.{Store}
 use Rattle.wasm_tree.specs.Format.{◌>>=◌}
 use Rattle.wasm_tree.specs.Validity.{context}
 use Rattle.wasm_tree.specs.Machine.{Config, Going, callee_at, callee_type, own_function, is_same_value_type, is_same_type, agree, enter_function, paste_items, Typed}
+use Rattle.wasm_tree.specs.Limits.{page_size}
 
 -- ---- names
 
@@ -108,7 +109,7 @@ has_table l (Some t) = has_limits l (length t.slots) t.max
 
 abbrev pub has_memory : Limits → Option Memory → Bool
 has_memory l None = false
-has_memory l (Some m) = has_limits l (length m.bytes / 65536) m.max
+has_memory l (Some m) = has_limits l (length m.bytes / page_size) m.max
 
 abbrev pub type_of : Value → ValueType
 type_of (I32 n) = types.I32
@@ -172,7 +173,7 @@ with_table t l = Ok (record {
 })
 
 abbrev pub fresh_memory : MemoryType → Memory
-fresh_memory t = record { bytes = replicate (65536 * t.limits.min) 0; max = t.limits.max }
+fresh_memory t = record { bytes = replicate (page_size * t.limits.min) 0; max = t.limits.max }
 
 abbrev pub with_memory : MemoryType → Linked → Result Linked WFault
 with_memory t l = Ok (record {

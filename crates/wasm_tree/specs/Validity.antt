@@ -20,6 +20,7 @@ use Rattle.wasm_tree.specs.declared.module.Element.{Element}
 use Rattle.wasm_tree.specs.declared.module.Function.{Function}
 use Rattle.wasm_tree.specs.declared.module.Data.{Data}
 use Rattle.wasm_tree.specs.declared.module.WModule.{WModule}
+use Rattle.wasm_tree.specs.Limits.{max_memory}
 
 -- ---- what a module's indices stand for, imported things first (3.1)
 
@@ -230,7 +231,7 @@ abbrev pub IsImport : Context → Import → Type 0
 IsImport c i = elim i.kind [
   | imported.Function t ↦ t < length c.types
   | imported.Table t ↦ AreLimits (2 ^ 32) t.limits
-  | imported.Memory t ↦ AreLimits 65536 t.limits
+  | imported.Memory t ↦ AreLimits max_memory t.limits
   | imported.Global t ↦ Unit {0}
 ]
 
@@ -269,7 +270,7 @@ pub record AreKinds (c : Context) (m : WModule) : Type 0 where
   pub types : All IsFuncType m.types
   pub imports : All (IsImport c) m.imports
   pub tables : All (λ t. AreLimits (2 ^ 32) t.limits) m.tables
-  pub memories : All (λ t. AreLimits 65536 t.limits) m.memories
+  pub memories : All (λ t. AreLimits max_memory t.limits) m.memories
   pub exports : All (IsExport c) m.exports
 
 -- the parts with code, but for the globals

@@ -16,6 +16,12 @@ pub struct FuncType {
     pub results: Items<ValueType>,
 }
 
+/// The bytes of a page of memory (Core 1.0, section 4.2.8).
+pub const PAGE_SIZE: u32 = 65536;
+
+/// The pages that a memory may have (Core 1.0, section 3.2.5).
+pub const MAX_MEMORY: u64 = 65536;
+
 /// The least size, and the greatest if there is one.
 #[derive(Clone, Copy, PartialEq, Eq)]
 pub struct Limits {

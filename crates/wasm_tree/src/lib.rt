@@ -15,7 +15,7 @@ pub use code::{Code, Op, behind, first_of, label_of, split_ops};
 pub use encode::EncodeError;
 pub use fault::WFault;
 pub use instr::{Instr, Load, Numeric, Operation, Relation, StoreWidth};
-pub use kinds::{FuncType, Limits, MemoryType, TableType, ValueType};
+pub use kinds::{FuncType, Limits, MAX_MEMORY, MemoryType, PAGE_SIZE, TableType, ValueType};
 pub use module::{
     Body, Data, Element, Export, ExportKind, Function, Global, Import, ImportKind, Locals, WModule,
 };

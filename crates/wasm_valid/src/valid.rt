@@ -1,6 +1,7 @@
 //! Valid modules (Core 1.0, section 3.4).
 
 ghost use Rattle.std.specs.Prelude.{◌≢◌, Err, List, ℕ, not, cond, true, ◌≡◌, ◌<◌, ◌^◌, ◌↔◌, ◌⊎◌, All, IsTrue, OnOk, IfOk, MatchResult, map, length};
+ghost use Rattle.wasm_tree.specs.Limits.{max_memory};
 ghost use Rattle.wasm_tree.specs.Validity.{context, AreLimits, IsFuncType, IsImport, IsFunction, IsGlobal, IsExport, IsElement, IsData, AreDistinct, AreKinds, AreBodies, IsValid};
 ghost use Rattle.wasm_valid.specs.CodeScope.{scope_of};
 ghost use Rattle.std.specs.Str.{bytes_eq};
@@ -16,7 +17,7 @@ use std::marker::Model;
 use tree_parts::at;
 use wasm_tree::{
     Data, Element, Export, ExportKind, FuncType, Function, Global as Constant, Import, ImportKind,
-    Limits, MemoryType, TableType, ValueType, WFault, WModule,
+    Limits, MAX_MEMORY, MemoryType, TableType, ValueType, WFault, WModule,
 };
 
 fn are_limits(limits: Limits, most: u64) -> bool
@@ -41,7 +42,7 @@ fn is_import(scope: Scope<'_>, import: &Import) -> bool
     match import.kind {
         ImportKind::Function(type_index) => (type_index as usize) < scope.types.len(),
         ImportKind::Table(table) => are_limits(table.limits, 1 << 32),
-        ImportKind::Memory(memory) => are_limits(memory.limits, 65536),
+        ImportKind::Memory(memory) => are_limits(memory.limits, MAX_MEMORY),
         ImportKind::Global(_) => true,
     }
 }
@@ -191,9 +192,9 @@ fn are_tables(tables: &[TableType]) -> bool
 }
 
 fn are_memories(memories: &[MemoryType]) -> bool
-    ensures { IsTrue result ↔ All (λ m. AreLimits 65536 m.limits) memories.now }
+    ensures { IsTrue result ↔ All (λ m. AreLimits max_memory m.limits) memories.now }
 {
-    memories.iter().all(|m| are_limits(m.limits, 65536))
+    memories.iter().all(|m| are_limits(m.limits, MAX_MEMORY))
 }
 
 fn are_exports(scope: Scope<'_>, exports: &[Export]) -> bool

@@ -7,7 +7,7 @@ ghost use Rattle.wasm_binary.specs.Binary.{func_type, limits, table_type, memory
 
 use crate::binary::{Binary, vector, write_vector};
 use std::alloc::Global;
-use wasm_code::{Writer, byte_at, skip, unsigned_at};
+use wasm_code::{Writer, byte, byte_at, skip, unsigned_at};
 use wasm_tree::{EncodeError, FuncType, Limits, MemoryType, TableType, ValueType, WFault};
 
 #[tactic(auto, unfolding(wasm_code::specs::Instructions::value_type))]
@@ -20,8 +20,8 @@ impl Binary for ValueType {
         ensures shorter { IfOk result (λ x. length x.1.now ≤ length bytes.now) }
     {
         match byte_at(bytes)? {
-            (0x7F, rest) => Ok((ValueType::I32, rest)),
-            (0x7E, rest) => Ok((ValueType::I64, rest)),
+            (byte::I32, rest) => Ok((ValueType::I32, rest)),
+            (byte::I64, rest) => Ok((ValueType::I64, rest)),
             _ => Err(WFault::OutsideProfile),
         }
     }
@@ -34,8 +34,8 @@ impl Binary for ValueType {
         ensures always { result ≢ Err EncodeError.NoEncoding }
     {
         match self {
-            ValueType::I32 => Ok(out.byte(0x7F)?),
-            ValueType::I64 => Ok(out.byte(0x7E)?),
+            ValueType::I32 => Ok(out.byte(byte::I32)?),
+            ValueType::I64 => Ok(out.byte(byte::I64)?),
         }
     }
 }
@@ -45,14 +45,14 @@ impl Binary for FuncType {
     ghost format = { func_type };
 
     fn read(alloc: Global, bytes: &[u8]) -> Result<(FuncType, &[u8]), WFault> {
-        let rest = skip(0x60, bytes)?;
+        let rest = skip(byte::FUNC_TYPE, bytes)?;
         let (params, rest) = vector(alloc, rest)?;
         let (results, rest) = vector(alloc, rest)?;
         Ok((FuncType { params, results }, rest))
     }
 
     fn write(&self, out: &mut Writer) -> Result<(), EncodeError> {
-        out.byte(0x60)?;
+        out.byte(byte::FUNC_TYPE)?;
         write_vector(out, self.params.as_slice())?;
         write_vector(out, self.results.as_slice())
     }
@@ -109,13 +109,13 @@ impl Binary for TableType {
         ensures memory { result ≢ Err WFault.NoMemory }
         ensures shorter { IfOk result (λ x. length x.1.now ≤ length bytes.now) }
     {
-        let rest = skip(0x70, bytes)?;
+        let rest = skip(byte::FUNC_REF, bytes)?;
         let (limits, rest) = Limits::read(alloc, rest)?;
         Ok((TableType { limits }, rest))
     }
 
     fn write(&self, out: &mut Writer) -> Result<(), EncodeError> {
-        out.byte(0x70)?;
+        out.byte(byte::FUNC_REF)?;
         self.limits.write(out)
     }
 }

@@ -8,7 +8,8 @@ use crate::binary::{Binary, vector, write_vector};
 use std::alloc::Global;
 use tree_parts::Items;
 use wasm_code::{
-    Writer, byte_at, close_part, code_at, front, name_at, skip, unsigned_at, write_code, write_name,
+    Writer, byte, byte_at, close_part, code_at, front, name_at, skip, unsigned_at, write_code,
+    write_name,
 };
 use wasm_tree::{
     Data, Element, EncodeError, Export, ExportKind, Global as Constant, Import, ImportKind,
@@ -26,21 +27,21 @@ impl Binary for ImportKind {
     {
         let (kind, rest) = byte_at(bytes)?;
         match kind {
-            0x00 => {
+            byte::OF_FUNCTION => {
                 let (type_index, rest) = unsigned_at(rest)?;
                 Ok((ImportKind::Function(type_index), rest))
             }
-            0x01 => {
+            byte::OF_TABLE => {
                 let (table, rest) = TableType::read(alloc, rest)?;
                 Ok((ImportKind::Table(table), rest))
             }
-            0x02 => {
+            byte::OF_MEMORY => {
                 let (memory, rest) = MemoryType::read(alloc, rest)?;
                 Ok((ImportKind::Memory(memory), rest))
             }
-            0x03 => {
+            byte::OF_GLOBAL => {
                 let (value_type, rest) = ValueType::read(alloc, rest)?;
-                let rest = skip(0x00, rest)?;
+                let rest = skip(byte::IMMUTABLE, rest)?;
                 Ok((ImportKind::Global(value_type), rest))
             }
             _ => Err(WFault::Malformed),
@@ -50,21 +51,21 @@ impl Binary for ImportKind {
     fn write(&self, out: &mut Writer) -> Result<(), EncodeError> {
         match self {
             ImportKind::Function(type_index) => {
-                out.byte(0x00)?;
+                out.byte(byte::OF_FUNCTION)?;
                 type_index.write(out)
             }
             ImportKind::Table(table) => {
-                out.byte(0x01)?;
+                out.byte(byte::OF_TABLE)?;
                 table.write(out)
             }
             ImportKind::Memory(memory) => {
-                out.byte(0x02)?;
+                out.byte(byte::OF_MEMORY)?;
                 memory.write(out)
             }
             ImportKind::Global(value_type) => {
-                out.byte(0x03)?;
+                out.byte(byte::OF_GLOBAL)?;
                 value_type.write(out)?;
-                out.byte(0x00)?;
+                out.byte(byte::IMMUTABLE)?;
                 Ok(())
             }
         }
@@ -102,14 +103,14 @@ impl Binary for Constant {
 
     fn read(alloc: Global, bytes: &[u8]) -> Result<(Constant, &[u8]), WFault> {
         let (value_type, rest) = ValueType::read(alloc, bytes)?;
-        let rest = skip(0x00, rest)?;
+        let rest = skip(byte::IMMUTABLE, rest)?;
         let (value, rest) = code_at(alloc, rest)?;
         Ok((Constant { value_type, value }, rest))
     }
 
     fn write(&self, out: &mut Writer) -> Result<(), EncodeError> {
         self.value_type.write(out)?;
-        out.byte(0x00)?;
+        out.byte(byte::IMMUTABLE)?;
         write_code(out, self.value.ops())
     }
 }
@@ -125,19 +126,19 @@ impl Binary for ExportKind {
     {
         let (kind, rest) = byte_at(bytes)?;
         match kind {
-            0x00 => {
+            byte::OF_FUNCTION => {
                 let (index, rest) = unsigned_at(rest)?;
                 Ok((ExportKind::Function(index), rest))
             }
-            0x01 => {
+            byte::OF_TABLE => {
                 let (index, rest) = unsigned_at(rest)?;
                 Ok((ExportKind::Table(index), rest))
             }
-            0x02 => {
+            byte::OF_MEMORY => {
                 let (index, rest) = unsigned_at(rest)?;
                 Ok((ExportKind::Memory(index), rest))
             }
-            0x03 => {
+            byte::OF_GLOBAL => {
                 let (index, rest) = unsigned_at(rest)?;
                 Ok((ExportKind::Global(index), rest))
             }
@@ -148,19 +149,19 @@ impl Binary for ExportKind {
     fn write(&self, out: &mut Writer) -> Result<(), EncodeError> {
         match self {
             ExportKind::Function(index) => {
-                out.byte(0x00)?;
+                out.byte(byte::OF_FUNCTION)?;
                 index.write(out)
             }
             ExportKind::Table(index) => {
-                out.byte(0x01)?;
+                out.byte(byte::OF_TABLE)?;
                 index.write(out)
             }
             ExportKind::Memory(index) => {
-                out.byte(0x02)?;
+                out.byte(byte::OF_MEMORY)?;
                 index.write(out)
             }
             ExportKind::Global(index) => {
-                out.byte(0x03)?;
+                out.byte(byte::OF_GLOBAL)?;
                 index.write(out)
             }
         }

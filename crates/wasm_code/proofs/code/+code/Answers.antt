@@ -48,7 +48,7 @@ pub sides_onto-returns-in_ok-rest-in-Else : goal.sides_onto-returns-in_ok-rest-i
 sides_onto-returns-in_ok-rest-in-Else t c =
     sides_two c.args.levels c.args.opcode c.args.kind c.args.scratch.now.items c.put_op.new.scratch.items c.args.bytes.now
     c.code_in.new.scratch.items c.code_within.new.scratch.items c.close_two.new.scratch.items c.len-place.result c.len-second.result op.Unreachable c.in_ok-ending.ending c.in_ok-ending.rest.now c.in_ok-rest-in-Else.rest.now
-    (omega (arith, c.len-place.ensures, c.args.scratch.now.ok.0)) c.in_ok-put_op.ensures c.if-opcode-ne4.false c.in-Else.is c.in_ok-ending.ensures (omega (arith, c.len-second.ensures, c.code_in.new.scratch.ok.0)) c.in_ok-rest-in-Else.ensures c.close_two.ensures
+    (omega (arith, c.len-place.ensures, c.args.scratch.now.ok.0)) c.in_ok-put_op.ensures c.if-opcode-ne-IF.false c.in-Else.is c.in_ok-ending.ensures (omega (arith, c.len-second.ensures, c.code_in.new.scratch.ok.0)) c.in_ok-rest-in-Else.ensures c.close_two.ensures
 
 pub opened_onto-sides_onto-requires : goal.opened_onto-sides_onto-requires
 opened_onto-sides_onto-requires t c =
