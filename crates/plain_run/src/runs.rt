@@ -15,8 +15,8 @@ use plain_steps::passing::{
     array_passed, in_front, load_number, number_passed, open_passed, text_passed, variable_passed,
 };
 use plain_steps::simple::{
-    Ends, Target, Turns, assign, begin_for, change, chosen_arm, copy, copy_text, give, gone,
-    membership, next_turn, put,
+    Ends, Target, Turns, assign, begin_for, call_outcome, change, chosen_arm, copy, copy_text,
+    give, membership, next_turn, put,
 };
 use plain_store::state::{Answer, Outcome, RunFault, State, Stop, deeper, load};
 use plain_values::checks::{
@@ -476,7 +476,7 @@ fn step<'a>(
                 st,
             )
         }
-        TypedStmt::Call(call) => Ok(gone(call_value(around, room, call, st)?, st)),
+        TypedStmt::Call(call) => Ok(call_outcome(call_value(around, room, call, st)?, st)),
         TypedStmt::Put(e) => put(around, value(around, room, e, st)?, st),
         TypedStmt::Change(o, d, t, e) => {
             change(around, *o, *t, target(around, room, d, e, st)?, st)

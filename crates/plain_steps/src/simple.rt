@@ -111,7 +111,7 @@ pub fn copy_text(
 
 /// The end of a call as a statement.
 #[tactic(auto, using(plain_store::proofs::Threads::threads))]
-pub fn gone(given: Answer<i64>, st: &State) -> Outcome
+pub fn call_outcome(given: Answer<i64>, st: &State) -> Outcome
     ensures { outcome_course result st.now
         ≡ (answer_meaning given st.now ▷ (λ v st. Value Normal st)) }
 {

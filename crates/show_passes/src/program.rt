@@ -71,18 +71,18 @@ impl Trees {
     }
 
     /// The tree of this number.
-    fn parsed(&self, number: Option<&usize>) -> Option<&Parsed> {
+    fn at(&self, number: Option<&usize>) -> Option<&Parsed> {
         self.all.get(*number?)
     }
 
     /// The body of the module of this name.
     fn body(&self, name: &[u8]) -> Option<&Parsed> {
-        self.parsed(self.bodies.find(name))
+        self.at(self.bodies.find(name))
     }
 
     /// What the functions of a module are.
     fn titles(&self, alloc: Global, body: &Parsed, name: &[u8]) -> Result<Titles, AllocError> {
-        let definition = self.parsed(self.definitions.find(name));
+        let definition = self.at(self.definitions.find(name));
         titles_of(alloc, &body.tree, definition.map(|it| &it.tree))
     }
 }

@@ -38,11 +38,11 @@ fn with_code(alloc: Global, code: &[u8]) -> Result<Vec<u8>, EncodeError> {
     body.bytes(code)?;
     let mut section = Writer::new(alloc);
     section.unsigned(1)?;
-    section.sized(body.as_slice())?;
+    section.part(body.as_slice())?;
     let mut out = Writer::new(alloc);
     out.bytes(&BEFORE_CODE)?;
     out.byte(10)?;
-    out.sized(section.as_slice())?;
+    out.part(section.as_slice())?;
     Ok(out.into_bytes())
 }
 

@@ -142,8 +142,8 @@ pub fn write_section<T: Binary>(
     if items.is_empty() {
         return Ok(());
     }
-    let mut content = out.nested();
+    let mut content = out.inner();
     write_vector(&mut content, items)?;
     out.byte(number)?;
-    out.sized(content.as_slice())
+    out.part(content.as_slice())
 }

@@ -170,10 +170,10 @@ fn write_code_section(out: &mut Writer, functions: &[Function]) -> Result<(), En
     if functions.is_empty() {
         return Ok(());
     }
-    let mut content = out.nested();
+    let mut content = out.inner();
     write_bodies(&mut content, functions)?;
     out.byte(byte::CODE_SECTION)?;
-    out.sized(content.as_slice())
+    out.part(content.as_slice())
 }
 
 fn write_bodies(out: &mut Writer, functions: &[Function]) -> Result<(), EncodeError>

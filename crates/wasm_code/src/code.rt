@@ -409,7 +409,7 @@ fn code_within<'a>(
 }
 
 /// Takes all off the scratch.
-fn taken_off(scratch: &mut Vec<Op>) -> Result<Code, AllocError>
+fn take_all(scratch: &mut Vec<Op>) -> Result<Code, AllocError>
     ensures { IfOk result (λ c. c ≡ tree scratch.old.items) }
 {
     Ok(Code::new(scratch.split_off(0)?))
@@ -429,7 +429,7 @@ pub fn code_over<'a>(
 {
     scratch.clear();
     let rest = code_within(alloc, MAX_LEVELS, scratch, bytes)?;
-    let code = taken_off(scratch)?;
+    let code = take_all(scratch)?;
     Ok((code, rest))
 }
 
@@ -447,7 +447,7 @@ pub fn code_at(alloc: Global, bytes: &[u8]) -> Result<(Code, &[u8]), WFault>
 fn write_indexed(out: &mut Writer, opcode: u8, index: u32) -> Result<(), AllocError>
     ensures { OnOk result (out.new ≡ out.old ++ (opcode ∷ unsigned.encoding index)) }
 {
-    out.indexed(opcode, u64::from(index))
+    out.with_index(opcode, u64::from(index))
 }
 
 /// Appends an opcode and the two bytes of zero behind it.

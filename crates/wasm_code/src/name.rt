@@ -47,5 +47,5 @@ pub fn write_name(out: &mut Writer, text: &[u8]) -> Result<(), EncodeError>
     if !is_utf8(text) {
         return Err(EncodeError::NoEncoding);
     }
-    out.sized(text)
+    out.part(text)
 }

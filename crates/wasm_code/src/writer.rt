@@ -41,7 +41,7 @@ impl Writer {
     }
 
     /// Another one, with nothing written, for a part whose length comes before it.
-    pub fn nested(&self) -> Writer
+    pub fn inner(&self) -> Writer
         ensures { result ≡ [] }
     {
         Writer::new(*self.bytes.allocator())
@@ -97,7 +97,7 @@ impl Writer {
 
     /// Appends a byte, and behind it an index, a count or a size. Most of these take one byte, too.
     #[tactic(auto, unfolding(crate::specs::Number::groups))]
-    pub(crate) fn indexed(&mut self, byte: u8, number: u64) -> Result<(), AllocError>
+    pub(crate) fn with_index(&mut self, byte: u8, number: u64) -> Result<(), AllocError>
         ensures ok { OnOk result (self.new ≡ self.old ++ byte ∷ unsigned.encoding number) }
         ensures err { OnErr result (self.new ≡ self.old) }
     {
@@ -133,7 +133,7 @@ impl Writer {
 
     /// Appends a part behind the number of its bytes: a section's content, a body or a name. The only error is that memory
     /// ran out, or that the part has no encoding: it has more than `MAX_PART` bytes.
-    pub fn sized(&mut self, part: &[u8]) -> Result<(), EncodeError>
+    pub fn part(&mut self, part: &[u8]) -> Result<(), EncodeError>
         ensures ok { OnOk result
             (self.new ≡ self.old ++ (unsigned.encoding (length part.now) ++ part.now)) }
         ensures err { OnErr result (self.new ≡ self.old) }

@@ -112,9 +112,9 @@ impl Binary for Body {
     }
 
     fn write(&self, out: &mut Writer) -> Result<(), EncodeError> {
-        let mut content = out.nested();
+        let mut content = out.inner();
         write_locals(&mut content, self.locals.as_slice())?;
         write_code(&mut content, self.code.ops())?;
-        out.sized(content.as_slice())
+        out.part(content.as_slice())
     }
 }

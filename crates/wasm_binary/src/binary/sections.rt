@@ -233,6 +233,6 @@ impl Binary for Data {
     fn write(&self, out: &mut Writer) -> Result<(), EncodeError> {
         self.memory.write(out)?;
         write_code(out, self.offset.ops())?;
-        out.sized(self.bytes.as_slice())
+        out.part(self.bytes.as_slice())
     }
 }

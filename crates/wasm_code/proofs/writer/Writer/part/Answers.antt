@@ -1,7 +1,7 @@
 use Rattle.std.proofs.Common.{arith, length}
 use Rattle.std.proofs.lemmas.Bool.{and_from, lt-ltb}
 use Rattle.wasm_code.proofs.LawsParts.{are_bytes}
-use Rattle.wasm_code.proofs.writer.Writer.sized.Goals as goal
+use Rattle.wasm_code.proofs.writer.Writer.part.Goals as goal
 
 pub returns-clause-fits : goal.returns-clause-fits
 returns-clause-fits c =
