@@ -22,6 +22,10 @@ data_size (m ∷ ms) = size (module_row m) + characters (module_texts m) + data_
 abbrev pub storage : Modules → (pages : ℕ) → ℕ
 storage p pages = pages * page_size - data_size p
 
+-- the least bytes of it that a program has
+abbrev pub least_stack : ℕ
+least_stack = 4096
+
 abbrev pub body_frame : ℕ
 body_frame = size (frame_of [])
 

@@ -29,10 +29,6 @@ use Rattle.def_scheme.specs.Signatures.{Signatures, signatures_needed, in_order,
 abbrev pub max_pages : ℕ
 max_pages = 1024
 
--- the least bytes that its stack has
-abbrev pub least_stack : ℕ
-least_stack = 4096
-
 -- ---- the module of a body
 
 abbrev pub helper : (type_index : ℕ) → List Instr → Function

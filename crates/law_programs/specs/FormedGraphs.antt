@@ -12,7 +12,8 @@ use Rattle.law_programs.specs.FormedCoherent.{trees_of, AreBodiesIn}
 use Rattle.law_programs.specs.FormedTrees.{fits_contents}
 use Rattle.law_simulation.specs.Modules.{AreModules}
 use Rattle.layout_storage.specs.Sizes.{page_size}
-use Rattle.def_scheme.specs.Modules.{least_stack, max_pages}
+use Rattle.def_meaning.specs.Runs.{least_stack}
+use Rattle.def_scheme.specs.Modules.{max_pages}
 
 -- nothing of the module is too large
 pub record IsFit (m : TypedModule) : Type 0 where

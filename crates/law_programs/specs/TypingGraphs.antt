@@ -10,7 +10,8 @@ use Rattle.law_programs.specs.FormedCoherent.{trees_of, AreBodiesIn}
 use Rattle.law_programs.specs.FormedTrees.{fits_contents}
 use Rattle.law_simulation.specs.Modules.{AreTypedModules}
 use Rattle.layout_storage.specs.Sizes.{page_size}
-use Rattle.def_scheme.specs.Modules.{least_stack, max_pages}
+use Rattle.def_meaning.specs.Runs.{least_stack}
+use Rattle.def_scheme.specs.Modules.{max_pages}
 
 -- The files have this graph, and their trees fit, with the statements in them. There is room for
 -- the bodies that start in the pages.

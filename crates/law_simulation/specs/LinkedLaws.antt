@@ -5,7 +5,7 @@ use Rattle.wasm_tree.specs.Machine.{Config}
 use Rattle.wasm_tree.specs.Linking.{link}
 use Rattle.wasm_tree.specs.Validity.{AreDistinct}
 use Rattle.typed_tree.specs.declared.typed_module.TypedModule.{TypedModule}
-use Rattle.def_meaning.specs.Runs.{run}
+use Rattle.def_meaning.specs.Runs.{run, least_stack}
 use Rattle.law_modules.specs.Linked.{Program, names, all, slots_in, bytes_in, IsLinkable}
 use Rattle.law_simulation.specs.Behaves.{Behaves}
 use Rattle.law_simulation.specs.RunsPrograms.{ground, fixtures_of}
@@ -13,7 +13,7 @@ use Rattle.law_simulation.specs.Linked.{IsLinked}
 use Rattle.law_simulation.specs.Knows.{IsCoherent}
 use Rattle.law_simulation.specs.Modules.{AreModules, AreTypedModules}
 use Rattle.layout_storage.specs.Sizes.{page_size}
-use Rattle.def_scheme.specs.Modules.{least_stack, max_pages}
+use Rattle.def_scheme.specs.Modules.{max_pages}
 
 -- linking gives each module what the code of typed bodies looks for
 abbrev pub ModulesLinked : Type 0

@@ -20,9 +20,9 @@ use Rattle.m2_graph.specs.Graph.{CompileEach, IsGraph, IsRefusal}
 use Rattle.typed_tree.specs.declared.typed_module.TypedModule.{TypedModule}
 use Rattle.def_meaning.specs.Environment.{Modules}
 use Rattle.def_meaning.specs.Answer.{halt_status, Ended}
-use Rattle.def_meaning.specs.Runs.{data_size, run}
+use Rattle.def_meaning.specs.Runs.{data_size, run, least_stack}
 use Rattle.law_nothing_missing.specs.Runs.{strict_run}
-use Rattle.def_scheme.specs.Modules.{typed_module, typed_link, least_stack}
+use Rattle.def_scheme.specs.Modules.{typed_module, typed_link}
 use Rattle.m2_emit.specs.declared.emitted.ModuleBytes.{ModuleBytes}
 use Rattle.law_simulation.specs.Behaves.{Behaves}
 use Rattle.law_orders.specs.Order.{IsOrder}

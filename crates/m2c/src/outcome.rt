@@ -3,7 +3,8 @@
 ghost use Rattle.std.specs.Prelude.{◌≡◌, ◌≤◌, ◌+◌, ◌*◌, ◌∷◌, [], length, map, nat_lt, IfOk};
 ghost use Rattle.m2_emit.specs.Emitted.{parts};
 ghost use Rattle.layout_storage.specs.Sizes.{page_size};
-ghost use Rattle.def_scheme.specs.Modules.{least_stack, max_pages, stack_begin};
+ghost use Rattle.def_meaning.specs.Runs.{least_stack};
+ghost use Rattle.def_scheme.specs.Modules.{max_pages, stack_begin};
 ghost use Rattle.m2_graph.specs.Files.{number_files};
 ghost use Rattle.m2_graph.specs.Graph.{CompileEach};
 ghost use Rattle.m2_graph.specs.Jobs.{ArePlaces};
