@@ -6,6 +6,10 @@ SIGNATURE = re.compile(r"(?:(?:abbrev|unfoldable|pub) )*(?:(data|record) ([^\s({
 CONSTRUCTORS = re.compile(r"(?:pub )?([^\s(){}:]+(?: [^\s(){}:]+)*)(?: (:))?(?:\s|$)")
 BLOCK = re.compile(r"(?:abbrev )?(mutual|module)\b")
 WORD = re.compile(r"[^\s(){}\[\],;]+")
+BINDER = re.compile(r"[({]([^\s(){}:]+(?: [^\s(){}:]+)*) : ")
+# what a format says of reading: a field of its own lines, up to the semicolon, or one within a line
+READING = re.compile(r"(?:pub )?reading [:=]")
+READING_WITHIN = re.compile(r"\breading = [^;{}]*;")
 
 
 def words_of(name):
@@ -15,17 +19,34 @@ def words_of(name):
 
 class Part:
     """A definition: its name, those of its constructors, its lines, and the words on them. The lines and words of a module's
-    head count with each part in it."""
+    head count with each part in it. What a format says of reading stands apart, since who only writes needs none of it. A name
+    that it binds is no other definition's."""
 
     def __init__(self, name, heads):
-        self.name, self.made, self.lines, self.words = name, set(), [], set()
+        self.name, self.made, self.lines, self.words, self.bound = name, set(), [], set(), set()
+        self.reading_lines, self.reading_words, self.is_reading = [], set(), False
         for head in heads:
             self.lines += head.lines
             self.words |= head.words
 
     def add(self, number, bare):
+        self.bound.update(name for names in BINDER.findall(bare) for name in names.split())
+        if self.is_reading or READING.match(bare):
+            self.is_reading = bare.startswith("reading") or self.is_reading
+            self.is_reading = self.is_reading and not bare.endswith(";")
+            self.reading_lines.append(number)
+            self.reading_words.update(WORD.findall(bare))
+            return
+        for found in READING_WITHIN.findall(bare):
+            self.reading_words.update(WORD.findall(found))
         self.lines.append(number)
-        self.words.update(WORD.findall(bare))
+        self.words.update(WORD.findall(READING_WITHIN.sub("", bare)))
+
+    def lines_of(self, with_reading):
+        return self.lines + self.reading_lines if with_reading else self.lines
+
+    def words_of(self, with_reading):
+        return self.words | self.reading_words if with_reading else self.words
 
 
 class Head:
@@ -128,10 +149,12 @@ class Parts:
             for word in words_of(own or other):
                 self.taken[word] = (crate, path, other)
 
-    def named_by(self, part):
+    def named_by(self, part, with_reading):
         """What a part names: (None, name) of this file, or ((crate, path), name) of another one."""
-        for word in part.words:
+        for word in part.words_of(with_reading):
             head, dot, rest = word.partition(".")
+            if head in part.bound:
+                continue
             for it in {word, head} | ({rest} if dot and not head else set()):
                 if it in self.names:
                     yield None, it
