@@ -138,7 +138,7 @@ module _ (exports : ℕ → Ident → Standing) (w : Setting) where
   pub data IsSimpleType : Simple → Added → TypeNo → Type 0 where
     named : {q : Qualified} {t : TypeNo} → NamesType w.names exports q t
         → IsSimpleType (simple.Named q) nothing_added t
-    -- An enumeration has at most max_constants constants, with names that are new.
+    -- An enumeration has at most 256 constants, with names that are new.
     enumeration : {at : Pos} {xs : List Ident} → slice_get xs max_constants ≡ None
         → ((f : Breach) → Twice (λ n. w.there n ≡ true) xs f → ⊥)
         → IsSimpleType (simple.Enumeration at xs) (enumeration_added (next_type w.types) xs)
@@ -221,7 +221,7 @@ module _ (exports : ℕ → Ident → Standing) where
     pub data IsTypeOf : Setting → TypeExpr → Added → TypeNo → Type 0 where
       is_simple : {w : Setting} {e : TypeExpr} {x : Simple} {a : Added} {t : TypeNo}
           → out-TypeExpr e ≡ layer.Simple x → IsSimpleType exports w x a t → IsTypeOf w e a t
-      -- An array has at most max_cells cells.
+      -- An array has at most 131072 cells.
       is_array : {w : Setting} {e of : TypeExpr} {at : Pos} {index : Simple} {a b : Added}
           {i t : TypeNo} → out-TypeExpr e ≡ layer.Array at index of
           → IsSimpleType exports w index a i → IsIndex (behind w a).types i
@@ -233,7 +233,7 @@ module _ (exports : ℕ → Ident → Standing) where
           → AreParameters w.types w.names exports xs s.formals
           → GivesBack w.types w.names exports q s.result
           → IsTypeOf w e (type_added (procedure_made s)) (next_type w.types)
-      -- A record has at most max_cells cells, and no name twice.
+      -- A record has at most 131072 cells, and no name twice.
       is_record : {w : Setting} {e : TypeExpr} {at : Pos} {fields : List Field} {a : Added}
           {list : List (List ℕ × TypeNo)} {n : ℕ} → out-TypeExpr e ≡ layer.Record at fields
           → AreFields w fields a list n → ((f : Breach) → Twice (λ n. ⊥) (field_names fields) f → ⊥)

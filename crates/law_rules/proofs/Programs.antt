@@ -1,6 +1,5 @@
 -- Programs are answered exactly.
 use Rattle.std.proofs.Common.{◌≡◌, ℕ, ◌<◌, Bool, true, false, List, [], ◌∷◌, ◌++◌, Option, Some, None, Result, Ok, Err, ◌⊎◌, inl, inr, refl, sym, ap, subst, ◌∙◌, arith}
-use Rattle.std.specs.List.{Contains}
 use Rattle.m2_rule.specs.declared.breach.Breach.{Breach}
 use Rattle.m2_tree.specs.declared.name.Ident.{Ident}
 use Rattle.m2_tree.specs.declared.decl.Block.{Block}
@@ -32,9 +31,7 @@ use Rattle.def_typed.specs.Named.{named, named_by}
 use Rattle.def_typed.specs.Blocks.{StandsWithoutCode}
 use Rattle.def_typed.specs.Modules.{MeansBefore, of_definition, of_import, without_code, MeansModule}
 use Rattle.law_numbers.proofs.Senses.{no_code}
-use Rattle.law_least_definition.specs.Least as least_rules
-use Rattle.law_least_body.proofs.Bodies.{checked_reports}
-use Rattle.law_typing.specs.Judging.{Judges, all_of_them, the_least}
+use Rattle.law_typing.specs.Judging.{Judges, the_least}
 use Rattle.law_typed.specs.Typed.{IsOne}
 use Rattle.law_typing.specs.Exact.{no_names, is_own_variable, Knows, knows_nothing, Repeats, of_heading, of_declaration, TakenAs, is_taken, not_taken, AreOnce}
 use Rattle.law_typing.proofs.Combining.{Lawful}
@@ -57,16 +54,6 @@ use Rattle.law_rules.proofs.MeantModules.{Outside, tree, one_tree}
 
 abbrev pub Finds : (g : Gathers) → Judges g → Type 0
 Finds g j = (home : ℕ) (m : Module) (own : Option Table) (imported : List Table) (r : g.Reported) → body_module g home m own imported ≡ Err r → (f : Breach) × j.Among r f
-
-one_refusal : {A R : Type 0} {a b : R} → ◌≡◌ {A = Result A R} (Err a) (Err b) → a ≡ b
-one_refusal e = cc
-
-found_by : {A : Type 0} {l : Result A Breach} {q : Result A (List Breach)} {r : List Breach} → least_rules.Reports l q → q ≡ Err r → (f : Breach) × Contains r f
-found_by (least_rules.fine a) e = absurd cc
-found_by (least_rules.is_refused f fs i) e = (f, subst (λ (xs : List Breach). Contains xs f) (one_refusal e) i.among)
-
-pub every_finds : Finds every all_of_them
-every_finds home m own imported r e = found_by (checked_reports home m own imported) e
 
 pub least_finds : Finds least the_least
 least_finds home m own imported r e = (r, refl)

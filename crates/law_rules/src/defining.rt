@@ -28,8 +28,7 @@ ghost use Rattle.law_rules.specs.Importers.{TablesAreForeign, OwnNamesAreKnown, 
 /// with what the rules say that it means and with its number, and no other name. It lists the modules that the definition
 /// imports, and the types that are met through it.
 pub fn definition_laws()
-    ensures every_rule { DefinitionsAreExact every all_of_them }
-    ensures least_rule { DefinitionsAreExact least the_least }
+    ensures { DefinitionsAreExact least the_least }
 {}
 
 /// No definition lacks what names stand for before its declarations, so the law above speaks of each.
@@ -40,20 +39,17 @@ pub fn definition_scope_laws()
 
 /// No variable counts as a module's own that it imports from the table of another definition, or from Console.
 pub fn foreign_table_laws()
-    ensures every_rule { TablesAreForeign every }
-    ensures least_rule { TablesAreForeign least }
+    ensures { TablesAreForeign least }
 {}
 
 /// A definition exports each name once. Where its implementation begins, these names are taken, and its procedures await their
 /// headings.
 pub fn own_name_laws()
-    ensures every_rule { OwnNamesAreKnown every all_of_them }
-    ensures least_rule { OwnNamesAreKnown least the_least }
+    ensures { OwnNamesAreKnown least the_least }
 {}
 
 /// A name that a definition exports stands for the same behind its declarations, in its own implementation, and in those who
 /// import it.
 pub fn agreeing_name_laws()
-    ensures every_rule { NamesAgree every all_of_them }
-    ensures least_rule { NamesAgree least the_least }
+    ensures { NamesAgree least the_least }
 {}

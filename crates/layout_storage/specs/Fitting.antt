@@ -1,4 +1,4 @@
--- Whether each type that a module knows has at max_storage 16777216 bytes, so that its sizes and
+-- Whether each type that a module knows has at most 16777216 bytes, so that its sizes and
 -- offsets are not cut.
 use Rattle.std.specs.Prelude.{ℕ, zero, suc, Bool, true, not, ◌&&◌, nat_lt, List, length}
 use Rattle.std.specs.List.{fold}

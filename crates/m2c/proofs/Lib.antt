@@ -1,4 +1,3 @@
-mod Least
 pub mod Bodies
 pub mod Two
 pub mod EachOnce

@@ -1,7 +1,6 @@
 //! Laws of builds. There is no code here but what names them.
 
 ghost use Rattle.m2c.specs.Encodings.{ProgramsFit};
-ghost use Rattle.m2c.specs.Least.{ModulesReportLeast};
 ghost use Rattle.m2c.specs.Outcomes.{FilesHaveOutcomes, OneOutcome};
 ghost use Rattle.m2c.specs.Readings.{TreesOrRefusals};
 
@@ -19,11 +18,6 @@ pub fn encoding_laws()
 /// program does not fit, or there are modules for it.
 pub fn files_laws()
     ensures { FilesHaveOutcomes }
-{}
-
-/// What is reported of a module is the least of all refusals that its elaboration gathers, by place and then by number.
-pub fn least_laws()
-    ensures { ModulesReportLeast }
 {}
 
 /// All texts have trees, or some are refused, and these refusals are reported. It does not matter what their bytes are.

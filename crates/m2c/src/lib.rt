@@ -17,7 +17,7 @@ mod texts;
 pub use build_jobs::{MAX_PAGES, MAX_WORKERS, Options, SourceFile};
 pub use compiling::compile;
 pub use files::{BuildFault, Outcome, build};
-pub use laws::{encoding_laws, files_laws, least_laws, outcome_laws, reading_laws};
+pub use laws::{encoding_laws, files_laws, outcome_laws, reading_laws};
 pub use m2_tree::Refusal;
 pub use pool_board::{Gate, Open};
 pub use run_directory::{InDir, Sink, execute};
