@@ -1,6 +1,6 @@
 # The toolchain's command `rt` proves, builds and tests; see README.md.
 
-.PHONY: build plain example programs compare hostile browser test test-tools book explanations install dist
+.PHONY: build plain web snapshot example programs compare hostile browser test test-tools book explanations install dist
 
 PREFIX ?= /usr/local
 
@@ -12,8 +12,24 @@ build:
 plain:
 	tools/build_program plain_run_cli plain_run
 
-# Compiles examples/hello and examples/hanoi, and runs them: with the proved programs if they are built, and else with the
-# libraries as they stand, unproved.
+# Makes build/web/: the page on which programs are written, with the proved compiler as a WebAssembly module, the library and
+# the examples. It needs binaryen.
+web: build
+	mkdir -p build/web
+	tools/build_web m2_cli build/web/m2.wasm
+	tools/web_page build/web/m2.wasm build/web
+
+# Tries the C functions of the module, holds both of its forms against the proved program, tries m2 on node, and puts the module
+# into dist/, from where `make example` takes it.
+snapshot: web
+	tools/try_runtime
+	tools/compare_module
+	tools/compare_module --few build/web/m2.w64.wasm
+	M2=hosts/node/m2.mjs M2_WASM=$(CURDIR)/build/web/m2.wasm tools/try_m2
+	tools/snapshot
+
+# Compiles examples/hello and examples/hanoi, and runs them: with the proved program if it is built, else with the snapshot of it
+# by node, and else with the libraries as they stand, unproved.
 example:
 	tools/try_example
 
@@ -31,14 +47,16 @@ hostile: build
 	tools/build_program test_hostile hostile
 	tools/hostile
 
-# Tries the hosts of hosts/ on programs that are compiled: the one on node, and the page in a headless Chromium.
+# Tries the hosts of hosts/ on programs that are compiled: the one on node, and the page that runs them, in a headless Chromium.
+# Then the page on which programs are written.
 browser:
 	tools/try_hosts
+	tools/try_page
 
 # The gate: no source makes up want of memory or has a number without a name, no crate lists a library that it does not name,
 # definitions are laid out, the pages of m2 are those of docs/ and so are the numbers of definitions and the index of rules, each
-# edit still fits its file, and a sample of requests for memory is refused.
-# Then every proof from nothing, the tests, the programs and the edits of must-fail/, which the prover must refuse.
+# edit still fits its file, the gate's copies of exercises are copies, and a sample of requests for memory is refused.
+# Then every proof, the tests and the programs, and behind them the edits of gate-edits/, which the prover must refuse.
 test:
 	tools/check_sources
 	tools/lay_out --check
@@ -46,9 +64,11 @@ test:
 	tools/try_explanations --rows --check
 	tools/believed_definitions --check
 	tools/rule_index --check
+	tools/copy_cases --check
 	tools/try_edits --applies
 	tools/hostile --sample
-	rt ci
+	tools/snapshot --check
+	tools/gate_edits rt ci
 
 # Tries the tools themselves, in seconds.
 test-tools:
@@ -66,6 +86,6 @@ explanations: build
 install:
 	tools/install "$(PREFIX)" $(if $(DESTDIR),"$(DESTDIR)")
 
-# Makes an archive of the proved programs with checksums, in build/.
-dist: build
+# Makes three archives with checksums, in build/: the proved programs, the page, and m2 for node.
+dist: build web
 	tools/dist

@@ -1,5 +1,5 @@
 -- The name of a module that is read consists of letters and digits, 64 at most.
-use Rattle.std.proofs.Common.{◌≡◌, ◌⊎◌, inl, inr, ℕ, ◌<◌, ◌≤◌, Bool, true, false, ◌&&◌, ◌||◌, List, [], ◌∷◌, ◌++◌, length, Option, Some, None, refl, sym, ap, subst, arith}
+use Rattle.std.proofs.Common.{◌≡◌, ◌⊎◌, inl, inr, ℕ, ◌<◌, ◌≤◌, Bool, true, false, ◌&&◌, ◌||◌, List, [], ◌∷◌, ◌++◌, length, Option, Some, None, refl, sym, ap, subst, ◌∙◌, arith}
 use Rattle.std.specs.Prelude.{nat_le, All, if◌then◌else◌}
 use Rattle.std.specs.List.{AllByRecursion, list_all}
 use Rattle.std.proofs.lemmas.Bool.{leb-true, le-leb, false≢true, and_from, and_parts}
@@ -14,6 +14,9 @@ use Rattle.scan_tokens.specs.Bytes.{Text, is_space, is_letter, is_digit, is_quot
 use Rattle.scan_tokens.specs.Forms.{IsRun, Member}
 use Rattle.scan_tokens.specs.Forms as forms
 use Rattle.scan_tokens.specs.Division.{place, Divides, tokens_behind, HasTokens}
+use Rattle.def_grammar.specs.declared.kind.Kind.TheVariants as the
+use Rattle.def_grammar.specs.declared.kind.Kind.{Kind}
+use Rattle.def_grammar.specs.Kinds.{kind_of, kind_said}
 use Rattle.def_grammar.specs.Rule.{Rule, Ast, module_rule, import_rule, idents_rule, def_rule, block_rule, decl_rule, constant_rule, type_decl_rule, variables_rule, formals_rule, section_rule, formal_rule, qual_rule, simple_rule, type_rule, dims_rule, parameter_rule, field_rule, stmts_rule, stmt_rule, rest_rule, arm_rule, item_rule, desig_rule, selectors_rule, args_rule, expr_rule, sum_rule, term_rule, factor_rule, set_rule}
 use Rattle.def_grammar.specs.Grammar.{Ty, token, ast, both, either, maybe, list, El, Gr}
 use Rattle.def_grammar.specs.Ebnf.{grammar}
@@ -192,7 +195,12 @@ classed false false false false e = absurd (false≢true e)
 between : (low high b : ℕ) → (nat_le low b && nat_le b high) ≡ true → (low ≤ b) × (b ≤ high)
 between low high b e = let both = and_parts (nat_le low b) (nat_le b high) e in (leb-true low b both.0, leb-true b high both.1)
 
-run_bound : (b : ℕ) → is_run_byte b ≡ true → (48 ≤ b) × (b < 123)
+-- a letter or a digit
+pub run_byte : (b : ℕ) → is_run_byte b ≡ true → (is_letter b ≡ true) ⊎ (is_digit b ≡ true)
+unfolding class
+run_byte b e = classed (is_space b) (is_letter b) (is_digit b) (is_quote b) e
+
+pub run_bound : (b : ℕ) → is_run_byte b ≡ true → (48 ≤ b) × (b < 123)
 unfolding class
 run_bound b e = elim (classed (is_space b) (is_letter b) (is_digit b) (is_quote b) e) [
   | inr d ↦ let w = between 48 57 b d in (omega (arith, w.0), omega (arith, w.1))
@@ -207,3 +215,79 @@ pub name_read : (text : List ℕ) (m : Module) → HasTree text m → (length m.
 name_read text m h =
     let is = and_parts (nat_le (length m.name.name) 64) (list_all is_run_byte m.name.name) (whole_named h.tokens m (tokens_named text h.tokens h.divides.divides) h.is_tree.0) in
     (leb-true (length m.name.name) 64 is.0, All-weaker (λ b. is_run_byte b ≡ true) (λ b. (48 ≤ b) × (b < 123)) run_bound m.name.name (AllPass-from_list_all is_run_byte m.name.name is.1))
+
+-- ---- its first letter
+
+abbrev pub Begins : List ℕ → Type 0
+Begins [] = ⊥
+Begins (b ∷ bs) = is_letter b ≡ true
+
+letter_class : (s l d q : Bool) → (if s then Space else if l then Letter else if d then Digit else if q then Quote else Other) ≡ Letter → l ≡ true
+letter_class true l d q e = absurd cc
+letter_class false true d q e = refl
+letter_class false false true q e = absurd cc
+letter_class false false false true e = absurd cc
+letter_class false false false false e = absurd cc
+
+begins_run : (w : Text) → IsRun Letter w → Begins w
+unfolding class
+begins_run [] h = h
+begins_run (b ∷ bs) h = letter_class (is_space b) (is_letter b) (is_digit b) (is_quote b) h.0
+
+abbrev Begun : Token → Type 0
+Begun t = kind_of t ≡ the.Name → Begins (name_of t)
+
+lexeme_begun : (w : Text) (l : Lexeme) (t : Token) → t.lexeme ≡ l → forms.Spells w l → Begun t
+lexeme_begun w l t same h k = by l same h (subst (λ (x : Lexeme). kind_said x ≡ the.Name) same k) where
+  by : (x : Lexeme) → t.lexeme ≡ x → forms.Spells w x → kind_said x ≡ the.Name → Begins (name_of t)
+  by (lexeme.Name n) e h k = subst (λ (y : Lexeme). Begins (name_said y)) (sym e) (subst Begins (sym h.3) (begins_run w h.0))
+  by (lexeme.Number n) e h k = absurd cc
+  by (lexeme.Char c) e h k = absurd cc
+  by (lexeme.Text text) e h k = absurd cc
+  by (lexeme.Symbol s) e h k = absurd cc
+  by lexeme.End e h k = absurd cc
+
+abbrev AllBegun : List Token → Type 0
+AllBegun ts = AllByRecursion Begun ts
+
+members_begun : (text front : Text) (ms : List Member) (rest : Text) → Divides text ms rest → AllBegun (tokens_behind front ms)
+members_begun text front [] rest h = tt
+members_begun text front ((w, None) ∷ ms) rest h = members_begun h.0 (front ++ w) ms rest h.4
+members_begun text front ((w, Some t) ∷ ms) rest h = (lexeme_begun w t (record { lexeme = t; pos = place front }) refl h.3, members_begun h.0 (front ++ w) ms rest h.4)
+
+end_begun : (ts : List Token) (t : Token) → AllBegun ts → Begun t → AllBegun (ts ++ t ∷ [])
+end_begun [] t h k = (k, tt)
+end_begun (x ∷ ts) t h k = (h.0, end_begun ts t h.1 k)
+
+no_name : (k : Kind) → the.End ≡ k → k ≡ the.Name → ⊥
+no_name k e f = let same : the.End ≡ the.Name = e ∙ f in cc
+
+tokens_begun : (text : Text) (ts : List Token) → HasTokens text ts → AllBegun ts
+tokens_begun text ts h =
+    subst AllBegun (sym h.2) (end_begun (tokens_behind [] h.0) (record { lexeme = lexeme.End; pos = place text }) (members_begun text [] h.0 [] h.1) (λ k. absurd (no_name the.End refl k)))
+
+rest_begun : (ts us : List Token) → AllBegun (ts ++ us) → AllBegun us
+rest_begun [] us h = h
+rest_begun (t ∷ ts) us h = rest_begun ts us h.1
+
+begun_behind : (ts : List Token) (a t : Token) (us end : List Token) → AllBegun ((ts ++ a ∷ t ∷ us) ++ end) → Begun t
+begun_behind [] a t us end h = h.1.0
+begun_behind (x ∷ ts) a t us end h = begun_behind ts a t us end h.1
+
+module_begun : (ts : List Token) (m : Module) → AllBegun ts → IsModule ts m → Begins m.name.name
+module_begun _ _ h (made (behind e (left (before a (before b (behind f (closed t u k d l) g)))) j)) = h.1.1.0 k
+module_begun _ _ h (made (behind e (right (pair {ts = ts} o (before b (behind f (closed t u k d l) g)))) j)) = begun_behind ts _ t _ _ h k
+
+pub name_begins : (text : List ℕ) (m : Module) → HasTree text m → Begins m.name.name
+name_begins text m h = module_begun h.tokens m (tokens_begun text h.tokens h.divides.divides) h.is_tree.0
+
+-- a name of letters and digits, 64 at most, of which the first is a letter
+pub record IsWord (name : List ℕ) : Type 0 where
+  pub few : length name ≤ 64
+  pub run : list_all is_run_byte name ≡ true
+  pub begins : Begins name
+
+pub name_word : (text : List ℕ) (m : Module) → HasTree text m → IsWord m.name.name
+name_word text m h =
+    let is = and_parts (nat_le (length m.name.name) 64) (list_all is_run_byte m.name.name) (whole_named h.tokens m (tokens_named text h.tokens h.divides.divides) h.is_tree.0) in
+    record { few = leb-true (length m.name.name) 64 is.0; run = is.1; begins = name_begins text m h }

@@ -21,9 +21,7 @@ use Rattle.build_jobs.specs.Reading.{AreRead, IsReadAt}
 use Rattle.build_jobs.proofs.All.{are_read}
 use Rattle.m2_tree.specs.declared.decl.Module.{Module}
 use Rattle.build_jobs.specs.declared.outcome.Compiled.{Compiled}
-use Rattle.build_jobs.specs.Jobs.{compile_at, all_compiled}
-use Rattle.build_jobs.specs.Encoded.{Defines}
-use Rattle.build_jobs.proofs.Below.{gives}
+use Rattle.build_jobs.specs.Jobs.{compile_at, all_compiled, Defines}
 
 -- ---- rows
 
@@ -95,4 +93,5 @@ read_count (f ∷ fs) [] h = absurd h
 -- where the results of all jobs are there, they are what becomes of the modules
 pub each_compiled : (trees : List Module) (files : List ℕ) (jobs : List (List ℕ)) (all : List Compiled) → IsJobGraph jobs → AreResults jobs (Defines trees files) all → all ≡ all_compiled trees files jobs
 each_compiled trees files jobs all graph are =
-    sym (map-id all) ∙ as_defined jobs (Defines trees files) (λ c. c) (compile_at trees files) graph (gives trees files jobs) all are
+    sym (map-id all) ∙ as_defined jobs (Defines trees files) (λ c. c) (compile_at trees files) graph
+    (λ job outs x is. is ∙ ap (compile_at trees files job) (sym (map-id outs))) all are

@@ -1,8 +1,5 @@
 pub mod Borrowed
 pub mod Jobs
-pub mod Encoded
-pub mod Made
 pub mod Reading
 pub mod Own
 pub mod Compiling
-pub mod ModuleEncoded

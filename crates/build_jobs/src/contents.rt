@@ -1,11 +1,10 @@
 //! What becomes of a module, from what became of those that it needs.
 
-ghost use Rattle.std.specs.Prelude.{◌≡◌, IfOk, OnOk, map};
+ghost use Rattle.std.specs.Prelude.{◌≡◌, IfOk, map};
 ghost use Rattle.check_scope.specs.Elaborated.{least};
 ghost use Rattle.layout_storage.specs.Layouts.{too_large};
 ghost use Rattle.check_definition.specs.Compiled as types;
 ghost use Rattle.build_jobs.specs.Compiling.{compilation_of, of_checked, of_definition, of_fit, typed_body};
-ghost use Rattle.build_jobs.specs.ModuleEncoded.{IsEncoded, checked_encoded, fit_encoded};
 
 use crate::outcome::{Compiled, are_sound, tables_of};
 use crate::tables::{own_table, tables_behind};
@@ -19,7 +18,6 @@ use m2_tree::{Contents, Module};
 use std::alloc::{AllocError, Global};
 use tree_parts::{Items, Shared};
 use typed_tree::{Table, TypedModule};
-use wasm_tree::EncodeError;
 
 /// A definition gives its table, or breaks a rule.
 fn definition(
@@ -52,9 +50,8 @@ fn typed_body(
 }
 
 /// The module of a body that breaks no rule, or 60 if its storage is too large.
-fn fit_storage(alloc: Global, typed: &TypedModule) -> Result<Compiled, EncodeError>
-    ensures becomes { IfOk result (λ c. c ≡ of_fit typed.now (too_large typed.now)) }
-    ensures encoded { OnOk result (fit_encoded typed.now (too_large typed.now)) }
+fn fit_storage(alloc: Global, typed: &TypedModule) -> Result<Compiled, AllocError>
+    ensures { IfOk result (λ c. c ≡ of_fit typed.now (too_large typed.now)) }
 {
     match Layout::of(alloc, typed)? {
         Err(pos) => Ok(Compiled::Refused(Breach::at(pos, Rule::LargeStorage))),
@@ -71,10 +68,8 @@ fn body(
     tree: &Module,
     number: u32,
     tables: &[Shared<Table>],
-) -> Result<Compiled, EncodeError>
-    ensures becomes { IfOk result (λ c.
-        c ≡ of_checked (typed_body tree.now number tables.now)) }
-    ensures encoded { OnOk result (checked_encoded (typed_body tree.now number tables.now)) }
+) -> Result<Compiled, AllocError>
+    ensures { IfOk result (λ c. c ≡ of_checked (typed_body tree.now number tables.now)) }
 {
     match typed_body(alloc, tree, number, tables)? {
         Err(broken) => Ok(Compiled::Refused(broken)),
@@ -85,25 +80,24 @@ fn body(
 /// What becomes of the module of a job, from what became of the modules that it needs: of its own definition if it is a
 /// body, and of the definitions that it imports, in this order. It is blocked if one of these is refused or blocked.
 /// Else each is checked, with its types known by the job's number, and reported where it breaks a rule. A definition
-/// gives its table. A body gives its module, which has an encoding, or 60 if its variables and texts, or a frame, are
-/// too large. The only error is that memory ran out, or that the module has no encoding.
+/// gives its table. A body gives its module, or 60 if its variables and texts, or a frame, are too large. The only error
+/// is that memory ran out.
 #[tactic(auto, unfolding(crate::specs::Compiling::compilation_of))]
 pub fn compile(
     alloc: Global,
     tree: &Module,
     number: u32,
     needed: &[&Compiled],
-) -> Result<Compiled, EncodeError>
-    ensures becomes { IfOk result (λ c.
+) -> Result<Compiled, AllocError>
+    ensures { IfOk result (λ c.
         c ≡ compilation_of tree.now number (map (λ n. n.now) needed.now)) }
-    ensures encoded { OnOk result (IsEncoded tree.now number (map (λ n. n.now) needed.now)) }
 {
     if !are_sound(needed) {
         return Ok(Compiled::Blocked);
     }
     let tables = tables_of(alloc, needed)?;
     match &tree.contents {
-        Contents::Definition(_) => Ok(definition(alloc, tree, number, tables)?),
+        Contents::Definition(_) => definition(alloc, tree, number, tables),
         Contents::Implementation(_) => body(alloc, tree, number, tables.as_slice()),
         Contents::Program(_) => body(alloc, tree, number, tables.as_slice()),
     }

@@ -9,7 +9,6 @@
 
 mod contents;
 mod file;
-mod made;
 mod modules;
 mod options;
 mod outcome;

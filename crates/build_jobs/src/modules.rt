@@ -1,19 +1,15 @@
 //! The work of the jobs of a graph.
 
-ghost use Rattle.std.specs.Prelude.{◌≡◌, ◌<◌, ◌≤◌, ◌^◌, length, map, slice_get, IfOk, OnOk};
+ghost use Rattle.std.specs.Prelude.{◌≡◌, ◌<◌, ◌≤◌, ◌^◌, length, map, slice_get, IfOk};
 ghost use Rattle.m2_graph.specs.Refused.{max_files};
-ghost use Rattle.build_jobs.specs.Jobs.{compile_in_place};
-ghost use Rattle.build_jobs.specs.Encoded.{encoded_in, Defines};
-ghost use Rattle.build_jobs.specs.Made.{IsMadeOf, MayMake};
+ghost use Rattle.build_jobs.specs.Jobs.{compile_in_place, Defines};
 ghost use Rattle.build_jobs.specs.Borrowed.{modules_borrowed};
 
-use crate::made::{Made, modules_in};
 use crate::{Compiled, compile};
 use m2_tree::Module;
 use pool_board::Work;
 use std::alloc::{AllocError, Global};
 use tree_parts::at;
-use wasm_tree::EncodeError;
 
 /// What becomes of the module in this place.
 fn compile_in_place(
@@ -22,55 +18,15 @@ fn compile_in_place(
     file: usize,
     job: usize,
     needed: &[&Compiled],
-) -> Result<Compiled, EncodeError>
+) -> Result<Compiled, AllocError>
     requires { job < 2 ^ 32 }
-    ensures becomes { IfOk result (λ c.
+    ensures { IfOk result (λ c.
         c ≡ compile_in_place (slice_get (modules_borrowed trees.now) file) job
-        (map (λ n. n.now) needed.now)) }
-    ensures encoded { OnOk result (encoded_in (slice_get (modules_borrowed trees.now) file) job
         (map (λ n. n.now) needed.now)) }
 {
     match at(trees, file) {
         None => Ok(Compiled::Blocked),
         Some(tree) => compile(alloc, tree.1, job as u32, needed),
-    }
-}
-
-/// What becomes of the module of a job, from what the jobs that it needs came to.
-#[tactic(auto, using(crate::proofs::Making::made_from))]
-fn compile_from(
-    alloc: Global,
-    trees: &[(&str, &Module)],
-    files: &[usize],
-    job: usize,
-    needed: &[&Made],
-) -> Result<Compiled, EncodeError>
-    requires low { job < length files.now }
-    requires few { length files.now ≤ max_files }
-    ensures { let defines = Defines (modules_borrowed trees.now) files.now in
-        IfOk result (IsMadeOf defines job (map (λ n. n.now) needed.now)) }
-{
-    let modules = modules_in(alloc, needed)?;
-    compile_in_place(alloc, trees, files[job], job, &modules)
-}
-
-/// What a job comes to, from what the jobs that it needs came to. That a module has no encoding is no want of memory.
-fn made_of(
-    alloc: Global,
-    trees: &[(&str, &Module)],
-    files: &[usize],
-    job: usize,
-    needed: &[&Made],
-) -> Result<Made, AllocError>
-    requires low { job < length files.now }
-    requires few { length files.now ≤ max_files }
-    ensures { let defines = Defines (modules_borrowed trees.now) files.now in
-        IfOk result (MayMake defines job (map (λ n. n.now) needed.now)) }
-{
-    match compile_from(alloc, trees, files, job, needed) {
-        Ok(compiled) => Ok(Made::Module(compiled)),
-        Err(EncodeError::NoEncoding) => Ok(Made::NoEncoding),
-        Err(EncodeError::NoMemory) => Err(AllocError),
     }
 }
 
@@ -90,17 +46,17 @@ pub struct Modules<'a> {
 }
 
 impl Work for Modules<'_> {
-    type Out = Made;
+    type Out = Compiled;
 
     ghost graph = { λ w. map (λ job. job.items) w.jobs.now };
 
-    ghost defines = { λ w. MayMake (Defines (modules_borrowed w.trees.now) w.files.now) };
+    ghost defines = { λ w. Defines (modules_borrowed w.trees.now) w.files.now };
 
-    fn run(&self, job: usize, prerequisites: &[&Made]) -> Result<Made, AllocError> {
-        made_of(self.alloc, self.trees, self.files, job, prerequisites)
+    fn run(&self, job: usize, prerequisites: &[&Compiled]) -> Result<Compiled, AllocError> {
+        compile_in_place(self.alloc, self.trees, self.files[job], job, prerequisites)
     }
 
-    fn copy(&self, out: &Made) -> Result<Made, AllocError> {
+    fn copy(&self, out: &Compiled) -> Result<Compiled, AllocError> {
         out.share()
     }
 }

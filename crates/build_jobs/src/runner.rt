@@ -1,19 +1,16 @@
 //! What a build runs on, and the two rounds of its jobs, over threads.
 
-ghost use Rattle.std.specs.Prelude.{◌≡◌, ◌≢◌, ◌≤◌, Err, IfOk, Ok, OnOk, [], length, map};
+ghost use Rattle.std.specs.Prelude.{◌≡◌, ◌≢◌, ◌≤◌, Err, IfOk, Ok, [], length, map};
 ghost use Rattle.pool_board.specs.Graph.{IsJobGraph};
 ghost use Rattle.pool_board.specs.Seats.{max_workers};
 ghost use Rattle.pool_board.specs.declared.board.Tally.{Tally as Records};
 ghost use Rattle.build_jobs.specs.Jobs.{all_compiled};
-ghost use Rattle.build_jobs.specs.Encoded.{AreEncoded, Defines};
-ghost use Rattle.build_jobs.specs.Made.{MayMake};
 ghost use Rattle.build_jobs.specs.Borrowed.{borrow_trees, modules_borrowed};
 ghost use Rattle.m2_graph.specs.Files.{number_files};
 ghost use Rattle.m2_graph.specs.Graph.{IsGraph, CompileEach};
 ghost use Rattle.build_jobs.specs.Reading.{AreRead};
 ghost use Rattle.pool_board.specs.Results.{AreResults};
 
-use crate::made::{Made, all_modules};
 use crate::modules::Modules;
 use crate::texts::Texts;
 use crate::{Compiled, Read, SourceFile};
@@ -23,7 +20,6 @@ use m2_tree::Module;
 use pool_board::{Gate, JobGraph, PoolRefusal, Tally, Work};
 use std::alloc::{AllocError, Global};
 use std::thread::Threads;
-use wasm_tree::EncodeError;
 
 /// What a build runs on: threads and how many of them, its gate, and memory.
 #[derive(Drop)]
@@ -122,39 +118,21 @@ impl<R: Threads + Sync, G: Gate> Runner<'_, R, G> {
         self.run(&graph, &Texts { alloc, files })
     }
 
-    /// What each job of a graph comes to.
-    fn all_made(&self, trees: &[(&str, &Module)], graph: &Graph) -> Result<Vec<Made>, AllocError>
-        requires graph { IsGraph (number_files 0 (borrow_trees trees.now)) graph.now.files.items
-            (map (λ j. j.items) graph.now.jobs.items) graph.now.starts.items }
-        requires each { CompileEach (number_files 0 (borrow_trees trees.now))
-            graph.now.files.items }
-        ensures made { let jobs = map (λ job. job.items) graph.now.jobs.items in
-            let defines = Defines (modules_borrowed trees.now) graph.now.files.items in
-            IfOk result (λ made. AreResults jobs (MayMake defines) made.items) }
-        ensures sound { IsJobGraph (map (λ job. job.items) graph.now.jobs.items) }
-    {
-        let jobs = job_graph(self.alloc, graph)?;
-        self.run(&jobs, &modules_of(self.alloc, trees, graph))
-    }
-
-    /// The second round: what becomes of the module of each job of a graph. The only error is that memory ran out, or that
-    /// one of the modules has no encoding.
+    /// The second round: what becomes of the module of each job of a graph. The only error is that memory ran out.
     pub fn compile_all(
         &self,
         trees: &[(&str, &Module)],
         graph: &Graph,
-    ) -> Result<Vec<Compiled>, EncodeError>
+    ) -> Result<Vec<Compiled>, AllocError>
         requires graph { IsGraph (number_files 0 (borrow_trees trees.now)) graph.now.files.items
             (map (λ j. j.items) graph.now.jobs.items) graph.now.starts.items }
         requires each { CompileEach (number_files 0 (borrow_trees trees.now))
             graph.now.files.items }
-        ensures becomes { IfOk result (λ all.
+        ensures { IfOk result (λ all.
             all.items ≡ all_compiled (modules_borrowed trees.now) graph.now.files.items
             (map (λ job. job.items) graph.now.jobs.items)) }
-        ensures encoded { OnOk result (AreEncoded (modules_borrowed trees.now)
-            graph.now.files.items (map (λ job. job.items) graph.now.jobs.items)) }
     {
-        let made = self.all_made(trees, graph)?;
-        all_modules(self.alloc, made)
+        let jobs = job_graph(self.alloc, graph)?;
+        self.run(&jobs, &modules_of(self.alloc, trees, graph))
     }
 }

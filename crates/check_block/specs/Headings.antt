@@ -1,5 +1,5 @@
 -- Headings of procedures in blocks.
-use Rattle.std.specs.Prelude.{ℕ, ◌==◌, not, cond, List, length, Option, Some, None, Result, Ok, Err}
+use Rattle.std.specs.Prelude.{ℕ, true, false, ◌==◌, not, cond, List, length, Option, Some, None, Result, Ok, Err}
 use Rattle.m2_rule.specs.declared.rule.Rule.TheVariants as rule
 use Rattle.m2_tree.specs.declared.pos.Pos.{Pos}
 use Rattle.m2_tree.specs.declared.decl.Heading.{Heading}
@@ -15,8 +15,9 @@ use Rattle.check_scope.specs.declared.known.Origin.{Origin}
 use Rattle.check_scope.specs.declared.known.Origin.TheVariants.{Here, Module, Export}
 use Rattle.check_scope.specs.declared.known.Known.{Known}
 use Rattle.check_scope.specs.declared.known.Known.TheVariants.{Later, Ahead, Begun, Headed, Declared}
+use Rattle.check_scope.specs.declared.meaningless.Meaningless.{Meaningless}
 use Rattle.check_scope.specs.declared.scope.Scope.{Scope}
-use Rattle.check_scope.specs.Scopes.{State, with_known}
+use Rattle.check_scope.specs.Scopes.{State, heading_means, with_known}
 use Rattle.check_scope.specs.Elaborated.{Gathers, report, reported_where, beside, ◌▷◌}
 use Rattle.check_type_expr.specs.Headings.{heading_of, names_of}
 use Rattle.check_type_expr.specs.Made.{nothing_of, with_made}
@@ -67,19 +68,20 @@ abbrev pub nested_meaning : {T : Type 0} → (level number : ℕ) → Result Typ
 nested_meaning level n t =
     t ▷ λ x. Ok (meaning.LocalProcedure (record { level = level; number = n; heading = x }))
 
-abbrev pub set_heading : {T : Type 0} → List ℕ → Result Meaning T → Scope T → Scope T
+abbrev pub set_heading : {T : Type 0} → List ℕ → Result Meaning (Meaningless T) → Scope T
+    → Scope T
 set_heading name m s = with_known name (Headed m) s
 
 abbrev pub module_procedure : {T : Type 0} → Scope T → List ℕ → Result TypeNo T → Scope T
 module_procedure s name t =
-    set_heading name (procedure_meaning s.types.home (length s.procedures) t)
+    set_heading name (heading_means false (procedure_meaning s.types.home (length s.procedures) t))
     (with_procedure_type s t)
 
 abbrev pub new_procedure : {T : Type 0} → Scope T → List ℕ → (number : ℕ) → Result TypeNo T
     → Scope T
 new_procedure s name n t =
     cond (s.level == 0) (module_procedure s name t)
-    (set_heading name (nested_meaning s.level n t) s)
+    (set_heading name (heading_means true (nested_meaning s.level n t)) s)
 
 abbrev pub with_new : {T : Type 0} → Scope T → List ℕ → (number : ℕ) → Result Made T
     → State (Unit {0}) T

@@ -6,7 +6,7 @@ ghost use Rattle.check_block.specs.Headings.{standing_elaborated, standing_known
 
 use crate::agreeing::{agree, signature_of};
 use check_definition::{procedure_meaning, with_procedure_type};
-use check_scope::{Elaborated, Known, Origin, Scope, beside, report};
+use check_scope::{Elaborated, Known, Origin, Scope, Sought, beside, heading_means, report};
 use check_type_expr::{heading_of, names_of, nothing_of, with_made};
 use m2_rule::{Breach, Rule};
 use m2_tree::{Heading, Pos};
@@ -67,7 +67,7 @@ fn head(
     alloc: Global,
     scope: &mut Scope<Breach>,
     name: &[u8],
-    means: Elaborated<Meaning>,
+    means: Sought<Meaning>,
 ) -> Result<(), AllocError>
     ensures { OnOk result (scope.new ≡ set_heading name.now means scope.old) }
 {
@@ -86,7 +86,7 @@ fn new_procedure(
     if scope.level == 0 {
         let means = procedure_meaning(scope.types.home, scope.procedures.len(), t);
         with_procedure_type(scope, t)?;
-        return head(alloc, scope, name, means);
+        return head(alloc, scope, name, heading_means(false, means));
     }
     let means = match t {
         Err(breach) => Err(breach),
@@ -96,7 +96,7 @@ fn new_procedure(
             heading,
         })),
     };
-    head(alloc, scope, name, means)
+    head(alloc, scope, name, heading_means(true, means))
 }
 
 // ---- procedures of the module's definition

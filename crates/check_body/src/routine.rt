@@ -5,7 +5,7 @@ ghost use Rattle.std.specs.Option.{option_copied};
 ghost use Rattle.check_body.specs.Routines.{numbered_elaborated, procedure_named, empty_routine, no_bodies, begun_at, put_routine, routine, with_scope, typed_module};
 
 use crate::imports::{all_imports, typed_imports};
-use check_scope::{Elaborated, Known, Scope};
+use check_scope::{Known, Scope, Sought};
 use m2_rule::Breach;
 use m2_tree::{Ident, Module, Name, Pos};
 use std::alloc::{AllocError, Global};
@@ -34,7 +34,7 @@ pub struct Bodies {
 
 // ---- which procedure it is
 
-fn numbered_elaborated(means: &Elaborated<Meaning>) -> Option<Numbered>
+fn numbered_elaborated(means: &Sought<Meaning>) -> Option<Numbered>
     ensures { result ≡ numbered_elaborated means.now }
 {
     match means {

@@ -32,7 +32,7 @@ denoted_by (meaning.Module k) = denoted.Module k
 abbrev pub denoted_of : {T : Type 0} → Result Meaning (Meaningless T) → Result Denoted T
 denoted_of (Ok m) = Ok (denoted_by m)
 denoted_of (Err (Broken e)) = Err e
-denoted_of (Err (Headless e)) = Ok denoted.Procedure
+denoted_of (Err (Headless nested e)) = Ok denoted.Procedure
 
 -- ---- constants
 
@@ -65,14 +65,14 @@ is_bitset g at (meaning.Module k) = report g at rule.NoType
 
 -- ---- components, and names of modules
 
--- Constants and modules have no components. A type or a procedure with selectors is no constant.
+-- Constants have no components. A type, a procedure or a module with selectors is no constant.
 abbrev pub component : (g : Gathers) → Pos → Denoted → Result Denoted g.Reported
 component g at denoted.Variable = Ok denoted.Variable
 component g at (denoted.Value v) = report g at rule.WrongType
 component g at (denoted.Type t) = Ok denoted.Variable
 component g at denoted.Procedure = Ok denoted.Variable
 component g at (denoted.Standard f) = Ok denoted.Variable
-component g at (denoted.Module k) = report g at rule.WrongType
+component g at (denoted.Module k) = Ok denoted.Variable
 
 abbrev pub exported_by : List ℕ → Option Table → Option Meaning
 exported_by name None = None

@@ -14,7 +14,7 @@ use typed_tree::{BITSET, Meaning, Standard, TypeNo, Value, are_same};
 pub enum Denoted {
     Value(Value),
     Type(TypeNo),
-    /// A variable, or a component of one, or a type or a procedure with selectors.
+    /// A variable, or a component of one, or a type, a procedure or a module with selectors.
     Variable,
     Procedure,
     Standard(Standard),
@@ -47,7 +47,7 @@ pub fn denoted_of(sought: Sought<Meaning>) -> Elaborated<Denoted>
     match sought {
         Ok(meaning) => Ok(denoted_by(meaning)),
         Err(Meaningless::Broken(breach)) => Err(breach),
-        Err(Meaningless::Headless(_)) => Ok(Denoted::Procedure),
+        Err(Meaningless::Headless(_, _)) => Ok(Denoted::Procedure),
     }
 }
 
@@ -99,8 +99,8 @@ pub fn is_bitset(at: Pos, meaning: Meaning) -> Elaborated<()>
     }
 }
 
-/// A component of what stands before a bracket or a point. Constants and modules have none: 40 there. A type or a
-/// procedure with selectors is no constant.
+/// A component of what stands before a bracket or a point. Constants have none: 40 there. A type, a procedure or a module
+/// with selectors is no constant.
 pub fn component(at: Pos, denoted: Denoted) -> Elaborated<Denoted>
     ensures { result ≡ component least at denoted }
 {
@@ -110,6 +110,6 @@ pub fn component(at: Pos, denoted: Denoted) -> Elaborated<Denoted>
         Denoted::Type(_) => Ok(Denoted::Variable),
         Denoted::Procedure => Ok(Denoted::Variable),
         Denoted::Standard(_) => Ok(Denoted::Variable),
-        Denoted::Module(_) => report(at, Rule::WrongType),
+        Denoted::Module(_) => Ok(Denoted::Variable),
     }
 }

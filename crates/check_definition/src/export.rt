@@ -14,11 +14,11 @@ use typed_tree::{Dictionary, Made, Meaning, ModuleTypes, Table, Types};
 
 // ---- exports
 
-fn with_meaning(
+fn with_meaning<E>(
     alloc: Global,
     exported: &mut Dictionary<Meaning>,
     name: &[u8],
-    means: &Result<Meaning, Breach>,
+    means: &Result<Meaning, E>,
 ) -> Result<(), AllocError>
     ensures { OnOk result (exported.new ≡ with_meaning exported.old name.now means.now) }
 {

@@ -338,3 +338,19 @@ relation_by s e a o b a1 b1 v x y h h1 h2 hx hy hv =
     ∙ ap (λ (c : Expr). relation_value least s.types o (meanings_of least c).fixed.at (value_of least s (meanings_of least c)) (meanings_of least b1).fixed.at (value_of least s (meanings_of least b1))) h1
     ∙ ap (λ (c : Expr). relation_value least s.types o (meanings_of least a).fixed.at (value_of least s (meanings_of least a)) (meanings_of least c).fixed.at (value_of least s (meanings_of least c))) h2
     ∙ sym (value_Relation s a o b) ∙ ap (λ (e : Expr). value_of least s (meanings_of least e)) (sym h)
+
+-- the same of NOT, and of sums
+pub not_by : (s : Scope Breach) (e a a1 : Expr) (p : Pos) (x v : Result Computed Breach)
+    → e ≡ Not p a → a1 ≡ a → x ≡ value_of least s (meanings_of least a1) → v ≡ negation least p x → v ≡ value_of least s (meanings_of least e)
+not_by s e a a1 p x v h h1 hx hv =
+    hv ∙ ap (λ (x : Result Computed Breach). negation least p x) (hx ∙ ap (λ (c : Expr). value_of least s (meanings_of least c)) h1)
+    ∙ sym (value_Not s p a) ∙ ap (λ (e : Expr). value_of least s (meanings_of least e)) (sym h)
+
+pub sum_by : (s : Scope Breach) (e a a1 a2 : Expr) (o : Option (Operator Sign)) (rest rest1 : List (Operator AddOp × Expr)) (x y v : Result Computed Breach) (p q : Pos)
+    → e ≡ Sum o a rest → a1 ≡ a → a2 ≡ a → rest1 ≡ rest → x ≡ value_of least s (meanings_of least a1) → y ≡ signed_first least o x
+    → p ≡ (part least a2).at → q ≡ sign_place o p → v ≡ fold (term_in s q) y rest1 → v ≡ value_of least s (meanings_of least e)
+sum_by s e a a1 a2 o rest rest1 x y v p q h h1 h2 hr hx hy hp hq hv =
+    hv ∙ ap (λ (r : List (Operator AddOp × Expr)). fold (term_in s q) y r) hr
+    ∙ ap (λ (p : Pos). fold (term_in s p) y rest) (hq ∙ ap (λ (p : Pos). sign_place o p) (hp ∙ ap (λ (c : Expr). (part least c).at) h2))
+    ∙ ap (λ (y : Result Computed Breach). fold (term_in s (sign_place o (part least a).at)) y rest) (hy ∙ ap (λ (x : Result Computed Breach). signed_first least o x) (hx ∙ ap (λ (c : Expr). value_of least s (meanings_of least c)) h1))
+    ∙ sym (value_Sum s o a rest) ∙ ap (λ (e : Expr). value_of least s (meanings_of least e)) (sym h)

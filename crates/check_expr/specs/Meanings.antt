@@ -24,7 +24,7 @@ use Rattle.typed_tree.specs.declared.shape.Signature.{Signature}
 use Rattle.typed_tree.specs.declared.meaning.Standard.{Standard}
 use Rattle.typed_tree.specs.declared.known_types.Types.{Types}
 use Rattle.check_scope.specs.declared.meaningless.Meaningless.{Meaningless}
-use Rattle.check_scope.specs.Elaborated.{Gathers, least, report, reported_beside, both, beside, ahead, of_sort, of_heading, plain, ◌▷◌}
+use Rattle.check_scope.specs.Elaborated.{Gathers, least, report, reported_beside, both, beside, ahead, of_sort, of_heading, of_value, of_sort_of_value, plain, ◌▷◌}
 use Rattle.check_scope.specs.declared.scope.Scope.{Scope}
 use Rattle.check_scope.specs.Scopes.{looked_up}
 use Rattle.check_const_ops.specs.declared.operator.BinaryOp.TheVariants as op
@@ -70,7 +70,7 @@ of_computed x = plain (x ▷ λ v. Ok (designated.Value v))
 
 abbrev pub value_standing : (g : Gathers) → Types → Pos → Result Designated (Meaningless g.Reported)
     → Result Computed g.Reported
-value_standing g types at d = of_heading d ▷ value_at_place g types at
+value_standing g types at d = of_value g at d ▷ value_at_place g types at
 
 abbrev pub signed_first : (g : Gathers) → Option (Operator Sign) → Result Computed g.Reported
     → Result Computed g.Reported
@@ -144,7 +144,7 @@ formals_of (Some h) = h.formals
 -- for a VAR formal it counts that a procedure is no variable, for others what it is
 abbrev pub passed_for : (g : Gathers) → Formal → Pos → Result Designated (Meaningless g.Reported)
     → Result Designated g.Reported
-passed_for g f at d = cond f.is_var (of_sort g at rule.NoVariable d) (of_heading d)
+passed_for g f at d = cond f.is_var (of_sort g at rule.NoVariable d) (of_value g at d)
 
 abbrev pub argument_by : (g : Gathers) → Types → Option Formal → Pos
     → Result Designated (Meaningless g.Reported) → Result Argument g.Reported
@@ -223,7 +223,8 @@ module _ (g : Gathers) where
 
   abbrev pub high : Scope g.Reported → Pos → List (Meant g.Reported) → Result Computed g.Reported
   high s at [] = wrong_count s at []
-  high s at (x ∷ []) = of_sort g x.fixed.at rule.WrongArgument (x.means s) ▷ high_of g x.fixed.at
+  high s at (x ∷ []) =
+      of_sort_of_value g x.fixed.at rule.WrongArgument (x.means s) ▷ high_of g x.fixed.at
   high s at (x ∷ y ∷ xs) = wrong_count s at (x ∷ y ∷ xs)
 
   abbrev pub by_form : Scope g.Reported → Pos → Standard → List (Meant g.Reported) → Form

@@ -197,10 +197,12 @@ fn standing_value(
 ) -> Result<Elaborated<Computed>, AllocError>
     ensures { IfOk result (λ v. v ≡ value_of least scope.now (meanings_of least e.now)) }
 {
+    let at = place_of(e);
     match stands_for(alloc, scope, e)? {
-        Ok(designated) => Ok(value_at_place(&scope.types, place_of(e), designated)),
+        Ok(designated) => Ok(value_at_place(&scope.types, at, designated)),
         Err(Meaningless::Broken(breach)) => Ok(Err(breach)),
-        Err(Meaningless::Headless(breach)) => Ok(Err(breach)),
+        Err(Meaningless::Headless(true, _)) => Ok(report(at, Rule::NoProcedureValue)),
+        Err(Meaningless::Headless(false, breach)) => Ok(Err(breach)),
     }
 }
 

@@ -2,7 +2,7 @@
 
 ghost use Rattle.std.specs.Prelude.{◌≡◌, IfOk, Ok};
 ghost use Rattle.std.specs.Option.{option_copied};
-ghost use Rattle.check_scope.specs.Elaborated.{least, of_sort, of_heading, ◌▷◌};
+ghost use Rattle.check_scope.specs.Elaborated.{least, of_sort, of_heading, of_sort_of_value, ◌▷◌};
 ghost use Rattle.check_const.specs.Parts as constants;
 ghost use Rattle.check_call.specs.Functions.{type_named, high_of, unary_at};
 ghost use Rattle.check_expr.specs.Meanings.{part, meanings_of, head, of_computed, signed_first, relation_value, first_name, field_of, field_at, index_at, formals_of, argument_by, call_given, type_of};
@@ -16,7 +16,8 @@ use check_operator::{
     operation_between, with_sign,
 };
 use check_scope::{
-    Elaborated, Meaningless, Scope, Sought, looked_up, of_heading, of_sort, plain, report,
+    Elaborated, Meaningless, Scope, Sought, looked_up, of_heading, of_sort, of_sort_of_value,
+    of_value, plain, report,
 };
 use m2_rule::{Breach, Rule};
 use m2_tree::{Designator, Expr, Ident, Operator, Pos, RelOp, Sign};
@@ -209,7 +210,7 @@ pub fn argument_by(
             let passed = if formal.is_var {
                 of_sort(at, Rule::NoVariable, designated)?
             } else {
-                of_heading(designated)?
+                of_value(at, designated)?
             };
             actual(types, formal, at, passed)
         }
@@ -251,9 +252,10 @@ pub fn type_at(
 
 /// HIGH of an argument.
 pub fn high_at(at: Pos, designated: Sought<Designated>) -> Elaborated<Computed>
-    ensures { result ≡ (of_sort least at rule.WrongArgument designated ▷ high_of least at) }
+    ensures { result
+        ≡ (of_sort_of_value least at rule.WrongArgument designated ▷ high_of least at) }
 {
-    match of_sort(at, Rule::WrongArgument, designated) {
+    match of_sort_of_value(at, Rule::WrongArgument, designated) {
         Err(breach) => Err(breach),
         Ok(designated) => high_of(at, designated),
     }

@@ -1,7 +1,8 @@
 -- What a part of a module means, or which rules are broken in it.
-use Rattle.std.specs.Prelude.{ℕ, Bool, cond, ◌&&◌, ◌||◌, ◌==◌, nat_lt, List, [], ◌∷◌, ◌++◌, Result, Ok, Err}
+use Rattle.std.specs.Prelude.{Bool, true, false, cond, List, [], ◌∷◌, ◌++◌, Result, Ok, Err}
 use Rattle.m2_tree.specs.declared.pos.Pos.{Pos}
 use Rattle.m2_rule.specs.declared.rule.Rule.{Rule}
+use Rattle.m2_rule.specs.declared.rule.Rule.TheVariants as rule
 use Rattle.m2_rule.specs.Breaches.{breach, lesser}
 use Rattle.m2_rule.specs.declared.breach.Breach.{Breach}
 use Rattle.check_scope.specs.declared.meaningless.Meaningless.{Meaningless}
@@ -73,15 +74,31 @@ abbrev pub of_sort : (g : Gathers) {A : Type 0} → Pos → Rule → Result A (M
     → Result A g.Reported
 of_sort g pos broken (Ok x) = Ok x
 of_sort g pos broken (Err (Broken e)) = Err e
-of_sort g pos broken (Err (Headless e)) = report g pos broken
+of_sort g pos broken (Err (Headless nested e)) = report g pos broken
 
 -- if the heading counts, its own refusals are repeated
 abbrev pub of_heading : {A T : Type 0} → Result A (Meaningless T) → Result A T
 of_heading (Ok x) = Ok x
 of_heading (Err (Broken e)) = Err e
-of_heading (Err (Headless e)) = Err e
+of_heading (Err (Headless nested e)) = Err e
 
 -- what is none of these procedures
 abbrev pub plain : {A T : Type 0} → Result A T → Result A (Meaningless T)
 plain (Ok x) = Ok x
 plain (Err e) = Err (Broken e)
+
+-- a procedure in a procedure is no value, whatever its heading
+abbrev pub of_value : (g : Gathers) {A : Type 0} → Pos → Result A (Meaningless g.Reported)
+    → Result A g.Reported
+of_value g pos (Ok x) = Ok x
+of_value g pos (Err (Broken e)) = Err e
+of_value g pos (Err (Headless true e)) = report g pos rule.NoProcedureValue
+of_value g pos (Err (Headless false e)) = Err e
+
+-- the same of a rule that looks at what sort of value it is
+abbrev pub of_sort_of_value : (g : Gathers) {A : Type 0} → Pos → Rule
+    → Result A (Meaningless g.Reported) → Result A g.Reported
+of_sort_of_value g pos broken (Ok x) = Ok x
+of_sort_of_value g pos broken (Err (Broken e)) = Err e
+of_sort_of_value g pos broken (Err (Headless true e)) = report g pos rule.NoProcedureValue
+of_sort_of_value g pos broken (Err (Headless false e)) = report g pos broken

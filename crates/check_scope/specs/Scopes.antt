@@ -62,10 +62,11 @@ or_around (Some k) far = Some (k, true)
 abbrev pub sight_of : {T : Type 0} → List ℕ → Scope T → Sight T
 sight_of name s = or_around (find_name name s.own) (known_outside name s.outer)
 
--- a procedure, if rules are broken in its heading, is known to be one
-abbrev pub heading_means : {T : Type 0} → Result Meaning T → Result Meaning (Meaningless T)
-heading_means (Ok m) = Ok m
-heading_means (Err e) = Err (Headless e)
+-- a procedure, if rules are broken in its heading, is known to be one, in a procedure or not
+abbrev pub heading_means : {T : Type 0} → (nested : Bool) → Result Meaning T
+    → Result Meaning (Meaningless T)
+heading_means nested (Ok m) = Ok m
+heading_means nested (Err e) = Err (Headless nested e)
 
 -- names are declared before use, but procedures are known in all bodies of their block
 abbrev pub means_seen : (g : Gathers) → Pos → Known g.Reported → (seen : Bool)
@@ -73,7 +74,7 @@ abbrev pub means_seen : (g : Gathers) → Pos → Known g.Reported → (seen : B
 means_seen g at Later seen = plain (report g at rule.Undeclared)
 means_seen g at Ahead seen = Ok meaning.Ahead
 means_seen g at Begun seen = plain (report g at rule.Undeclared)
-means_seen g at (Headed m) seen = heading_means m
+means_seen g at (Headed m) seen = m
 means_seen g at (Declared o m) seen = plain (cond seen m (report g at rule.Undeclared))
 
 abbrev pub means_as : (g : Gathers) → Pos → Sight g.Reported

@@ -1,5 +1,6 @@
 //! What is known of a name.
 
+use crate::meaningless::Meaningless;
 use typed_tree::Meaning;
 
 /// Where a name of a block comes from.
@@ -23,7 +24,7 @@ pub enum Known<T> {
     /// Its declaration has begun.
     Begun,
     /// It is a procedure, with the meaning of its heading. It is known in all bodies of the block.
-    Headed(Result<Meaning, T>),
+    Headed(Result<Meaning, Meaningless<T>>),
     /// What it means, or what is reported of its declaration.
     Declared(Origin, Result<Meaning, T>),
 }

@@ -8,7 +8,9 @@ mod scope;
 
 pub use elaborated::{Elaborated, beside, both, refusal_beside, report, reported_beside};
 pub use known::{Known, Origin};
-pub use meaningless::{Meaningless, Sought, of_heading, of_sort, plain};
+pub use meaningless::{
+    Meaningless, Sought, heading_means, of_heading, of_sort, of_sort_of_value, of_value, plain,
+};
 pub use scope::{
     Block, OpenedRecord, Scope, begin, declare, fields_of, finish, import, looked_up, mark,
 };

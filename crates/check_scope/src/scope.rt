@@ -143,12 +143,12 @@ fn declared_means(means: &Elaborated<Meaning>) -> Result<Sought<Meaning>, AllocE
     }
 }
 
-/// What a heading says of a procedure.
-fn heading_means(means: &Elaborated<Meaning>) -> Result<Sought<Meaning>, AllocError>
-    ensures { IfOk result (λ m. m ≡ heading_means means.now) }
+/// The same of a procedure.
+fn heading_says(means: &Sought<Meaning>) -> Result<Sought<Meaning>, AllocError>
+    ensures { IfOk result (λ m. m ≡ means.now) }
 {
     match means {
-        Err(breach) => Ok(Err(Meaningless::Headless(*breach))),
+        Err(meaningless) => Ok(Err(*meaningless)),
         Ok(meaning) => Ok(Ok(meaning.copy()?)),
     }
 }
@@ -159,7 +159,7 @@ fn means_seen(at: Pos, known: &Known<Breach>, seen: bool) -> Result<Sought<Meani
     match known {
         Known::Later | Known::Begun => Ok(plain(report(at, Rule::Undeclared))),
         Known::Ahead => Ok(Ok(Meaning::Ahead)),
-        Known::Headed(means) => heading_means(means),
+        Known::Headed(means) => heading_says(means),
         Known::Declared(_, means) => {
             if seen {
                 declared_means(means)

@@ -38,6 +38,11 @@ abbrev pub suits_selector : Option TypeNo → TypeNo → Bool
 suits_selector None b = true
 suits_selector (Some base) b = are_same b base
 
+-- what has no base type
+abbrev pub suits_without : Option TypeNo → Bool
+suits_without None = true
+suits_without (Some base) = false
+
 -- ---- one bound at its place; a label at its own place is no constant: 49
 
 abbrev pub of_type : (g : Gathers) → (alike : Bool) → Pos → Result (Unit {0}) g.Reported
@@ -52,38 +57,42 @@ abbrev pub value_bound : (g : Gathers) → Option TypeNo → (label at : Pos) �
     → Result Ordinal g.Reported
 value_bound g base label at (value.Constant v) = ordinal_in g at (operand_of v)
 value_bound g base label at (value.Scalar t b e) = no_constant g (suits_selector base b) label at
-value_bound g base label at (value.Set e) = no_constant g false label at
-value_bound g base label at (value.Routine t e) = no_constant g false label at
-value_bound g base label at (value.Procedure p) = no_constant g false label at
-value_bound g base label at (value.Whole t d) = no_constant g false label at
-value_bound g base label at value.Untaken = no_constant g false label at
+value_bound g base label at (value.Set e) = no_constant g (suits_without base) label at
+value_bound g base label at (value.Routine t e) = no_constant g (suits_without base) label at
+value_bound g base label at (value.Procedure p) = no_constant g (suits_without base) label at
+value_bound g base label at (value.Whole t d) = no_constant g (suits_without base) label at
+value_bound g base label at value.Untaken = no_constant g (suits_without base) label at
 
 abbrev pub variable_bound : (g : Gathers) → Option TypeNo → (label at : Pos) → Class
     → Result Ordinal g.Reported
 variable_bound g base label at (class.Scalar s) =
     no_constant g (suits_selector base s.base) label at
-variable_bound g base label at class.Set = no_constant g false label at
-variable_bound g base label at class.Procedure = no_constant g false label at
-variable_bound g base label at class.Whole = no_constant g false label at
+variable_bound g base label at class.Set = no_constant g (suits_without base) label at
+variable_bound g base label at class.Procedure = no_constant g (suits_without base) label at
+variable_bound g base label at class.Whole = no_constant g (suits_without base) label at
 
 abbrev pub bound_by : (g : Gathers) → Types → Option TypeNo → (label at : Pos) → Designated
     → Result Ordinal g.Reported
 bound_by g types base label at (designated.Value x) = value_bound g base label at x
 bound_by g types base label at (designated.Variable t d) =
     variable_bound g base label at (class_at types t)
-bound_by g types base label at (designated.Open t slot) = no_constant g false label at
+bound_by g types base label at (designated.Open t slot) =
+    no_constant g (suits_without base) label at
 bound_by g types base label at (designated.Type t) = no_constant g false label at
-bound_by g types base label at (designated.Procedure p) = no_constant g false label at
+bound_by g types base label at (designated.Procedure p) =
+    no_constant g (suits_without base) label at
 bound_by g types base label at (designated.Nested p) = report g at rule.NoProcedureValue
 bound_by g types base label at (designated.Standard f) = report g at rule.NoProcedureValue
 bound_by g types base label at (designated.Module k) = no_constant g false label at
 
--- a procedure is no constant, whatever its heading
+-- a procedure is no constant, and one in a procedure no value, whatever its heading
 abbrev pub bound_in : (g : Gathers) → Types → Option TypeNo → (label at : Pos)
     → Result Designated (Meaningless g.Reported) → Result Ordinal g.Reported
 bound_in g types base label at (Ok d) = bound_by g types base label at d
 bound_in g types base label at (Err (Broken e)) = Err e
-bound_in g types base label at (Err (Headless e)) = no_constant g false label at
+bound_in g types base label at (Err (Headless true e)) = report g at rule.NoProcedureValue
+bound_in g types base label at (Err (Headless false e)) =
+    no_constant g (suits_without base) label at
 
 abbrev pub bound_of : (g : Gathers) → Scope g.Reported → Option TypeNo → (label : Pos)
     → Meant g.Reported → Result Ordinal g.Reported

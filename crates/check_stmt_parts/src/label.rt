@@ -5,7 +5,7 @@ ghost use Rattle.check_scope.specs.Elaborated.{least, ◌▷◌};
 ghost use Rattle.check_expr.specs.Meanings.{meanings_of};
 ghost use Rattle.check_const_ops.specs.Common.{common};
 ghost use Rattle.check_operator.specs.Classes.{class_at};
-ghost use Rattle.check_stmt_parts.specs.Labels.{no_constant, suits_selector, value_bound, bound_by, bound_of, bound_suits, label_range, label_between, item_label, with_item, labels_in};
+ghost use Rattle.check_stmt_parts.specs.Labels.{no_constant, suits_selector, suits_without, value_bound, bound_by, bound_of, bound_suits, label_range, label_between, item_label, with_item, labels_in};
 
 use crate::Ranges;
 use crate::lists::with_next;
@@ -19,7 +19,7 @@ use std::alloc::{AllocError, Global};
 use tree_parts::Items;
 use typed_tree::{Label, TypeNo, Types, are_same};
 
-/// A bound that is no constant: 49 at the label, and 40 at the bound if it has another base type than the selector.
+/// A bound that is no constant: 49 at the label, and 40 at the bound if its type is another than the selector's.
 fn no_constant(alike: bool, label: Pos, at: Pos) -> Elaborated<Ordinal>
     ensures { result ≡ no_constant least alike label at }
 {
@@ -44,17 +44,24 @@ fn suits_selector(base: Option<TypeNo>, other: TypeNo) -> bool
     }
 }
 
+/// Whether what has no base type may be a label, as far as types go.
+fn suits_without(base: Option<TypeNo>) -> bool
+    ensures { result ≡ suits_without base }
+{
+    base.is_none()
+}
+
 fn value_bound(base: Option<TypeNo>, label: Pos, at: Pos, value: Computed) -> Elaborated<Ordinal>
     ensures { result ≡ value_bound least base label at value }
 {
     match value {
         Computed::Constant(value) => ordinal_in(at, operand_of(&value)),
         Computed::Scalar(_, other, _) => no_constant(suits_selector(base, other), label, at),
-        Computed::Set(_) => no_constant(false, label, at),
-        Computed::Routine(_, _) => no_constant(false, label, at),
-        Computed::Procedure(_) => no_constant(false, label, at),
-        Computed::Whole(_, _) => no_constant(false, label, at),
-        Computed::Untaken => no_constant(false, label, at),
+        Computed::Set(_) => no_constant(suits_without(base), label, at),
+        Computed::Routine(_, _) => no_constant(suits_without(base), label, at),
+        Computed::Procedure(_) => no_constant(suits_without(base), label, at),
+        Computed::Whole(_, _) => no_constant(suits_without(base), label, at),
+        Computed::Untaken => no_constant(suits_without(base), label, at),
     }
 }
 
@@ -71,18 +78,22 @@ fn bound_by(
         Designated::Value(value) => value_bound(base, label, at, value),
         Designated::Variable(t, _) => match class_of(types, t) {
             Class::Scalar(scalar) => no_constant(suits_selector(base, scalar.base), label, at),
-            Class::Set | Class::Procedure | Class::Whole => no_constant(false, label, at),
+            Class::Set | Class::Procedure | Class::Whole => no_constant(
+                suits_without(base),
+                label,
+                at,
+            ),
         },
-        Designated::Open(_, _) => no_constant(false, label, at),
+        Designated::Open(_, _) => no_constant(suits_without(base), label, at),
         Designated::Type(_) => no_constant(false, label, at),
-        Designated::Procedure(_) => no_constant(false, label, at),
+        Designated::Procedure(_) => no_constant(suits_without(base), label, at),
         Designated::Nested(_) => report(at, Rule::NoProcedureValue),
         Designated::Standard(_) => report(at, Rule::NoProcedureValue),
         Designated::Module(_) => no_constant(false, label, at),
     }
 }
 
-/// A bound of a label at a place. A procedure is no constant, whatever its heading.
+/// A bound of a label at a place. A procedure is no constant, and one in a procedure no value, whatever its heading.
 fn bound_of(
     alloc: Global,
     scope: &Scope<Breach>,
@@ -96,7 +107,8 @@ fn bound_of(
     match stands_for(alloc, scope, e)? {
         Ok(designated) => Ok(bound_by(&scope.types, base, label, at, designated)),
         Err(Meaningless::Broken(breach)) => Ok(Err(breach)),
-        Err(Meaningless::Headless(_)) => Ok(no_constant(false, label, at)),
+        Err(Meaningless::Headless(true, _)) => Ok(report(at, Rule::NoProcedureValue)),
+        Err(Meaningless::Headless(false, _)) => Ok(no_constant(suits_without(base), label, at)),
     }
 }
 

@@ -1,5 +1,5 @@
 -- Calls as statements, and which rules are broken in them.
-use Rattle.std.specs.Prelude.{◌≡◌, ℕ, List, [], ◌∷◌, length, None}
+use Rattle.std.specs.Prelude.{◌≡◌, ℕ, Bool, List, [], ◌∷◌, length, None}
 use Rattle.m2_rule.specs.declared.breach.Breach.{Breach}
 use Rattle.m2_rule.specs.declared.rule.Rule.TheVariants as rule
 use Rattle.m2_tree.specs.declared.name.Ident.{Ident}
@@ -111,7 +111,7 @@ module _ (types : Types) (names : Ident → Standing) (exports : ℕ → Ident �
   -- the refusals at a call that is a statement
   pub data Misacts (at : Pos) : Thing → List Expr → Breach → Type 0 where
     -- Functions are no statements.
-    no_procedure : {x : Thing} {args : List Expr} → (x ≡ Headless → ⊥)
+    no_procedure : {x : Thing} {args : List Expr} → ((nested : Bool) → x ≡ Headless nested → ⊥)
         → ((n : ℕ) → IsProper types x n → ⊥) → Misacts at x args (at ! rule.WrongType)
     wrong_count : {x : Thing} {args : List Expr} {n : ℕ} → IsProper types x n
         → (IsProper types x (length args) → ⊥) → Misacts at x args (at ! rule.ArgumentCount)

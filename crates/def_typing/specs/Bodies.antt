@@ -40,7 +40,7 @@ pub data IsProcedure : Standing → Type 0 where
   of_module : {t : TypeNo} → IsProcedure (Known (AProcedure t))
   of_procedure : {t : TypeNo} → IsProcedure (Known (ANested t))
   -- Rules are broken in its heading.
-  headless : IsProcedure (Known Headless)
+  headless : {nested : Bool} → IsProcedure (Known (Headless nested))
 
 abbrev pub is_declared : List ℕ → List Declaration → Bool
 is_declared n ds = list_any (λ d. is_among n (names_of d ++ constants_of d)) ds

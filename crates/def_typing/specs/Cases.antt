@@ -11,7 +11,7 @@ use Rattle.typed_tree.specs.declared.known_types.Types.{Types}
 use Rattle.typed_tree.specs.Types.{integer, cardinal}
 use Rattle.def_typing.specs.Amounts.{Amount, Constant, Value, GoTogether, Suits}
 use Rattle.def_typing.specs.Operators.{◌!◌, Kind, Scalar, Set, Text, Untaken, operand}
-use Rattle.def_typing.specs.Things.{Thing, AValue, AVariable, ANested, AStandard, Standing, content}
+use Rattle.def_typing.specs.Things.{Thing, AValue, AVariable, ANested, AStandard, Headless, Standing, content, Mistaken}
 use Rattle.def_typing.specs.Parts.{first}
 use Rattle.def_typing.specs.Constants.{IsBound as Bounds}
 use Rattle.def_typing.specs.Expressions.{Stands, Has, Broken, BrokenAsValue}
@@ -33,10 +33,11 @@ IsConstantThing (AValue (Set (Some bits))) = Unit {0}
 IsConstantThing (AValue (Text text)) = Unit {0}
 IsConstantThing other = ⊥
 
--- a procedure that is no value
+-- a procedure that is no value, whatever its heading
 abbrev pub IsNoValue : Thing → Type 0
 IsNoValue (AStandard p) = Unit {0}
 IsNoValue (ANested h) = Unit {0}
+IsNoValue (Headless true) = Unit {0}
 IsNoValue other = ⊥
 
 pub record IsNoConstant (x : Thing) : Type 0 where
@@ -49,9 +50,9 @@ run_time_kind types (AValue k) = k
 run_time_kind types (AVariable t) = content types t
 run_time_kind types other = Untaken
 
--- If the selector has no meaning, nothing is asked of the base type.
+-- If the selector has no meaning, nothing is asked of the type.
 abbrev pub SuitsSelector : Option TypeNo → Kind → Type 0
-SuitsSelector None k = (t : TypeNo) × (k ≡ Scalar (Value t))
+SuitsSelector None k = Unit {0}
 SuitsSelector (Some base) k = k ≡ Scalar (Value base)
 
 -- the number of a bound
@@ -64,8 +65,8 @@ pub data Misbounds (types : Types) (base : Option TypeNo) (label at : Pos) (x : 
     : Breach → Type 0 where
   no_number : IsConstantThing x → ((sort : Option TypeNo) (n : ℤ) → IsBound x sort n → ⊥)
       → Misbounds types base label at x (at ! rule.WrongType)
-  no_value : IsNoValue x → Misbounds types base label at x (at ! rule.NoProcedureValue)
-  -- a label that is no constant
+  no_value : {f : Breach} → Mistaken at x f → Misbounds types base label at x f
+  -- a label that is no constant, whatever the selector
   no_constant : IsNoConstant x → Misbounds types base label at x (label ! rule.WrongLabel)
   other_type : IsNoConstant x → (SuitsSelector base (run_time_kind types x) → ⊥)
       → Misbounds types base label at x (at ! rule.WrongType)

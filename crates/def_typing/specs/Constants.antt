@@ -68,24 +68,24 @@ pub data FixedPicks (exports : ℕ → Ident → Standing)
     : Fixed → Selector-F Expr Selector Designator Item → Fixed → Type 0 where
   of_module : {k : ℕ} {at : Pos} {name : Ident} {y : Fixed} → FixedAs (exports k name) y
       → FixedPicks exports (AScope k) (layer.Field at name) y
-  -- What is no constant has no constant components.
+  -- What is no constant has no constant components, and so have modules with brackets.
   of_field : {x : Fixed} {at : Pos} {name : Ident} → IsUnfixed x
       → FixedPicks exports x (layer.Field at name) NoConstant
   of_element : {x : Fixed} {at : Pos} {e : Expr} → IsUnfixed x
       → FixedPicks exports x (layer.Index at e) NoConstant
+  element_of_module : {k : ℕ} {at : Pos} {e : Expr}
+      → FixedPicks exports (AScope k) (layer.Index at e) NoConstant
 
 pub data FixedMispicks (exports : ℕ → Ident → Standing)
     : Fixed → Selector-F Expr Selector Designator Item → Breach → Type 0 where
   in_module : {k : ℕ} {at : Pos} {name : Ident} {f : Breach}
       → FixedMisnamed name.pos (exports k name) f
       → FixedMispicks exports (AScope k) (layer.Field at name) f
-  -- Constants and modules have no components.
+  -- Constants have no components.
   constant_field : {k : Kind} {at : Pos} {name : Ident}
       → FixedMispicks exports (AConstant k) (layer.Field at name) (at ! rule.WrongType)
   constant_element : {k : Kind} {at : Pos} {e : Expr}
       → FixedMispicks exports (AConstant k) (layer.Index at e) (at ! rule.WrongType)
-  module_element : {k : ℕ} {at : Pos} {e : Expr}
-      → FixedMispicks exports (AScope k) (layer.Index at e) (at ! rule.WrongType)
 
 pub data FixedSelected (exports : ℕ → Ident → Standing)
     : Fixed → List Selector → Fixed → Type 0 where

@@ -138,9 +138,9 @@ in_front_of (OfProcedure h) = Ahead
 in_front_of other = Undeclared
 
 -- what it stands for if rules are broken in its declaration
-abbrev pub without : Declaration → Standing
-without (OfProcedure h) = Known Headless
-without other = Unknown
+abbrev pub without : (nested : Bool) → Declaration → Standing
+without nested (OfProcedure h) = Known (Headless nested)
+without nested other = Unknown
 
 module _ (exports : ℕ → Ident → Standing) (w : Setting) where
   -- what it adds, and what its own names stand for
@@ -252,7 +252,7 @@ module _ (types : Types) (exports : ℕ → Ident → Standing) (outside : Ident
           → ((x : Ident) → StandsFor front x (names x))
           → ((a : Added) (s : Standing)
           → Says exports (setting front d.what names) nested d.what a s → ⊥)
-          → Means front d (without d.what)
+          → Means front d (without nested d.what)
 
   abbrev pub AllStand : List Declared → (Ident → Standing) → Type 0
   AllStand front names = (x : Ident) → StandsFor front x (names x)

@@ -1,5 +1,5 @@
 -- What expressions stand for, and which rules are broken in them.
-use Rattle.std.specs.Prelude.{◌≡◌, ℕ, ℤ, pos, List, [], ◌∷◌, length, Option, Some, None}
+use Rattle.std.specs.Prelude.{◌≡◌, ℕ, ℤ, pos, Bool, List, [], ◌∷◌, length, Option, Some, None}
 use Rattle.m2_rule.specs.declared.rule.Rule.TheVariants as rule
 use Rattle.m2_tree.specs.declared.pos.Pos.{Pos}
 use Rattle.m2_tree.specs.declared.name.Ident.{Ident}
@@ -172,7 +172,7 @@ module _ (types : Types) (names : Ident → Standing) (exports : ℕ → Ident �
   -- the refusals at a call
   pub data Miscalled (at : Pos) : Thing → List Expr → Breach → Type 0 where
     -- Only functions are called in expressions.
-    no_function : {x : Thing} {args : List Expr} → (x ≡ Headless → ⊥)
+    no_function : {x : Thing} {args : List Expr} → ((nested : Bool) → x ≡ Headless nested → ⊥)
         → ((n : ℕ) → IsFunctionOf types x n → ⊥) → Miscalled at x args (at ! rule.WrongType)
     -- Another count of arguments is refused at the designator called.
     wrong_count : {x : Thing} {args : List Expr} {n : ℕ} → IsFunctionOf types x n

@@ -1,5 +1,5 @@
 -- What names stand for, what is taken as a value, and what is picked of it.
-use Rattle.std.specs.Prelude.{◌≡◌, ℕ, ℤ, List, Option, Some, None}
+use Rattle.std.specs.Prelude.{◌≡◌, ℕ, ℤ, Bool, true, List, Option, Some, None}
 use Rattle.m2_rule.specs.declared.rule.Rule.{Rule}
 use Rattle.m2_rule.specs.declared.rule.Rule.TheVariants as rule
 use Rattle.m2_tree.specs.declared.pos.Pos.{Pos}
@@ -35,8 +35,8 @@ pub data Thing : Type 0 where
   ANested : TypeNo → Thing
   AStandard : Standard → Thing
   AModule : ℕ → Thing
-  -- a procedure in whose heading rules are broken
-  Headless : Thing
+  -- a procedure in whose heading rules are broken, and whether it is declared in a procedure
+  Headless : (nested : Bool) → Thing
 
 -- what a name stands for, if it stands for something
 pub data Standing : Type 0 where
@@ -77,12 +77,13 @@ Taken types (AProcedure h) l = l ≡ Procedure h
 Taken types other l = ⊥
 
 -- Types and modules are no values, and neither are standard procedures and procedures of
--- procedures.
+-- procedures, whatever their headings.
 abbrev pub Mistaken : Pos → Thing → Breach → Type 0
 Mistaken at (AType t) f = f ≡ at ! rule.WrongType
 Mistaken at (AModule k) f = f ≡ at ! rule.WrongType
 Mistaken at (AStandard p) f = f ≡ at ! rule.NoProcedureValue
 Mistaken at (ANested h) f = f ≡ at ! rule.NoProcedureValue
+Mistaken at (Headless true) f = f ≡ at ! rule.NoProcedureValue
 Mistaken at other f = ⊥
 
 -- ---- assignment compatibility

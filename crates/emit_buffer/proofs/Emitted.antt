@@ -1,13 +1,14 @@
 -- The laws of code in the making: what is appended one behind the other.
-use Rattle.std.proofs.Common.{◌≡◌, ℕ, List, [], ◌∷◌, ◌++◌, refl, sym, ap, ◌∙◌, append_assoc}
-use Rattle.std.proofs.lemmas.List.{append-nil}
+use Rattle.std.proofs.Common.{◌≡◌, ℕ, List, [], ◌∷◌, ◌++◌, map, refl, sym, ap, ◌∙◌, append_assoc}
+use Rattle.std.proofs.lemmas.List.{append-nil, map-append}
 use Rattle.wasm_tree.specs.declared.code.Op.{Op}
 use Rattle.wasm_tree.specs.declared.instr.Instr.{Instr}
 use Rattle.wasm_tree.specs.Code.{flat_one, flat}
 use Rattle.typed_tree.specs.declared.known_types.Types.{Types}
 use Rattle.def_scheme.specs.Coded.{Coded, Counts, Setting, plain, ◌⨾◌, nothing, all_coded, with_address, with_number, with_text, with_setting, address_local, number_local}
 use Rattle.def_scheme.specs.Exprs.{behind, two}
-use Rattle.emit_buffer.specs.Drafts.{Drafted, with_ops, one, put, emitted, next_address, next_number, next_text}
+use Rattle.emit_buffer.specs.Cut.{cut_op}
+use Rattle.emit_buffer.specs.Drafts.{Drafted, cut_one, cut_flat, with_ops, one, put, emitted, next_address, next_number, next_text}
 
 -- ---- lists of instructions
 
@@ -15,10 +16,15 @@ pub flat_append : (a b : List Instr) → flat (a ++ b) ≡ flat a ++ flat b
 flat_append [] b = refl
 flat_append (i ∷ a) b = ap (λ (ops : List Op). flat_one i ++ ops) (flat_append a b) ∙ sym (append_assoc (flat_one i) (flat a) (flat b))
 
-pub put_is : (is : List Instr) (d : Drafted) → put is d ≡ with_ops (flat is) d
+pub cut_append : (a b : List Instr) → cut_flat (a ++ b) ≡ cut_flat a ++ cut_flat b
+cut_append a b = ap (map cut_op) (flat_append a b) ∙ map-append cut_op (flat a) (flat b)
+
+pub put_is : (is : List Instr) (d : Drafted) → put is d ≡ with_ops (cut_flat is) d
 unfolding one
 put_is [] d = ap (λ (ops : List Op). record { ops = ops; counts = d.counts }) (sym (append-nil d.ops))
-put_is (i ∷ is) d = put_is is (one i d) ∙ ap (λ (ops : List Op). record { ops = ops; counts = d.counts }) (append_assoc d.ops (flat_one i) (flat is))
+put_is (i ∷ is) d =
+    put_is is (one i d)
+    ∙ ap (λ (ops : List Op). record { ops = ops; counts = d.counts }) (append_assoc d.ops (cut_one i) (cut_flat is) ∙ ap (λ (ops : List Op). d.ops ++ ops) (sym (map-append cut_op (flat_one i) (flat is))))
 
 pub put_append : (a b : List Instr) (d : Drafted) → put (a ++ b) d ≡ put b (put a d)
 put_append [] b d = refl
@@ -34,8 +40,8 @@ pub emitted_seq : (x y : Coded) (s : Setting) (d : Drafted) → emitted (x ⨾ y
 unfolding emitted
 emitted_seq x y s d =
     let first : List Instr × Counts = x s d.counts in let second : List Instr × Counts = y s first.1 in
-    ap (λ (ops : List Op). record { ops = d.ops ++ ops; counts = second.1 }) (flat_append first.0 second.0)
-    ∙ ap (λ (ops : List Op). record { ops = ops; counts = second.1 }) (sym (append_assoc d.ops (flat first.0) (flat second.0)))
+    ap (λ (ops : List Op). record { ops = d.ops ++ ops; counts = second.1 }) (cut_append first.0 second.0)
+    ∙ ap (λ (ops : List Op). record { ops = ops; counts = second.1 }) (sym (append_assoc d.ops (cut_flat first.0) (cut_flat second.0)))
 
 pub emitted_nothing : (s : Setting) (d : Drafted) → emitted nothing s d ≡ d
 emitted_nothing s d = emitted_plain [] s d

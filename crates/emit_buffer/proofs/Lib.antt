@@ -1,4 +1,6 @@
 pub mod Plain
+pub mod Amounts
+pub mod Uncut
 pub mod Emitted
 pub mod Closed
 pub mod Offsets

@@ -1,5 +1,5 @@
 -- Loads and stores of what is kept of a scalar type.
-use Rattle.std.proofs.Common.{◌≡◌, refl, ap}
+use Rattle.std.proofs.Common.{◌≡◌, refl}
 use Rattle.typed_tree.specs.declared.types.TypeNo.{TypeNo}
 use Rattle.typed_tree.specs.declared.known_types.Types.{Types}
 use Rattle.layout_storage.specs.declared.kind.Kind.{Kind}

@@ -13,6 +13,7 @@ use Rattle.layout_storage.specs.Layouts.{IsLayout, imported_row}
 use Rattle.def_scheme.specs.Exprs.{import_place, is_own}
 use Rattle.def_scheme.specs.Signatures.{Signatures}
 use Rattle.def_scheme.specs.Modules.{signatures}
+use Rattle.emit_buffer.specs.Fitting.{sizes_fit}
 
 -- the place of a module among imports
 abbrev pub ArePlaces : List (ℕ × ℕ) → List Imported → Type 0
@@ -43,3 +44,4 @@ pub record IsHome (m : TypedModule) (x : Layout) (ss : Signatures) (ps : List (�
   pub layout : IsLayout m x
   pub signatures : ss ≡ signatures m
   pub places : ArePlaces ps m.imports
+  pub fits : sizes_fit m.types ≡ true

@@ -1,4 +1,6 @@
+pub mod Cut
 pub mod Drafts
+pub mod Fitting
 pub mod Frames
 pub mod Helpers
 pub mod Homes

@@ -1,5 +1,5 @@
 -- The addresses of components.
-use Rattle.std.specs.Prelude.{ℕ, zero, suc, Bool, false, List, [], ◌∷◌, slice_get, Option, Some, None}
+use Rattle.std.specs.Prelude.{ℕ, zero, suc, ◌-◌, List, [], ◌∷◌, length, slice_get, Option, Some, None, if◌then◌else◌}
 use Rattle.wasm_tree.specs.declared.instr.Instr.{Instr}
 use Rattle.wasm_tree.specs.declared.instr.Instr.TheVariants.{Call, I64Const}
 use Rattle.typed_tree.specs.declared.computed.Root.{Root}
@@ -40,17 +40,31 @@ slot_from [] zero n = 16
 slot_from [] (suc up) n = 0
 slot_from (r ∷ rs) up n = start_or (slice_get (r ∷ rs) up) n
 
-abbrev pub open_in : Option Formal → Bool
-open_in None = false
-open_in (Some f) = f.is_open
+-- ---- how far the second cell of a slot stands behind its first
 
--- whether a slot of a procedure is an open array
-abbrev pub is_open : Types → Routine → ℕ → Bool
-is_open types r n = open_in (slice_get (formals_of types r.heading) n)
+abbrev pub behind_formal : Types → Formal → ℕ
+behind_formal types f =
+    if f.is_open then 4 else (if f.is_var then 0 else offset (tree types f.of) (1 ∷ []))
 
-abbrev pub open_of : Types → Option Routine → ℕ → Bool
-open_of types None n = false
-open_of types (Some r) n = is_open types r n
+abbrev pub behind_variable : Types → Option TypeNo → ℕ
+behind_variable types None = 0
+behind_variable types (Some t) = offset (tree types t) (1 ∷ [])
 
-abbrev pub open_at : Types → List Routine → (up number : ℕ) → Bool
-open_at types rs up n = open_of types (slice_get rs up) n
+abbrev pub behind_found : Types → Option Formal → Option TypeNo → ℕ
+behind_found types None t = behind_variable types t
+behind_found types (Some f) t = behind_formal types f
+
+-- of a procedure with these formals and variables
+abbrev pub behind_first : Types → List Formal → List TypeNo → ℕ → ℕ
+behind_first types fs ts n =
+    behind_found types (slice_get fs n) (slice_get ts (n - length fs))
+
+abbrev pub second_of : Types → Routine → ℕ → ℕ
+second_of types r n = behind_first types (formals_of types r.heading) r.variables n
+
+abbrev pub second_in : Types → Option Routine → ℕ → ℕ
+second_in types None n = 0
+second_in types (Some r) n = second_of types r n
+
+abbrev pub second_at : Types → List Routine → (up number : ℕ) → ℕ
+second_at types rs up n = second_in types (slice_get rs up) n

@@ -1,6 +1,6 @@
 //! Reading, writing and checking values of types.
 
-ghost use Rattle.std.specs.Prelude.{◌≡◌, ◌∷◌, [], IfOk, OnOk};
+ghost use Rattle.std.specs.Prelude.{◌≡◌, ◌∷◌, [], OnOk};
 ghost use Rattle.layout_storage.specs.Sizes.{size};
 ghost use Rattle.layout_storage.specs.Shapes.{tree};
 ghost use Rattle.layout_storage.specs.Extents.{scalar_of as scalar_in_kind};
@@ -17,11 +17,11 @@ use layout_storage::{Kind, Width, width_of};
 use m2_rule::Fault;
 use std::alloc::AllocError;
 use typed_tree::{Scalar, TypeNo, Types, are_same, scalar_of};
-use wasm_tree::{EncodeError, Load, Op, Operation, StoreWidth};
+use wasm_tree::{Load, Op, Operation, StoreWidth};
 
-/// The bytes of a variable of a type. The only error is that they do not fit into 32 bits.
-pub fn size_in(setting: &Setting<'_>, t: TypeNo) -> Result<u32, EncodeError>
-    ensures { IfOk result (λ n. n ≡ size (tree setting.now.home.types t)) }
+/// The bytes of a variable of a type.
+pub fn size_in(setting: &Setting<'_>, t: TypeNo) -> u32
+    ensures { result ≡ size (tree setting.now.home.types t) }
 {
     setting.home().size(t)
 }

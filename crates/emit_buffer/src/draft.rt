@@ -1,24 +1,26 @@
 //! Code in the making, in one list of operations.
 
-ghost use Rattle.std.specs.Prelude.{◌≡◌, ◌∷◌, [], ◌<◌, true, vec_len, vec_capacity, IfOk, OnOk, slice_set};
+ghost use Rattle.std.specs.Prelude.{◌≡◌, ◌∷◌, [], ◌-◌, ◌<◌, true, vec_len, vec_capacity, IfOk, OnOk, slice_set};
 ghost use Rattle.def_scheme.specs.Coded.{address_local, number_local};
 ghost use Rattle.def_scheme.specs.Functions.{from_text};
+ghost use Rattle.emit_buffer.specs.Cut.{cut};
 ghost use Rattle.emit_buffer.specs.Frames.{setting_of};
 ghost use Rattle.emit_buffer.specs.Drafts.{with_ops, one, open_draft, set_at, place_of, inside, closed_block, closed_loop, closed_if, closed_if_else, next_address, next_number, next_text, is_plain, instr_of};
 
+use crate::amount::{Amount, cut};
 use crate::setting::Setting;
 use std::alloc::{AllocError, Global};
 use std::marker::Model;
-use wasm_tree::{EncodeError, Op, ValueType, plus, small};
+use wasm_tree::{Op, ValueType};
 
 /// Operations, and how many locals for addresses and for numbers and how many bytes of texts they need. Contracts see
 /// `Drafted`.
 #[derive(Drop)]
 pub struct Draft {
     ops: Vec<Op>,
-    addresses: u32,
-    numbers: u32,
-    texts: u32,
+    addresses: Amount,
+    numbers: Amount,
+    texts: Amount,
 }
 
 impl Model for Draft {
@@ -46,19 +48,19 @@ fn make_room(ops: &mut Vec<Op>) -> Result<(), AllocError>
 
 impl Draft {
     /// No operations. `texts` bytes of texts stand before.
-    pub fn new(alloc: Global, texts: u32) -> Draft
+    pub fn new(alloc: Global, texts: usize) -> Draft
         ensures { result ≡ record { ops = []; counts = from_text texts } }
     {
         Draft {
             ops: Vec::new(alloc),
-            addresses: 0,
-            numbers: 0,
-            texts,
+            addresses: Amount::of(0),
+            numbers: Amount::of(0),
+            texts: Amount::of(texts),
         }
     }
 
     /// The operations, and how many locals for addresses and for numbers they need.
-    pub fn finish(self) -> (Vec<Op>, u32, u32)
+    pub fn finish(self) -> (Vec<Op>, Amount, Amount)
         ensures ops { result.0.items ≡ self.ops }
         ensures addresses { result.1 ≡ self.counts.addresses }
         ensures numbers { result.2 ≡ self.counts.numbers }
@@ -72,27 +74,6 @@ impl Draft {
         (ops, addresses, numbers)
     }
 
-    /// How many locals for addresses are needed so far.
-    pub fn addresses(&self) -> u32
-        ensures { result ≡ self.now.counts.addresses }
-    {
-        self.addresses
-    }
-
-    /// How many locals for numbers are needed so far.
-    pub fn numbers(&self) -> u32
-        ensures { result ≡ self.now.counts.numbers }
-    {
-        self.numbers
-    }
-
-    /// How many bytes of texts are needed so far.
-    pub fn texts(&self) -> u32
-        ensures { result ≡ self.now.counts.texts }
-    {
-        self.texts
-    }
-
     /// How many operations there are.
     pub fn place(&self) -> usize
         ensures { result ≡ place_of self.now }
@@ -100,7 +81,7 @@ impl Draft {
         self.ops.len()
     }
 
-    /// Appends an operation with none inside.
+    /// Appends an operation with none inside, whose number is small.
     #[tactic(auto, using(crate::proofs::Plain::one_is))]
     pub fn push(&mut self, op: Op) -> Result<(), AllocError>
         requires { is_plain op ≡ true }
@@ -139,87 +120,78 @@ impl Draft {
         }
     }
 
-    fn behind(&self, at: usize) -> Result<u32, EncodeError>
-        ensures { IfOk result (λ n. n ≡ inside at self.now) }
+    fn behind(&self, at: usize) -> u32
+        ensures { result ≡ cut (inside at self.now) }
     {
-        small(self.ops.len().saturating_sub(at).saturating_sub(1))
+        cut(self.ops.len().saturating_sub(at).saturating_sub(1))
     }
 
     /// Makes the place a block with all behind it.
     #[tactic(auto, unfolding(crate::specs::Drafts::closed_block))]
-    pub fn close_block(&mut self, at: usize, kind: Option<ValueType>) -> Result<(), EncodeError>
-        ensures { OnOk result (self.new ≡ closed_block at kind self.old) }
+    pub fn close_block(&mut self, at: usize, kind: Option<ValueType>)
+        ensures { self.new ≡ closed_block at kind self.old }
     {
-        let count = self.behind(at)?;
+        let count = self.behind(at);
         self.set(at, Op::Block(kind, count));
-        Ok(())
     }
 
     /// Makes the place a loop with all behind it.
     #[tactic(auto, unfolding(crate::specs::Drafts::closed_loop))]
-    pub fn close_loop(&mut self, at: usize, kind: Option<ValueType>) -> Result<(), EncodeError>
-        ensures { OnOk result (self.new ≡ closed_loop at kind self.old) }
+    pub fn close_loop(&mut self, at: usize, kind: Option<ValueType>)
+        ensures { self.new ≡ closed_loop at kind self.old }
     {
-        let count = self.behind(at)?;
+        let count = self.behind(at);
         self.set(at, Op::Loop(kind, count));
-        Ok(())
     }
 
     /// Makes the place an `if` with one side, all behind it.
     #[tactic(auto, unfolding(crate::specs::Drafts::closed_if))]
-    pub fn close_if(&mut self, at: usize, kind: Option<ValueType>) -> Result<(), EncodeError>
-        ensures { OnOk result (self.new ≡ closed_if at kind self.old) }
+    pub fn close_if(&mut self, at: usize, kind: Option<ValueType>)
+        ensures { self.new ≡ closed_if at kind self.old }
     {
-        let count = self.behind(at)?;
+        let count = self.behind(at);
         self.set(at, Op::If(kind, count));
-        Ok(())
     }
 
     /// Makes the place an `if` with two sides. The second one begins in the middle.
     #[tactic(auto, unfolding(crate::specs::Drafts::closed_if_else))]
-    pub fn close_if_else(
-        &mut self,
-        at: usize,
-        middle: usize,
-        kind: Option<ValueType>,
-    ) -> Result<(), EncodeError>
-        ensures { OnOk result (self.new ≡ closed_if_else at middle kind self.old) }
+    pub fn close_if_else(&mut self, at: usize, middle: usize, kind: Option<ValueType>)
+        ensures { self.new ≡ closed_if_else at middle kind self.old }
     {
-        let first = small(middle.saturating_sub(at).saturating_sub(1))?;
-        let second = small(self.ops.len().saturating_sub(middle))?;
+        let first = cut(middle.saturating_sub(at).saturating_sub(1));
+        let second = cut(self.ops.len().saturating_sub(middle));
         self.set(at, Op::IfElse(kind, first, second));
-        Ok(())
     }
 
     /// Takes this many bytes of texts, and answers the offset of the first.
-    pub fn next_text(&mut self, bytes: usize) -> Result<u32, EncodeError>
-        ensures offset { IfOk result (λ at. at ≡ self.old.counts.texts) }
-        ensures taken { OnOk result (self.new ≡ next_text bytes self.old) }
+    pub fn next_text(&mut self, bytes: usize) -> Amount
+        ensures offset { result ≡ self.old.counts.texts }
+        ensures taken { self.new ≡ next_text bytes self.old }
     {
-        let at = self.texts;
-        self.texts = plus(self.texts, small(bytes)?)?;
-        Ok(at)
+        let at = self.texts.again();
+        self.texts = at.plus(&Amount::of(bytes));
+        at
     }
 
     /// Takes a fresh local for an address, and answers which.
-    pub fn next_address(&mut self, setting: &Setting<'_>) -> Result<u32, EncodeError>
+    pub fn next_address(&mut self, setting: &Setting<'_>) -> Amount
         ensures local { let k = self.old.counts.addresses in
-            IfOk result (λ w. w ≡ address_local (setting_of setting.now) k) }
-        ensures taken { OnOk result (self.new ≡ next_address self.old) }
+            result ≡ address_local (setting_of setting.now) k }
+        ensures taken { self.new ≡ next_address self.old }
     {
-        let w = setting.address_local(self.addresses)?;
-        self.addresses = plus(self.addresses, 1)?;
-        Ok(w)
+        let w = setting.address_local(&self.addresses);
+        self.addresses = self.addresses.next();
+        w
     }
 
     /// Takes a fresh local for a number, and answers which.
-    pub fn next_number(&mut self, setting: &Setting<'_>) -> Result<u32, EncodeError>
+    pub fn next_number(&mut self, setting: &Setting<'_>) -> Amount
         ensures local { let k = self.old.counts.numbers in
-            IfOk result (λ t. t ≡ number_local (setting_of setting.now) k) }
-        ensures taken { OnOk result (self.new ≡ next_number self.old) }
+            result ≡ number_local (setting_of setting.now) k }
+        ensures taken { self.new ≡ next_number self.old }
     {
-        let t = setting.number_local(self.numbers)?;
-        self.numbers = plus(self.numbers, 1)?;
-        Ok(t)
+        let t = setting.number_local(&self.numbers);
+        self.numbers = self.numbers.next();
+        t
     }
 }

@@ -24,7 +24,7 @@ pub enum Helper {
 
 impl Helper {
     /// The index of the function in its module.
-    pub fn index(self) -> u32
+    pub fn index(self) -> usize
         ensures { result ≡ index_of self }
     {
         match self {

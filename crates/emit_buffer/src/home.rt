@@ -1,8 +1,7 @@
 //! A module, with what is kept of it.
 
-ghost use Rattle.std.specs.Prelude.{◌≡◌, ℕ, ◌∷◌, [], MatchOption, None, Some, IfOk, OnOk, map, slice_get};
+ghost use Rattle.std.specs.Prelude.{◌≡◌, ◌∷◌, [], true, MatchOption, None, Some, IfOk, OnOk, map, slice_get};
 ghost use Rattle.std.specs.Option.{option_copied};
-ghost use Rattle.layout_storage.specs.Capped.{cap_size};
 ghost use Rattle.layout_storage.specs.Sizes.{size, offset};
 ghost use Rattle.layout_storage.specs.Shapes.{tree};
 ghost use Rattle.layout_storage.specs.Extents.{kind_of_tree, element_tree};
@@ -11,10 +10,11 @@ ghost use Rattle.layout_storage.specs.Layouts.{IsLayout};
 ghost use Rattle.def_scheme.specs.Exprs.{import_place, variables_row};
 ghost use Rattle.def_scheme.specs.Functions.{routine_of};
 ghost use Rattle.def_scheme.specs.Modules.{signatures as signatures_in, numbering_of};
+ghost use Rattle.emit_buffer.specs.Cut.{cut};
+ghost use Rattle.emit_buffer.specs.Fitting.{sizes_fit};
 ghost use Rattle.emit_buffer.specs.Frames.{IsFramed};
 ghost use Rattle.emit_buffer.specs.Homes.{start_or, with_place, ArePlaces, row_for};
 
-use crate::amounts::exact;
 use crate::frame::Framed;
 use emit_tables::{Signatures, is_own};
 use indexmap::IndexMap;
@@ -22,7 +22,6 @@ use layout_storage::{Kind, Layout, Row, element_of, field_offset, scalar_in, siz
 use std::alloc::{AllocError, Global};
 use std::marker::Model;
 use typed_tree::{Imported, Routine, TypeNo, TypedModule, Types, Variable, Which};
-use wasm_tree::EncodeError;
 
 /// A module, where its variables stand, the types of functions that it needs, and by the numbers of modules their places
 /// among its imports. Contracts see the module.
@@ -117,6 +116,7 @@ impl<'a> Home<'a> {
     ) -> Result<Home<'a>, AllocError>
         requires layout { IsLayout module_body.now layout.now }
         requires signatures { signatures.now ≡ signatures_in module_body.now }
+        requires fits { sizes_fit module_body.now.types ≡ true }
         ensures { IfOk result (λ h. h ≡ module_body.now) }
     {
         let places = places_of(alloc, module_body.imports.as_slice())?;
@@ -164,7 +164,7 @@ impl<'a> Home<'a> {
     }
 
     /// The number of the type of functions with this many arguments, and with a result or without.
-    pub fn number(&self, arguments: usize, has_result: bool) -> u32
+    pub fn number(&self, arguments: usize, has_result: bool) -> usize
         ensures { result ≡ numbering_of self.now arguments has_result }
     {
         self.signatures().number(arguments, has_result)
@@ -187,25 +187,27 @@ impl<'a> Home<'a> {
         scalar_in(&self.module_body.types, &self.layout.extents, t)
     }
 
-    /// The bytes of a variable of a type. The only error is that they do not fit into 32 bits.
-    pub fn size(&self, t: TypeNo) -> Result<u32, EncodeError>
-        ensures { IfOk result (λ n. n ≡ size (tree self.now.types t)) }
+    /// The bytes of a variable of a type.
+    #[tactic(auto, using(crate::proofs::Uncut::size_is))]
+    pub fn size(&self, t: TypeNo) -> u32
+        ensures { result ≡ size (tree self.now.types t) }
     {
-        exact(size_of(&self.module_body.types, &self.layout.extents, t))
+        size_of(&self.module_body.types, &self.layout.extents, t)
     }
 
     /// The bytes of an element of an array type.
-    pub fn element_size(&self, t: TypeNo) -> Result<u32, EncodeError>
-        ensures { IfOk result (λ n. n ≡ size (element_tree (tree self.now.types t))) }
+    #[tactic(auto, using(crate::proofs::Uncut::element_is))]
+    pub fn element_size(&self, t: TypeNo) -> u32
+        ensures { result ≡ size (element_tree (tree self.now.types t)) }
     {
-        exact(element_of(&self.module_body.types, &self.layout.extents, t))
+        element_of(&self.module_body.types, &self.layout.extents, t)
     }
 
-    /// The offset of a component of a type.
-    pub fn offset(&self, t: TypeNo, number: usize) -> Result<u32, EncodeError>
-        ensures { IfOk result (λ n. n ≡ offset (tree self.now.types t) (number ∷ [])) }
+    /// The offset of a component of a type, cut to 32 bits.
+    pub fn offset(&self, t: TypeNo, number: usize) -> u32
+        ensures { result ≡ cut (offset (tree self.now.types t) (number ∷ [])) }
     {
-        exact(field_offset(&self.module_body.types, &self.layout.extents, t, number))
+        field_offset(&self.module_body.types, &self.layout.extents, t, number)
     }
 
     /// What is kept of the variables of a module.
@@ -218,12 +220,12 @@ impl<'a> Home<'a> {
         self.layout.imported.get(self.place(home))
     }
 
-    /// The offset of a variable of a module.
+    /// The offset of a variable of a module, cut to 32 bits.
     #[tactic(auto, using(crate::proofs::Offsets::variable_is))]
-    pub fn variable_offset(&self, v: Variable) -> Result<u32, EncodeError>
+    pub fn variable_offset(&self, v: Variable) -> u32
         ensures { let row = variables_row self.now v.home in
-            IfOk result (λ n. n ≡ offset row (v.number ∷ [])) }
+            result ≡ cut (offset row (v.number ∷ [])) }
     {
-        exact(start_or(self.row(v.home), v.number))
+        start_or(self.row(v.home), v.number)
     }
 }

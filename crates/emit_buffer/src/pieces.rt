@@ -6,6 +6,7 @@ ghost use Rattle.def_scheme.specs.Exprs.{text_code, complement};
 ghost use Rattle.m2_rule.specs.FaultNumber.{fault_number};
 ghost use Rattle.emit_buffer.specs.Drafts.{one, put};
 
+use crate::amount::Amount;
 use crate::draft::Draft;
 use crate::helper::Helper;
 use m2_rule::Fault;
@@ -16,14 +17,22 @@ use wasm_tree::{Numeric, Op, Operation, Relation};
 pub fn number(n: i64, draft: &mut Draft) -> Result<(), AllocError>
     ensures { OnOk result (draft.new ≡ one (number n) draft.old) }
 {
-    draft.push(Op::I64Const(n.cast_unsigned()))
+    draft.long(n.cast_unsigned())
 }
 
 /// The address this many bytes further.
 pub fn raise_address(bytes: u32, draft: &mut Draft) -> Result<(), AllocError>
     ensures { OnOk result (draft.new ≡ put (raise_address bytes) draft.old) }
 {
-    draft.push(Op::I32Const(bytes))?;
+    draft.word(bytes)?;
+    draft.push(Op::Numeric(Numeric::I32Add))
+}
+
+/// The same of a number that may be cut.
+pub fn raise_far(bytes: &Amount, draft: &mut Draft) -> Result<(), AllocError>
+    ensures { OnOk result (draft.new ≡ put (raise_address bytes.now) draft.old) }
+{
+    draft.far_word(bytes)?;
     draft.push(Op::Numeric(Numeric::I32Add))
 }
 
@@ -68,16 +77,16 @@ pub fn check_code(low: i64, high: i64, fault: Fault, draft: &mut Draft) -> Resul
 {
     number(low, draft)?;
     number(high, draft)?;
-    draft.push(Op::I64Const(u64::from(fault.number())))?;
-    draft.push(Op::Call(Helper::Check.index()))
+    draft.long(u64::from(fault.number()))?;
+    draft.help(Helper::Check)
 }
 
 /// Ends the run with a fault.
 pub fn fault(why: Fault, draft: &mut Draft) -> Result<(), AllocError>
     ensures { OnOk result (draft.new ≡ put (fault (fault_number why)) draft.old) }
 {
-    draft.push(Op::I64Const(u64::from(why.number())))?;
-    draft.push(Op::Call(Helper::Stop.index()))?;
+    draft.long(u64::from(why.number()))?;
+    draft.help(Helper::Stop)?;
     draft.push(Op::Unreachable)
 }
 
@@ -90,9 +99,9 @@ pub fn complement(draft: &mut Draft) -> Result<(), AllocError>
 }
 
 /// The address of a text.
-pub fn text(offset: u32, draft: &mut Draft) -> Result<(), AllocError>
-    ensures { OnOk result (draft.new ≡ put (text_code offset) draft.old) }
+pub fn text(offset: &Amount, draft: &mut Draft) -> Result<(), AllocError>
+    ensures { OnOk result (draft.new ≡ put (text_code offset.now) draft.old) }
 {
     draft.push(Op::GlobalGet(2))?;
-    raise_address(offset, draft)
+    raise_far(offset, draft)
 }

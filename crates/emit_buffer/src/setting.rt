@@ -1,38 +1,46 @@
 //! Where code stands.
 
 ghost use Rattle.std.specs.Prelude.{◌++◌, ◌≡◌, ◌+◌, ◌∷◌, [], IfOk, map, slice_get};
+ghost use Rattle.layout_storage.specs.Extents.{total};
 ghost use Rattle.std.specs.Option.{option_copied};
 ghost use Rattle.def_scheme.specs.Exprs.{slot_path};
-ghost use Rattle.emit_buffer.specs.Slots.{slot_from, is_open, open_at};
+ghost use Rattle.emit_buffer.specs.Cut.{cut};
+ghost use Rattle.emit_buffer.specs.Slots.{slot_from, behind_formal, behind_variable, behind_first, second_of, second_at};
 ghost use Rattle.def_scheme.specs.Coded.{top_local, address_local, number_local};
 ghost use Rattle.def_scheme.specs.Functions.{setting};
 ghost use Rattle.emit_buffer.specs.Frames.{setting_of, frames_of, routines_in, AreFramed};
 
-use crate::amounts::exact;
+use crate::amount::{Amount, cut_sum};
 use crate::frame::Framed;
 use crate::home::{Home, start_or};
 use layout_storage::Row;
+use smallvec::SmallVec;
 use std::alloc::{AllocError, Global};
 use std::marker::Model;
-use typed_tree::{Routine, Shape, Slot, Types, made_of};
-use wasm_tree::{EncodeError, plus};
+use typed_tree::{Formal, Routine, Shape, Slot, TypeNo, made_of};
+
+/// How many counts of labels, and how many records under WITH, stand in place. Most code needs no more.
+const NEAR_LABELS: usize = 8;
+
+const NEAR_WITHS: usize = 2;
 
 /// The module, the frames that are seen, the procedure's own first, and the function's arguments and locals. Contracts see
 /// the record of the scheme.
-#[derive(Drop)]
 pub struct Setting<'a> {
     home: &'a Home<'a>,
     frames: &'a [Framed<'a>],
-    arguments: u32,
-    addresses: u32,
-    exit: u32,
-    withs: Vec<u32>,
+    arguments: Amount,
+    addresses: Amount,
+    /// How many labels stand between EXIT and its loop: a count for each statement around it.
+    labels: SmallVec<usize, NEAR_LABELS>,
+    withs: SmallVec<Amount, NEAR_WITHS>,
 }
 
 impl<'a> Model for Setting<'a> {
     ghost use Rattle.std.specs.Coded.{codes};
     ghost use Rattle.typed_tree.specs.contracts.typed_module.Routine as r;
     ghost use Rattle.typed_tree.specs.contracts.typed_module.TypedModule as e;
+    ghost use Rattle.layout_storage.specs.Extents.{total};
     ghost use Rattle.emit_buffer.specs.Frames.{Standing, routines_in, AreFramed};
 
     ghost Value = { Standing };
@@ -44,11 +52,29 @@ impl<'a> Model for Setting<'a> {
       routines = routines_in s.frames.now;
       arguments = s.arguments;
       addresses = s.addresses;
-      exit = s.exit;
+      exit = total s.labels.items;
       withs = s.withs.items;
     } };
 
     ghost invariant = { λ s. AreFramed s.home.now.types s.frames.now };
+}
+
+// Written by hand, so that proofs above take a drop as one call.
+impl<'a> Drop for Setting<'a> {
+    fn drop(self) {
+        let Setting {
+            home: _home,
+            frames: _frames,
+            arguments,
+            addresses,
+            labels,
+            withs,
+        } = self;
+        drop(arguments);
+        drop(addresses);
+        drop(labels);
+        drop(withs);
+    }
 }
 
 /// What is kept of the frame `up` procedures outwards.
@@ -61,6 +87,12 @@ fn row_at<'a>(frames: &'a [Framed<'_>], up: usize) -> Option<&'a Row>
     }
 }
 
+/// How many locals stand between the arguments and the locals for addresses.
+const BEFORE: usize = 2;
+
+/// The bytes of a cell of 32 bits.
+const WORD: u32 = 4;
+
 /// The offset of a slot, as it is kept.
 fn slot_from(frames: &[Framed<'_>], slot: Slot) -> u32
     ensures { result ≡ slot_from (map (λ f. f.row.now) frames.now) slot.up slot.number }
@@ -71,33 +103,91 @@ fn slot_from(frames: &[Framed<'_>], slot: Slot) -> u32
     }
 }
 
-/// Whether a slot of a procedure is an open array.
-fn is_open(types: &Types, routine: &Routine, number: usize) -> bool
-    ensures { result ≡ is_open types.now routine.now number }
+/// How far the second cell of a formal stands behind its first, cut to 32 bits.
+fn behind_formal(home: &Home<'_>, formal: &Formal) -> u32
+    ensures { result ≡ cut (behind_formal home.now.types formal.now) }
 {
-    match made_of(types, routine.heading) {
-        None => false,
+    if formal.is_open {
+        return WORD;
+    }
+    if formal.is_var {
+        return 0;
+    }
+    home.offset(formal.of, 1)
+}
+
+/// The same of a variable.
+fn behind_variable(home: &Home<'_>, t: Option<&TypeNo>) -> u32
+    ensures { result ≡ cut (behind_variable home.now.types (option_copied t.entry)) }
+{
+    match t {
+        None => 0,
+        Some(t) => home.offset(*t, 1),
+    }
+}
+
+/// The same of a formal or a variable of a procedure that has these formals.
+fn behind_first(home: &Home<'_>, routine: &Routine, formals: &[Formal], number: usize) -> u32
+    ensures { let types = home.now.types in
+        result ≡ cut (behind_first types formals.now routine.now.variables number) }
+{
+    match formals.get(number) {
+        Some(formal) => behind_formal(home, formal),
+        None => behind_variable(
+            home,
+            routine.variables.get(number.saturating_sub(formals.len())),
+        ),
+    }
+}
+
+fn second_of(home: &Home<'_>, routine: &Routine, number: usize) -> u32
+    ensures { result ≡ cut (second_of home.now.types routine.now number) }
+{
+    match made_of(&home.module_body().types, routine.heading) {
+        None => behind_first(home, routine, &[], number),
         Some(made) => match &made.shape {
-            Shape::Procedure(signature) => match signature.formals.get(number) {
-                None => false,
-                Some(formal) => formal.is_open,
-            },
+            Shape::Procedure(signature) => {
+                behind_first(home, routine, signature.formals.as_slice(), number)
+            }
             Shape::Scalar(_)
             | Shape::Set
             | Shape::Array(_, _)
             | Shape::Record(_)
-            | Shape::Open(_) => false,
+            | Shape::Open(_) => behind_first(home, routine, &[], number),
         },
     }
 }
 
-fn open_at(types: &Types, frames: &[Framed<'_>], slot: Slot) -> bool
-    ensures { result ≡ open_at types.now (routines_in frames.now) slot.up slot.number }
+fn second_at(home: &Home<'_>, frames: &[Framed<'_>], slot: Slot) -> u32
+    ensures { let rs = routines_in frames.now in
+        result ≡ cut (second_at home.now.types rs slot.up slot.number) }
 {
     match frames.get(slot.up) {
-        None => false,
-        Some(framed) => is_open(types, framed.routine, slot.number),
+        None => 0,
+        Some(framed) => second_of(home, framed.routine, slot.number),
     }
+}
+
+/// The sum of counts of labels.
+fn sum_of(labels: &[usize]) -> Amount
+    ensures { result ≡ total labels.now }
+{
+    let mut sum = Amount::of(0);
+    for count in labels {
+        sum = sum.plus(&Amount::of(*count));
+    }
+    sum
+}
+
+/// The records under WITH once more.
+fn again(withs: &SmallVec<Amount, NEAR_WITHS>) -> Result<SmallVec<Amount, NEAR_WITHS>, AllocError>
+    ensures { IfOk result (λ ws. ws.items ≡ withs.now.items) }
+{
+    let mut copied = SmallVec::new(*withs.allocator());
+    for w in withs.as_slice() {
+        copied.push(w.again())?;
+    }
+    Ok(copied)
 }
 
 impl<'a> Setting<'a> {
@@ -106,8 +196,8 @@ impl<'a> Setting<'a> {
         alloc: Global,
         home: &'a Home<'a>,
         frames: &'a [Framed<'a>],
-        arguments: u32,
-        addresses: u32,
+        arguments: Amount,
+        addresses: Amount,
     ) -> Setting<'a>
         requires { AreFramed home.now.types frames.now }
         ensures frames { let frames = frames_of home.now.types (routines_in frames.now) in
@@ -119,69 +209,83 @@ impl<'a> Setting<'a> {
             frames,
             arguments,
             addresses,
-            exit: 0,
-            withs: Vec::new(alloc),
+            labels: SmallVec::new(alloc),
+            withs: SmallVec::new(alloc),
         }
     }
 
-    /// The setting inside `labels` more blocks.
-    pub fn within(&self, labels: u32) -> Result<Setting<'a>, EncodeError>
-        ensures { IfOk result (λ s. s ≡ record self.now { exit = self.now.exit + labels }) }
+    /// The setting with other labels.
+    fn with_labels(&self, labels: SmallVec<usize, NEAR_LABELS>) -> Result<Setting<'a>, AllocError>
+        ensures { IfOk result (λ s. s ≡ record self.now { exit = total labels.items }) }
     {
-        let exit = plus(self.exit, labels)?;
-        Ok(self.leaving(exit)?)
+        let withs = again(&self.withs)?;
+        Ok(Setting {
+            home: self.home,
+            frames: self.frames,
+            arguments: self.arguments.again(),
+            addresses: self.addresses.again(),
+            labels,
+            withs,
+        })
     }
 
-    /// The local for an address of this number.
-    pub fn address_local(&self, number: u32) -> Result<u32, EncodeError>
-        ensures { IfOk result (λ w. w ≡ address_local (setting_of self.now) number) }
+    /// The setting inside `count` more blocks. The only error is that memory ran out.
+    #[tactic(auto, using(crate::proofs::Amounts::one_more))]
+    pub fn within(&self, count: usize) -> Result<Setting<'a>, AllocError>
+        ensures { IfOk result (λ s. s ≡ record self.now { exit = self.now.exit + count }) }
     {
-        plus(self.arguments, plus(2, number)?)
-    }
-
-    /// The local for a number of this number.
-    pub fn number_local(&self, number: u32) -> Result<u32, EncodeError>
-        ensures { IfOk result (λ t. t ≡ number_local (setting_of self.now) number) }
-    {
-        plus(self.arguments, plus(2, plus(self.addresses, number)?)?)
-    }
-
-    /// How many arguments the function has. The stack's top is the local behind them.
-    pub fn arguments(&self) -> u32
-        ensures { result ≡ self.now.arguments }
-    {
-        self.arguments
+        let mut labels = SmallVec::from_slice(*self.labels.allocator(), self.labels.as_slice())?;
+        labels.push(count)?;
+        self.with_labels(labels)
     }
 
     /// The setting in which EXIT leaves the block of this label. The only error is that memory ran out.
-    pub fn leaving(&self, exit: u32) -> Result<Setting<'a>, AllocError>
+    #[tactic(auto, using(crate::proofs::Amounts::one_alone))]
+    pub fn leaving(&self, exit: usize) -> Result<Setting<'a>, AllocError>
         ensures { IfOk result (λ s. s ≡ record self.now { exit = exit }) }
     {
-        let withs = self.withs.clone()?;
+        let mut labels = SmallVec::new(*self.labels.allocator());
+        labels.push(exit)?;
+        self.with_labels(labels)
+    }
+
+    /// The setting in a WITH whose record is kept in this local. The only error is that memory ran out.
+    pub fn under(&self, w: &Amount) -> Result<Setting<'a>, AllocError>
+        ensures { IfOk result (λ s. s ≡ record self.now { withs = self.now.withs ++ w.now ∷ [] }) }
+    {
+        let labels = SmallVec::from_slice(*self.labels.allocator(), self.labels.as_slice())?;
+        let mut withs = again(&self.withs)?;
+        withs.push(w.again())?;
         Ok(Setting {
             home: self.home,
             frames: self.frames,
-            arguments: self.arguments,
-            addresses: self.addresses,
-            exit,
+            arguments: self.arguments.again(),
+            addresses: self.addresses.again(),
+            labels,
             withs,
         })
     }
 
-    /// The setting in a WITH whose record is kept in this local. The only error is that memory ran out.
-    pub fn under(&self, w: u32) -> Result<Setting<'a>, AllocError>
-        ensures { IfOk result (λ s. s ≡ record self.now { withs = self.now.withs ++ w ∷ [] }) }
+    /// The local for an address of this number.
+    pub fn address_local(&self, number: &Amount) -> Amount
+        ensures { result ≡ address_local (setting_of self.now) number.now }
     {
-        let mut withs = self.withs.clone()?;
-        withs.push(w)?;
-        Ok(Setting {
-            home: self.home,
-            frames: self.frames,
-            arguments: self.arguments,
-            addresses: self.addresses,
-            exit: self.exit,
-            withs,
-        })
+        self.arguments.plus(&Amount::of(BEFORE).plus(number))
+    }
+
+    /// The local for a number of this number.
+    pub fn number_local(&self, number: &Amount) -> Amount
+        ensures { result ≡ number_local (setting_of self.now) number.now }
+    {
+        let behind = self.addresses.plus(number);
+        self.arguments.plus(&Amount::of(BEFORE).plus(&behind))
+    }
+
+    /// How many arguments the function has. The stack's top is the local behind them.
+    pub fn arguments(&self) -> &Amount
+        ensures { result.now ≡ self.now.arguments }
+    {
+        &self.arguments
     }
 
     /// The module.
@@ -192,35 +296,35 @@ impl<'a> Setting<'a> {
     }
 
     /// The label of the block that EXIT leaves.
-    pub fn exit(&self) -> u32
+    pub fn exit(&self) -> Amount
         ensures { result ≡ self.now.exit }
     {
-        self.exit
+        sum_of(self.labels.as_slice())
     }
 
     /// The locals with the records of the WITHs, the outermost first.
-    pub fn withs(&self) -> &[u32]
+    pub fn withs(&self) -> &[Amount]
         ensures { result.now ≡ self.now.withs }
     {
         self.withs.as_slice()
     }
 
-    /// The offset of a formal or a variable in its frame. The only error is that it does not fit into 32 bits.
+    /// The offset of a formal or a variable in its frame, cut to 32 bits.
     #[tactic(auto, using(crate::proofs::Slots::slot_is))]
-    pub fn slot_offset(&self, slot: Slot) -> Result<u32, EncodeError>
-        ensures { IfOk result (λ n. n ≡ slot_path (setting_of self.now) slot []) }
+    pub fn slot_offset(&self, slot: Slot) -> u32
+        ensures { result ≡ cut (slot_path (setting_of self.now) slot []) }
     {
-        exact(slot_from(self.frames, slot))
+        slot_from(self.frames, slot)
     }
 
-    /// The offset of the greatest index of a formal ARRAY OF. An error also if the slot is none.
-    #[tactic(auto, using(crate::proofs::Slots::high_is))]
-    pub fn high_offset(&self, slot: Slot) -> Result<u32, EncodeError>
-        ensures { IfOk result (λ n. n ≡ slot_path (setting_of self.now) slot (1 ∷ [])) }
+    /// The offset of the second cell of a formal or a variable, cut to 32 bits: the greatest index of a formal ARRAY OF.
+    #[tactic(auto, using(crate::proofs::Slots::second_is, crate::proofs::Amounts::sum_is))]
+    pub fn high_offset(&self, slot: Slot) -> u32
+        ensures { result ≡ cut (slot_path (setting_of self.now) slot (1 ∷ [])) }
     {
-        if !open_at(&self.home.module_body().types, self.frames, slot) {
-            return Err(EncodeError::NoEncoding);
-        }
-        plus(self.slot_offset(slot)?, 4)
+        cut_sum(
+            self.slot_offset(slot),
+            second_at(self.home, self.frames, slot),
+        )
     }
 }

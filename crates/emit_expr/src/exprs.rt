@@ -28,7 +28,7 @@ use typed_tree::{
     Argument, BITSET, BOOLEAN, CARDINAL, CHAR, Call, Component, INTEGER, Inclusion, Link, Place,
     TypeNo, TypedExpr,
 };
-use wasm_tree::{EncodeError, Op, ValueType};
+use wasm_tree::{Op, ValueType};
 
 /// The type of what an operator gives.
 #[tactic(auto, using(crate::proofs::Variants::types))]
@@ -129,30 +129,24 @@ fn ord_value(setting: &Setting<'_>, e: &TypedExpr, draft: &mut Draft) -> Result<
     ord_check(setting, type_of(e), draft)
 }
 
-/// The code of an expression. The only error is that memory ran out, or that a number does not fit.
+/// The code of an expression. The only error is that memory ran out.
 #[cycle(exprs)]
 #[tactic(auto, using(crate::proofs::Variants::variants))]
-pub fn value_code(
-    setting: &Setting<'_>,
-    e: &TypedExpr,
-    draft: &mut Draft,
-) -> Result<(), EncodeError>
+pub fn value_code(setting: &Setting<'_>, e: &TypedExpr, draft: &mut Draft) -> Result<(), AllocError>
     ensures { OnOk result (draft.new ≡ with_value (setting_of setting.now) e.now draft.old) }
 {
     match e {
-        TypedExpr::Constant(_, n) => Ok(number(*n, draft)?),
+        TypedExpr::Constant(_, n) => number(*n, draft),
         TypedExpr::Load(t, place) => {
             place_code(setting, place, draft)?;
-            load(setting, *t, draft)?;
-            Ok(())
+            load(setting, *t, draft)
         }
         TypedExpr::Procedure(f) => procedure_code(setting, *f, draft),
         TypedExpr::Plus(_, a) => value_code(setting, a.get(), draft),
         TypedExpr::Negate(a) => {
             draft.push(Op::I64Const(0))?;
             value_code(setting, a.get(), draft)?;
-            negated_behind(setting, draft)?;
-            Ok(())
+            negated_behind(setting, draft)
         }
         TypedExpr::Chain(first, links) => {
             value_code(setting, first.get(), draft)?;
@@ -161,35 +155,30 @@ pub fn value_code(
         TypedExpr::Compare(o, a, b) => {
             value_code(setting, a.get(), draft)?;
             value_code(setting, b.get(), draft)?;
-            comparison_code(*o, draft)?;
-            Ok(())
+            comparison_code(*o, draft)
         }
         TypedExpr::Not(a) => {
             value_code(setting, a.get(), draft)?;
-            empty(draft)?;
-            Ok(())
+            empty(draft)
         }
         TypedExpr::Include(o, a, b) => match o {
             Inclusion::Within => {
                 value_code(setting, a.get(), draft)?;
                 value_code(setting, b.get(), draft)?;
-                within_behind(draft)?;
-                Ok(())
+                within_behind(draft)
             }
             Inclusion::Around => {
                 value_code(setting, a.get(), draft)?;
                 complement(draft)?;
                 value_code(setting, b.get(), draft)?;
-                around_behind(draft)?;
-                Ok(())
+                around_behind(draft)
             }
         },
         TypedExpr::In(a, b) => {
             value_code(setting, a.get(), draft)?;
             let t = keep_element(setting, draft)?;
             value_code(setting, b.get(), draft)?;
-            element_bit(t, draft)?;
-            Ok(())
+            element_bit(&t, draft)
         }
         TypedExpr::Abs(t, a) => {
             value_code(setting, a.get(), draft)?;
@@ -201,23 +190,19 @@ pub fn value_code(
         }
         TypedExpr::Chr(a) => {
             value_code(setting, a.get(), draft)?;
-            char_check(draft)?;
-            Ok(())
+            char_check(draft)
         }
         TypedExpr::Odd(a) => {
             value_code(setting, a.get(), draft)?;
-            odd(draft)?;
-            Ok(())
+            odd(draft)
         }
         TypedExpr::Ord(a) => {
             value_code(setting, a.get(), draft)?;
-            ord_value(setting, a.get(), draft)?;
-            Ok(())
+            ord_value(setting, a.get(), draft)
         }
         TypedExpr::Val(t, a) => {
             value_code(setting, a.get(), draft)?;
-            in_type(setting, *t, Fault::OutOfRange, draft)?;
-            Ok(())
+            in_type(setting, *t, Fault::OutOfRange, draft)
         }
         TypedExpr::High(slot) => high_code(setting, *slot, draft),
         TypedExpr::Call(_, call) => call_code(setting, call.get(), draft),
@@ -227,14 +212,13 @@ pub fn value_code(
 /// The code of an operator with its second operand, behind the first.
 #[cycle(exprs)]
 #[tactic(auto, using(crate::proofs::Variants::variants))]
-fn link_code_of(setting: &Setting<'_>, link: &Link, draft: &mut Draft) -> Result<(), EncodeError>
+fn link_code_of(setting: &Setting<'_>, link: &Link, draft: &mut Draft) -> Result<(), AllocError>
     ensures { OnOk result (draft.new ≡ with_link (setting_of setting.now) draft.old link.now) }
 {
     match link {
         Link::Arithmetic(o, t, b) => {
             value_code(setting, b, draft)?;
-            arithmetic(setting, *o, *t, draft)?;
-            Ok(())
+            arithmetic(setting, *o, *t, draft)
         }
         Link::And(b) => {
             wrap_word(draft)?;
@@ -248,19 +232,19 @@ fn link_code_of(setting: &Setting<'_>, link: &Link, draft: &mut Draft) -> Result
             let inner = setting.within(1)?;
             let (at, middle) = begin_or(draft)?;
             value_code(&inner, b, draft)?;
-            draft.close_if_else(at, middle, Some(ValueType::I64))
+            draft.close_if_else(at, middle, Some(ValueType::I64));
+            Ok(())
         }
         Link::Combine(o, b) => {
             value_code(setting, b, draft)?;
-            set_operation(*o, draft)?;
-            Ok(())
+            set_operation(*o, draft)
         }
     }
 }
 
 /// The code of the operators of a chain.
 #[cycle(exprs)]
-fn links_code(setting: &Setting<'_>, links: &[Link], draft: &mut Draft) -> Result<(), EncodeError>
+fn links_code(setting: &Setting<'_>, links: &[Link], draft: &mut Draft) -> Result<(), AllocError>
     ensures { let with = with_link (setting_of setting.now) in
         OnOk result (draft.new ≡ fold with draft.old links.now) }
 {
@@ -273,11 +257,7 @@ fn links_code(setting: &Setting<'_>, links: &[Link], draft: &mut Draft) -> Resul
 /// The code of a designator.
 #[cycle(exprs)]
 #[tactic(auto, using(crate::proofs::Variants::variants))]
-pub fn place_code(
-    setting: &Setting<'_>,
-    place: &Place,
-    draft: &mut Draft,
-) -> Result<(), EncodeError>
+pub fn place_code(setting: &Setting<'_>, place: &Place, draft: &mut Draft) -> Result<(), AllocError>
     ensures { OnOk result (draft.new ≡ with_place (setting_of setting.now) place.now draft.old) }
 {
     root_code(setting, place.root, draft)?;
@@ -291,7 +271,7 @@ fn component_code(
     setting: &Setting<'_>,
     component: &Component,
     draft: &mut Draft,
-) -> Result<(), EncodeError>
+) -> Result<(), AllocError>
     ensures { OnOk result
         (draft.new ≡ with_component (setting_of setting.now) draft.old component.now) }
 {
@@ -314,7 +294,7 @@ fn components_code(
     setting: &Setting<'_>,
     components: &[Component],
     draft: &mut Draft,
-) -> Result<(), EncodeError>
+) -> Result<(), AllocError>
     ensures { let with = with_component (setting_of setting.now) in
         OnOk result (draft.new ≡ fold with draft.old components.now) }
 {
@@ -327,7 +307,7 @@ fn components_code(
 /// The code of a call.
 #[cycle(exprs)]
 #[tactic(auto, using(crate::proofs::Variants::variants))]
-pub fn call_code(setting: &Setting<'_>, call: &Call, draft: &mut Draft) -> Result<(), EncodeError>
+pub fn call_code(setting: &Setting<'_>, call: &Call, draft: &mut Draft) -> Result<(), AllocError>
     ensures { OnOk result (draft.new ≡ with_call (setting_of setting.now) call.now draft.old) }
 {
     match call {
@@ -348,8 +328,7 @@ pub fn call_code(setting: &Setting<'_>, call: &Call, draft: &mut Draft) -> Resul
             let kept = keep_procedure(setting, draft)?;
             top_code(setting, draft)?;
             arguments_code(setting, arguments.as_slice(), draft)?;
-            called_value(setting, kept, *t, draft)?;
-            Ok(())
+            called_value(setting, &kept, *t, draft)
         }
     }
 }
@@ -361,25 +340,22 @@ fn argument_code(
     setting: &Setting<'_>,
     argument: &Argument,
     draft: &mut Draft,
-) -> Result<(), EncodeError>
+) -> Result<(), AllocError>
     ensures { OnOk result
         (draft.new ≡ with_argument (setting_of setting.now) draft.old argument.now) }
 {
     match argument {
         Argument::Value(t, e) => {
             value_code(setting, e, draft)?;
-            check_value(setting, *t, e, draft)?;
-            Ok(())
+            check_value(setting, *t, e, draft)
         }
         Argument::Place(place) => {
             place_code(setting, place, draft)?;
-            extend_word(draft)?;
-            Ok(())
+            extend_word(draft)
         }
         Argument::Array(t, place) => {
             place_code(setting, place, draft)?;
-            array_behind(setting, *t, draft)?;
-            Ok(())
+            array_behind(setting, *t, draft)
         }
         Argument::Open(slot) => open_code(setting, *slot, draft),
         Argument::Text(text) => passed_text(text.get().as_bytes(), draft),
@@ -392,7 +368,7 @@ fn arguments_code(
     setting: &Setting<'_>,
     arguments: &[Argument],
     draft: &mut Draft,
-) -> Result<(), EncodeError>
+) -> Result<(), AllocError>
     ensures { let with = with_argument (setting_of setting.now) in
         OnOk result (draft.new ≡ fold with draft.old arguments.now) }
 {
@@ -409,10 +385,9 @@ pub fn taken_code(
     t: TypeNo,
     e: &TypedExpr,
     draft: &mut Draft,
-) -> Result<(), EncodeError>
+) -> Result<(), AllocError>
     ensures { OnOk result (draft.new ≡ with_taken (setting_of setting.now) t e.now draft.old) }
 {
     value_code(setting, e, draft)?;
-    check_value(setting, t, e, draft)?;
-    Ok(())
+    check_value(setting, t, e, draft)
 }

@@ -10,13 +10,13 @@ ghost use Rattle.emit_buffer.specs.Frames.{setting_of};
 ghost use Rattle.emit_expr.specs.Operators.{ending_and, begun_or, kept_element, element_bit, negated_behind, around_behind, within_behind, odd_code, char_check, before_sign, negative_or_same, with_absolute, before_letter, lifted_or_same, with_capital};
 
 use emit_buffer::{
-    Draft, Helper, Setting, base_of, check_code, complement, extend_word, in_type, is_zero,
+    Amount, Draft, Helper, Setting, base_of, check_code, complement, extend_word, in_type, is_zero,
     operation, relation,
 };
 use m2_rule::Fault;
 use std::alloc::AllocError;
 use typed_tree::{Arithmetic, Comparison, INTEGER, SetOperator, TypeNo, are_same};
-use wasm_tree::{EncodeError, Op, Operation, Relation, ValueType};
+use wasm_tree::{Op, Operation, Relation, ValueType};
 
 /// How two numbers compare.
 pub fn comparison_code(comparison: Comparison, draft: &mut Draft) -> Result<(), AllocError>
@@ -63,8 +63,8 @@ pub fn arithmetic(
         Arithmetic::Add => result_code(setting, Operation::Add, t, draft),
         Arithmetic::Subtract => result_code(setting, Operation::Sub, t, draft),
         Arithmetic::Multiply => result_code(setting, Operation::Mul, t, draft),
-        Arithmetic::Divide => draft.push(Op::Call(Helper::Quotient.index())),
-        Arithmetic::Remainder => draft.push(Op::Call(Helper::Remainder.index())),
+        Arithmetic::Divide => draft.help(Helper::Quotient),
+        Arithmetic::Remainder => draft.help(Helper::Remainder),
     }
 }
 
@@ -141,12 +141,13 @@ pub fn ord_check(setting: &Setting<'_>, t: TypeNo, draft: &mut Draft) -> Result<
 }
 
 /// Ends an `if` whose first side is the second operand of AND.
-pub fn end_and(at: usize, draft: &mut Draft) -> Result<(), EncodeError>
+pub fn end_and(at: usize, draft: &mut Draft) -> Result<(), AllocError>
     ensures { OnOk result (draft.new ≡ ending_and at draft.old) }
 {
     let middle = draft.place();
     draft.push(Op::I64Const(0))?;
-    draft.close_if_else(at, middle, Some(ValueType::I64))
+    draft.close_if_else(at, middle, Some(ValueType::I64));
+    Ok(())
 }
 
 /// Begins an `if` whose second side is the second operand of OR, and answers its place and the place of its second
@@ -163,69 +164,70 @@ pub fn begin_or(draft: &mut Draft) -> Result<(usize, usize), AllocError>
 }
 
 /// Keeps an element that is in a BITSET.
-pub fn keep_element(setting: &Setting<'_>, draft: &mut Draft) -> Result<u32, EncodeError>
+pub fn keep_element(setting: &Setting<'_>, draft: &mut Draft) -> Result<Amount, AllocError>
     ensures local { let k =
         (put (check_code (pos 0) (pos 31) range_fault) draft.old).counts.numbers in
         IfOk result (λ t. t ≡ number_local (setting_of setting.now) k) }
     ensures kept { OnOk result (draft.new ≡ kept_element (setting_of setting.now) draft.old) }
 {
     check_code(0, 31, Fault::OutOfRange, draft)?;
-    let t = draft.next_number(setting)?;
-    draft.push(Op::LocalSet(t))?;
+    let t = draft.next_number(setting);
+    draft.local_set(&t)?;
     Ok(t)
 }
 
 /// Whether the kept element is in a set.
-pub fn element_bit(t: u32, draft: &mut Draft) -> Result<(), AllocError>
-    ensures { OnOk result (draft.new ≡ put (element_bit t) draft.old) }
+pub fn element_bit(t: &Amount, draft: &mut Draft) -> Result<(), AllocError>
+    ensures { OnOk result (draft.new ≡ put (element_bit t.now) draft.old) }
 {
-    draft.push(Op::LocalGet(t))?;
+    draft.local_get(t)?;
     operation(Operation::ShrU, draft)?;
     draft.push(Op::I64Const(1))?;
     operation(Operation::And, draft)
 }
 
-fn before_sign(t: u32, draft: &mut Draft) -> Result<(), AllocError>
-    ensures { OnOk result (draft.new ≡ put (before_sign t) draft.old) }
+fn before_sign(t: &Amount, draft: &mut Draft) -> Result<(), AllocError>
+    ensures { OnOk result (draft.new ≡ put (before_sign t.now) draft.old) }
 {
-    draft.push(Op::LocalSet(t))?;
-    draft.push(Op::LocalGet(t))?;
+    draft.local_set(t)?;
+    draft.local_get(t)?;
     draft.push(Op::I64Const(0))?;
     relation(Relation::LtS, draft)
 }
 
 /// An `if` whose first side is the negative of the number, and the second one the number itself.
 #[tactic(auto, using(crate::proofs::Sides::negative_is))]
-fn negative_or_same(t: u32, draft: &mut Draft) -> Result<(), EncodeError>
-    ensures { OnOk result (draft.new ≡ one (negative_or_same t) draft.old) }
+fn negative_or_same(t: &Amount, draft: &mut Draft) -> Result<(), AllocError>
+    ensures { OnOk result (draft.new ≡ one (negative_or_same t.now) draft.old) }
 {
     let at = draft.open()?;
     draft.push(Op::I64Const(0))?;
-    draft.push(Op::LocalGet(t))?;
+    draft.local_get(t)?;
     operation(Operation::Sub, draft)?;
     let middle = draft.place();
-    draft.push(Op::LocalGet(t))?;
-    draft.close_if_else(at, middle, Some(ValueType::I64))
+    draft.local_get(t)?;
+    draft.close_if_else(at, middle, Some(ValueType::I64));
+    Ok(())
 }
 
 /// The absolute value of a number of this type.
-pub fn absolute(setting: &Setting<'_>, t: TypeNo, draft: &mut Draft) -> Result<(), EncodeError>
+pub fn absolute(setting: &Setting<'_>, t: TypeNo, draft: &mut Draft) -> Result<(), AllocError>
     ensures { OnOk result (draft.new ≡ with_absolute (setting_of setting.now) t draft.old) }
 {
     if are_same(t, INTEGER) {
-        let local = draft.next_number(setting)?;
-        before_sign(local, draft)?;
-        negative_or_same(local, draft)?;
+        let local = draft.next_number(setting);
+        before_sign(&local, draft)?;
+        negative_or_same(&local, draft)?;
         check_code(0, 2_147_483_647, Fault::Overflow, draft)?;
     }
     Ok(())
 }
 
-fn before_letter(t: u32, draft: &mut Draft) -> Result<(), AllocError>
-    ensures { OnOk result (draft.new ≡ put (before_letter t) draft.old) }
+fn before_letter(t: &Amount, draft: &mut Draft) -> Result<(), AllocError>
+    ensures { OnOk result (draft.new ≡ put (before_letter t.now) draft.old) }
 {
-    draft.push(Op::LocalSet(t))?;
-    draft.push(Op::LocalGet(t))?;
+    draft.local_set(t)?;
+    draft.local_get(t)?;
     draft.push(Op::I64Const(97))?;
     operation(Operation::Sub, draft)?;
     draft.push(Op::I64Const(25))?;
@@ -233,23 +235,24 @@ fn before_letter(t: u32, draft: &mut Draft) -> Result<(), AllocError>
 }
 
 #[tactic(auto, using(crate::proofs::Sides::lifted_is))]
-fn lifted_or_same(t: u32, draft: &mut Draft) -> Result<(), EncodeError>
-    ensures { OnOk result (draft.new ≡ one (lifted_or_same t) draft.old) }
+fn lifted_or_same(t: &Amount, draft: &mut Draft) -> Result<(), AllocError>
+    ensures { OnOk result (draft.new ≡ one (lifted_or_same t.now) draft.old) }
 {
     let at = draft.open()?;
-    draft.push(Op::LocalGet(t))?;
+    draft.local_get(t)?;
     draft.push(Op::I64Const(32))?;
     operation(Operation::Sub, draft)?;
     let middle = draft.place();
-    draft.push(Op::LocalGet(t))?;
-    draft.close_if_else(at, middle, Some(ValueType::I64))
+    draft.local_get(t)?;
+    draft.close_if_else(at, middle, Some(ValueType::I64));
+    Ok(())
 }
 
 /// The capital letter.
-pub fn capital(setting: &Setting<'_>, draft: &mut Draft) -> Result<(), EncodeError>
+pub fn capital(setting: &Setting<'_>, draft: &mut Draft) -> Result<(), AllocError>
     ensures { OnOk result (draft.new ≡ with_capital (setting_of setting.now) draft.old) }
 {
-    let local = draft.next_number(setting)?;
-    before_letter(local, draft)?;
-    lifted_or_same(local, draft)
+    let local = draft.next_number(setting);
+    before_letter(&local, draft)?;
+    lifted_or_same(&local, draft)
 }

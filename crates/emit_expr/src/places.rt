@@ -1,6 +1,6 @@
 //! The addresses of variables and of their components.
 
-ghost use Rattle.std.specs.Prelude.{◌≡◌, ◌+◌, ◌*◌, ◌∷◌, [], IfOk, OnOk, slice_get};
+ghost use Rattle.std.specs.Prelude.{◌≡◌, ◌+◌, ◌*◌, ◌∷◌, [], OnOk};
 ghost use Rattle.std.specs.Option.{option_copied};
 ghost use Rattle.layout_storage.specs.Sizes.{size, offset};
 ghost use Rattle.layout_storage.specs.Shapes.{tree};
@@ -11,36 +11,41 @@ ghost use Rattle.emit_buffer.specs.Frames.{setting_of};
 ghost use Rattle.emit_buffer.specs.Slots.{field_code, root_code};
 
 use emit_buffer::{
-    Draft, Helper, Setting, in_range, operation, raise_address, shift_bound, wrap_word,
+    Amount, Draft, Helper, Setting, in_range, operation, raise_address, shift_bound, wrap_word,
 };
 use emit_tables::is_own;
 use m2_rule::Fault;
 use std::alloc::AllocError;
 use typed_tree::{Root, Scalar, Shape, Slot, TypeNo, Types, Variable, made_of, scalar_of};
-use wasm_tree::{EncodeError, Load, Numeric, Op, Operation, plus, small};
+use wasm_tree::{Load, Numeric, Op, Operation};
+
+/// The global that says where the variables of the module itself begin, and that of the first module that it imports.
+const OWN_BASE: usize = 1;
+
+const OTHER_BASE: usize = 4;
 
 /// The number behind this many pairs.
-pub fn twice(first: u32, pairs: usize) -> Result<u32, EncodeError>
-    ensures { IfOk result (λ n. n ≡ first + 2 * pairs) }
+#[tactic(auto, using(crate::proofs::Outwards::twice_is))]
+pub fn twice(first: usize, pairs: usize) -> Amount
+    ensures { result ≡ first + 2 * pairs }
 {
-    let n = small(pairs)?;
-    plus(first, plus(n, n)?)
+    let n = Amount::of(pairs);
+    Amount::of(first).plus(&n.plus(&n))
 }
 
 /// A variable of a module.
-pub fn global_code(setting: &Setting<'_>, v: Variable, draft: &mut Draft) -> Result<(), EncodeError>
+#[tactic(auto, using(emit_buffer::proofs::Plain::word_again))]
+pub fn global_code(setting: &Setting<'_>, v: Variable, draft: &mut Draft) -> Result<(), AllocError>
     ensures { OnOk result (draft.new ≡ put (global_code setting.now.home v) draft.old) }
 {
     let home = setting.home();
     let global = if is_own(home.module_body(), v.home) {
-        1
+        Amount::of(OWN_BASE)
     } else {
-        twice(4, home.place(v.home))?
+        twice(OTHER_BASE, home.place(v.home))
     };
-    let offset = home.variable_offset(v)?;
-    draft.push(Op::GlobalGet(global))?;
-    raise_address(offset, draft)?;
-    Ok(())
+    draft.global_get(&global)?;
+    raise_address(home.variable_offset(v), draft)
 }
 
 /// This many frames outwards.
@@ -64,14 +69,12 @@ pub fn frame_code(up: usize, draft: &mut Draft) -> Result<(), AllocError>
 }
 
 /// A formal or a variable of a procedure.
-#[tactic(auto, using(emit_buffer::proofs::Emitted::put_append))]
-pub fn slot_code(setting: &Setting<'_>, slot: Slot, draft: &mut Draft) -> Result<(), EncodeError>
+#[tactic(auto, using(emit_buffer::proofs::Emitted::put_append, emit_buffer::proofs::Plain::word_again))]
+pub fn slot_code(setting: &Setting<'_>, slot: Slot, draft: &mut Draft) -> Result<(), AllocError>
     ensures { OnOk result (draft.new ≡ put (slot_code (setting_of setting.now) slot []) draft.old) }
 {
-    let offset = setting.slot_offset(slot)?;
     frame_code(slot.up, draft)?;
-    raise_address(offset, draft)?;
-    Ok(())
+    raise_address(setting.slot_offset(slot), draft)
 }
 
 fn word(draft: &mut Draft) -> Result<(), AllocError>
@@ -82,43 +85,40 @@ fn word(draft: &mut Draft) -> Result<(), AllocError>
 
 /// What a VAR formal stands for.
 #[tactic(auto, using(emit_buffer::proofs::Emitted::put_append))]
-pub fn alias_code(setting: &Setting<'_>, slot: Slot, draft: &mut Draft) -> Result<(), EncodeError>
+pub fn alias_code(setting: &Setting<'_>, slot: Slot, draft: &mut Draft) -> Result<(), AllocError>
     ensures { OnOk result
         (draft.new ≡ put (kept_address (setting_of setting.now) slot []) draft.old) }
 {
     slot_code(setting, slot, draft)?;
     word(draft)?;
-    wrap_word(draft)?;
-    Ok(())
+    wrap_word(draft)
 }
 
 /// The elements of a formal ARRAY OF.
 #[tactic(auto, using(emit_buffer::proofs::Slots::first_cell))]
-pub fn open_address(setting: &Setting<'_>, slot: Slot, draft: &mut Draft) -> Result<(), EncodeError>
+pub fn open_address(setting: &Setting<'_>, slot: Slot, draft: &mut Draft) -> Result<(), AllocError>
     ensures { OnOk result (draft.new ≡ put (open_address (setting_of setting.now) slot) draft.old) }
 {
     alias_code(setting, slot, draft)
 }
 
 /// The greatest index of a formal ARRAY OF.
-#[tactic(auto, using(emit_buffer::proofs::Emitted::put_append))]
-pub fn high_code(setting: &Setting<'_>, slot: Slot, draft: &mut Draft) -> Result<(), EncodeError>
+#[tactic(auto, using(emit_buffer::proofs::Emitted::put_append, emit_buffer::proofs::Plain::word_again))]
+pub fn high_code(setting: &Setting<'_>, slot: Slot, draft: &mut Draft) -> Result<(), AllocError>
     ensures { OnOk result (draft.new ≡ put (high_code (setting_of setting.now) slot) draft.old) }
 {
-    let offset = setting.high_offset(slot)?;
     frame_code(slot.up, draft)?;
-    raise_address(offset, draft)?;
-    word(draft)?;
-    Ok(())
+    raise_address(setting.high_offset(slot), draft)?;
+    word(draft)
 }
 
 /// The record of a WITH.
-pub fn with_code(local: Option<&u32>, draft: &mut Draft) -> Result<(), AllocError>
+pub fn with_code(local: Option<&Amount>, draft: &mut Draft) -> Result<(), AllocError>
     ensures { OnOk result (draft.new ≡ put (with_code (option_copied local.entry)) draft.old) }
 {
     match local {
         None => Ok(()),
-        Some(local) => draft.push(Op::LocalGet(*local)),
+        Some(local) => draft.local_get(local),
     }
 }
 
@@ -143,7 +143,7 @@ pub fn index_of(types: &Types, t: TypeNo) -> Option<Scalar>
 fn scale_index(bytes: u32, draft: &mut Draft) -> Result<(), AllocError>
     ensures { OnOk result (draft.new ≡ put (scale_index bytes) draft.old) }
 {
-    draft.push(Op::I64Const(u64::from(bytes)))?;
+    draft.long(u64::from(bytes))?;
     operation(Operation::Mul, draft)?;
     wrap_word(draft)?;
     draft.push(Op::Numeric(Numeric::I32Add))
@@ -151,18 +151,17 @@ fn scale_index(bytes: u32, draft: &mut Draft) -> Result<(), AllocError>
 
 /// An element of an array, behind its address and the index.
 #[tactic(auto, using(emit_buffer::proofs::Emitted::put_append, emit_buffer::proofs::Slots::element_is))]
-pub fn element_code(setting: &Setting<'_>, t: TypeNo, draft: &mut Draft) -> Result<(), EncodeError>
+pub fn element_code(setting: &Setting<'_>, t: TypeNo, draft: &mut Draft) -> Result<(), AllocError>
     ensures { OnOk result (draft.new ≡ put (element_code setting.now.home.types t) draft.old) }
 {
     let home = setting.home();
     let index = index_of(&home.module_body().types, t);
-    let bytes = home.element_size(t)?;
+    let bytes = home.element_size(t);
     in_range(index, Fault::Index, draft)?;
     if let Some(scalar) = index {
         shift_bound(scalar.low, Operation::Sub, draft)?;
     }
-    scale_index(bytes, draft)?;
-    Ok(())
+    scale_index(bytes, draft)
 }
 
 /// An element of a formal ARRAY OF, behind its address and the index.
@@ -172,35 +171,33 @@ pub fn open_element_code(
     slot: Slot,
     t: TypeNo,
     draft: &mut Draft,
-) -> Result<(), EncodeError>
+) -> Result<(), AllocError>
     ensures { OnOk result
         (draft.new ≡ put (open_element_code (setting_of setting.now) slot t) draft.old) }
 {
-    let bytes = setting.home().size(t)?;
+    let bytes = setting.home().size(t);
     draft.push(Op::I64Const(0))?;
     high_code(setting, slot, draft)?;
-    draft.push(Op::I64Const(u64::from(Fault::Index.number())))?;
-    draft.push(Op::Call(Helper::Check.index()))?;
-    scale_index(bytes, draft)?;
-    Ok(())
+    draft.long(u64::from(Fault::Index.number()))?;
+    draft.help(Helper::Check)?;
+    scale_index(bytes, draft)
 }
 
 /// A field, behind the address of the record.
+#[tactic(auto, using(emit_buffer::proofs::Plain::word_again))]
 pub fn field_code(
     setting: &Setting<'_>,
     t: TypeNo,
     number: usize,
     draft: &mut Draft,
-) -> Result<(), EncodeError>
+) -> Result<(), AllocError>
     ensures { OnOk result (draft.new ≡ put (field_code setting.now.home.types t number) draft.old) }
 {
-    let offset = setting.home().offset(t, number)?;
-    raise_address(offset, draft)?;
-    Ok(())
+    raise_address(setting.home().offset(t, number), draft)
 }
 
 /// What a variable's name stands for.
-pub fn root_code(setting: &Setting<'_>, root: Root, draft: &mut Draft) -> Result<(), EncodeError>
+pub fn root_code(setting: &Setting<'_>, root: Root, draft: &mut Draft) -> Result<(), AllocError>
     ensures { OnOk result (draft.new ≡ put (root_code (setting_of setting.now) root) draft.old) }
 {
     match root {
@@ -208,6 +205,6 @@ pub fn root_code(setting: &Setting<'_>, root: Root, draft: &mut Draft) -> Result
         Root::Local(slot) => slot_code(setting, slot, draft),
         Root::Alias(slot) => alias_code(setting, slot, draft),
         Root::Open(slot) => open_address(setting, slot, draft),
-        Root::With(k) => Ok(with_code(setting.withs().get(k), draft)?),
+        Root::With(k) => with_code(setting.withs().get(k), draft),
     }
 }

@@ -1,17 +1,14 @@
 -- The prologue of a procedure.
-use Rattle.std.proofs.Common.{◌≡◌, ℕ, zero, suc, ◌+◌, ◌-◌, ◌*◌, Bool, true, false, List, [], ◌∷◌, ◌++◌, length, Some, None, refl, sym, ap, ◌∙◌, append_assoc, arith}
-use Rattle.std.specs.Prelude.{slice_set, Result, Ok, Err, OnOk, if◌then◌else◌}
+use Rattle.std.proofs.Common.{◌≡◌, ℕ, zero, suc, ◌+◌, ◌*◌, Bool, true, false, List, [], ◌∷◌, ◌++◌, Some, None, refl, sym, ap, ◌∙◌, arith}
+use Rattle.std.specs.Prelude.{Result, Ok, Err, OnOk, if◌then◌else◌}
 use Rattle.typed_tree.specs.declared.known_types.Types.{Types}
 use Rattle.typed_tree.specs.declared.shape.Formal.{Formal}
 use Rattle.layout_storage.specs.Shapes.{tree}
-use Rattle.std.proofs.lemmas.List.{length-append}
 use Rattle.wasm_tree.specs.declared.code.Op.{Op}
 use Rattle.wasm_tree.specs.declared.code.Op.TheVariants as op
-use Rattle.wasm_tree.specs.declared.instr.Instr.{Instr, Instr-F, map-Instr, fold_out-Instr}
+use Rattle.wasm_tree.specs.declared.instr.Instr.{Instr}
 use Rattle.wasm_tree.specs.declared.instr.Instr.TheVariants as instr
-use Rattle.wasm_tree.specs.declared.instr.Instr.TheVariants.{outs-If, LocalGet, I32Const, Call}
-use Rattle.wasm_tree.specs.Code.{flat_step, flat_one, flat}
-use Rattle.wasm_tree.proofs.Flat.{joined_is}
+use Rattle.wasm_tree.specs.declared.instr.Instr.TheVariants.{LocalGet, I32Const, Call}
 use Rattle.layout_storage.specs.Types.{Ty, Cell, Hidden, Array, Nothing, Field}
 use Rattle.layout_storage.specs.Sizes.{size, offset}
 use Rattle.layout_storage.specs.Extents.{kind_of_tree}
@@ -19,33 +16,18 @@ use Rattle.layout_storage.specs.declared.kind.Kind.{Kind}
 use Rattle.def_scheme.specs.Coded.{fault, raise_address, wrap_word, extend_word, copy}
 use Rattle.def_scheme.specs.Cells.{store_tree}
 use Rattle.def_scheme.specs.Functions.{value_kept, word_kept, open_copied, formal_kept}
-use Rattle.emit_buffer.specs.Drafts.{Drafted, with_ops, one, put, open_draft, place_of, closed_if}
+use Rattle.emit_buffer.specs.Cut.{cut}
+use Rattle.emit_buffer.specs.Drafts.{Drafted, cut_flat, with_ops, one, put, open_draft, place_of, closed_if}
 use Rattle.emit_proc.specs.Kept.{copy_begun, copy_made}
 use Rattle.emit_buffer.proofs.Emitted.{put_is}
+use Rattle.emit_buffer.proofs.Closed.{set_one, if_cut}
 
 -- an if with one side
-if_flat : (is : List Instr) → flat_one (instr.If None is None) ≡ op.If None (length (flat is)) ∷ flat is
-unfolding flat_one
-if_flat is =
-    fold_out-Instr (List Op) flat_step (instr.If None is None)
-    ∙ ap (λ (y : Instr-F Instr). flat_step (map-Instr Instr (List Op) flat_one y)) (outs-If None is None)
-    ∙ ap (λ (r : List Op). op.If None (length r) ∷ r) (joined_is is)
-
-set_behind : (old more : List Op) (x y : Op) → slice_set (old ++ x ∷ more) (length old) y ≡ old ++ y ∷ more
-set_behind [] more x y = refl
-set_behind (o ∷ old) more x y = ap (λ (r : List Op). o ∷ r) (set_behind old more x y)
-
-so_many : (old more : List Op) (x : Op) → length (old ++ x ∷ more) - length old - 1 ≡ length more
-so_many old more x = omega (arith, length-append old (x ∷ more))
-
-held : (is : List Instr) (d : Drafted) → closed_if (place_of d) None (with_ops (flat is) (open_draft d)) ≡ one (instr.If None is None) d
+held : (is : List Instr) (d : Drafted) → closed_if (place_of d) None (with_ops (cut_flat is) (open_draft d)) ≡ one (instr.If None is None) d
 unfolding closed_if open_draft one
 held is d =
-    ap (λ (ops : List Op). record { ops = ops; counts = d.counts })
-    (ap (λ (ops : List Op). slice_set ops (length d.ops) (op.If None (length ops - length d.ops - 1))) (append_assoc d.ops (op.Unreachable ∷ []) (flat is))
-    ∙ ap (λ (n : ℕ). slice_set (d.ops ++ op.Unreachable ∷ flat is) (length d.ops) (op.If None n)) (so_many d.ops (flat is) op.Unreachable)
-    ∙ set_behind d.ops (flat is) op.Unreachable (op.If None (length (flat is)))
-    ∙ ap (λ (ops : List Op). d.ops ++ ops) (sym (if_flat is)))
+    ap (λ (ops : List Op). record { ops = ops; counts = d.counts }) (set_one (λ n. op.If None (cut n)) d.ops (cut_flat is) op.Unreachable)
+    ∙ ap (λ (ops : List Op). record { ops = d.ops ++ ops; counts = d.counts }) (sym (if_cut None is))
 
 pub limit_is : (is : List Instr) (d : Drafted) → closed_if (place_of d) None (put is (open_draft d)) ≡ one (instr.If None is None) d
 limit_is is d = ap (λ (e : Drafted). closed_if (place_of d) None e) (put_is is (open_draft d)) ∙ held is d

@@ -2,8 +2,6 @@
 use Rattle.std.proofs.Common.{◌≡◌, ℕ, zero, suc, ◌+◌, Bool, List, [], ◌∷◌, ◌++◌, map, Option, Some, None, refl, sym, ap, ◌∙◌, subst, arith, append_assoc}
 use Rattle.wasm_tree.specs.declared.code.Op.{Op}
 use Rattle.wasm_tree.specs.declared.instr.Instr.{Instr}
-use Rattle.wasm_tree.specs.Code.{flat}
-use Rattle.wasm_tree.proofs.Flat.{tree_flat}
 use Rattle.typed_tree.specs.declared.statement.TypedStmt.{TypedStmt}
 use Rattle.typed_tree.specs.declared.known_types.Types.{Types}
 use Rattle.typed_tree.specs.declared.typed_module.Routine.{Routine}
@@ -23,8 +21,9 @@ use Rattle.def_scheme.specs.Steps.{step_code}
 use Rattle.def_scheme.specs.Addresses.{addresses_in}
 use Rattle.def_scheme.specs.Functions.{setting, from_text, locals_of, function_of, end_code, enter_code, numbers_of, prologue, own_frame, routine_at, around_in, frames_around, routine_function, module_function}
 use Rattle.def_scheme.specs.Modules.{numbering_of}
-use Rattle.emit_buffer.specs.Drafts.{Drafted, put, emitted}
-use Rattle.emit_buffer.proofs.Emitted.{put_is, flat_append}
+use Rattle.emit_buffer.specs.Cut.{cut_function}
+use Rattle.emit_buffer.specs.Drafts.{Drafted, cut_flat, put, emitted}
+use Rattle.emit_buffer.proofs.Emitted.{put_is, cut_append}
 use Rattle.emit_buffer.specs.Frames.{frames_of}
 use Rattle.emit_proc.specs.Kept.{own}
 use Rattle.emit_stmt.specs.Written.{with_steps}
@@ -32,23 +31,22 @@ use Rattle.emit_proc.specs.Around.{around_from, routines_around, routine_setting
 use Rattle.emit_stmt.proofs.Stepped.{steps_are}
 
 -- what stands before, the code of something, and what stands behind
-three : (a b c : List Instr) → (flat a ++ flat b) ++ flat c ≡ flat (a ++ (b ++ c))
-three a b c = append_assoc (flat a) (flat b) (flat c) ∙ ap (λ (ops : List Op). flat a ++ ops) (sym (flat_append b c)) ∙ sym (flat_append a (b ++ c))
+three : (a b c : List Instr) → (cut_flat a ++ cut_flat b) ++ cut_flat c ≡ cut_flat (a ++ (b ++ c))
+three a b c = append_assoc (cut_flat a) (cut_flat b) (cut_flat c) ∙ ap (λ (ops : List Op). cut_flat a ++ ops) (sym (cut_append b c)) ∙ sym (cut_append a (b ++ c))
 
 made : (t : ℕ) (before after : List Instr) (x : Coded) (s : Setting) (at : ℕ)
-    → finish_code t (put after (emitted x s (put before (begin_code at)))) ≡ function_of t before (x s (from_text at)) after
+    → finish_code t (put after (emitted x s (put before (begin_code at)))) ≡ cut_function (function_of t before (x s (from_text at)) after)
 unfolding emitted
 made t before after x s at =
     let code : List Instr = (x s (from_text at)).0 in
     let counts : Counts = (x s (from_text at)).1 in
     ap (λ (d : Drafted). finish_code t (put after (emitted x s d))) (put_is before (begin_code at))
-    ∙ ap (finish_code t) (put_is after (emitted x s (record { ops = flat before; counts = from_text at })))
+    ∙ ap (finish_code t) (put_is after (emitted x s (record { ops = cut_flat before; counts = from_text at })))
     ∙ ap (λ (ops : List Op). finish_code t (record { ops = ops; counts = counts })) (three before code after)
-    ∙ ap (λ (is : List Instr). record { type_index = t; body = record { locals = locals_of counts; code = is } }) (tree_flat (before ++ (code ++ after)))
 
 -- the same of statements
 of_steps : (t : ℕ) (before after : List Instr) (s : Setting) (at : ℕ) (xs : List TypedStmt)
-    → finish_code t (put after (with_steps s (put before (begin_code at)) xs)) ≡ function_of t before (all_coded (map (step_code (numbering_of s.home)) xs) s (from_text at)) after
+    → finish_code t (put after (with_steps s (put before (begin_code at)) xs)) ≡ cut_function (function_of t before (all_coded (map (step_code (numbering_of s.home)) xs) s (from_text at)) after)
 of_steps t before after s at xs =
     ap (λ (d : Drafted). finish_code t (put after d)) (sym (steps_are s (put before (begin_code at)) xs)) ∙ made t before after (all_coded (map (step_code (numbering_of s.home)) xs)) s at
 
@@ -63,13 +61,13 @@ frame_size types r = ap cap_size (sym (frame_bytes (variable_trees types r)))
 
 pub module_is : (m : TypedModule) (at : ℕ) (d : Drafted) → at ≡ characters (routines_texts m)
     → d ≡ with_steps (setting m (frame_of [] ∷ []) 1 (addresses_in m.body)) (put (enter_code 1 16) (begin_code at)) m.body
-    → finish_code 5 d ≡ module_function (numbering_of m) m
+    → finish_code 5 d ≡ cut_function (module_function (numbering_of m) m)
 module_is m at d h k =
     let s : Setting = setting m (frame_of [] ∷ []) 1 (addresses_in m.body) in
     ap (finish_code 5) k
     ∙ ap (λ (n : ℕ). finish_code 5 (with_steps s (put (enter_code 1 n) (begin_code at)) m.body)) (sym (frame_bytes []))
     ∙ of_steps 5 (enter_code 1 (size (frame_of []))) [] s at m.body
-    ∙ ap (λ (n : ℕ). function_of 5 (enter_code 1 (size (frame_of []))) (all_coded (map (step_code (numbering_of m)) m.body) s (from_text n)) []) h
+    ∙ ap (λ (n : ℕ). cut_function (function_of 5 (enter_code 1 (size (frame_of []))) (all_coded (map (step_code (numbering_of m)) m.body) s (from_text n)) [])) h
 
 -- ---- procedures
 
@@ -90,7 +88,7 @@ around_are m (suc k) w = around_one m k (routine_at m w) (around_are m k)
 pub routine_is : (m : TypedModule) (w : Which) (r : Routine) (at n : ℕ) (result : Bool) (d : Drafted)
     → at ≡ characters (texts_before m w m.order) → n ≡ numbers_of m.types r → result ≡ has_result m.types r.heading
     → d ≡ put (end_code result) (with_steps (routine_setting m r) (put (prologue m.types r (suc n) (suc (suc n))) (begin_code at)) r.body)
-    → finish_code (numbering_of m n result) d ≡ routine_function (numbering_of m) m w r
+    → finish_code (numbering_of m n result) d ≡ cut_function (routine_function (numbering_of m) m w r)
 routine_is m w r at n result d h e f k =
     let s : Setting = routine_setting m r in
     let count = numbers_of m.types r in
@@ -100,8 +98,8 @@ routine_is m w r at n result d h e f k =
     ∙ ap (λ (n : ℕ). finish_code (numbering_of m n result) (put (end_code result) (with_steps s (put (prologue m.types r (suc n) (suc (suc n))) (begin_code at)) r.body))) e
     ∙ ap (λ (b : Bool). finish_code (numbering_of m count b) (put (end_code b) (with_steps s (put before (begin_code at)) r.body))) f
     ∙ of_steps (numbering_of m count gives) before (end_code gives) s at r.body
-    ∙ ap (λ (frames : List Ty). function_of (numbering_of m count gives) before (all_coded (map (step_code (numbering_of m)) r.body) (setting m (frame m.types r ∷ frames) (suc count) (addresses_in r.body)) (from_text at)) (end_code gives)) (sym (around_are m r.level r.around))
-    ∙ ap (λ (n : ℕ). function_of (numbering_of m count gives) before (all_coded (map (step_code (numbering_of m)) r.body) (setting m (frame m.types r ∷ frames_around m r.level r.around) (suc count) (addresses_in r.body)) (from_text n)) (end_code gives)) h
+    ∙ ap (λ (frames : List Ty). cut_function (function_of (numbering_of m count gives) before (all_coded (map (step_code (numbering_of m)) r.body) (setting m (frame m.types r ∷ frames) (suc count) (addresses_in r.body)) (from_text at)) (end_code gives))) (sym (around_are m r.level r.around))
+    ∙ ap (λ (n : ℕ). cut_function (function_of (numbering_of m count gives) before (all_coded (map (step_code (numbering_of m)) r.body) (setting m (frame m.types r ∷ frames_around m r.level r.around) (suc count) (addresses_in r.body)) (from_text n)) (end_code gives))) h
 
 -- the code of a procedure
 one_more : (n : ℕ) → 1 + n ≡ suc n

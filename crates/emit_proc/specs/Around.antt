@@ -9,6 +9,7 @@ use Rattle.def_scheme.specs.Coded.{Setting}
 use Rattle.def_scheme.specs.Functions.{routine_at, from_text, locals_of, setting, numbers_of}
 use Rattle.def_scheme.specs.Addresses.{addresses_in}
 use Rattle.layout_storage.specs.Frames.{frame}
+use Rattle.emit_buffer.specs.Cut.{cut, cut_locals}
 use Rattle.emit_buffer.specs.Drafts.{Drafted}
 
 abbrev pub around_from : (Option Which → List Routine) → Option Routine → List Routine
@@ -24,10 +25,12 @@ routines_around m (suc k) w = around_from (routines_around m k) (routine_at m w)
 abbrev pub begin_code : ℕ → Drafted
 begin_code at = record { ops = []; counts = from_text at }
 
--- the function of a code that was made
+-- the function of a code that was made, with its numbers cut
 abbrev pub finish_code : (type_index : ℕ) → Drafted → Function
-finish_code t d =
-    record { type_index = t; body = record { locals = locals_of d.counts; code = tree d.ops } }
+finish_code t d = record {
+  type_index = cut t;
+  body = record { locals = map cut_locals (locals_of d.counts); code = tree d.ops };
+}
 
 -- where the statements of a procedure stand
 abbrev pub routine_setting : TypedModule → Routine → Setting

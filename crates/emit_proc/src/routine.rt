@@ -10,36 +10,46 @@ ghost use Rattle.def_scheme.specs.Functions.{routine_of, routine_at, end_code, e
 ghost use Rattle.def_scheme.specs.Addresses.{addresses_in};
 ghost use Rattle.def_scheme.specs.Exprs.{has_result};
 ghost use Rattle.def_scheme.specs.Modules.{numbering_of};
+ghost use Rattle.emit_buffer.specs.Cut.{cut, cut_function};
 ghost use Rattle.emit_buffer.specs.Frames.{AreFramed, IsFramed, routines_in, setting_of, frames_of};
 ghost use Rattle.emit_buffer.specs.Drafts.{put};
 ghost use Rattle.emit_stmt.specs.Written.{with_steps};
 ghost use Rattle.emit_proc.specs.Around.{routines_around, routine_setting, begin_code, finish_code};
 
 use crate::prologue::{Locals as Kept, enter_code, prologue};
-use emit_buffer::{Draft, Framed, Home, Setting, exact, fault};
+use emit_buffer::{Amount, Draft, Framed, Home, Setting, cut, cut_sum, fault};
 use emit_stmt::{addresses_in, body_code};
 use emit_tables::{has_result, numbers_of};
 use m2_rule::Fault;
 use std::alloc::{AllocError, Global};
 use tree_parts::Items;
 use typed_tree::{Routine, Which};
-use wasm_tree::{Body, Code, EncodeError, Function, Locals, ValueType, plus, small};
+use wasm_tree::{Body, Code, Function, Locals, ValueType};
+
+/// How many locals of 32 bits a function has beside those for addresses: the stack's top, and the address of a copy.
+const BEFORE_ADDRESSES: u32 = 2;
+
+/// The number of the type of bodies.
+const BODY_TYPE: usize = 5;
+
+/// The bytes of the frame of a body.
+const BODY_FRAME: u32 = 16;
 
 /// The function of a code that was made.
-fn finish_code(alloc: Global, type_index: u32, draft: Draft) -> Result<Function, EncodeError>
+fn finish_code(alloc: Global, type_index: usize, draft: Draft) -> Result<Function, AllocError>
     ensures { IfOk result (λ f. f ≡ finish_code type_index draft) }
 {
     let (ops, addresses, numbers) = draft.finish();
     let first = Locals {
-        count: plus(2, addresses)?,
+        count: cut_sum(BEFORE_ADDRESSES, addresses.kept()),
         value_type: ValueType::I32,
     };
     let second = Locals {
-        count: numbers,
+        count: numbers.kept(),
         value_type: ValueType::I64,
     };
     Ok(Function {
-        type_index,
+        type_index: cut(type_index),
         body: Body {
             locals: Items::from_slice(alloc, &[first, second])?,
             code: Code::new(ops),
@@ -48,27 +58,28 @@ fn finish_code(alloc: Global, type_index: u32, draft: Draft) -> Result<Function,
 }
 
 /// What stands before the statements of the module's body, and these.
-fn module_draft(alloc: Global, home: &Home<'_>, texts: u32) -> Result<Draft, EncodeError>
+fn module_draft(alloc: Global, home: &Home<'_>, texts: usize) -> Result<Draft, AllocError>
     ensures { let s = setting home.now (frame_of [] ∷ []) 1 (addresses_in home.now.body) in
         IfOk result (λ d.
         d ≡ with_steps s (put (enter_code 1 16) (begin_code texts)) home.now.body) }
 {
     let body = home.module_body().body.as_slice();
-    let setting = Setting::new(alloc, home, &[], 1, addresses_in(body)?);
+    let setting = Setting::new(alloc, home, &[], Amount::of(1), addresses_in(body));
     let mut draft = Draft::new(alloc, texts);
-    enter_code(1, 16, &mut draft)?;
+    enter_code(&Amount::of(1), BODY_FRAME, &mut draft)?;
     body_code(alloc, &setting, body, &mut draft)?;
     Ok(draft)
 }
 
 /// The function of the module's body, if this many characters of texts stand before its own. The only error is that
-/// memory ran out, or that a number does not fit into 32 bits.
+/// memory ran out.
 #[tactic(auto, using(crate::proofs::Finished::module_is))]
-pub fn module_function(alloc: Global, home: &Home<'_>, texts: u32) -> Result<Function, EncodeError>
+pub fn module_function(alloc: Global, home: &Home<'_>, texts: usize) -> Result<Function, AllocError>
     requires { texts ≡ characters (routines_texts home.now) }
-    ensures { IfOk result (λ f. f ≡ module_function (numbering_of home.now) home.now) }
+    ensures { IfOk result (λ f.
+        f ≡ cut_function (module_function (numbering_of home.now) home.now)) }
 {
-    finish_code(alloc, 5, module_draft(alloc, home, texts)?)
+    finish_code(alloc, BODY_TYPE, module_draft(alloc, home, texts)?)
 }
 
 /// The procedure around a procedure, with its frame.
@@ -136,38 +147,38 @@ fn routine_draft<'a>(
     home: &'a Home<'a>,
     frames: &'a [Framed<'a>],
     routine: &Routine,
-    numbers: u32,
+    numbers: usize,
     bytes: u32,
     draft: &mut Draft,
-) -> Result<(), EncodeError>
+) -> Result<(), AllocError>
     requires framed { AreFramed home.now.types frames.now }
     requires routines { let r = routine.now in
         routines_in frames.now ≡ r ∷ routines_around home.now r.level r.around }
     requires numbers { numbers ≡ numbers_of home.now.types routine.now }
-    requires bytes { bytes ≡ size (frame home.now.types routine.now) }
+    requires bytes { bytes ≡ cut (size (frame home.now.types routine.now)) }
     ensures { let s = routine_setting home.now routine.now in
         let before = prologue home.now.types routine.now (suc numbers) (suc (suc numbers)) in
         OnOk result (draft.new ≡ with_steps s (put before draft.old) routine.now.body) }
 {
-    let arguments = plus(1, numbers)?;
+    let arguments = Amount::of(1).plus(&Amount::of(numbers));
     let kept = Kept {
-        top: arguments,
-        copy: plus(2, numbers)?,
+        top: arguments.again(),
+        copy: Amount::of(2).plus(&Amount::of(numbers)),
     };
     let body = routine.body.as_slice();
-    let setting = Setting::new(alloc, home, frames, arguments, addresses_in(body)?);
-    prologue(&setting, routine, kept, bytes, draft)?;
+    let setting = Setting::new(alloc, home, frames, arguments, addresses_in(body));
+    prologue(&setting, routine, &kept, bytes, draft)?;
     body_code(alloc, &setting, body, draft)
 }
 
 /// The function of a procedure with its frame.
 #[tactic(auto, using(crate::proofs::Finished::frame_size))]
-fn framed_function(
+fn framed_function<'a>(
     alloc: Global,
-    home: &Home<'_>,
-    framed: Framed<'_>,
-    texts: u32,
-) -> Result<Function, EncodeError>
+    home: &'a Home<'a>,
+    framed: Framed<'a>,
+    texts: usize,
+) -> Result<Function, AllocError>
     requires { IsFramed home.now.types framed }
     ensures { let r = framed.entry.routine.now in
         let n = numbers_of home.now.types r in
@@ -184,15 +195,16 @@ fn framed_function(
     let types = &home.module_body().types;
     let count = numbers_of(types, routine);
     let gives = has_result(types, routine.heading);
+    let bytes = framed.row.size;
     let frames = frames_of(alloc, home, framed)?;
     let mut draft = Draft::new(alloc, texts);
     routine_draft(
         alloc,
-        home,
+        &*home,
         frames.as_slice(),
         routine,
-        small(count)?,
-        exact(framed.row.size)?,
+        count,
+        bytes,
         &mut draft,
     )?;
     if gives {
@@ -202,19 +214,19 @@ fn framed_function(
 }
 
 /// The function of a procedure, if this many characters of texts stand before its own. The only error is that memory
-/// ran out, or that a number does not fit into 32 bits.
+/// ran out.
 #[tactic(auto, using(crate::proofs::Finished::routine_is))]
 pub fn routine_function(
     alloc: Global,
     home: &Home<'_>,
     which: Which,
     routine: &Routine,
-    texts: u32,
-) -> Result<Function, EncodeError>
+    texts: usize,
+) -> Result<Function, AllocError>
     requires found { routine_of home.now which ≡ Some routine.now }
     requires texts { texts ≡ characters (texts_before home.now which home.now.order) }
     ensures { let numbers = numbering_of home.now in
-        IfOk result (λ f. f ≡ routine_function numbers home.now which routine.now) }
+        IfOk result (λ f. f ≡ cut_function (routine_function numbers home.now which routine.now)) }
 {
     match home.frame_of(which) {
         None => unreachable!(),

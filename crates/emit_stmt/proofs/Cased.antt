@@ -1,5 +1,5 @@
 -- What CASE makes of the code before it.
-use Rattle.std.proofs.Common.{◌≡◌, ℕ, zero, suc, ◌+◌, ◌-◌, ◌&&◌, ℤ, pos, Bool, true, false, List, [], ◌∷◌, ◌++◌, map, length, Option, Some, None, refl, sym, ap, ◌∙◌, arith, append_assoc}
+use Rattle.std.proofs.Common.{◌≡◌, ℕ, zero, suc, ◌+◌, ◌-◌, ◌&&◌, ℤ, pos, Bool, true, false, List, [], ◌∷◌, ◌++◌, map, length, Option, Some, None, refl, sym, ap, ◌∙◌, arith, append_assoc, add_assoc}
 use Rattle.std.specs.Prelude.{int_le, ◌+ℤ◌, if◌then◌else◌}
 use Rattle.std.specs.List.{list_any, range_with_len}
 use Rattle.std.proofs.lemmas.List.{append-nil, length-append}
@@ -20,6 +20,7 @@ use Rattle.def_scheme.specs.Coded.{Coded, Setting, plain, ◌⨾◌, all_coded, 
 use Rattle.def_scheme.specs.Exprs.{Numbered}
 use Rattle.def_scheme.specs.Steps.{Arm, step_layer, arm_layer, step_code, part, block, in_block, tests_code, arm_code, chain_code, all_labels, least_of, span_of, is_dense, target, targets, from_least, dispatch, jump_arms, table_code, case_code}
 use Rattle.def_scheme.specs.Modules.{numbering_of}
+use Rattle.emit_buffer.specs.Cut.{cut, cut_op}
 use Rattle.emit_buffer.specs.Drafts.{Drafted, with_ops, one, put, emitted, open_draft, place_of, closed_block}
 use Rattle.emit_expr.specs.Values.{with_value}
 use Rattle.emit_buffer.proofs.Emitted.{emitted_plain, emitted_seq, then_plain}
@@ -231,12 +232,17 @@ step_Case_Some s d e xs ys =
     ∙ case_is s d e xs (Some ys)
 
 -- a table of labels is one instruction
-pub table_flat : (ls : List ℕ) (l : ℕ) (d : Drafted) → with_ops (map (λ l. op.Br l) ls) (with_ops (op.BrTable (length ls) l ∷ []) d) ≡ one (BrTable ls l) d
+branches_cut : (ls : List ℕ) → map cut_op (map (λ l. op.Br l) ls) ≡ map (λ l. op.Br (cut l)) ls
+branches_cut [] = refl
+branches_cut (l ∷ ls) = ap (λ (r : List Op). op.Br (cut l) ∷ r) (branches_cut ls)
+
+pub table_flat : (ls : List ℕ) (l : ℕ) (d : Drafted) → with_ops (map (λ l. op.Br (cut l)) ls) (with_ops (op.BrTable (cut (length ls)) (cut l) ∷ []) d) ≡ one (BrTable ls l) d
 unfolding one flat_one
 table_flat ls l d =
     ap (λ (ops : List Op). record { ops = ops; counts = d.counts })
-    (append_assoc d.ops (op.BrTable (length ls) l ∷ []) (map (λ l. op.Br l) ls)
-    ∙ ap (λ (ops : List Op). d.ops ++ ops) (sym (fold_out-Instr (List Op) flat_step (BrTable ls l) ∙ ap (λ (y : Instr-F Instr). flat_step (map-Instr Instr (List Op) flat_one y)) (outs-BrTable ls l))))
+    (append_assoc d.ops (op.BrTable (cut (length ls)) (cut l) ∷ []) (map (λ l. op.Br (cut l)) ls)
+    ∙ ap (λ (ops : List Op). d.ops ++ op.BrTable (cut (length ls)) (cut l) ∷ ops) (sym (branches_cut ls))
+    ∙ ap (λ (ops : List Op). d.ops ++ map cut_op ops) (sym (fold_out-Instr (List Op) flat_step (BrTable ls l) ∙ ap (λ (y : Instr-F Instr). flat_step (map-Instr Instr (List Op) flat_one y)) (outs-BrTable ls l))))
 
 -- ---- loops
 
@@ -246,6 +252,10 @@ with_more o os d = ap (λ (ops : List Op). record { ops = ops; counts = d.counts
 
 pub with_none : (d : Drafted) → with_ops [] d ≡ d
 with_none d = ap (λ (ops : List Op). record { ops = ops; counts = d.counts }) (append-nil d.ops)
+
+-- inside some blocks, and then more
+pub deeper_twice : (s : Setting) (n m : ℕ) → record s { exit = s.exit + n + m } ≡ deeper (n + m) s
+deeper_twice s n m = ap (λ (k : ℕ). record s { exit = k }) (add_assoc s.exit n m)
 
 -- the next arm of a table
 pub jump_next : (p : ℕ) (s : Setting) (d e : Drafted) (xs rest : List TypedArm) (x : TypedArm) (left : ℕ) → xs ≡ x ∷ rest → left ≡ length rest → e ≡ with_jump p left s d x → with_jumps p s e rest ≡ with_jumps p s d xs

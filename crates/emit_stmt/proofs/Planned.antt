@@ -1,6 +1,8 @@
 -- The plan of a table for the arms of a CASE.
-use Rattle.std.proofs.Common.{◌≡◌, ℕ, suc, ◌+◌, ◌*◌, ◌≤◌, ◌&&◌, ℤ, pos, Bool, true, false, List, [], ◌∷◌, ◌++◌, Option, Some, None, refl, sym, ap, ◌∙◌, subst, arith, add_assoc, add-zero}
+use Rattle.std.proofs.Common.{◌≡◌, ℕ, suc, ◌+◌, ◌-◌, ◌*◌, ◌≤◌, ◌<◌, ◌&&◌, ℤ, pos, negsuc, ◌≤ℤ◌, ◌<ℤ◌, Bool, true, false, List, [], ◌∷◌, ◌++◌, Option, Some, None, refl, sym, ap, ◌∙◌, subst, arith, add_assoc, add-zero}
 use Rattle.std.specs.Prelude.{nat_le, unsigned_abs, ◌-ℤ◌, ◌+ℤ◌, MatchOption, if◌then◌else◌}
+use Rattle.std.specs.Int.{w64, cast_unsigned}
+use Rattle.std.proofs.lemmas.Int.{ints}
 use Rattle.std.specs.List.{fold}
 use Rattle.typed_tree.specs.declared.statement.Label.{Label}
 use Rattle.def_scheme.specs.Steps.{lesser, greater, values_of, all_values, is_dense, least_of, span_of}
@@ -73,3 +75,19 @@ plan_is n ls bounds r h k = subst (λ (r : Option Plan). IsPlan n ls r) (sym (k 
 -- the table of targets, one by one
 pub targets_more : (xs : List TypedArm) (low : ℤ) (n : ℕ) → targets_in xs low (n + 1) ≡ targets_in xs low n ++ target_in xs (low +ℤ pos n) ∷ []
 targets_more xs low n = map-range_with_len_more (λ k. target_in xs (low +ℤ pos k)) 0 n n (omega arith)
+
+-- ---- how far the greatest value of a label is from the least
+
+up_case : (z : ℤ) → pos 0 ≤ℤ z → unsigned_abs z ≡ cast_unsigned w64 z
+up_case (pos n) h = refl
+up_case (negsuc n) h = absurd (omega (arith, ints, h))
+
+pub width_up : (low high : ℤ) → low ≤ℤ high → unsigned_abs (high -ℤ low) ≡ cast_unsigned w64 (high -ℤ low)
+width_up low high h = let l : pos 0 ≤ℤ (high -ℤ low) = omega (arith, ints, h) in up_case (high -ℤ low) l
+
+down_case : (z : ℤ) → z <ℤ pos 0 → unsigned_abs z < 18446744073709551616 → 18446744073709551615 - unsigned_abs z + 1 ≡ cast_unsigned w64 z
+down_case (pos n) h l = absurd (omega (arith, ints, h))
+down_case (negsuc n) h l = let k : suc n < 18446744073709551616 = l in omega (arith, k)
+
+pub width_down : (low high : ℤ) → high <ℤ low → unsigned_abs (high -ℤ low) < 18446744073709551616 → 18446744073709551615 - unsigned_abs (high -ℤ low) + 1 ≡ cast_unsigned w64 (high -ℤ low)
+width_down low high h l = let k : (high -ℤ low) <ℤ pos 0 = omega (arith, ints, h) in down_case (high -ℤ low) k l

@@ -5,7 +5,7 @@ ghost use Rattle.emit_buffer.specs.Frames.{setting_of};
 ghost use Rattle.emit_buffer.specs.Drafts.{place_of};
 ghost use Rattle.emit_stmt.specs.Written.{with_step, with_steps, with_arm, with_arms, with_jump, with_jumps, by_cases};
 
-use crate::cases::{arm_begun, arm_ended, jump_begun, keep_selector, more, table_begun};
+use crate::cases::{arm_begun, arm_ended, jump_begun, keep_selector, table_begun};
 use crate::control::{
     condition, for_begun, for_ended, for_opened, open_turns, record_kept, turn_again, unless,
 };
@@ -13,11 +13,10 @@ use crate::plan::plan_of;
 use crate::simple::{
     assign, call, change, copy, copy_text, exit, give, halt, leave, membership, print,
 };
-use emit_buffer::{Draft, Setting, fault};
+use emit_buffer::{Amount, Draft, Setting, fault};
 use m2_rule::Fault;
-use std::alloc::Global;
+use std::alloc::{AllocError, Global};
 use typed_tree::{TypedArm, TypedStmt};
-use wasm_tree::{EncodeError, Op};
 
 /// The code of a statement.
 #[cycle(body)]
@@ -27,7 +26,7 @@ fn stmt_code(
     setting: &Setting<'_>,
     stmt: &TypedStmt,
     draft: &mut Draft,
-) -> Result<(), EncodeError>
+) -> Result<(), AllocError>
     ensures { OnOk result (draft.new ≡ with_step (setting_of setting.now) draft.old stmt.now) }
 {
     match stmt {
@@ -40,7 +39,7 @@ fn stmt_code(
         TypedStmt::Put(e) => print(setting, e, draft),
         TypedStmt::Change(how, place, t, e) => change(setting, *how, place, *t, e, draft),
         TypedStmt::Membership(how, place, e) => membership(setting, *how, place, e, draft),
-        TypedStmt::Halt => Ok(halt(setting, draft)?),
+        TypedStmt::Halt => halt(setting, draft),
         TypedStmt::If(e, body, others) => {
             condition(setting, e, draft)?;
             let place = draft.open()?;
@@ -51,25 +50,26 @@ fn stmt_code(
                 Some(others) => {
                     let middle = draft.place();
                     body_code(alloc, &inner, others.as_slice(), draft)?;
-                    draft.close_if_else(place, middle, None)
+                    draft.close_if_else(place, middle, None);
                 }
             }
+            Ok(())
         }
         TypedStmt::Case(e, arms, others) => {
             let t = keep_selector(setting, e, draft)?;
             let place = draft.place();
-            cases_code(alloc, setting, t, arms.as_slice(), draft)?;
+            cases_code(alloc, setting, &t, arms.as_slice(), draft)?;
             match others {
                 None => {
                     fault(Fault::NoLabel, draft)?;
-                    draft.close_block(place, None)
                 }
                 Some(others) => {
                     let inner = setting.within(1)?;
                     body_code(alloc, &inner, others.as_slice(), draft)?;
-                    draft.close_block(place, None)
                 }
             }
+            draft.close_block(place, None);
+            Ok(())
         }
         TypedStmt::While(e, body) => {
             let turns = open_turns(draft)?;
@@ -83,7 +83,8 @@ fn stmt_code(
             let inner = setting.within(1)?;
             body_code(alloc, &inner, body.as_slice(), draft)?;
             unless(&inner, e, 0, draft)?;
-            draft.close_loop(place, None)
+            draft.close_loop(place, None);
+            Ok(())
         }
         TypedStmt::Loop(body) => {
             let turns = open_turns(draft)?;
@@ -91,20 +92,20 @@ fn stmt_code(
             body_code(alloc, &inner, body.as_slice(), draft)?;
             turn_again(turns, draft)
         }
-        TypedStmt::Exit => Ok(exit(setting, draft)?),
-        TypedStmt::Return => Ok(leave(setting, draft)?),
+        TypedStmt::Exit => exit(setting, draft),
+        TypedStmt::Return => leave(setting, draft),
         TypedStmt::Give(t, e) => give(setting, *t, e, draft),
         TypedStmt::For(place, t, start, limit, by, body) => {
             let n = for_begun(setting, place, *t, start, limit, draft)?;
             let outer = setting.within(1)?;
-            let turns = for_opened(&outer, place, *t, *by, n, draft)?;
+            let turns = for_opened(&outer, place, *t, *by, &n, draft)?;
             let inner = outer.within(1)?;
             body_code(alloc, &inner, body.as_slice(), draft)?;
-            for_ended(&inner, place, *t, *by, n, turns, draft)
+            for_ended(&inner, place, *t, *by, &n, turns, draft)
         }
         TypedStmt::With(place, body) => {
             let w = record_kept(setting, place, draft)?;
-            let inner = setting.under(w)?;
+            let inner = setting.under(&w)?;
             body_code(alloc, &inner, body.as_slice(), draft)
         }
     }
@@ -117,7 +118,7 @@ pub fn body_code(
     setting: &Setting<'_>,
     stmts: &[TypedStmt],
     draft: &mut Draft,
-) -> Result<(), EncodeError>
+) -> Result<(), AllocError>
     ensures { OnOk result (draft.new ≡ with_steps (setting_of setting.now) draft.old stmts.now) }
 {
     for stmt in stmts {
@@ -132,11 +133,11 @@ pub fn body_code(
 fn arm_code(
     alloc: Global,
     setting: &Setting<'_>,
-    t: u32,
+    t: &Amount,
     arm: &TypedArm,
     draft: &mut Draft,
-) -> Result<(), EncodeError>
-    ensures { OnOk result (draft.new ≡ with_arm t (setting_of setting.now) draft.old arm.now) }
+) -> Result<(), AllocError>
+    ensures { OnOk result (draft.new ≡ with_arm t.now (setting_of setting.now) draft.old arm.now) }
 {
     let place = arm_begun(t, arm, draft)?;
     let inner = setting.within(1)?;
@@ -149,11 +150,12 @@ fn arm_code(
 fn arms_code(
     alloc: Global,
     setting: &Setting<'_>,
-    t: u32,
+    t: &Amount,
     arms: &[TypedArm],
     draft: &mut Draft,
-) -> Result<(), EncodeError>
-    ensures { OnOk result (draft.new ≡ with_arms t (setting_of setting.now) draft.old arms.now) }
+) -> Result<(), AllocError>
+    ensures { OnOk result
+        (draft.new ≡ with_arms t.now (setting_of setting.now) draft.old arms.now) }
 {
     for arm in arms {
         arm_code(alloc, setting, t, arm, draft)?;
@@ -163,7 +165,7 @@ fn arms_code(
 
 /// The code of an arm of a CASE by a table, with this many arms behind it.
 #[cycle(body)]
-#[tactic(auto, unfolding(crate::specs::Written::with_jump))]
+#[tactic(auto, using(crate::proofs::Cased::deeper_twice), unfolding(crate::specs::Written::with_jump))]
 fn jump_code(
     alloc: Global,
     setting: &Setting<'_>,
@@ -171,15 +173,14 @@ fn jump_code(
     left: usize,
     arm: &TypedArm,
     draft: &mut Draft,
-) -> Result<(), EncodeError>
+) -> Result<(), AllocError>
     ensures { let s = setting_of setting.now in
         OnOk result (draft.new ≡ with_jump place left s draft.old arm.now) }
 {
-    jump_begun(place, left, draft)?;
-    let inner = setting.within(more(left, 2)?)?;
+    jump_begun(place, left, draft);
+    let inner = setting.within(left)?.within(2)?;
     body_code(alloc, &inner, arm.body.as_slice(), draft)?;
-    draft.push(Op::Br(more(left, 1)?))?;
-    Ok(())
+    draft.branch(&Amount::of(left).plus(&Amount::of(1)))
 }
 
 /// The code of the arms of a CASE by a table, whose blocks begin at a place.
@@ -191,7 +192,7 @@ fn jumps_code(
     place: usize,
     arms: &[TypedArm],
     draft: &mut Draft,
-) -> Result<(), EncodeError>
+) -> Result<(), AllocError>
     ensures { let s = setting_of setting.now in
         OnOk result (draft.new ≡ with_jumps place s draft.old arms.now) }
 {
@@ -209,11 +210,11 @@ fn jumps_code(
 fn cases_code(
     alloc: Global,
     setting: &Setting<'_>,
-    t: u32,
+    t: &Amount,
     arms: &[TypedArm],
     draft: &mut Draft,
-) -> Result<(), EncodeError>
-    ensures { OnOk result (draft.new ≡ by_cases t (setting_of setting.now) draft.old arms.now) }
+) -> Result<(), AllocError>
+    ensures { OnOk result (draft.new ≡ by_cases t.now (setting_of setting.now) draft.old arms.now) }
 {
     match plan_of(arms) {
         None => {
@@ -224,7 +225,8 @@ fn cases_code(
         Some(plan) => {
             let begun = table_begun(alloc, t, arms, plan, draft)?;
             jumps_code(alloc, setting, begun.first, arms, draft)?;
-            draft.close_block(begun.rest, None)
+            draft.close_block(begun.rest, None);
+            Ok(())
         }
     }
 }

@@ -12,13 +12,13 @@ ghost use Rattle.emit_stmt.specs.Written.{address_kept, for_local, for_begun, fo
 
 use crate::simple::{keep_address, keep_number};
 use emit_buffer::{
-    Draft, Setting, in_type, is_zero, load, number, operation, relation, store, wrap_word,
+    Amount, Draft, Setting, in_type, is_zero, load, number, operation, relation, store, wrap_word,
 };
 use emit_expr::{place_code, taken_code, value_code};
 use m2_rule::Fault;
 use std::alloc::AllocError;
 use typed_tree::{Place, TypeNo, TypedExpr};
-use wasm_tree::{EncodeError, Op, Operation, Relation};
+use wasm_tree::{Op, Operation, Relation};
 
 /// A block with a loop in it, by their places.
 #[derive(Clone, Copy, PartialEq, Eq)]
@@ -39,47 +39,46 @@ pub fn open_turns(draft: &mut Draft) -> Result<Turns, AllocError>
 }
 
 /// Ends a loop in a block, both by their places.
-fn close_turns(turns: Turns, draft: &mut Draft) -> Result<(), EncodeError>
+fn close_turns(turns: Turns, draft: &mut Draft)
     ensures { let inner = closed_loop turns.turn None draft.old in
-        OnOk result (draft.new ≡ closed_block turns.block None inner) }
+        draft.new ≡ closed_block turns.block None inner }
 {
-    draft.close_loop(turns.turn, None)?;
-    draft.close_block(turns.block, None)
+    draft.close_loop(turns.turn, None);
+    draft.close_block(turns.block, None);
 }
 
 /// Begins the loop again, and ends both.
-pub fn turn_again(turns: Turns, draft: &mut Draft) -> Result<(), EncodeError>
+pub fn turn_again(turns: Turns, draft: &mut Draft) -> Result<(), AllocError>
     ensures { let inner = closed_loop turns.turn None (one (Br 0) draft.old) in
         OnOk result (draft.new ≡ closed_block turns.block None inner) }
 {
     draft.push(Op::Br(0))?;
-    close_turns(turns, draft)
+    close_turns(turns, draft);
+    Ok(())
 }
 
 /// The condition of a loop: if it does not hold, the block of this label is left.
 pub fn unless(
     setting: &Setting<'_>,
     e: &TypedExpr,
-    label: u32,
+    label: usize,
     draft: &mut Draft,
-) -> Result<(), EncodeError>
+) -> Result<(), AllocError>
     ensures { let value = with_value (setting_of setting.now) e.now draft.old in
         OnOk result (draft.new ≡ one (BrIf label) (one is_zero value)) }
 {
     value_code(setting, e, draft)?;
     is_zero(draft)?;
-    draft.push(Op::BrIf(label))?;
-    Ok(())
+    draft.branch_if(&Amount::of(label))
 }
 
 /// The condition of an IF.
-pub fn condition(setting: &Setting<'_>, e: &TypedExpr, draft: &mut Draft) -> Result<(), EncodeError>
+pub fn condition(setting: &Setting<'_>, e: &TypedExpr, draft: &mut Draft) -> Result<(), AllocError>
     ensures { let value = with_value (setting_of setting.now) e.now draft.old in
         OnOk result (draft.new ≡ one wrap_word value) }
 {
     value_code(setting, e, draft)?;
-    wrap_word(draft)?;
-    Ok(())
+    wrap_word(draft)
 }
 
 /// The record of a WITH, kept in a local.
@@ -87,7 +86,7 @@ pub fn record_kept(
     setting: &Setting<'_>,
     place: &Place,
     draft: &mut Draft,
-) -> Result<u32, EncodeError>
+) -> Result<Amount, AllocError>
     ensures local { let d = with_place (setting_of setting.now) place.now draft.old in
         IfOk result (λ w. w ≡ address_local (setting_of setting.now) d.counts.addresses) }
     ensures kept { let d = with_place (setting_of setting.now) place.now draft.old in
@@ -109,13 +108,12 @@ fn variable_value(
     place: &Place,
     t: TypeNo,
     draft: &mut Draft,
-) -> Result<(), EncodeError>
+) -> Result<(), AllocError>
     ensures { let d = with_place (setting_of setting.now) place.now draft.old in
         OnOk result (draft.new ≡ put (load_code setting.now.home.types t) d) }
 {
     place_code(setting, place, draft)?;
-    load(setting, t, draft)?;
-    Ok(())
+    load(setting, t, draft)
 }
 
 /// Stores the start of a FOR, and answers the local that keeps its limit.
@@ -126,7 +124,7 @@ pub fn for_begun(
     start: &TypedExpr,
     limit: &TypedExpr,
     draft: &mut Draft,
-) -> Result<u32, EncodeError>
+) -> Result<Amount, AllocError>
     ensures local { let s = setting_of setting.now in
         IfOk result (λ n. n ≡ for_local s place.now t start.now limit.now draft.old) }
     ensures begun { let s = setting_of setting.now in
@@ -146,17 +144,16 @@ fn for_tested(
     place: &Place,
     t: TypeNo,
     by: i64,
-    n: u32,
+    n: &Amount,
     draft: &mut Draft,
-) -> Result<(), EncodeError>
+) -> Result<(), AllocError>
     ensures { let s = setting_of setting.now in
-        OnOk result (draft.new ≡ for_tested s place.now t by n draft.old) }
+        OnOk result (draft.new ≡ for_tested s place.now t by n.now draft.old) }
 {
     variable_value(setting, place, t, draft)?;
-    draft.push(Op::LocalGet(n))?;
+    draft.local_get(n)?;
     relation(passes(by), draft)?;
-    draft.push(Op::BrIf(0))?;
-    Ok(())
+    draft.push(Op::BrIf(0))
 }
 
 /// The test behind a turn of a FOR.
@@ -165,19 +162,18 @@ fn for_passed(
     place: &Place,
     t: TypeNo,
     by: i64,
-    n: u32,
+    n: &Amount,
     draft: &mut Draft,
-) -> Result<(), EncodeError>
+) -> Result<(), AllocError>
     ensures { let s = setting_of setting.now in
-        OnOk result (draft.new ≡ for_passed s place.now t by n draft.old) }
+        OnOk result (draft.new ≡ for_passed s place.now t by n.now draft.old) }
 {
     variable_value(setting, place, t, draft)?;
     number(by, draft)?;
     operation(Operation::Add, draft)?;
-    draft.push(Op::LocalGet(n))?;
+    draft.local_get(n)?;
     relation(passes(by), draft)?;
-    draft.push(Op::BrIf(1))?;
-    Ok(())
+    draft.push(Op::BrIf(1))
 }
 
 /// The next turn of a FOR.
@@ -188,7 +184,7 @@ fn for_next(
     t: TypeNo,
     by: i64,
     draft: &mut Draft,
-) -> Result<(), EncodeError>
+) -> Result<(), AllocError>
     ensures { let s = setting_of setting.now in
         OnOk result (draft.new ≡ for_next s place.now t by draft.old) }
 {
@@ -198,8 +194,7 @@ fn for_next(
     operation(Operation::Add, draft)?;
     in_type(setting, t, Fault::OutOfRange, draft)?;
     store(setting, t, draft)?;
-    draft.push(Op::Br(0))?;
-    Ok(())
+    draft.push(Op::Br(0))
 }
 
 /// Begins the block and the loop of a FOR, with the test before the first turn between the two.
@@ -208,16 +203,16 @@ pub fn for_opened(
     place: &Place,
     t: TypeNo,
     by: i64,
-    n: u32,
+    n: &Amount,
     draft: &mut Draft,
-) -> Result<Turns, EncodeError>
+) -> Result<Turns, AllocError>
     ensures block { IfOk result (λ x. x.block ≡ place_of draft.old) }
     ensures turn { let s = setting_of setting.now in
-        let tested = for_tested s place.now t by n (open_draft draft.old) in
+        let tested = for_tested s place.now t by n.now (open_draft draft.old) in
         IfOk result (λ x. x.turn ≡ place_of tested) }
     ensures begun { let s = setting_of setting.now in
         OnOk result
-        (draft.new ≡ open_draft (for_tested s place.now t by n (open_draft draft.old))) }
+        (draft.new ≡ open_draft (for_tested s place.now t by n.now (open_draft draft.old))) }
 {
     let block = draft.open()?;
     for_tested(setting, place, t, by, n, draft)?;
@@ -231,15 +226,16 @@ pub fn for_ended(
     place: &Place,
     t: TypeNo,
     by: i64,
-    n: u32,
+    n: &Amount,
     turns: Turns,
     draft: &mut Draft,
-) -> Result<(), EncodeError>
+) -> Result<(), AllocError>
     ensures { let s = setting_of setting.now in
-        let inner = closed_loop turns.turn None (for_turned s place.now t by n draft.old) in
+        let inner = closed_loop turns.turn None (for_turned s place.now t by n.now draft.old) in
         OnOk result (draft.new ≡ closed_block turns.block None inner) }
 {
     for_passed(setting, place, t, by, n, draft)?;
     for_next(setting, place, t, by, draft)?;
-    close_turns(turns, draft)
+    close_turns(turns, draft);
+    Ok(())
 }

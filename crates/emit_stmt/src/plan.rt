@@ -1,14 +1,13 @@
 //! When the arms of a CASE are chosen by a table, and which table.
 
-ghost use Rattle.std.specs.Prelude.{◌≡◌, ◌+◌, ◌+ℤ◌, ℕ, pos, None, true, false, nat_le, suc, IfOk, MatchOption, length};
+ghost use Rattle.std.specs.Prelude.{◌≡◌, ◌+◌, ◌+ℤ◌, ◌&&◌, int_le, pos, None, true, false, nat_le, suc, IfOk, MatchOption, length};
 ghost use Rattle.std.specs.List.{fold};
 ghost use Rattle.def_scheme.specs.Steps.{lesser, greater, values_of, is_dense, least_of, span_of};
 ghost use Rattle.emit_stmt.specs.Plans.{few, with_label, gap_of, plan_by};
 ghost use Rattle.emit_stmt.specs.Written.{has_value, labels_in, target_in, targets_in};
 
-use std::alloc::Global;
+use std::alloc::{AllocError, Global};
 use typed_tree::{Label, TypedArm};
-use wasm_tree::{EncodeError, small};
 
 /// Up to here values are counted.
 const MAX_COUNTED: u64 = 4096;
@@ -141,13 +140,20 @@ pub fn plan_of(arms: &[TypedArm]) -> Option<Plan>
     plan_by(arms.len(), bounds_of(arms))
 }
 
+/// Whether a value is one of a label.
+fn holds(label: Label, value: i128) -> bool
+    ensures { result ≡ (int_le label.low value && int_le value label.high) }
+{
+    i128::from(label.low) <= value && value <= i128::from(label.high)
+}
+
 /// Whether a value is one of an arm.
 #[tactic(auto, unfolding(crate::specs::Written::has_value))]
-fn has_value(arm: &TypedArm, value: i64) -> bool
+fn has_value(arm: &TypedArm, value: i128) -> bool
     ensures { result ≡ has_value value arm.now }
 {
     for label in arm.labels.as_slice() {
-        if label.low <= value && value <= label.high {
+        if holds(*label, value) {
             return true;
         }
     }
@@ -155,7 +161,7 @@ fn has_value(arm: &TypedArm, value: i64) -> bool
 }
 
 /// The number of the arm for a value, or how many arms there are.
-fn target_of(arms: &[TypedArm], value: i64) -> usize
+fn target_of(arms: &[TypedArm], value: i128) -> usize
     ensures { result ≡ target_in arms.now value }
 {
     let mut number = 0;
@@ -168,27 +174,21 @@ fn target_of(arms: &[TypedArm], value: i64) -> usize
     number
 }
 
-/// The number of the arm for a value from the least on.
-fn target_from(arms: &[TypedArm], least: i64, distance: usize) -> Result<u32, EncodeError>
-    ensures { IfOk result (λ n. n ≡ target_in arms.now (least +ℤ pos distance)) }
+/// The number of the arm for the value this far from the least.
+fn target_from(arms: &[TypedArm], least: i64, distance: usize) -> usize
+    ensures { result ≡ target_in arms.now (least +ℤ pos distance) }
 {
-    match i64::try_from(distance) {
-        Err(_) => Err(EncodeError::NoEncoding),
-        Ok(distance) => match least.checked_add(distance) {
-            None => Err(EncodeError::NoEncoding),
-            Some(value) => small(target_of(arms, value)),
-        },
-    }
+    target_of(arms, i128::from(least) + distance as i128)
 }
 
 /// The numbers of the arms for the values from the least on.
 #[tactic(auto, using(crate::proofs::Planned::targets_more))]
-pub fn targets(alloc: Global, arms: &[TypedArm], plan: Plan) -> Result<Vec<u32>, EncodeError>
+pub fn targets(alloc: Global, arms: &[TypedArm], plan: Plan) -> Result<Vec<usize>, AllocError>
     ensures { IfOk result (λ ts. ts.items ≡ targets_in arms.now plan.least plan.span) }
 {
     let mut targets = Vec::new(alloc);
     for distance in 0..plan.span {
-        targets.push(target_from(arms, plan.least, distance)?)?;
+        targets.push(target_from(arms, plan.least, distance))?;
     }
     Ok(targets)
 }

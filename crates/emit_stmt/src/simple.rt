@@ -9,14 +9,14 @@ ghost use Rattle.def_scheme.specs.Steps.{read_again, change_instructions, with_m
 ghost use Rattle.emit_stmt.specs.Written.{with_step, address_kept, number_kept};
 
 use emit_buffer::{
-    Draft, Helper, Setting, check_changed, check_code, complement, fault, load, operation,
-    raise_address, size_in, store, text,
+    Amount, Draft, Helper, Setting, check_changed, check_code, complement, fault, load, operation,
+    raise_far, size_in, store, text,
 };
 use emit_expr::{call_code, place_code, taken_code, value_code};
 use m2_rule::Fault;
 use std::alloc::AllocError;
 use typed_tree::{BITSET, CHAR, Call, Change, Membership, Place, TypeNo, TypedExpr};
-use wasm_tree::{EncodeError, Op, Operation, small};
+use wasm_tree::{Op, Operation};
 
 /// An assignment of a scalar.
 #[tactic(auto, using(crate::proofs::Stepped::step_Assign))]
@@ -26,14 +26,13 @@ pub fn assign(
     t: TypeNo,
     e: &TypedExpr,
     draft: &mut Draft,
-) -> Result<(), EncodeError>
+) -> Result<(), AllocError>
     ensures { OnOk result
         (draft.new ≡ with_step (setting_of setting.now) draft.old (stmt.Assign place.now t e.now)) }
 {
     place_code(setting, place, draft)?;
     taken_code(setting, t, e, draft)?;
-    store(setting, t, draft)?;
-    Ok(())
+    store(setting, t, draft)
 }
 
 /// An assignment of an array or a record.
@@ -44,20 +43,19 @@ pub fn copy(
     from: &Place,
     t: TypeNo,
     draft: &mut Draft,
-) -> Result<(), EncodeError>
+) -> Result<(), AllocError>
     ensures { OnOk result
         (draft.new ≡ with_step (setting_of setting.now) draft.old (stmt.Copy to.now from.now t)) }
 {
     place_code(setting, to, draft)?;
     place_code(setting, from, draft)?;
-    draft.push(Op::I32Const(size_in(setting, t)?))?;
-    draft.push(Op::Call(Helper::Copy.index()))?;
-    Ok(())
+    draft.word(size_in(setting, t))?;
+    draft.help(Helper::Copy)
 }
 
 /// The call of a procedure.
 #[tactic(auto, using(crate::proofs::Stepped::step_Call))]
-pub fn call(setting: &Setting<'_>, call: &Call, draft: &mut Draft) -> Result<(), EncodeError>
+pub fn call(setting: &Setting<'_>, call: &Call, draft: &mut Draft) -> Result<(), AllocError>
     ensures { OnOk result
         (draft.new ≡ with_step (setting_of setting.now) draft.old (stmt.Call call.now)) }
 {
@@ -66,13 +64,12 @@ pub fn call(setting: &Setting<'_>, call: &Call, draft: &mut Draft) -> Result<(),
 
 /// The output of a character.
 #[tactic(auto, using(crate::proofs::Stepped::step_Put))]
-pub fn print(setting: &Setting<'_>, e: &TypedExpr, draft: &mut Draft) -> Result<(), EncodeError>
+pub fn print(setting: &Setting<'_>, e: &TypedExpr, draft: &mut Draft) -> Result<(), AllocError>
     ensures { OnOk result
         (draft.new ≡ with_step (setting_of setting.now) draft.old (stmt.Put e.now)) }
 {
     taken_code(setting, CHAR, e, draft)?;
-    draft.push(Op::Call(Helper::Put.index()))?;
-    Ok(())
+    draft.help(Helper::Put)
 }
 
 #[tactic(auto, using(crate::proofs::Stepped::step_Halt))]
@@ -86,7 +83,7 @@ pub fn halt(setting: &Setting<'_>, draft: &mut Draft) -> Result<(), AllocError>
 pub fn exit(setting: &Setting<'_>, draft: &mut Draft) -> Result<(), AllocError>
     ensures { OnOk result (draft.new ≡ with_step (setting_of setting.now) draft.old stmt.Exit) }
 {
-    draft.push(Op::Br(setting.exit()))
+    draft.branch(&setting.exit())
 }
 
 #[tactic(auto, using(crate::proofs::Stepped::step_Return))]
@@ -103,44 +100,48 @@ pub fn give(
     t: TypeNo,
     e: &TypedExpr,
     draft: &mut Draft,
-) -> Result<(), EncodeError>
+) -> Result<(), AllocError>
     ensures { OnOk result
         (draft.new ≡ with_step (setting_of setting.now) draft.old (stmt.Give t e.now)) }
 {
     taken_code(setting, t, e, draft)?;
-    draft.push(Op::Return)?;
-    Ok(())
+    draft.push(Op::Return)
 }
 
 /// Keeps an address in a fresh local, and answers which.
-pub fn keep_address(setting: &Setting<'_>, draft: &mut Draft) -> Result<u32, EncodeError>
+pub fn keep_address(setting: &Setting<'_>, draft: &mut Draft) -> Result<Amount, AllocError>
     ensures local { let k = draft.old.counts.addresses in
         IfOk result (λ w. w ≡ address_local (setting_of setting.now) k) }
     ensures kept { OnOk result (draft.new ≡ address_kept (setting_of setting.now) draft.old) }
 {
-    let w = draft.next_address(setting)?;
-    draft.push(Op::LocalSet(w))?;
+    let w = draft.next_address(setting);
+    draft.local_set(&w)?;
     Ok(w)
 }
 
 /// Keeps a number in a fresh local, and answers which.
-pub fn keep_number(setting: &Setting<'_>, draft: &mut Draft) -> Result<u32, EncodeError>
+pub fn keep_number(setting: &Setting<'_>, draft: &mut Draft) -> Result<Amount, AllocError>
     ensures local { let k = draft.old.counts.numbers in
         IfOk result (λ n. n ≡ number_local (setting_of setting.now) k) }
     ensures kept { OnOk result (draft.new ≡ number_kept (setting_of setting.now) draft.old) }
 {
-    let n = draft.next_number(setting)?;
-    draft.push(Op::LocalSet(n))?;
+    let n = draft.next_number(setting);
+    draft.local_set(&n)?;
     Ok(n)
 }
 
 /// The value at an address that was kept, behind that address.
-fn read_again(setting: &Setting<'_>, w: u32, t: TypeNo, draft: &mut Draft) -> Result<(), AllocError>
-    ensures { let code = read_again w setting.now.home.types t in
+fn read_again(
+    setting: &Setting<'_>,
+    w: &Amount,
+    t: TypeNo,
+    draft: &mut Draft,
+) -> Result<(), AllocError>
+    ensures { let code = read_again w.now setting.now.home.types t in
         OnOk result (draft.new ≡ put code draft.old) }
 {
-    draft.push(Op::LocalGet(w))?;
-    draft.push(Op::LocalGet(w))?;
+    draft.local_get(w)?;
+    draft.local_get(w)?;
     load(setting, t, draft)
 }
 
@@ -149,16 +150,16 @@ fn read_again(setting: &Setting<'_>, w: u32, t: TypeNo, draft: &mut Draft) -> Re
 fn change_instructions(
     setting: &Setting<'_>,
     change: Change,
-    w: u32,
-    n: u32,
+    w: &Amount,
+    n: &Amount,
     t: TypeNo,
     draft: &mut Draft,
 ) -> Result<(), AllocError>
-    ensures { let code = change_instructions change w n setting.now.home.types t in
+    ensures { let code = change_instructions change w.now n.now setting.now.home.types t in
         OnOk result (draft.new ≡ put code draft.old) }
 {
     read_again(setting, w, t, draft)?;
-    draft.push(Op::LocalGet(n))?;
+    draft.local_get(n)?;
     match change {
         Change::Increase => operation(Operation::Add, draft)?,
         Change::Decrease => operation(Operation::Sub, draft)?,
@@ -176,7 +177,7 @@ pub fn change(
     t: TypeNo,
     e: &TypedExpr,
     draft: &mut Draft,
-) -> Result<(), EncodeError>
+) -> Result<(), AllocError>
     ensures { OnOk result (draft.new
         ≡ with_step (setting_of setting.now) draft.old (stmt.Change change place.now t e.now)) }
 {
@@ -184,8 +185,7 @@ pub fn change(
     let w = keep_address(setting, draft)?;
     value_code(setting, e, draft)?;
     let n = keep_number(setting, draft)?;
-    change_instructions(setting, change, w, n, t, draft)?;
-    Ok(())
+    change_instructions(setting, change, &w, &n, t, draft)
 }
 
 /// The set with or without the element, stored.
@@ -193,16 +193,16 @@ pub fn change(
 fn with_member(
     setting: &Setting<'_>,
     membership: Membership,
-    w: u32,
-    n: u32,
+    w: &Amount,
+    n: &Amount,
     draft: &mut Draft,
 ) -> Result<(), AllocError>
-    ensures { let code = with_member membership w n setting.now.home.types in
+    ensures { let code = with_member membership w.now n.now setting.now.home.types in
         OnOk result (draft.new ≡ put code draft.old) }
 {
     read_again(setting, w, BITSET, draft)?;
     draft.push(Op::I64Const(1))?;
-    draft.push(Op::LocalGet(n))?;
+    draft.local_get(n)?;
     operation(Operation::Shl, draft)?;
     match membership {
         Membership::Include => operation(Operation::Or, draft)?,
@@ -222,7 +222,7 @@ pub fn membership(
     place: &Place,
     e: &TypedExpr,
     draft: &mut Draft,
-) -> Result<(), EncodeError>
+) -> Result<(), AllocError>
     ensures { OnOk result (draft.new
         ≡ with_step (setting_of setting.now) draft.old
         (stmt.Membership membership place.now e.now)) }
@@ -232,22 +232,28 @@ pub fn membership(
     value_code(setting, e, draft)?;
     check_code(0, 31, Fault::OutOfRange, draft)?;
     let n = keep_number(setting, draft)?;
-    with_member(setting, membership, w, n, draft)?;
-    Ok(())
+    with_member(setting, membership, &w, &n, draft)
 }
 
 /// The copy of a text to an address that was kept, and zeros up to the end of the array.
 #[tactic(auto, using(emit_buffer::proofs::Emitted::put_append))]
-fn text_copied(at: u32, bytes: u32, rest: u32, w: u32, draft: &mut Draft) -> Result<(), AllocError>
-    ensures { OnOk result (draft.new ≡ put (text_copied at bytes rest w) draft.old) }
+fn text_copied(
+    at: &Amount,
+    bytes: usize,
+    rest: usize,
+    w: &Amount,
+    draft: &mut Draft,
+) -> Result<(), AllocError>
+    ensures { OnOk result (draft.new ≡ put (text_copied at.now bytes rest w.now) draft.old) }
 {
+    let count = Amount::of(bytes);
     text(at, draft)?;
-    draft.push(Op::I32Const(bytes))?;
-    draft.push(Op::Call(Helper::Copy.index()))?;
-    draft.push(Op::LocalGet(w))?;
-    raise_address(bytes, draft)?;
-    draft.push(Op::I32Const(rest))?;
-    draft.push(Op::Call(Helper::Fill.index()))
+    draft.far_word(&count)?;
+    draft.help(Helper::Copy)?;
+    draft.local_get(w)?;
+    raise_far(&count, draft)?;
+    draft.far_word(&Amount::of(rest))?;
+    draft.help(Helper::Fill)
 }
 
 /// An assignment of a string.
@@ -258,16 +264,15 @@ pub fn copy_text(
     t: TypeNo,
     characters: &[u8],
     draft: &mut Draft,
-) -> Result<(), EncodeError>
+) -> Result<(), AllocError>
     ensures { OnOk result (draft.new
         ≡ with_step (setting_of setting.now) draft.old (stmt.CopyText place.now t characters.now)) }
 {
     place_code(setting, place, draft)?;
-    let w = draft.next_address(setting)?;
-    draft.push(Op::LocalTee(w))?;
-    let at = draft.next_text(characters.len())?;
-    let bytes = small(characters.len())?;
-    let rest = size_in(setting, t)?.saturating_sub(bytes);
-    text_copied(at, bytes, rest, w, draft)?;
-    Ok(())
+    let w = draft.next_address(setting);
+    draft.local_tee(&w)?;
+    let bytes = characters.len();
+    let at = draft.next_text(bytes);
+    let rest = (size_in(setting, t) as usize).saturating_sub(bytes);
+    text_copied(&at, bytes, rest, &w, draft)
 }

@@ -10,12 +10,12 @@ use typed_tree::{TypedModule, Which};
 /// Where the texts of procedures begin, as far as it is known.
 #[derive(Drop)]
 pub struct Offsets {
-    pub procedures: Items<Option<u32>>,
-    pub locals: Items<Option<u32>>,
+    pub procedures: Items<Option<usize>>,
+    pub locals: Items<Option<usize>>,
 }
 
 /// A table in which nothing is known.
-fn empty_table(alloc: Global, length: usize) -> Result<Items<Option<u32>>, AllocError>
+fn empty_table(alloc: Global, length: usize) -> Result<Items<Option<usize>>, AllocError>
     ensures { IfOk result (λ table. table ≡ replicate length None) }
 {
     let mut table = Items::new(alloc);
@@ -26,7 +26,7 @@ fn empty_table(alloc: Global, length: usize) -> Result<Items<Option<u32>>, Alloc
 }
 
 /// What a table has at a number, if it reaches so far.
-fn entry(table: &Items<Option<u32>>, number: usize) -> Option<Option<u32>>
+fn entry(table: &Items<Option<usize>>, number: usize) -> Option<Option<usize>>
     ensures value { result ≡ slice_get table.now number }
     ensures within { OnSome result (number < length table.now) }
 {
@@ -34,7 +34,7 @@ fn entry(table: &Items<Option<u32>>, number: usize) -> Option<Option<u32>>
 }
 
 /// Notes where the texts of a procedure begin, if it is not known yet.
-fn note(table: &mut Items<Option<u32>>, number: usize, at: u32)
+fn note(table: &mut Items<Option<usize>>, number: usize, at: usize)
     ensures { table.new ≡ note_place table.old number at }
 {
     match entry(table, number) {
@@ -46,7 +46,7 @@ fn note(table: &mut Items<Option<u32>>, number: usize, at: u32)
     }
 }
 
-fn or_else(found: Option<Option<u32>>, at: u32) -> u32
+fn or_else(found: Option<Option<usize>>, at: usize) -> usize
     ensures { result ≡ or_else found at }
 {
     match found {
@@ -70,7 +70,7 @@ impl Offsets {
     }
 
     /// Notes where the texts of a procedure begin, if it is not known yet.
-    pub fn note(&mut self, which: Which, at: u32)
+    pub fn note(&mut self, which: Which, at: usize)
         ensures { self.new ≡ noted_which self.old which at }
     {
         match which {
@@ -80,7 +80,7 @@ impl Offsets {
     }
 
     /// Where the texts of a procedure begin, and if it is not known, this number.
-    pub fn noted_or(&self, which: Which, at: u32) -> u32
+    pub fn noted_or(&self, which: Which, at: usize) -> usize
         ensures { result ≡ noted_or self.now which at }
     {
         match which {

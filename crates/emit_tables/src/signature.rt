@@ -11,6 +11,6 @@ pub struct Signature {
 /// 6.
 #[derive(Clone, Copy, PartialEq, Eq)]
 pub struct Numbers {
-    pub without: u32,
-    pub giving: u32,
+    pub without: usize,
+    pub giving: usize,
 }

@@ -9,11 +9,10 @@ use crate::marks::Mark;
 use crate::signature::{Numbers, Signature};
 use crate::steps::module_marks;
 use crate::table::{Table, table_of};
-use std::alloc::Global;
+use std::alloc::{AllocError, Global};
 use std::marker::Model;
 use tree_parts::Items;
 use typed_tree::TypedModule;
-use wasm_tree::EncodeError;
 
 /// The signatures that a module needs, in order of their numbers. Contracts see the list.
 #[derive(Drop)]
@@ -44,7 +43,7 @@ impl Signatures {
     }
 
     /// The number of the type of functions with this many arguments, and with a result or without.
-    pub fn number(&self, arguments: usize, has_result: bool) -> u32
+    pub fn number(&self, arguments: usize, has_result: bool) -> usize
         ensures { result ≡ number_of self.now arguments has_result }
     {
         if arguments == 0 && !has_result {
@@ -58,9 +57,9 @@ impl Signatures {
     }
 }
 
-/// The types of functions that a module needs. The only error is that memory ran out, or that they are too many.
+/// The types of functions that a module needs. The only error is that memory ran out.
 #[tactic(auto, using(crate::proofs::Places::module_list, crate::proofs::Places::module_numbers))]
-pub fn signatures_of(alloc: Global, module_body: &TypedModule) -> Result<Signatures, EncodeError>
+pub fn signatures_of(alloc: Global, module_body: &TypedModule) -> Result<Signatures, AllocError>
     ensures { IfOk result (λ s. s ≡ signatures module_body.now) }
 {
     let mut marks = Vec::new(alloc);

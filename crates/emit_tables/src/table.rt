@@ -5,9 +5,11 @@ ghost use Rattle.emit_tables.specs.Tables.{enter_signature, number_behind, table
 
 use crate::marks::Mark;
 use crate::signature::{Numbers, Signature};
-use std::alloc::Global;
+use std::alloc::{AllocError, Global};
 use tree_parts::Items;
-use wasm_tree::{EncodeError, plus, small};
+
+/// The number of the first type that a module lists for itself.
+const FIRST_NUMBER: usize = 6;
 
 /// Types of functions in order, and their numbers by how many arguments they have.
 #[derive(Drop)]
@@ -22,15 +24,15 @@ fn enter_signature(
     wanted: bool,
     arguments: usize,
     has_result: bool,
-) -> Result<u32, EncodeError>
+) -> Result<usize, AllocError>
     ensures number { IfOk result (λ n. n ≡ number_behind wanted list.old) }
     ensures list { OnOk result
         (list.new ≡ list.old ++ enter_signature wanted arguments has_result) }
 {
     if !wanted {
-        return Ok(6);
+        return Ok(FIRST_NUMBER);
     }
-    let number = plus(6, small(list.len())?)?;
+    let number = list.as_slice().len() + FIRST_NUMBER;
     list.push(Signature {
         arguments,
         has_result,
@@ -38,8 +40,8 @@ fn enter_signature(
     Ok(number)
 }
 
-/// The types that are marked. The only error is that memory ran out, or that they are too many.
-pub fn table_of(alloc: Global, marks: &[Mark]) -> Result<Table, EncodeError>
+/// The types that are marked. The only error is that memory ran out.
+pub fn table_of(alloc: Global, marks: &[Mark]) -> Result<Table, AllocError>
     ensures { IfOk result (λ t. t ≡ table_of marks.now) }
 {
     let mut table = Table {

@@ -6,9 +6,8 @@ ghost use Rattle.emit_tables.specs.Offsets.{nothing_yet, gather_texts, offset_in
 use crate::body::{push_body, push_which};
 use crate::characters::Characters;
 use crate::offsets::Offsets;
-use std::alloc::Global;
+use std::alloc::{AllocError, Global};
 use typed_tree::{TypedModule, Which};
-use wasm_tree::{EncodeError, small};
 
 /// The characters of the texts of some procedures, and where the characters of each procedure begin.
 #[derive(Drop)]
@@ -24,12 +23,12 @@ pub struct ModuleTexts {
     pub characters: Characters,
     pub offsets: Offsets,
     /// Where the texts of the module's own body begin.
-    pub body: u32,
+    pub body: usize,
 }
 
 impl ModuleTexts {
     /// Where the texts of a procedure begin.
-    pub fn offset_of(&self, which: Which) -> u32
+    pub fn offset_of(&self, which: Which) -> usize
         ensures { result ≡ offset_in self.now which }
     {
         self.offsets.noted_or(which, self.body)
@@ -41,7 +40,7 @@ fn gather_texts(
     alloc: Global,
     module_body: &TypedModule,
     capacity: usize,
-) -> Result<Gathering, EncodeError>
+) -> Result<Gathering, AllocError>
     ensures { IfOk result (λ x. x ≡ gather_texts module_body.now) }
 {
     let mut gathering = Gathering {
@@ -49,27 +48,27 @@ fn gather_texts(
         offsets: Offsets::new(alloc, module_body)?,
     };
     for which in module_body.order.as_slice() {
-        let at = small(gathering.characters.len())?;
+        let at = gathering.characters.len();
         gathering.offsets.note(*which, at);
         push_which(&mut gathering.characters, module_body, *which)?;
     }
     Ok(gathering)
 }
 
-/// The texts of a module. There is room for this many characters from the start. The only error is that memory ran out,
-/// or that a number of the module has no encoding.
+/// The texts of a module. There is room for this many characters from the start. The only error is that memory ran
+/// out.
 pub fn module_texts(
     alloc: Global,
     module_body: &TypedModule,
     capacity: usize,
-) -> Result<ModuleTexts, EncodeError>
+) -> Result<ModuleTexts, AllocError>
     ensures { IfOk result (AreTexts module_body.now) }
 {
     let Gathering {
         mut characters,
         offsets,
     } = gather_texts(alloc, module_body, capacity)?;
-    let body = small(characters.len())?;
+    let body = characters.len();
     push_body(&mut characters, module_body.body.as_slice())?;
     Ok(ModuleTexts {
         characters,

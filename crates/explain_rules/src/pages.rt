@@ -79,6 +79,7 @@ fault 7     empty procedure
 fault 8     storage
 fault 9     HALT
 profile     what this profile of Modula-2 leaves out
+input       how a program reads its input
 status 0    m2c: built; m2run: the program ended well; m2: well
 status 1    m2c: refused; m2run: the program ended with a fault; m2: refused, or a fault
 status 2    m2c: wrong command line; m2run: wrong command line; m2: wrong command line
@@ -483,24 +484,24 @@ pub static LEFT_OUT: [LeftOut; 33] = [
         rule: 32,
         word: "ReadInt",
         context: Context::Anywhere,
-        instead: "Write `CONST input = \"12 7\";`, and use this string.",
+        instead: "Write `MODULE M; FROM Input IMPORT ReadInt; END M.`: it stands in Input, see `m2 explain input`.",
     },
     LeftOut {
         rule: 32,
         word: "ReadCard",
         context: Context::Anywhere,
-        instead: "Write `CONST input = \"12 7\";`, and use this string.",
+        instead: "Write `MODULE M; FROM Input IMPORT ReadCard; END M.`: it stands in Input, see `m2 explain input`.",
     },
     LeftOut {
         rule: 32,
         word: "ReadString",
         context: Context::Anywhere,
-        instead: "Write `CONST input = \"12 7\";`, and use this string.",
+        instead: "Write `MODULE M; FROM Input IMPORT ReadString; END M.`: it stands in Input, see `m2 explain input`.",
     },
     LeftOut {
         rule: 32,
         word: "Read",
         context: Context::Anywhere,
-        instead: "Write `CONST input = \"12 7\";`, and use this string.",
+        instead: "Write `MODULE M; FROM Input IMPORT Read; END M.`: it stands in Input, see `m2 explain input`.",
     },
 ];

@@ -19,6 +19,8 @@ use Rattle.check_scope.specs.Scopes.{State, begin_name, mark_name}
 use Rattle.check_scope.specs.declared.known.Known.{Known}
 use Rattle.check_scope.specs.declared.known.Known.TheVariants.{Later, Ahead, Headed}
 use Rattle.check_scope.specs.declared.scope.Scope.{Scope}
+use Rattle.check_scope.specs.declared.meaningless.Meaningless.TheVariants.{Headless}
+use Rattle.check_scope.specs.Scopes.{heading_means}
 use Rattle.check_const.specs.Parts.{constant}
 use Rattle.check_expr.specs.Meanings.{part}
 use Rattle.check_type_expr.specs.Headings.{heading_of}
@@ -153,12 +155,12 @@ module _ (weight : TypeNo → ℕ) (g : Gathers) where
   module_fills s name n (Ok t) e h =
       let m : Meaning = meaning.Procedure (record { home = s.types.home; number = length s.procedures; heading = t }) in
       new_fills s name n t (h m t (found_self name (Headed (Ok m)) s.own) refl) (enter_name name (Headed (Ok m)) s.own) (unawaited s name (Headed (Ok m)) e)
-  module_fills s name n (Err x) e h = more_of n s _ (known_fills 0 s name (Headed (Err x)) e)
+  module_fills s name n (Err x) e h = more_of n s _ (known_fills 0 s name (Headed (Err (Headless false x))) e)
 
   new_by : (b : Bool) (s : Scope g.Reported) (name : List ℕ) (n number : ℕ) (t : Result TypeNo g.Reported) → awaiting_of weight (find_name name s.own) ≤ 0
-      → HeadFits weight n (cond b (module_procedure s name t) (set_heading name (nested_meaning s.level number t) s)).own name → Fills weight n s (cond b (module_procedure s name t) (set_heading name (nested_meaning s.level number t) s))
+      → HeadFits weight n (cond b (module_procedure s name t) (set_heading name (heading_means true (nested_meaning s.level number t)) s)).own name → Fills weight n s (cond b (module_procedure s name t) (set_heading name (heading_means true (nested_meaning s.level number t)) s))
   new_by true s name n number t e h = module_fills s name n t e h
-  new_by false s name n number t e h = more_of n s _ (known_fills 0 s name (Headed (nested_meaning s.level number t)) e)
+  new_by false s name n number t e h = more_of n s _ (known_fills 0 s name (Headed (heading_means true (nested_meaning s.level number t))) e)
 
   made_fills : (s : Scope g.Reported) (name : List ℕ) (n number : ℕ) (made : Result Made g.Reported) → awaiting_of weight (find_name name s.own) ≤ 0 → HeadFits weight n (with_new s name number made).0.own name → Fills weight n s (with_new s name number made).0
   made_fills s name n number (Ok x) e h = record { most = (new_by (s.level == 0) (with_shape s x) name n number (Ok (next_type s)) e h).most }

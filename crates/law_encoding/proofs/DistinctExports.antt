@@ -24,11 +24,11 @@ use Rattle.law_encoding.proofs.DistinctImports.{Differ, KeysDiffer, entered_diff
 
 -- ---- names that are exported
 
-module _ {T : Type 0} where
-  meaning_differs : (so : List (List ℕ × Meaning)) (name : List ℕ) (r : Result Meaning T) → KeysDiffer so → KeysDiffer (with_meaning so name r)
-  meaning_differs so name (Ok m) d = entered_differ name m so d
-  meaning_differs so name (Err e) d = d
+meaning_differs : {E : Type 0} (so : List (List ℕ × Meaning)) (name : List ℕ) (r : Result Meaning E) → KeysDiffer so → KeysDiffer (with_meaning so name r)
+meaning_differs so name (Ok m) d = entered_differ name m so d
+meaning_differs so name (Err e) d = d
 
+module _ {T : Type 0} where
   declared_differs : (so : List (List ℕ × Meaning)) (name : List ℕ) (o : Origin) (r : Result Meaning T) → KeysDiffer so → KeysDiffer (with_declared so name o r)
   declared_differs so name origin.Here r d = meaning_differs so name r d
   declared_differs so name (origin.Module k) r d = d

@@ -29,7 +29,7 @@ use Rattle.typed_tree.specs.declared.shape.Formal.{Formal}
 use Rattle.typed_tree.specs.declared.types.TypeNo.{TypeNo}
 use Rattle.typed_tree.specs.Chains.{root_place}
 use Rattle.check_scope.specs.declared.meaningless.Meaningless.{Meaningless}
-use Rattle.check_scope.specs.Elaborated.{Gathers, of_sort, of_heading}
+use Rattle.check_scope.specs.Elaborated.{Gathers, of_sort, of_heading, of_value}
 use Rattle.check_scope.specs.declared.scope.Scope.{Scope}
 use Rattle.check_const.specs.Parts.{Part, Adds, sign_place}
 use Rattle.check_const_ops.specs.Operators.{mul_op, add_op}
@@ -59,7 +59,7 @@ use Rattle.law_encoding.proofs.Sums.{sum_append}
 use Rattle.law_encoding.proofs.Variants.{sizes_expr, sizes_selector, sizes_designator}
 use Rattle.law_encoding.proofs.Variants as variants
 use Rattle.law_encoding.proofs.Typed.{component_field, expr_call}
-use Rattle.law_encoding.proofs.Results.{then_most, at_more, reported_most, reported_beside_most, both_most, ahead_most, sort_most, of_heading_most, plain_most, any_most}
+use Rattle.law_encoding.proofs.Results.{then_most, at_more, reported_most, reported_beside_most, both_most, ahead_most, sort_most, of_heading_most, of_value_most, sort_of_value_most, plain_most, any_most}
 use Rattle.law_encoding.proofs.Operators.{behind_size, rooted_size, signed_most, negated_most, combined_most, field_most, indexed_most}
 use Rattle.law_encoding.proofs.Calls.{size_callee, size_called, call_most, given_most, taken_most, actual_most, callee_most, unary_most, bound_most, conversion_most, high_most}
 
@@ -96,7 +96,7 @@ module _ (g : Gathers) (s : Scope g.Reported) where
   AllP (n ∷ ns) [] = ⊥
 
   pub value_most : (n : ℕ) (x : Meant g.Reported) → FM n x → Value_ n (value_of g s x)
-  value_most n x p = then_most (of_heading_most p) (λ d k. taken_most g s.types n x.fixed.at d k)
+  value_most n x p = then_most (of_value_most g x.fixed.at p) (λ d k. taken_most g s.types n x.fixed.at d k)
 
   constant_meant : (n : ℕ) (x : Part g.Reported) → 1 ≤ n → Designated_ n (as_constant g s x)
   constant_meant n x l = plain_most (then_most (any_most _) (λ v k. fine (designated.Value (value.Constant v)) l))
@@ -149,9 +149,9 @@ module _ (g : Gathers) (s : Scope g.Reported) where
 
   -- ---- calls
 
-  passed_by : (n : ℕ) (is_var : Bool) (at : Pos) {d : Result Designated (Meaningless g.Reported)} → Designated_ n d → Designated_ n (cond is_var (of_sort g at rule.NoVariable d) (of_heading d))
+  passed_by : (n : ℕ) (is_var : Bool) (at : Pos) {d : Result Designated (Meaningless g.Reported)} → Designated_ n d → Designated_ n (cond is_var (of_sort g at rule.NoVariable d) (of_value g at d))
   passed_by n true at p = sort_most g at rule.NoVariable p
-  passed_by n false at p = of_heading_most p
+  passed_by n false at p = of_value_most g at p
 
   argument_most : (n : ℕ) (o : Option Formal) (at : Pos) {d : Result Designated (Meaningless g.Reported)} → Designated_ n d → AtMost size_passed (1 + n) (argument_by g s.types o at d)
   argument_most n None at p = reported_most g at rule.ArgumentCount
@@ -228,7 +228,7 @@ module _ (g : Gathers) (s : Scope g.Reported) where
   high_all : (k : ℕ) (ns : List ℕ) (at : Pos) (args : List (Meant g.Reported)) → AllM ns args → Value_ (1 + (k + arguments ns)) (high g s at args)
   high_all k ns at [] all = reported_beside_most g at rule.ArgumentCount (breaches_in_all g s [])
   high_all k [] at (x ∷ []) all = absurd all
-  high_all k (n ∷ ns) at (x ∷ []) all = then_most (sort_most g x.fixed.at rule.WrongArgument all.0) (λ d p. high_most g s.types (k + arguments (n ∷ ns)) x.fixed.at d)
+  high_all k (n ∷ ns) at (x ∷ []) all = then_most (sort_of_value_most g x.fixed.at rule.WrongArgument all.0) (λ d p. high_most g s.types (k + arguments (n ∷ ns)) x.fixed.at d)
   high_all k ns at (x ∷ y ∷ xs) all = reported_beside_most g at rule.ArgumentCount _
 
   form_most : (k : ℕ) (ns : List ℕ) (at : Pos) (f : Standard) (args : List (Meant g.Reported)) (o : Form) → AllM ns args → Value_ (1 + (k + arguments ns)) (by_form g s at f args o)

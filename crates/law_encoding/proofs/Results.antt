@@ -2,8 +2,9 @@
 use Rattle.std.proofs.Common.{ℕ, ◌+◌, ◌≤◌, Bool, true, false, Result, Ok, Err, arith}
 use Rattle.m2_rule.specs.RuleNumber.{number_of}
 use Rattle.m2_rule.specs.declared.rule.Rule.{Rule}
+use Rattle.m2_rule.specs.declared.rule.Rule.TheVariants as rule
 use Rattle.m2_tree.specs.declared.pos.Pos.{Pos}
-use Rattle.check_scope.specs.Elaborated.{Gathers, report, reported_where, ◌▷◌, both, refusal_beside, reported_beside, ahead, of_sort, of_heading, plain}
+use Rattle.check_scope.specs.Elaborated.{Gathers, report, reported_where, ◌▷◌, both, refusal_beside, reported_beside, ahead, of_sort, of_heading, of_value, of_sort_of_value, plain}
 use Rattle.check_scope.specs.declared.meaningless.Meaningless.{Meaningless}
 use Rattle.check_scope.specs.declared.meaningless.Meaningless.TheVariants.{Broken, Headless}
 use Rattle.law_encoding.specs.Counted.{AtMost, fine, broken}
@@ -53,13 +54,25 @@ module _ (g : Gathers) where
   pub sort_most : {A : Type 0} {f : A → ℕ} {n : ℕ} (at : Pos) (k : Rule) {r : Result A (Meaningless g.Reported)} → AtMost f n r → AtMost f n (of_sort g at k r)
   sort_most at k (fine x p) = fine x p
   sort_most at k (broken (Broken e)) = broken e
-  sort_most at k (broken (Headless e)) = reported_most at k
+  sort_most at k (broken (Headless nested e)) = reported_most at k
+
+  pub of_value_most : {A : Type 0} {f : A → ℕ} {n : ℕ} (at : Pos) {r : Result A (Meaningless g.Reported)} → AtMost f n r → AtMost f n (of_value g at r)
+  of_value_most at (fine x p) = fine x p
+  of_value_most at (broken (Broken e)) = broken e
+  of_value_most at (broken (Headless true e)) = reported_most at rule.NoProcedureValue
+  of_value_most at (broken (Headless false e)) = broken e
+
+  pub sort_of_value_most : {A : Type 0} {f : A → ℕ} {n : ℕ} (at : Pos) (k : Rule) {r : Result A (Meaningless g.Reported)} → AtMost f n r → AtMost f n (of_sort_of_value g at k r)
+  sort_of_value_most at k (fine x p) = fine x p
+  sort_of_value_most at k (broken (Broken e)) = broken e
+  sort_of_value_most at k (broken (Headless true e)) = reported_most at rule.NoProcedureValue
+  sort_of_value_most at k (broken (Headless false e)) = reported_most at k
 
 module _ {T : Type 0} where
   pub of_heading_most : {A : Type 0} {f : A → ℕ} {n : ℕ} {r : Result A (Meaningless T)} → AtMost f n r → AtMost f n (of_heading r)
   of_heading_most (fine x p) = fine x p
   of_heading_most (broken (Broken e)) = broken e
-  of_heading_most (broken (Headless e)) = broken e
+  of_heading_most (broken (Headless nested e)) = broken e
 
   pub plain_most : {A : Type 0} {f : A → ℕ} {n : ℕ} {r : Result A T} → AtMost f n r → AtMost f n (plain r)
   plain_most (fine x p) = fine x p

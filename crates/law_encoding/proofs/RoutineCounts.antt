@@ -25,6 +25,7 @@ use Rattle.check_scope.specs.declared.known.Known.{Known}
 use Rattle.check_scope.specs.declared.known.Known.TheVariants.{Later, Ahead, Begun, Headed, Declared}
 use Rattle.check_scope.specs.declared.scope.Scope.{Scope}
 use Rattle.check_scope.specs.Elaborated.{Gathers}
+use Rattle.check_scope.specs.declared.meaningless.Meaningless.{Meaningless}
 use Rattle.check_block.specs.Naming.{with_marks}
 use Rattle.check_block.specs.Nesting.{within}
 use Rattle.check_block.specs.Declarations.{Declared as Behind, all_declared, declared_block}
@@ -112,7 +113,7 @@ module _ (weight : TypeNo → ℕ) (n : ℕ) (p : Numbered) where
   known_fits (Some Later) k e = absurd cc
   known_fits (Some Ahead) k e = absurd cc
   known_fits (Some Begun) k e = absurd cc
-  known_fits {T} (Some (Headed r)) k e = elaborated_fits r (λ m t q is. k m t (ap (λ (x : Result Meaning T). Some (Headed x)) q) is) e
+  known_fits {T} (Some (Headed r)) k e = elaborated_fits r (λ m t q is. k m t (ap (λ (x : Result Meaning (Meaningless T)). Some (Headed x)) q) is) e
   known_fits (Some (Declared o r)) k e = absurd cc
 
 -- ---- what a declaration of the module itself counts beside its heading

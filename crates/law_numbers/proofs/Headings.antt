@@ -19,6 +19,7 @@ use Rattle.check_scope.specs.declared.known.Known.{Known}
 use Rattle.check_scope.specs.declared.known.Known.TheVariants.{Headed, Declared}
 use Rattle.check_scope.specs.declared.known.Origin.TheVariants.{Here}
 use Rattle.check_scope.specs.declared.scope.Scope.{Scope}
+use Rattle.check_scope.specs.Scopes.{heading_means}
 use Rattle.check_type_expr.specs.Headings.{heading_of}
 use Rattle.check_type_expr.specs.Made.{with_shape, with_made, nothing_of}
 use Rattle.check_definition.specs.Declare.{with_variable_type, with_procedure_type}
@@ -152,12 +153,12 @@ module _ (g : Gathers) (home level : ℕ) (ends : List ℕ) (start : Scope g.Rep
           (subst (λ (a : ℕ). Entry (module_procedure s h.name.name (Ok u)) h.name.name (Headed (Ok (meaning.Procedure (record { home = s.types.home; number = a; heading = u }))))) p.next (entered_here (with_procedure_type s (Ok u)) h.name.name _))) no_heading)
           (length-append s.procedures (u ∷ []) ∙ ap (λ (a : ℕ). a + 1) p.next) (waits_by hs m' n' (with_procedure_type s (Ok u)) h.name.name _ (headed_is _) p.waits) (kept_beside (with_procedure_type s (Ok u)) h.name.name _ (λ a z. absurd (not_free h.name.name a (find_name h.name.name s.own) z f)) p.kept) p.of_home p.of_level p.of_rest p.of_variables p
 
-      new_in_procedure : (s : S) (u : TypeNo) → (level == 0) ≡ false → is_free (find_name h.name.name s.own) ≡ true → IsNumbered hs m' n' s → More hs n' h (set_heading h.name.name (nested_meaning s.level n' (Ok u)) s)
+      new_in_procedure : (s : S) (u : TypeNo) → (level == 0) ≡ false → is_free (find_name h.name.name s.own) ≡ true → IsNumbered hs m' n' s → More hs n' h (set_heading h.name.name (heading_means true (nested_meaning s.level n' (Ok u))) s)
       new_in_procedure s u l f p = added m' (λ x r e. free_beside g x (Headed (Ok r)) refl s h.name.name _ f e)
-          (nested_heading u l (subst (λ (a : ℕ). Entry (set_heading h.name.name (nested_meaning s.level n' (Ok u)) s) h.name.name (Headed (Ok (meaning.LocalProcedure (record { level = a; number = n'; heading = u }))))) p.of_level (entered_here s h.name.name _)) no_heading)
+          (nested_heading u l (subst (λ (a : ℕ). Entry (set_heading h.name.name (heading_means true (nested_meaning s.level n' (Ok u))) s) h.name.name (Headed (Ok (meaning.LocalProcedure (record { level = a; number = n'; heading = u }))))) p.of_level (entered_here s h.name.name _)) no_heading)
           p.next (waits_by hs m' n' s h.name.name _ (headed_is _) p.waits) (kept_beside s h.name.name _ (λ a z. absurd (not_free h.name.name a (find_name h.name.name s.own) z f)) p.kept) p.of_home p.of_level p.of_rest p.of_variables p
 
-      new_by : (b : Bool) (s : S) (u : TypeNo) → (level == 0) ≡ b → is_free (find_name h.name.name s.own) ≡ true → IsNumbered hs m' n' s → More hs n' h (cond b (module_procedure s h.name.name (Ok u)) (set_heading h.name.name (nested_meaning s.level n' (Ok u)) s))
+      new_by : (b : Bool) (s : S) (u : TypeNo) → (level == 0) ≡ b → is_free (find_name h.name.name s.own) ≡ true → IsNumbered hs m' n' s → More hs n' h (cond b (module_procedure s h.name.name (Ok u)) (set_heading h.name.name (heading_means true (nested_meaning s.level n' (Ok u))) s))
       new_by true s u l f p = new_in_module s u l f p
       new_by false s u l f p = new_in_procedure s u l f p
 

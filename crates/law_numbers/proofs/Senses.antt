@@ -130,11 +130,11 @@ front_no_code (OfType d) = tt
 front_no_code (OfVariables v) = tt
 front_no_code (OfProcedure h) = tt
 
-broken_no_code : (d : Declaration) → StandsWithoutCode (without d)
-broken_no_code (OfConstant c) = tt
-broken_no_code (OfType d) = tt
-broken_no_code (OfVariables v) = tt
-broken_no_code (OfProcedure h) = tt
+broken_no_code : (b : Bool) (d : Declaration) → StandsWithoutCode (without b d)
+broken_no_code b (OfConstant c) = tt
+broken_no_code b (OfType d) = tt
+broken_no_code b (OfVariables v) = tt
+broken_no_code b (OfProcedure h) = tt
 
 pub no_code : (l : ℕ) (m : Meaning) → StandsWithoutCode (standing m) → None ≡ named_by l m
 no_code l (meaning.Constant v) h = refl
@@ -183,7 +183,7 @@ module _ (g : Gathers) (j : Judges g) where
   sees_ok : {at : Pos} {s : Standing} {r : Result Meaning (Meaningless g.Reported)} (m : Meaning) → Sees g j at s r → r ≡ Ok m → s ≡ standing m
   sees_ok m (sees n) e = let q : n ≡ m = cc e in ap standing q
   sees_ok m sees_nothing e = absurd cc
-  sees_ok m (sees_headless r) e = absurd cc
+  sees_ok m (sees_headless b r) e = absurd cc
   sees_ok m (sees_unknown r) e = absurd cc
 
   abbrev Looks : Type 0
@@ -359,7 +359,7 @@ module _ (g : Gathers) (j : Judges g) (lawful : Lawful g j) (exports : ℕ → I
   meaning_by : (name : Ident) {d : Resolved} {before : List Resolved} {r : Standing} → p.taken name.name ≡ false → Among d.what (declarations_of ds) → Named (names_of d.what) name.name → names name ≡ r
       → Means s.types exports p.names p.taken p.awaited (is_nested s) (declarations_of ds) before d r → Some_sense name
   meaning_by name f m i n (rules.says stood k) = said_by name f m i n k
-  meaning_by name {d = d} f m i n (rules.says_nothing stood k) = none name _ n (broken_no_code d.what)
+  meaning_by name {d = d} f m i n (rules.says_nothing stood k) = none name _ n (broken_no_code (is_nested s) d.what)
 
   stood_by : (name : Ident) {r : Standing} → names name ≡ r → StandsFor s.types exports p.names p.taken p.awaited (is_nested s) (declarations_of ds) whole name r → Some_sense name
   stood_by name n (rules.declared {d = d} f i own k) = meaning_by name f (subst (λ (ds : List Declaration). Among d.what ds) text (named_there i)) own n k

@@ -43,6 +43,8 @@ use Rattle.std.proofs.Common.{refl}
 use Rattle.check_scope.specs.declared.known.Origin.TheVariants.{Here, Module, Export}
 use Rattle.check_scope.specs.Scopes.{is_free, is_begun, unless_declared}
 use Rattle.check_scope.specs.Elaborated.{report}
+use Rattle.check_scope.specs.Scopes.{heading_means}
+use Rattle.check_scope.specs.declared.meaningless.Meaningless.{Meaningless}
 use Rattle.m2_rule.specs.declared.rule.Rule.TheVariants as rule
 use Rattle.typed_tree.specs.declared.meaning.Procedure.{Procedure as ModuleProcedure}
 
@@ -101,7 +103,7 @@ pub data IsEntered {T : Type 0} : Known T → Type 0 where
   later_is : IsEntered Later
   ahead_is : IsEntered Ahead
   begun_is : IsEntered Begun
-  headed_is : (r : Result Meaning T) → IsEntered (Headed r)
+  headed_is : (r : Result Meaning (Meaningless T)) → IsEntered (Headed r)
   declared_is : (r : Result Meaning T) → ((p : ModuleProcedure) → r ≡ Ok (meaning.Procedure p) → ⊥) → IsEntered (Declared Here r)
 
 no_procedure : {A T : Type 0} (r : Result A T) (f : A → Meaning) → ((x : A) (p : ModuleProcedure) → f x ≡ meaning.Procedure p → ⊥) → (p : ModuleProcedure) → (r ▷ λ x. Ok (f x)) ≡ Ok (meaning.Procedure p) → ⊥
@@ -365,9 +367,9 @@ module _ (g : Gathers) (P : Scope g.Reported → Type 0) (frees : (s : Scope g.R
         made_own s (Ok m) = refl
         made_own s (Err r) = refl
 
-        new_by : (b : Bool) (s : Scope g.Reported) (name : List ℕ) (n : ℕ) (t : Result TypeNo g.Reported) → is_free (find_name name s.own) ≡ true → P s → P (cond b (module_procedure s name t) (set_heading name (nested_meaning s.level n t) s))
-        new_by true s name n t e h = frees (with_procedure_type s t) name (Headed (procedure_meaning s.types.home (length s.procedures) t)) (headed_is _) (ap (λ (es : List (List ℕ × Known g.Reported)). is_free (find_name name es)) (procedure_type_own s t) ∙ e) (headed s t h)
-        new_by false s name n t e h = frees s name (Headed (nested_meaning s.level n t)) (headed_is _) e h
+        new_by : (b : Bool) (s : Scope g.Reported) (name : List ℕ) (n : ℕ) (t : Result TypeNo g.Reported) → is_free (find_name name s.own) ≡ true → P s → P (cond b (module_procedure s name t) (set_heading name (heading_means true (nested_meaning s.level n t)) s))
+        new_by true s name n t e h = frees (with_procedure_type s t) name (Headed (heading_means false (procedure_meaning s.types.home (length s.procedures) t))) (headed_is _) (ap (λ (es : List (List ℕ × Known g.Reported)). is_free (find_name name es)) (procedure_type_own s t) ∙ e) (headed s t h)
+        new_by false s name n t e h = frees s name (Headed (heading_means true (nested_meaning s.level n t))) (headed_is _) e h
 
         heading_by : (s : Scope g.Reported) (x : Heading) (n : ℕ) (o : Standing) → name_standing (find_name x.name.name s.own) ≡ o → P s → P (headed_as g s x n (heading_of g s x) o).0
         heading_by s x n Free e h = new_by (level_is (with_made s (heading_of g s x)).0) (with_made s (heading_of g s x)).0 x.name.name n (with_made s (heading_of g s x)).1

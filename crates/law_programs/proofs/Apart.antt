@@ -20,6 +20,7 @@ use Rattle.check_scope.specs.Scopes.{State}
 use Rattle.check_scope.specs.declared.known.Known.{Known}
 use Rattle.check_scope.specs.declared.known.Known.TheVariants.{Headed}
 use Rattle.check_scope.specs.declared.scope.Scope.{Scope}
+use Rattle.check_scope.specs.Scopes.{heading_means}
 use Rattle.check_type_expr.specs.Made.{next_type, with_shape}
 use Rattle.check_type_expr.specs.Headings.{heading_of, names_of}
 use Rattle.check_block.specs.declared.heading.Standing.{Standing}
@@ -91,7 +92,7 @@ module _ (g : Gathers) (ends : List ℕ) where
       (p : Procedure) × ((find_name name s'.own ≡ Some (Headed (Ok (meaning.Procedure p))))
       × ((name_standing (find_name name s.own) ≡ Awaited p) ⊎ ((p.number ≡ length s.procedures) × (length s.procedures < length s'.procedures))))
 
-  new_number : (b : Bool) → b ≡ true → (s : Scope g.Reported) (name : List ℕ) (n : ℕ) (t : TypeNo) → HeadNumber s (cond b (module_procedure s name (Ok t)) (set_heading name (nested_meaning s.level n (Ok t)) s)) name
+  new_number : (b : Bool) → b ≡ true → (s : Scope g.Reported) (name : List ℕ) (n : ℕ) (t : TypeNo) → HeadNumber s (cond b (module_procedure s name (Ok t)) (set_heading name (heading_means true (nested_meaning s.level n (Ok t))) s)) name
   unfolding HeadNumber
   new_number true e s name n t = (
     record { home = s.types.home; number = length s.procedures; heading = t },

@@ -31,7 +31,7 @@ use Rattle.check_body.specs.Checked.{of_implementation, of_contents}
 use Rattle.check_body.specs.Checks.{elaborate_body}
 use Rattle.build_jobs.specs.Own.{own_table, tables_behind}
 use Rattle.build_jobs.specs.Compiling.{tables_of, typed_body}
-use Rattle.build_jobs.specs.Encoded.{needed_of}
+use Rattle.build_jobs.specs.Jobs.{needed_of}
 use Rattle.law_well_formed.specs.Formed.{fine}
 use Rattle.law_well_formed.proofs.ScopesDeclarations.{same_home}
 use Rattle.law_well_formed.proofs.Checks.{holds_at}

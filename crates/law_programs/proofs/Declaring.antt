@@ -42,6 +42,7 @@ use Rattle.check_scope.specs.declared.known.Origin.{Origin}
 use Rattle.check_scope.specs.declared.known.Origin.TheVariants.{Here, Export}
 use Rattle.check_scope.specs.declared.known.Origin.TheVariants as origin
 use Rattle.check_scope.specs.declared.scope.Scope.{Scope}
+use Rattle.check_scope.specs.Scopes.{heading_means}
 use Rattle.check_const.specs.Parts.{constant}
 use Rattle.check_expr.specs.Meanings.{part}
 use Rattle.check_type_expr.specs.declared.field.Fields.{Fields}
@@ -60,7 +61,7 @@ use Rattle.check_block.specs.Headings.{name_standing, nested_meaning, set_headin
 use Rattle.check_block.specs.Naming.{marked_layer, marked_decl, with_marks, all_marked}
 use Rattle.check_block.specs.Declarations.{local_meaning, finished_local, with_locals, Course, decl_layer, with_decl, declared_block, declared_module}
 use Rattle.law_well_formed.specs.Formed.{Holds, fine, broken}
-use Rattle.law_well_formed.proofs.Basics.{then_holds, holds_weaker, where_holds, both_holds, any_holds}
+use Rattle.law_well_formed.proofs.Basics.{then_holds, holds_weaker, where_holds, both_holds, any_holds, heading_means_holds}
 use Rattle.law_well_formed.proofs.RangesDeclarations.{meant_holds}
 use Rattle.law_well_formed.proofs.Names.{get_last}
 use Rattle.law_well_formed.proofs.ScopesDeclarations.{same_home}
@@ -344,11 +345,11 @@ module _ (g : Gathers) where
       carries_then (made_carries st.0 (heading_plain st.0 h)) (carries_then (procedure_type_carries t.0 t.1)
       (unless_carries g (with_procedure_type t.0 t.1) h.name (Declared Here (procedure_meaning t.0.types.home (length t.0.procedures) t.1)) (meant_holds (λ u. meaning.Procedure (record { home = t.0.types.home; number = length t.0.procedures; heading = u })) (λ u. tt) t.1) (λ q. meant_holds (λ u. meaning.Procedure (record { home = t.0.types.home; number = length t.0.procedures; heading = u })) (λ u. tt) t.1) (λ fs l. meant_holds (λ u. meaning.Procedure (record { home = t.0.types.home; number = length t.0.procedures; heading = u })) (λ u. tt) t.1)))
 
-  new_by : (b : Bool) (s : Scope g.Reported) (name : List ℕ) (n : ℕ) (t : Result TypeNo g.Reported) → Goes s (cond b (module_procedure s name t) (set_heading name (nested_meaning s.level n t) s))
+  new_by : (b : Bool) (s : Scope g.Reported) (name : List ℕ) (n : ℕ) (t : Result TypeNo g.Reported) → Goes s (cond b (module_procedure s name t) (set_heading name (heading_means true (nested_meaning s.level n t)) s))
   new_by true s name n t =
       carries_then (procedure_type_carries s t)
-      (known_carries (with_procedure_type s t) name (Headed (procedure_meaning s.types.home (length s.procedures) t)) (meant_holds (λ u. meaning.Procedure (record { home = s.types.home; number = length s.procedures; heading = u })) (λ u. tt) t) (λ q. meant_holds (λ u. meaning.Procedure (record { home = s.types.home; number = length s.procedures; heading = u })) (λ u. tt) t) (λ fs l. meant_holds (λ u. meaning.Procedure (record { home = s.types.home; number = length s.procedures; heading = u })) (λ u. tt) t))
-  new_by false s name n t = known_carries s name (Headed (nested_meaning s.level n t)) (meant_holds (λ u. meaning.LocalProcedure (record { level = s.level; number = n; heading = u })) (λ u. tt) t) (λ q. meant_holds (λ u. meaning.LocalProcedure (record { level = s.level; number = n; heading = u })) (λ u. tt) t) (λ fs l. meant_holds (λ u. meaning.LocalProcedure (record { level = s.level; number = n; heading = u })) (λ u. tt) t)
+      (known_carries (with_procedure_type s t) name (Headed (heading_means false (procedure_meaning s.types.home (length s.procedures) t))) (heading_means_holds false (meant_holds (λ u. meaning.Procedure (record { home = s.types.home; number = length s.procedures; heading = u })) (λ u. tt) t)) (λ q. heading_means_holds false (meant_holds (λ u. meaning.Procedure (record { home = s.types.home; number = length s.procedures; heading = u })) (λ u. tt) t)) (λ fs l. heading_means_holds false (meant_holds (λ u. meaning.Procedure (record { home = s.types.home; number = length s.procedures; heading = u })) (λ u. tt) t)))
+  new_by false s name n t = known_carries s name (Headed (heading_means true (nested_meaning s.level n t))) (heading_means_holds true (meant_holds (λ u. meaning.LocalProcedure (record { level = s.level; number = n; heading = u })) (λ u. tt) t)) (λ q. heading_means_holds true (meant_holds (λ u. meaning.LocalProcedure (record { level = s.level; number = n; heading = u })) (λ u. tt) t)) (λ fs l. heading_means_holds true (meant_holds (λ u. meaning.LocalProcedure (record { level = s.level; number = n; heading = u })) (λ u. tt) t))
 
   heading_by : (s : Scope g.Reported) (h : Heading) (n : ℕ) (o : Standing) → Goes s (headed_as g s h n (heading_of g s h) o).0
   heading_by s h n Free =

@@ -51,7 +51,7 @@ use Rattle.check_const.specs.Calls.{sort_of, bound_by, type_argument}
 use Rattle.check_const.specs.Parts.{Part, Pick, Adds, sign_place, signed_first, first_name, field_of, constant, one, type_only, conversion, by_sort, standard_call_value, call_value, factor, term, set_type}
 use Rattle.check_expr.specs.Meanings.{Meant, Picks, expr_layer, selector_layer, designator_layer, item_layer, meanings_of, picks, head, item, part}
 use Rattle.law_well_formed.specs.Formed.{Holds, fine, broken}
-use Rattle.law_well_formed.proofs.Basics.{then_holds, reported_holds, where_holds, both_holds, plain_holds, heading_means_holds, any_holds}
+use Rattle.law_well_formed.proofs.Basics.{then_holds, reported_holds, where_holds, both_holds, plain_holds, any_holds}
 use Rattle.law_programs.specs.Typing.{IsWord}
 use Rattle.law_programs.specs.Carried.{MeaningWord, KnownWord, NamesWords, BlocksWords, ExportsWords, TablesWords, ScopeWords}
 use Rattle.law_programs.proofs.Words.{operand_word, binary_words, signed_words, negated_words, unary_words, bound_word, B_, added_small, AllSmall, items_small}
@@ -108,7 +108,7 @@ module _ (g : Gathers) where
   seen_means at Later seen p = plain_holds (reported_holds g at rule.Undeclared)
   seen_means at Ahead seen p = fine meaning.Ahead tt
   seen_means at Begun seen p = plain_holds (reported_holds g at rule.Undeclared)
-  seen_means at (Headed r) seen p = heading_means_holds p
+  seen_means at (Headed r) seen p = p
   seen_means at (Declared o r) seen p = plain_holds (declared_means at seen r p)
 
   means_words : (at : Pos) (o : Sight g.Reported) → WordSight o → Means_ (means_as g at o)
@@ -196,7 +196,7 @@ module _ (g : Gathers) (s : Scope g.Reported) (h : ScopeWords s) where
   denoted_words : {r : Result Meaning (Meaningless g.Reported)} → Holds MeaningWord r → D_ (denoted_of r)
   denoted_words (fine m p) = fine (denoted_by m) (by_meaning m p)
   denoted_words (broken (Broken e)) = broken e
-  denoted_words (broken (Headless e)) = fine denoted.Procedure tt
+  denoted_words (broken (Headless nested e)) = fine denoted.Procedure tt
 
   named_words : (name : Ident) → D_ (first_name g s name)
   named_words name = denoted_words (name_means name)
@@ -207,7 +207,7 @@ module _ (g : Gathers) (s : Scope g.Reported) (h : ScopeWords s) where
   component_words at (denoted.Type t) = fine denoted.Variable tt
   component_words at denoted.Procedure = fine denoted.Variable tt
   component_words at (denoted.Standard f) = fine denoted.Variable tt
-  component_words at (denoted.Module k) = reported_holds g at rule.WrongType
+  component_words at (denoted.Module k) = fine denoted.Variable tt
 
   field_words : (at : Pos) (name : Ident) (d : Denoted) → D_ (field_of g s at name d)
   field_words at name (denoted.Module k) = then_holds (member_means k name) (λ m p. fine (denoted_by m) (by_meaning m p))

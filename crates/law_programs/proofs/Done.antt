@@ -48,11 +48,11 @@ there_by : (b : Bool) (here there : Type 0) → b ≡ false → there → Behind
 there_by true here there e h = absurd cc
 there_by false here there e h = h
 
-module _ {T : Type 0} where
-  abbrev pub counted_if : Result Meaning T → List Meaning
-  counted_if (Ok m) = counted m
-  counted_if (Err e) = []
+abbrev pub counted_if : {E : Type 0} → Result Meaning E → List Meaning
+counted_if (Ok m) = counted m
+counted_if (Err e) = []
 
+module _ {T : Type 0} where
   abbrev pub counted_from : Origin → Result Meaning T → List Meaning
   counted_from Here r = counted_if r
   counted_from (Module k) r = []

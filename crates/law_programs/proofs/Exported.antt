@@ -151,10 +151,10 @@ module _ (home : ℕ) (vs : List TypeNo) where
   meaning_placed : (so : List (List ℕ × Meaning)) (name : List ℕ) (m : Meaning) → MeaningPlaced home vs m → EachPlaced so → EachPlaced (enter_name name m so)
   meaning_placed so name m p all = each_entered (λ (e : List ℕ × Meaning). MeaningPlaced home vs e.1) name m so (λ other e. p) all
 
-  module _ {T : Type 0} where
-    held : (m : Meaning) → Holds {A = Meaning} {T = T} (MeaningPlaced home vs) (Ok m) → MeaningPlaced home vs m
-    held m (fine _ p) = p
+  held : {E : Type 0} (m : Meaning) → Holds {A = Meaning} {T = E} (MeaningPlaced home vs) (Ok m) → MeaningPlaced home vs m
+  held m (fine _ p) = p
 
+  module _ {T : Type 0} where
     known_placed : (so : List (List ℕ × Meaning)) (name : List ℕ) (k : Known T) → KnownPlaced home vs k → EachPlaced so → EachPlaced (with_known so name k)
     known_placed so name Later p all = all
     known_placed so name Ahead p all = all

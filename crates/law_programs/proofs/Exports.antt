@@ -42,7 +42,7 @@ use Rattle.law_well_formed.proofs.TablesDefinitions.{tables_number}
 use Rattle.law_well_formed.specs.FormedModules.{IsTable}
 use Rattle.law_well_formed.specs.FormedKnown.{fits_module, HasReached, TableFormed}
 use Rattle.build_jobs.specs.Compiling.{tables_of}
-use Rattle.build_jobs.specs.Encoded.{needed_of}
+use Rattle.build_jobs.specs.Jobs.{needed_of}
 use Rattle.law_programs.proofs.Reach.{tables_same}
 use Rattle.law_programs.specs.FormedCoherent.{trees_of, IsBodyOf, AreBodiesIn}
 use Rattle.law_programs.proofs.Imports.{IsImportOf}

@@ -19,7 +19,7 @@ use Rattle.law_well_formed.proofs.FramesModules.{modules_nested}
 use Rattle.law_well_formed.proofs.Whole.{types_whole}
 use Rattle.build_jobs.specs.Own.{own_table, tables_behind}
 use Rattle.build_jobs.specs.Compiling.{tables_of, typed_body}
-use Rattle.build_jobs.specs.Encoded.{needed_of}
+use Rattle.build_jobs.specs.Jobs.{needed_of}
 use Rattle.law_programs.proofs.ValidPrograms.{tables_for, programs_formed}
 use Rattle.law_programs.specs.FormedCoherent.{trees_of, IsBodyIn, AreBodiesIn}
 use Rattle.law_programs.proofs.Graphs.{graphs_coherent}

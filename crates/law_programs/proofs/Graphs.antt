@@ -40,7 +40,7 @@ use Rattle.law_well_formed.specs.FormedKnown.{fits_module}
 use Rattle.build_jobs.specs.declared.outcome.Compiled.TheVariants.{Defined}
 use Rattle.build_jobs.specs.Own.{own_table, tables_behind}
 use Rattle.build_jobs.specs.Compiling.{tables_of, typed_body}
-use Rattle.build_jobs.specs.Encoded.{needed_of}
+use Rattle.build_jobs.specs.Jobs.{needed_of}
 use Rattle.law_programs.specs.FormedReach.{result_of}
 use Rattle.law_programs.proofs.Reach.{tree_fits, tables_needed, bodies_know}
 use Rattle.law_programs.specs.FormedCoherent.{IsBodyOf, IsWhole, IsBodyIn, AreBodiesIn}

@@ -51,7 +51,7 @@ use Rattle.build_jobs.specs.declared.outcome.Compiled.TheVariants.{Defined, Bloc
 use Rattle.build_jobs.specs.Own.{own_table, tables_behind}
 use Rattle.build_jobs.specs.Compiling.{is_sound, tables_of, of_definition, of_fit, of_checked, of_contents, typed_body, compilation_of}
 use Rattle.build_jobs.specs.Jobs.{compile_in_place}
-use Rattle.build_jobs.specs.Encoded.{needed_of}
+use Rattle.build_jobs.specs.Jobs.{needed_of}
 use Rattle.law_programs.specs.FormedReach.{result_of, types_of}
 use Rattle.law_programs.proofs.Reach.{tree_fits, IsNeeded, own_formed, behind_formed, known_below, tables_needed, tables_same}
 use Rattle.law_programs.specs.FormedCoherent.{IsBodyOf, IsWhole}

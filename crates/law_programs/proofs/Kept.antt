@@ -31,6 +31,7 @@ use Rattle.check_scope.specs.declared.known.Origin.{Origin}
 use Rattle.check_scope.specs.declared.known.Origin.TheVariants.{Here, Export}
 use Rattle.check_scope.specs.declared.known.Origin.TheVariants as origin
 use Rattle.check_scope.specs.declared.scope.Scope.{Scope}
+use Rattle.check_scope.specs.Scopes.{heading_means}
 use Rattle.check_const.specs.Parts.{constant}
 use Rattle.check_expr.specs.Meanings.{part}
 use Rattle.check_type_expr.specs.declared.field.Fields.{Fields}
@@ -324,9 +325,9 @@ module _ (g : Gathers) (P : Scope g.Reported → Type 0) (named : (s : Scope g.R
       variables_by true st vs h = variables_keep vs st h
       variables_by false st vs h = locals_keep vs st h
 
-      new_by : (b : Bool) (s : Scope g.Reported) (name : List ℕ) (n : ℕ) (t : Result TypeNo g.Reported) → P s → P (cond b (module_procedure s name t) (set_heading name (nested_meaning s.level n t) s))
-      new_by true s name n t h = named (with_procedure_type s t) name (Headed (procedure_meaning s.types.home (length s.procedures) t)) (headed_keeps s t h)
-      new_by false s name n t h = named s name (Headed (nested_meaning s.level n t)) h
+      new_by : (b : Bool) (s : Scope g.Reported) (name : List ℕ) (n : ℕ) (t : Result TypeNo g.Reported) → P s → P (cond b (module_procedure s name t) (set_heading name (heading_means true (nested_meaning s.level n t)) s))
+      new_by true s name n t h = named (with_procedure_type s t) name (Headed (heading_means false (procedure_meaning s.types.home (length s.procedures) t))) (headed_keeps s t h)
+      new_by false s name n t h = named s name (Headed (heading_means true (nested_meaning s.level n t))) h
 
       heading_by : (s : Scope g.Reported) (h : Heading) (n : ℕ) (o : Standing) → P s → P (headed_as g s h n (heading_of g s h) o).0
       heading_by s h n Free k =

@@ -115,7 +115,8 @@ module _ (g : Gathers) (x : Context) (ws : List Ty) (opens : ℕ → Bool) (s : 
   bound_in_typed : (base : TypeNo) (label at : Pos) {d : Result Designated (Meaningless g.Reported)} → Holds (DesignatedTyped x ws opens) d → Holds InSort (bound_in g s.types (Some base) label at d)
   bound_in_typed base label at (fine d k) = bound_by_typed base label at d k
   bound_in_typed base label at (broken (Broken e)) = broken e
-  bound_in_typed base label at (broken (Headless e)) = none_typed false label at
+  bound_in_typed base label at (broken (Headless true e)) = reported_holds g at rule.NoProcedureValue
+  bound_in_typed base label at (broken (Headless false e)) = none_typed false label at
 
   bound_typed : (base : TypeNo) (label : Pos) (y : Meant g.Reported) → Known_ y → Holds InSort (bound_of g s (Some base) label y)
   bound_typed base label y p = bound_in_typed base label y.fixed.at p

@@ -16,13 +16,14 @@ use Rattle.check_scope.specs.declared.known.Known.{Known}
 use Rattle.check_scope.specs.declared.known.Known.TheVariants.{Later, Ahead, Begun, Headed, Declared}
 use Rattle.check_scope.specs.declared.known.Origin.TheVariants.{Here, Module, Export}
 use Rattle.check_scope.specs.declared.scope.Scope.{Scope}
+use Rattle.check_scope.specs.Scopes.{heading_means}
 use Rattle.check_type_expr.specs.declared.field.Fields.{Fields}
 use Rattle.check_type_expr.specs.Fields.{no_fields}
 use Rattle.check_type_expr.specs.Made.{next_type, with_shape, with_made, enumeration_constant, enumeration_scalar, too_many, enumerate_name, simple_type, index_type, Makes, MakesFields, then_fields, type_layer, field_layer, type_of, field_list}
 use Rattle.check_definition.specs.Marking.{Marks, marked_constant, marked_type, marked_variables, marked_later, marked_simple, then_marks, marked_in, marked_field}
 use Rattle.check_definition.specs.Marking as marking
 use Rattle.law_well_formed.specs.Formed.{Holds, fine, broken}
-use Rattle.law_well_formed.proofs.Basics.{then_holds, any_holds}
+use Rattle.law_well_formed.proofs.Basics.{then_holds, any_holds, heading_means_holds}
 use Rattle.m2_tree.specs.declared.decl.Constant.{Constant}
 use Rattle.m2_tree.specs.declared.decl.TypeDecl.{TypeDecl}
 use Rattle.m2_tree.specs.declared.decl.Variables.{Variables}
@@ -302,11 +303,11 @@ module _ (g : Gathers) where
 
   -- ---- headings
 
-  nested_stays : (s : Scope g.Reported) (name : List ℕ) (n : ℕ) (t : Result TypeNo g.Reported) → Goes s (set_heading name (nested_meaning s.level n t) s)
+  nested_stays : (s : Scope g.Reported) (name : List ℕ) (n : ℕ) (t : Result TypeNo g.Reported) → Goes s (set_heading name (heading_means true (nested_meaning s.level n t)) s)
   nested_stays s name n t =
-      known_stays s name (Headed (nested_meaning s.level n t)) (λ h. then_holds (any_holds t) (λ x k. fine (meaning.LocalProcedure (record { level = s.level; number = n; heading = x })) tt))
+      known_stays s name (Headed (heading_means true (nested_meaning s.level n t))) (λ h. heading_means_holds true (then_holds (any_holds t) (λ x k. fine (meaning.LocalProcedure (record { level = s.level; number = n; heading = x })) tt)))
 
-  new_by : (b : Bool) → b ≡ false → (s : Scope g.Reported) (name : List ℕ) (n : ℕ) (t : Result TypeNo g.Reported) → Goes s (cond b (module_procedure s name t) (set_heading name (nested_meaning s.level n t) s))
+  new_by : (b : Bool) → b ≡ false → (s : Scope g.Reported) (name : List ℕ) (n : ℕ) (t : Result TypeNo g.Reported) → Goes s (cond b (module_procedure s name t) (set_heading name (heading_means true (nested_meaning s.level n t)) s))
   new_by true e s name n t = absurd cc
   new_by false e s name n t = nested_stays s name n t
 

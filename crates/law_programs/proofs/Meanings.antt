@@ -37,7 +37,7 @@ use Rattle.typed_tree.specs.declared.types.TypeNo.{TypeNo}
 use Rattle.typed_tree.specs.Chains.{root_place}
 use Rattle.typed_tree.specs.Types.{char}
 use Rattle.check_scope.specs.declared.meaningless.Meaningless.{Meaningless}
-use Rattle.check_scope.specs.Elaborated.{Gathers, reported_where, ahead, of_sort, of_heading, ◌▷◌}
+use Rattle.check_scope.specs.Elaborated.{Gathers, reported_where, ahead, of_sort, of_heading, of_value, ◌▷◌}
 use Rattle.check_scope.specs.declared.scope.Scope.{Scope}
 use Rattle.check_const.specs.Denote.{as_constant as constant_of}
 use Rattle.check_const.specs.Parts.{Part, Pick, Adds, sign_place, set_type}
@@ -69,7 +69,7 @@ use Rattle.law_simulation.specs.Frames.{kind_at}
 use Rattle.law_simulation.specs.Passing.{Forms, form_of}
 use Rattle.law_simulation.specs.TreesTyped.{Context, GlobalRoot, LocalRoot, AliasRoot, WithRoot}
 use Rattle.law_well_formed.specs.Formed.{Holds, fine}
-use Rattle.law_well_formed.proofs.Basics.{then_holds, reported_holds, both_holds, refused_holds, reported_beside_holds, ahead_holds, sort_holds, of_heading_holds, plain_holds, any_holds, heading_kept}
+use Rattle.law_well_formed.proofs.Basics.{then_holds, reported_holds, both_holds, refused_holds, reported_beside_holds, ahead_holds, sort_holds, of_heading_holds, of_value_holds, sort_of_value_holds, plain_holds, any_holds, heading_kept}
 use Rattle.law_well_formed.specs.FormedRanges.{itself, fits_layer}
 use Rattle.law_well_formed.proofs.RangesTypes.{both_left, both_right}
 use Rattle.law_well_formed.proofs.Subranges.{from_le}
@@ -110,7 +110,7 @@ module _ (g : Gathers) (x : Context) (ws : List Ty) (opens : ℕ → Bool) (s : 
   AllP (y ∷ ys) = FP y × AllP ys
 
   pub value_typed : (y : Meant g.Reported) → FM y → Value_ (value_of g s y)
-  value_typed y p = then_holds (of_heading_holds p) (λ d k. taken_typed x ws h.all g opens s.types h.types y.fixed.at d k)
+  value_typed y p = then_holds (of_value_holds g y.fixed.at p) (λ d k. taken_typed x ws h.all g opens s.types h.types y.fixed.at d k)
 
   computed_typed : {r : Result Computed g.Reported} → Value_ r → Designated_ (of_computed r)
   computed_typed p = plain_holds (then_holds p (λ v k. fine (designated.Value v) k))
@@ -178,9 +178,9 @@ module _ (g : Gathers) (x : Context) (ws : List Ty) (opens : ℕ → Bool) (s : 
   abbrev pub Arguments_ : Forms → Result (List Argument) g.Reported → Type 0
   Arguments_ fs r = Holds (λ gs. made.ArgumentsTyped x ws gs fs) r
 
-  passed_by : (is_var : Bool) (at : Pos) {d : Result Designated (Meaningless g.Reported)} → Designated_ d → Designated_ (cond is_var (of_sort g at rule.NoVariable d) (of_heading d))
+  passed_by : (is_var : Bool) (at : Pos) {d : Result Designated (Meaningless g.Reported)} → Designated_ d → Designated_ (cond is_var (of_sort g at rule.NoVariable d) (of_value g at d))
   passed_by true at p = sort_holds g at rule.NoVariable p
-  passed_by false at p = of_heading_holds p
+  passed_by false at p = of_value_holds g at p
 
   passed_typed : (f : Formal) (at : Pos) {d : Result Designated (Meaningless g.Reported)} → Designated_ d → Designated_ (passed_for g f at d)
   passed_typed f at p = passed_by f.is_var at p
@@ -253,7 +253,7 @@ module _ (g : Gathers) (x : Context) (ws : List Ty) (opens : ℕ → Bool) (s : 
 
   high_all : (at : Pos) (args : List (Meant g.Reported)) → AllM args → Value_ (high g s at args)
   high_all at [] all = reported_beside_holds g at rule.ArgumentCount (breaches_in_all g s [])
-  high_all at (y ∷ []) all = then_holds (sort_holds g y.fixed.at rule.WrongArgument all.0) (λ d p. high_typed x ws h.all g opens s.types h.types y.fixed.at d p)
+  high_all at (y ∷ []) all = then_holds (sort_of_value_holds g y.fixed.at rule.WrongArgument all.0) (λ d p. high_typed x ws h.all g opens s.types h.types y.fixed.at d p)
   high_all at (y ∷ z ∷ ys) all = reported_beside_holds g at rule.ArgumentCount _
 
   form_typed : (at : Pos) (f : Standard) (args : List (Meant g.Reported)) (o : Form) → AllM args → Value_ (by_form g s at f args o)

@@ -27,6 +27,7 @@ use Rattle.check_scope.specs.declared.known.Known.TheVariants.{Later, Ahead, Beg
 use Rattle.check_scope.specs.declared.known.Origin.{Origin}
 use Rattle.check_scope.specs.declared.known.Origin.TheVariants.{Here, Module, Export}
 use Rattle.check_scope.specs.declared.scope.Scope.{Scope}
+use Rattle.check_scope.specs.Scopes.{heading_means}
 use Rattle.check_const.specs.Parts.{constant}
 use Rattle.check_expr.specs.Meanings.{part}
 use Rattle.check_type_expr.specs.declared.field.Fields.{Fields}
@@ -43,6 +44,7 @@ use Rattle.check_block.specs.Naming.{marked_layer, marked_decl, with_marks, all_
 use Rattle.check_block.specs.Declarations.{Course, local_meaning, finished_local, with_locals, decl_layer, with_decl, declared_block}
 use Rattle.law_well_formed.specs.Formed.{Holds, fine, broken}
 use Rattle.law_well_formed.proofs.Named.{unless_as, finished_as}
+use Rattle.law_well_formed.proofs.Basics.{heading_means_holds}
 
 -- no procedure in a procedure
 abbrev pub IsOuter : Meaning → Type 0
@@ -310,8 +312,8 @@ module _ (g : Gathers) (P : Scope g.Reported → Type 0) (named : (s : Scope g.R
       variables_by true st vs h = variables_keep vs st h
       variables_by false st vs h = locals_keep vs st h
 
-      new_by : (b : Bool) (s : Scope g.Reported) (name : List ℕ) (n : ℕ) (t : Result TypeNo g.Reported) → b ≡ true → P s → P (cond b (module_procedure s name t) (set_heading name (nested_meaning s.level n t) s))
-      new_by true s name n t e h = named (with_procedure_type s t) name (Headed (procedure_meaning s.types.home (length s.procedures) t)) (outer_by t (λ v. meaning.Procedure (record { home = s.types.home; number = length s.procedures; heading = v })) (λ v. tt)) (headed_keeps s t h)
+      new_by : (b : Bool) (s : Scope g.Reported) (name : List ℕ) (n : ℕ) (t : Result TypeNo g.Reported) → b ≡ true → P s → P (cond b (module_procedure s name t) (set_heading name (heading_means true (nested_meaning s.level n t)) s))
+      new_by true s name n t e h = named (with_procedure_type s t) name (Headed (heading_means false (procedure_meaning s.types.home (length s.procedures) t))) (heading_means_holds false (outer_by t (λ v. meaning.Procedure (record { home = s.types.home; number = length s.procedures; heading = v })) (λ v. tt))) (headed_keeps s t h)
       new_by false s name n t e h = absurd cc
 
       heading_by : (s : Scope g.Reported) (h : Heading) (n : ℕ) (o : Standing) → P s → P (headed_as g s h n (heading_of g s h) o).0

@@ -33,7 +33,7 @@ use Rattle.build_jobs.specs.declared.outcome.Compiled.TheVariants.{Defined, Buil
 use Rattle.build_jobs.specs.Own.{own_table, tables_behind}
 use Rattle.build_jobs.specs.Compiling.{is_sound, table_in, tables_of, of_definition, of_fit, of_checked, of_contents, typed_body, compilation_of}
 use Rattle.build_jobs.specs.Jobs.{compile_in_place, compile_at}
-use Rattle.build_jobs.specs.Encoded.{needed_of}
+use Rattle.build_jobs.specs.Jobs.{needed_of}
 use Rattle.law_programs.specs.FormedReach.{result_of, made_by, types_of}
 
 -- ---- lists

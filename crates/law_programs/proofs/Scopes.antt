@@ -32,7 +32,7 @@ use Rattle.check_const.specs.Denote.{exported_meaning}
 use Rattle.check_operator.specs.Classes.{signature_shape, signature_made, signature_at}
 use Rattle.law_simulation.specs.TreesTyped.{Context}
 use Rattle.law_well_formed.specs.Formed.{Holds, fine}
-use Rattle.law_well_formed.proofs.Basics.{holds_weaker, reported_holds, plain_holds, heading_means_holds}
+use Rattle.law_well_formed.proofs.Basics.{holds_weaker, reported_holds, plain_holds}
 use Rattle.law_well_formed.specs.Ordered.{named_by, result_named, AreKnown, AreOrdered}
 use Rattle.law_well_formed.specs.Ordered as ordered
 use Rattle.law_well_formed.proofs.Shaped.{named_known}
@@ -120,7 +120,7 @@ module _ (x : Context) (opens : ℕ → Bool) (g : Gathers) where
     seen_means at Later seen p = plain_holds (reported_holds g at rule.Undeclared)
     seen_means at Ahead seen p = fine meaning.Ahead tt
     seen_means at Begun seen p = plain_holds (reported_holds g at rule.Undeclared)
-    seen_means at (Headed r) seen p = heading_means_holds (holds_weaker (λ m q. q.0) p)
+    seen_means at (Headed r) seen p = holds_weaker (λ m q. q.0) p
     seen_means at (Declared o r) seen p = plain_holds (declared_means at seen r (holds_weaker (λ m q. q.0) p))
 
     means_there : (at : Pos) (o : Sight g.Reported) → ThereSight x opens level o → Means_ (means_as g at o)

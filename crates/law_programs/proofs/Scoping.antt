@@ -31,7 +31,7 @@ use Rattle.law_simulation.specs.Frames.{Kind, Kept, Kinds, or_none, kind_at, for
 use Rattle.law_simulation.specs.TreesTyped.{Context, IsInner}
 use Rattle.check_block.specs.Inner.{formal_kind}
 use Rattle.law_well_formed.specs.Formed.{Holds, fine}
-use Rattle.law_well_formed.proofs.Basics.{holds_weaker, reported_holds, plain_holds, heading_means_holds}
+use Rattle.law_well_formed.proofs.Basics.{holds_weaker, reported_holds, plain_holds}
 use Rattle.law_programs.specs.Typing.{kind_of, MeaningTyped, IsTyped}
 use Rattle.law_programs.specs.Scopes.{MeaningIn, KnownIn, NamesIn, BlocksIn, ScopeTyped, formal_slot, variable_slot, slots_of}
 
@@ -100,7 +100,7 @@ module _ (P : Meaning → Type 0) (ahead : P meaning.Ahead) where
     means_has at Later seen p = plain_holds (reported_holds g at rule.Undeclared)
     means_has at Ahead seen p = fine meaning.Ahead ahead
     means_has at Begun seen p = plain_holds (reported_holds g at rule.Undeclared)
-    means_has at (Headed r) seen p = heading_means_holds p
+    means_has at (Headed r) seen p = p
     means_has at (Declared o r) seen p = plain_holds (declared_has at seen r p)
 
     sight_has : (at : Pos) (o : Sight g.Reported) → SightHas o → Holds P (means_as g at o)

@@ -33,7 +33,7 @@ use Rattle.build_jobs.specs.declared.outcome.Compiled.{Compiled}
 use Rattle.build_jobs.specs.declared.outcome.Compiled.TheVariants.{Defined, Blocked}
 use Rattle.build_jobs.specs.Compiling.{is_sound, tables_of, of_definition, of_fit, of_checked, of_contents, typed_body, compilation_of}
 use Rattle.build_jobs.specs.Jobs.{compile_in_place}
-use Rattle.build_jobs.specs.Encoded.{needed_of}
+use Rattle.build_jobs.specs.Jobs.{needed_of}
 use Rattle.law_programs.specs.FormedReach.{result_of, types_of}
 use Rattle.law_programs.proofs.Reach.{IsNeeded, known_below, tables_needed}
 use Rattle.law_programs.specs.Carried.{Carries}

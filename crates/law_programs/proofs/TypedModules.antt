@@ -21,7 +21,7 @@ use Rattle.law_programs.specs.FormedCoherent.{trees_of, IsBodyOf, AreBodiesIn}
 use Rattle.law_programs.proofs.Graphs.{graphs_whole}
 use Rattle.build_jobs.specs.Own.{own_table, tables_behind}
 use Rattle.build_jobs.specs.Compiling.{tables_of, typed_body}
-use Rattle.build_jobs.specs.Encoded.{needed_of}
+use Rattle.build_jobs.specs.Jobs.{needed_of}
 use Rattle.law_simulation.specs.TreesTyped.{Context}
 use Rattle.law_simulation.specs.Modules.{IsTypedModule, AreTypedModules}
 use Rattle.law_programs.specs.Carried.{NamesPlaced, NamesSlots}

@@ -48,7 +48,7 @@ use Rattle.build_jobs.specs.declared.outcome.Compiled.{Compiled}
 use Rattle.build_jobs.specs.declared.outcome.Compiled.TheVariants.{Defined}
 use Rattle.build_jobs.specs.Own.{tables_behind}
 use Rattle.build_jobs.specs.Compiling.{tables_of}
-use Rattle.build_jobs.specs.Encoded.{needed_of}
+use Rattle.build_jobs.specs.Jobs.{needed_of}
 use Rattle.law_programs.proofs.ValidPrograms.{tables_for as for_body}
 use Rattle.law_programs.specs.FormedReach.{result_of, types_of}
 use Rattle.law_programs.proofs.Reach.{tree_fits, IsNeeded, own_formed, behind_formed, known_below, tables_needed}

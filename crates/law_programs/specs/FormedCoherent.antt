@@ -13,7 +13,7 @@ use Rattle.law_modules.specs.Linked.{Program}
 use Rattle.law_simulation.specs.Knows.{IsCoherent}
 use Rattle.build_jobs.specs.declared.outcome.Compiled.TheVariants.{Defined}
 use Rattle.build_jobs.specs.Compiling.{tables_of, typed_body}
-use Rattle.build_jobs.specs.Encoded.{needed_of}
+use Rattle.build_jobs.specs.Jobs.{needed_of}
 use Rattle.law_modules.specs.Ranges.{AreRanged}
 use Rattle.law_well_formed.specs.Ordered.{AreOrdered}
 use Rattle.law_well_formed.specs.FormedKnown.{fits_module}

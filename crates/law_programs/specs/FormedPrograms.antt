@@ -10,7 +10,7 @@ use Rattle.def_scheme.specs.Modules.{typed_module, typed_link}
 use Rattle.law_modules.specs.WellFormed.{IsWellFormed}
 use Rattle.law_well_formed.specs.Formed.{Holds}
 use Rattle.build_jobs.specs.Compiling.{tables_of, typed_body}
-use Rattle.build_jobs.specs.Encoded.{needed_of}
+use Rattle.build_jobs.specs.Jobs.{needed_of}
 use Rattle.wasm_tree.specs.Limits.{max_memory}
 
 -- the modules of files

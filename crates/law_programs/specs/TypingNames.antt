@@ -29,7 +29,7 @@ use Rattle.law_well_formed.specs.Formed.{Holds}
 use Rattle.law_well_formed.specs.FormedKnown.{fits_module}
 use Rattle.build_jobs.specs.Own.{own_table, tables_behind}
 use Rattle.build_jobs.specs.Compiling.{tables_of}
-use Rattle.build_jobs.specs.Encoded.{needed_of}
+use Rattle.build_jobs.specs.Jobs.{needed_of}
 use Rattle.law_programs.specs.FormedCoherent.{trees_of, IsBodyOf, AreBodiesIn}
 use Rattle.law_programs.specs.Names.{HasInstance, NamesElse}
 use Rattle.law_programs.specs.TypingBodies.{MeaningThere, BlocksThere}

@@ -30,7 +30,7 @@ use Rattle.check_body.specs.Checks.{elaborate_body}
 use Rattle.build_jobs.specs.declared.outcome.Compiled.TheVariants.{Defined}
 use Rattle.build_jobs.specs.Own.{own_table, tables_behind}
 use Rattle.build_jobs.specs.Compiling.{tables_of, typed_body}
-use Rattle.build_jobs.specs.Encoded.{needed_of}
+use Rattle.build_jobs.specs.Jobs.{needed_of}
 use Rattle.law_well_formed.specs.FormedTables.{AreExports, AreNumberedBy}
 use Rattle.law_well_formed.specs.FormedOrder.{StandOnce}
 use Rattle.law_well_formed.specs.FormedKnown.{fits_module, HasReached}

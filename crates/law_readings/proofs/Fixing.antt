@@ -78,6 +78,9 @@ module _ (exports : ℕ → Ident → Standing) where
   picks_one (rules.of_field u) (rules.of_module p) = elim u [ ]
   picks_one (rules.of_field u) (rules.of_field v) = refl
   picks_one (rules.of_element u) (rules.of_element v) = refl
+  picks_one (rules.of_element u) rules.element_of_module = refl
+  picks_one rules.element_of_module (rules.of_element u) = refl
+  picks_one rules.element_of_module rules.element_of_module = refl
 
   selected_one : {x y z : Fixed} {ss : List Selector} → FixedSelected exports x ss y
       → FixedSelected exports x ss z → y ≡ z

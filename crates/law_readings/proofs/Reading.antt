@@ -1,5 +1,5 @@
 -- Two readings of a block are alike, with all procedures inside.
-use Rattle.std.proofs.Common.{◌≡◌, ℕ, Bool, List, [], ◌∷◌, ◌++◌, Option, inl, inr, refl, sym, ap, subst, ◌∙◌}
+use Rattle.std.proofs.Common.{◌≡◌, ℕ, ◌+◌, ◌==◌, Bool, List, [], ◌∷◌, ◌++◌, Option, Some, inl, inr, refl, sym, ap, subst, ◌∙◌}
 use Rattle.std.specs.Prelude.{◌↔◌}
 use Rattle.std.proofs.Math.Path.{fun_ext}
 use Rattle.m2_rule.specs.declared.breach.Breach.{Breach}
@@ -22,7 +22,20 @@ use Rattle.def_typing.specs.Declarations.{Declaration, AnyDeclares, Declared, in
 use Rattle.def_typing.specs.Statements.{Broken}
 use Rattle.def_typing.specs.Bodies as rules
 use Rattle.def_typing.specs.Bodies.{formal, SeenAs, InsideAs, BodyGives, Place, module_variables, in_procedure, statements_in, body_spot, IsNoProcedure, Reads, reads, ReadsBodies, BrokenBlock, BrokenBodies, LacksHeading}
-use Rattle.law_readings.specs.Alike.{ReadingsAreAlike}
+use Rattle.m2_tree.specs.declared.decl.Module.{Module}
+use Rattle.m2_tree.specs.declared.decl.Decl.{out-Decl}
+use Rattle.typed_tree.specs.declared.meaning.Meaning.{Meaning}
+use Rattle.typed_tree.specs.declared.statement.TypedStmt.{TypedStmt}
+use Rattle.typed_tree.specs.declared.table.Table.{Table}
+use Rattle.typed_tree.specs.declared.typed_module.Which.{Which}
+use Rattle.typed_tree.specs.declared.typed_module.TypedModule.{TypedModule}
+use Rattle.def_typing.specs.Imports.{Entry}
+use Rattle.def_typed.specs.Numbers.{variables_in}
+use Rattle.def_typed.specs.Statements.{AllMean}
+use Rattle.def_typed.specs.Blocks.{Before, MeansBehind}
+use Rattle.def_typed.specs.Bodies.{Routines, with_routine, next_number, HaveTypes, IsEntered, before_entered, body_site, senses_at, MeansBlock, MeansBodies}
+use Rattle.def_typed.specs.Modules.{MeansModule}
+use Rattle.law_readings.specs.Alike.{ReadingsAreAlike, ModulesAreAlike}
 use Rattle.law_readings.proofs.Computing.{both, some_one}
 use Rattle.law_readings.proofs.Typing.{names_one, gives_back_one}
 use Rattle.law_readings.proofs.Declaring.{IsWithin, all_one, owns_one, whole_one}
@@ -107,6 +120,10 @@ module _ (exports : ℕ → Ident → Standing) where
       (r : Reads exports p types b end) (q : Reads exports o types c last) : Type 0 where
     same_end : end ≡ last
     same_rules : (f : Breach) → BrokenBlock exports r f ↔ BrokenBlock exports q f
+    same_trees : (of_exports : ℕ → Ident → Option Meaning) (before : Before)
+        (around : Option Which) (rs : Routines) (vs : List TypeNo) (xs : List TypedStmt)
+        → MeansBlock exports of_exports r before around rs vs xs
+        ↔ MeansBlock exports of_exports q before around rs vs xs
 
   record SameBodies {p : Place} {block front : List Declaration} {names others : Ident → Standing}
       {own owns : Ident → Bool} {from to end last : Types} {ds : List Decl}
@@ -114,6 +131,10 @@ module _ (exports : ℕ → Ident → Standing) where
       (q : ReadsBodies exports p block others owns front to ds last) : Type 0 where
     same_end : end ≡ last
     same_rules : (f : Breach) → BrokenBodies exports r f ↔ BrokenBodies exports q f
+    same_trees : (of_exports : ℕ → Ident → Option Meaning) (before : Before)
+        (of_names : Ident → Option Meaning) (around : Option Which) (n : ℕ) (rs : Routines)
+        → MeansBodies exports of_exports r before of_names around n rs
+        ↔ MeansBodies exports of_exports q before of_names around n rs
 
   block_as : {p o : Place} {types end last : Types} {b c : Block}
       → p ≡ o
@@ -184,6 +205,90 @@ module _ (exports : ℕ → Ident → Standing) where
       subst (λ (own : Ident → Bool). Stating p b last others own f) k
       (subst (λ (names : Ident → Standing). Stating p b last names own f) h
       (subst (λ (end : Types). Stating p b end names own f) e s))
+
+  -- ---- typed trees
+
+  module _ (of_exports : ℕ → Ident → Option Meaning) where
+    -- a block's typed trees, if B says what its procedures are
+    abbrev Meaning_of : Place → Block → Types → (Ident → Standing) → (Ident → Bool)
+        → ((Ident → Option Meaning) → Type 0) → Before → List TypeNo → List TypedStmt → Type 0
+    Meaning_of p b end names own B before vs xs =
+        (of_names : Ident → Option Meaning)
+        × ((name : Ident)
+        → MeansBehind before p.taken p.awaited names (out-Block b).decls name (of_names name))
+        × HaveTypes names (variables_in (declarations_of (out-Block b).decls)) vs
+        × B of_names
+        × AllMean end exports (body_site p names own (senses_at exports of_exports before of_names))
+        (statements_in (out-Block b).body) xs
+
+    meaning_as : (p : Place) (b : Block) {end last : Types} {names others : Ident → Standing}
+        {own owns : Ident → Bool} (B : (Ident → Option Meaning) → Type 0) (before : Before)
+        {vs : List TypeNo} {xs : List TypedStmt}
+        → end ≡ last
+        → names ≡ others
+        → own ≡ owns
+        → Meaning_of p b end names own B before vs xs
+        → Meaning_of p b last others owns B before vs xs
+    meaning_as p b {end = end} {last = last} {names = names} {others = others} {own = own} B before
+        {vs = vs} {xs = xs} e h k s =
+        subst (λ (own : Ident → Bool). Meaning_of p b last others own B before vs xs) k
+        (subst (λ (names : Ident → Standing). Meaning_of p b last names own B before vs xs) h
+        (subst (λ (end : Types). Meaning_of p b end names own B before vs xs) e s))
+
+    meaning_with : (p : Place) (b : Block) (end : Types) (names : Ident → Standing)
+        (own : Ident → Bool) (B C : (Ident → Option Meaning) → Type 0) (before : Before)
+        {vs : List TypeNo} {xs : List TypedStmt}
+        → ((of_names : Ident → Option Meaning) → B of_names → C of_names)
+        → Meaning_of p b end names own B before vs xs
+        → Meaning_of p b end names own C before vs xs
+    meaning_with p b end names own B C before f s =
+        (s.0, s.1, s.2, f s.0 s.3, s.4)
+
+    -- procedures that begin with one of this heading, if B says what its block is and R what stands
+    -- behind it
+    abbrev Entering : Heading → (Ident → Standing)
+        → (Before → Option Which → Routines → List TypeNo → List TypedStmt → Type 0)
+        → (Routines → Type 0) → Before → (Ident → Option Meaning) → Option Which → ℕ → Routines
+        → Type 0
+    Entering h seen B R before of_names around n rs =
+        (x : IsEntered exports before seen of_names n h) × (within : Routines) × (behind : Routines)
+        × (vs : List TypeNo) × (xs : List TypedStmt)
+        × B (before_entered exports x) (Some x.which) within vs xs
+        × R behind
+        × (rs
+        ≡ with_routine x.which
+        (record {
+          pos = h.name.pos;
+          heading = x.heading;
+          level = before.level + 1;
+          around = around;
+          variables = vs;
+          body = xs;
+        }) within behind)
+
+    entering_as : {h k : Heading} {seen sees : Ident → Standing}
+        (B : Before → Option Which → Routines → List TypeNo → List TypedStmt → Type 0)
+        (R : Routines → Type 0) (before : Before) (of_names : Ident → Option Meaning)
+        (around : Option Which) (n : ℕ) (rs : Routines)
+        → h ≡ k
+        → seen ≡ sees
+        → Entering h seen B R before of_names around n rs
+        → Entering k sees B R before of_names around n rs
+    entering_as {k = k} {seen = seen} B R before of_names around n rs e f s =
+        subst (λ (seen : Ident → Standing). Entering k seen B R before of_names around n rs) f
+        (subst (λ (h : Heading). Entering h seen B R before of_names around n rs) e s)
+
+    entering_with : (h : Heading) (seen : Ident → Standing)
+        (B C : Before → Option Which → Routines → List TypeNo → List TypedStmt → Type 0)
+        (R Q : Routines → Type 0) (before : Before) (of_names : Ident → Option Meaning)
+        (around : Option Which) (n : ℕ) (rs : Routines)
+        → ((at : Before) (which : Option Which) (within : Routines) (vs : List TypeNo)
+        (xs : List TypedStmt) → B at which within vs xs → C at which within vs xs)
+        → ((behind : Routines) → R behind → Q behind)
+        → Entering h seen B R before of_names around n rs
+        → Entering h seen C Q before of_names around n rs
+    entering_with h seen B C R Q before of_names around n rs f g s =
+        (s.0, s.1, s.2, s.3, s.4, f _ _ _ _ _ s.5, g _ s.6, s.7)
 
   -- what two readings of a block share
   module _ (p : Place) (types : Types) (b : Block) where
@@ -258,6 +363,22 @@ module _ (exports : ℕ → Ident → Standing) where
               ]
             ]),
           );
+          same_trees = λ of_exports before around rs vs xs. (
+            (λ x.
+                meaning_as of_exports p b
+                (λ of_names. MeansBodies exports of_exports inner before of_names around before.nested rs) before z.same_end e o
+                (meaning_with of_exports p b end names own
+                (λ of_names. MeansBodies exports of_exports bodies before of_names around before.nested rs)
+                (λ of_names. MeansBodies exports of_exports inner before of_names around before.nested rs) before
+                (λ of_names k. (z.same_trees of_exports before of_names around before.nested rs).0 k) x)),
+            (λ x.
+                meaning_as of_exports p b
+                (λ of_names. MeansBodies exports of_exports bodies before of_names around before.nested rs) before (sym z.same_end) (sym e) (sym o)
+                (meaning_with of_exports p b last named owns
+                (λ of_names. MeansBodies exports of_exports inner before of_names around before.nested rs)
+                (λ of_names. MeansBodies exports of_exports bodies before of_names around before.nested rs) before
+                (λ of_names k. (z.same_trees of_exports before of_names around before.nested rs).1 k) x)),
+          );
         }
 
     bodies_alike : {p : Place} {block front : List Declaration} {names : Ident → Standing}
@@ -266,15 +387,24 @@ module _ (exports : ℕ → Ident → Standing) where
         (q : ReadsBodies exports p block names own front types ds last)
         → SameBodies r q
     bodies_alike rules.no_more rules.no_more =
-        record { same_end = refl; same_rules = λ f. ((λ b. b), (λ b. b)) }
+        record {
+          same_end = refl;
+          same_rules = λ f. ((λ b. b), (λ b. b));
+          same_trees = λ of_exports before of_names around n rs. ((λ b. b), (λ b. b));
+        }
     bodies_alike (rules.no_body n r) (rules.no_body m q) =
-        let z = bodies_alike r q in record { same_end = z.same_end; same_rules = z.same_rules }
+        let z = bodies_alike r q in
+        record {
+          same_end = z.same_end;
+          same_rules = z.same_rules;
+          same_trees = λ of_exports before of_names around n rs. z.same_trees of_exports before of_names around n rs;
+        }
     bodies_alike (rules.no_body n r) (rules.a_body seen inside gives e s i g c q) =
         absurd (subst IsNoProcedure e n)
     bodies_alike (rules.a_body seen inside gives e s i g c r) (rules.no_body m q) =
         absurd (subst IsNoProcedure e m)
     bodies_alike {p = p} {block = block} {own = own} {types = types}
-        (rules.a_body {h = h} {b = b} seen inside gives e s i g c r)
+        (rules.a_body {d = x} {h = h} {b = b} seen inside gives e s i g c r)
         (rules.a_body {h = k} {b = a} sees indoors gave f t j v d q) =
         let eh = same_heading e f in
         let es : seen ≡ sees = fun_ext (λ name. seen_one (s name) (t name)) in
@@ -305,6 +435,27 @@ module _ (exports : ℕ → Ident → Standing) where
               | inr k ↦ inr ((z.same_rules x).1 k)
             ]),
           );
+          same_trees = λ of_exports before of_names around n rs.
+              let next = next_number (before.level == 0) n (out-Decl x) in (
+                (λ w.
+                    entering_as of_exports (λ at which within vs xs. MeansBlock exports of_exports d at which within vs xs)
+                    (λ behind. MeansBodies exports of_exports q before of_names around next behind) before of_names around n rs eh es
+                    (entering_with of_exports h seen (λ at which within vs xs. MeansBlock exports of_exports c at which within vs xs)
+                    (λ at which within vs xs. MeansBlock exports of_exports d at which within vs xs)
+                    (λ behind. MeansBodies exports of_exports r before of_names around next behind)
+                    (λ behind. MeansBodies exports of_exports q before of_names around next behind) before of_names around n rs
+                    (λ at which within vs xs k. (y.same_trees of_exports at which within vs xs).0 k)
+                    (λ behind k. (z.same_trees of_exports before of_names around next behind).0 k) w)),
+                (λ w.
+                    entering_as of_exports (λ at which within vs xs. MeansBlock exports of_exports c at which within vs xs)
+                    (λ behind. MeansBodies exports of_exports r before of_names around next behind) before of_names around n rs (sym eh) (sym es)
+                    (entering_with of_exports k sees (λ at which within vs xs. MeansBlock exports of_exports d at which within vs xs)
+                    (λ at which within vs xs. MeansBlock exports of_exports c at which within vs xs)
+                    (λ behind. MeansBodies exports of_exports q before of_names around next behind)
+                    (λ behind. MeansBodies exports of_exports r before of_names around next behind) before of_names around n rs
+                    (λ at which within vs xs k. (y.same_trees of_exports at which within vs xs).1 k)
+                    (λ behind k. (z.same_trees of_exports before of_names around next behind).1 k) w)),
+              );
         }
 
   headings_alike : {p : Place} {types end last : Types} {b : Block}
@@ -333,4 +484,32 @@ readings_alike exports p types end last b r q =
       same_types = z.same_end;
       same_rules = z.same_rules;
       same_headings = headings_alike exports r q;
+      same_trees = λ of_exports before around rs vs xs. z.same_trees of_exports before around rs vs xs;
     }
+
+means_as : (home : ℕ) (tables : List Table) (exported : List Entry) (of_definition : List (List ℕ × ℕ))
+    (m : Module) (exports : ℕ → Ident → Standing) (p : Place) (types end last : Types) (b : Block)
+    (r : Reads exports p types b end) (q : Reads exports p types b last) (t : TypedModule)
+    → MeansModule home tables exported of_definition m exports r t
+    → MeansModule home tables exported of_definition m exports q t
+means_as home tables exported of_definition m exports p types end last b r q t x =
+    let z = readings_alike exports p types end last b r q in
+    record {
+      of_name = x.of_name;
+      of_pos = x.of_pos;
+      of_imports = x.of_imports;
+      of_types = x.of_types ∙ z.same_types;
+      of_names = x.of_names;
+      means = x.means;
+      routines = x.routines;
+      variables = x.variables;
+      of_block = (z.same_trees _ _ _ _ _ _).0 x.of_block;
+      of_variables = x.of_variables;
+      of_procedures = x.of_procedures;
+      of_locals = x.of_locals;
+      of_order = x.of_order;
+    }
+
+pub modules_alike : ModulesAreAlike
+modules_alike home tables exported of_definition m exports p types end last b r q t =
+    (means_as home tables exported of_definition m exports p types end last b r q t, means_as home tables exported of_definition m exports p types last end b q r t)

@@ -12,10 +12,11 @@
 //!   thing. `proofs/Reading` is the induction over blocks with all procedures inside.
 #![tactic(auto)]
 
-ghost use Rattle.law_readings.specs.Alike.{ReadingsAreAlike};
+ghost use Rattle.law_readings.specs.Alike.{ReadingsAreAlike, ModulesAreAlike};
 
-/// Two readings of one block from one place and the same types end with the same types. The same rules are broken in both, and
-/// both lack the same headings of the definition.
+/// Two readings of one block from one place and the same types end with the same types. The same rules are broken in both, both
+/// lack the same headings of the definition, and the block has the same typed trees by both. So has a module.
 pub fn reading_laws()
     ensures alike { ReadingsAreAlike }
+    ensures modules { ModulesAreAlike }
 {}

@@ -243,7 +243,7 @@ module _ (g : Gathers) (j : Judges g) (lawful : Lawful g j) (exports : ℕ → I
     broken_same : {r q : g.Reported} → ◌≡◌ {A = Result Meaning (Meaningless g.Reported)} (Err (meaningless.Broken r)) (Err (meaningless.Broken q)) → q ≡ r
     broken_same e = cc
 
-    heading_by : NameIs name → {st : Standing} → S st → st ≡ things.Known Headless → {q : g.Reported} → looked_up g Inside name ≡ Err (meaningless.Headless q) → {f : Breach} → j.Among q f → OfHeading f
+    heading_by : NameIs name → {st : Standing} → S st → {b : Bool} → st ≡ things.Known (Headless b) → {q : g.Reported} → looked_up g Inside name ≡ Err (meaningless.Headless b q) → {f : Breach} → j.Among q f → OfHeading f
     heading_by (of_around e l z) (bodies.a_formal q n) w y m = absurd (none_one e q)
     heading_by (of_around e l z) (bodies.no_type q n) w y m = absurd (none_one e q)
     heading_by (of_around e l z) (bodies.no_formal q) w y m = inl (of_heading w (sym l ∙ y) m)

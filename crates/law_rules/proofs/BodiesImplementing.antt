@@ -261,12 +261,12 @@ module _ (g : Gathers) (j : Judges g) (lawful : Lawful g j) (own : Table) (m : M
         locals = λ name v e. absurd (local_by name v (meant name (meaning.Local v) e));
       }
 
-      names_sound : (name : Ident) {s : Standing} → StandsFor tables mine (all_imported m.imports) outside name s → (s ≡ Unknown → ⊥) × (s ≡ things.Known Headless → ⊥)
-      names_sound name (importing.imported o w b) = ((λ e. meaning_known w e), (λ e. meaning_headed w e))
+      names_sound : (name : Ident) {s : Standing} → StandsFor tables mine (all_imported m.imports) outside name s → (s ≡ Unknown → ⊥) × ((b : Bool) → s ≡ things.Known (Headless b) → ⊥)
+      names_sound name (importing.imported o w b) = ((λ e. meaning_known w e), (λ b e. meaning_headed w e))
       names_sound name (importing.from_outside c) = sound name
 
       pub no_repeats : (f : Breach) → Repeats g j names start f → ⊥
-      no_repeats f (of_heading {name = name} e q a) = (names_sound name (stands name)).1 e
+      no_repeats f (of_heading {name = name} {nested = b} e q a) = (names_sound name (stands name)).1 b e
       no_repeats f (of_declaration {name = name} e q a) = (names_sound name (stands name)).0 e
 
   -- ---- what names stand for before
@@ -286,8 +286,8 @@ module _ (g : Gathers) (j : Judges g) (lawful : Lawful g j) (own : Table) (m : M
     sees_first name None e = subst (λ (r : Result Meaning (Meaningless g.Reported)). Sees g j name.pos (around name) r)
         (looked_around g (first_scope own.number tables) 0 refl name ∙ ap (λ (k : Option (Known g.Reported)). looked k name) (sym (own_found name.name ∙ ap (λ (o : Option Meaning). declared_as g.Reported o None) e)) ∙ sym (looked_around g first 0 refl name)) (knows.of_names name)
 
-    sound_at : (o : Option Meaning) (name : Ident) → (own_or o (around name) ≡ Unknown → ⊥) × (own_or o (around name) ≡ things.Known Headless → ⊥)
-    sound_at (Some w) name = (meaning_known w, meaning_headed w)
+    sound_at : (o : Option Meaning) (name : Ident) → (own_or o (around name) ≡ Unknown → ⊥) × ((b : Bool) → own_or o (around name) ≡ things.Known (Headless b) → ⊥)
+    sound_at (Some w) name = (meaning_known w, (λ b e. meaning_headed w e))
     sound_at None name = sound name
 
     pub names_around : (names : Ident → Standing) × (taken : List ℕ → Bool) × Knows g j outside exports first × AreSound outside

@@ -30,6 +30,8 @@ use Rattle.check_scope.specs.declared.known.Known.TheVariants.{Later, Ahead, Beg
 use Rattle.check_scope.specs.declared.known.Origin.TheVariants.{Here}
 use Rattle.check_scope.specs.declared.scope.Scope.{Scope}
 use Rattle.check_scope.specs.Scopes.{State, is_free, with_known, unless_declared, begin_name, is_begun, finish_name, unless_marked, mark_name}
+use Rattle.check_scope.specs.Scopes.{heading_means}
+use Rattle.check_scope.specs.declared.meaningless.Meaningless.TheVariants as meaningless
 use Rattle.check_const.specs.Parts.{constant}
 use Rattle.check_expr.specs.Meanings.{part}
 use Rattle.check_type_expr.specs.declared.field.Fields.{Fields}
@@ -133,6 +135,7 @@ FitsMeaning l other = Unit {0}
 
 abbrev pub Fits : {T : Type 0} → ℕ → Known T → Type 0
 Fits l (Headed (Ok m)) = IsProc m
+Fits l (Headed (Err (meaningless.Broken e))) = ⊥
 Fits l (Declared o (Ok m)) = FitsMeaning l m
 Fits l other = Unit {0}
 
@@ -455,17 +458,17 @@ module _ (g : Gathers) where
 
   -- ---- headings
 
-  headed_keeps : (s : Scope g.Reported) (name : List ℕ) (r : Result TypeNo g.Reported) (f : TypeNo → Meaning) → ((t : TypeNo) → IsProc (f t)) → Goes s (set_heading name (r ▷ λ x. Ok (f x)) s)
-  headed_keeps s name (Ok t) f h = known_keeps s name (Headed (Ok (f t))) (h t)
-  headed_keeps s name (Err e) f h = known_keeps s name (Headed (Err e)) tt
+  headed_keeps : (b : Bool) (s : Scope g.Reported) (name : List ℕ) (r : Result TypeNo g.Reported) (f : TypeNo → Meaning) → ((t : TypeNo) → IsProc (f t)) → Goes s (set_heading name (heading_means b (r ▷ λ x. Ok (f x))) s)
+  headed_keeps b s name (Ok t) f h = known_keeps s name (Headed (Ok (f t))) (h t)
+  headed_keeps b s name (Err e) f h = known_keeps s name (Headed (Err (meaningless.Headless b e))) tt
 
   procedure_type_keeps : (s : Scope g.Reported) (t : Result TypeNo g.Reported) → Goes s (with_procedure_type s t)
   procedure_type_keeps s (Err e) = keeps_refl s
   procedure_type_keeps s (Ok t) = record { tables = refl; outer = refl; level = refl; withs = refl; home = refl; grows = grows_refl s.own; entries = λ n k e. inl e }
 
-  new_by_level : (b : Bool) (s : Scope g.Reported) (name : List ℕ) (n : ℕ) (t : Result TypeNo g.Reported) → Goes s (cond b (module_procedure s name t) (set_heading name (nested_meaning s.level n t) s))
-  new_by_level true s name n t = keeps_then (procedure_type_keeps s t) (headed_keeps (with_procedure_type s t) name t (λ x. meaning.Procedure (record { home = s.types.home; number = length s.procedures; heading = x })) (λ x. tt))
-  new_by_level false s name n t = headed_keeps s name t (λ x. meaning.LocalProcedure (record { level = s.level; number = n; heading = x })) (λ x. tt)
+  new_by_level : (b : Bool) (s : Scope g.Reported) (name : List ℕ) (n : ℕ) (t : Result TypeNo g.Reported) → Goes s (cond b (module_procedure s name t) (set_heading name (heading_means true (nested_meaning s.level n t)) s))
+  new_by_level true s name n t = keeps_then (procedure_type_keeps s t) (headed_keeps false (with_procedure_type s t) name t (λ x. meaning.Procedure (record { home = s.types.home; number = length s.procedures; heading = x })) (λ x. tt))
+  new_by_level false s name n t = headed_keeps true s name t (λ x. meaning.LocalProcedure (record { level = s.level; number = n; heading = x })) (λ x. tt)
 
   new_keeps : (s : Scope g.Reported) (name : List ℕ) (n : ℕ) (made : Result Made g.Reported) → Goes s (with_new s name n made).0
   new_keeps s name n made = let t = with_made s made in keeps_then (made_keeps s made) (new_by_level (t.0.level == 0) t.0 name n t.1)

@@ -153,5 +153,5 @@ module _ (g : Gathers) where
   pub codeless_by : (j : Judges g) {at : Pos} {s : Standing} {r : Result Meaning (Meaningless g.Reported)} → Sees g j at s r → ((m : Meaning) → r ≡ Ok m → HasNoCode m) → StandsWithoutCode s
   codeless_by j (sees m) h = codeless_stands m (h m refl)
   codeless_by j sees_nothing h = tt
-  codeless_by j (sees_headless r) h = tt
+  codeless_by j (sees_headless b r) h = tt
   codeless_by j (sees_unknown r) h = tt

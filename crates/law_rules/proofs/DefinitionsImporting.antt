@@ -90,11 +90,11 @@ module _ {T : Type 0} (s : Scope T) where
 
 -- ---- names that are exported once
 
-module _ {T : Type 0} where
-  meaning_once : (so : List Entry) (n : List ℕ) (m : Result Meaning T) → AreOnce so → AreOnce (with_meaning so n m)
-  meaning_once so n (Ok m) o = once_more n m o
-  meaning_once so n (Err e) o = o
+meaning_once : {E : Type 0} (so : List Entry) (n : List ℕ) (m : Result Meaning E) → AreOnce so → AreOnce (with_meaning so n m)
+meaning_once so n (Ok m) o = once_more n m o
+meaning_once so n (Err e) o = o
 
+module _ {T : Type 0} where
   export_once : (so : List Entry) (n : List ℕ) (k : Known T) → AreOnce so → AreOnce (with_known so n k)
   export_once so n known.Later o = o
   export_once so n known.Ahead o = o

@@ -111,7 +111,7 @@ module _ (g : Gathers) (j : Judges g) (lawful : Lawful g j) (exports : ℕ → I
   silent_of (silent n) e = n
   silent_of (tells r a) e = absurd cc
 
-  module _ (start : Scope g.Reported) (names : Ident → Standing) (taken : List ℕ → Bool) (d : Resolved) (ds : List Declaration) {B : Breach → Type 0} {s : Scope g.Reported} (v : Standpoint g j exports start names taken (d.what ∷ ds) B s) (undeclared : in_front_of d.what ≡ Undeclared) (unknown : without d.what ≡ Unknown) where
+  module _ (start : Scope g.Reported) (names : Ident → Standing) (taken : List ℕ → Bool) (d : Resolved) (ds : List Declaration) {B : Breach → Type 0} {s : Scope g.Reported} (v : Standpoint g j exports start names taken (d.what ∷ ds) B s) (undeclared : in_front_of d.what ≡ Undeclared) (unknown : without false d.what ≡ Unknown) where
     abbrev P : Placed
     P = placed g j exports start names taken d ds v
 
@@ -173,7 +173,7 @@ module _ (g : Gathers) (j : Judges g) (lawful : Lawful g j) (exports : ℕ → I
     owns_so {k = k} w h = record {
       stands = (w.stands.0, means_so w.stands.1);
       seen = λ t m at. w.seen t (so_means m) at;
-      heading = λ at r e f m. repeated_so (w.heading at r e f m);
+      heading = λ at b r e f m. repeated_so (w.heading at b r e f m);
       broken = λ at r e f m. repeated_so (w.broken at r e f m);
       taking = (None, settled_as k w.not_free w.not_begun h w.settled);
     }

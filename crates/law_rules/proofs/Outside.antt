@@ -71,19 +71,19 @@ export_by (Some m) = standing m
 module _ (g : Gathers) (j : Judges g) where
   -- what is seen of a name, without a broken rule
   abbrev Seen : Pos → Result Meaning (Meaningless g.Reported) → Type 0
-  Seen at r = (s : Standing) × Sees g j at s r × (s ≡ Unknown → ⊥) × (s ≡ things.Known Headless → ⊥)
+  Seen at r = (s : Standing) × Sees g j at s r × (s ≡ Unknown → ⊥) × ((b : Bool) → s ≡ things.Known (Headless b) → ⊥)
 
   undeclared_known : Undeclared ≡ Unknown → ⊥
   undeclared_known e = absurd cc
 
-  undeclared_headed : Undeclared ≡ things.Known Headless → ⊥
-  undeclared_headed e = absurd cc
+  undeclared_headed : (b : Bool) → Undeclared ≡ things.Known (Headless b) → ⊥
+  undeclared_headed b e = absurd cc
 
   nothing_seen : (at : Pos) → Seen at (Err (meaningless.Broken (g.one (at ! rule.Undeclared))))
   nothing_seen at = (Undeclared, sees_nothing, undeclared_known, undeclared_headed)
 
   meant_seen : (at : Pos) (m : Meaning) → Seen at (Ok m)
-  meant_seen at m = (standing m, sees m, meaning_known m, meaning_headed m)
+  meant_seen at m = (standing m, sees m, meaning_known m, (λ b e. meaning_headed m e))
 
   one_seen : (at : Pos) (o : Origin) (m : Meaning) (b : Bool) → Seen at (means_seen g at (Declared o (Ok m)) b)
   one_seen at o m true = meant_seen at m

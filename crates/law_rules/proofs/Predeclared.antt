@@ -99,9 +99,9 @@ module _ (g : Gathers) (j : Judges g) (home : ℕ) (tables : List Table) where
   }
 
 -- No rule is broken there.
-sound_by : {T : Type 0} {p : Option (Known T)} {d : Option Thing} → Beside p d → (known_or_undeclared d ≡ Unknown → ⊥) × (known_or_undeclared d ≡ things.Known Headless → ⊥)
-sound_by both_none = ((λ e. absurd cc), (λ e. absurd cc))
-sound_by (both_some o m x q) = ((λ e. absurd cc), (λ e. meaning_headed m (q ∙ e)))
+sound_by : {T : Type 0} {p : Option (Known T)} {d : Option Thing} → Beside p d → (known_or_undeclared d ≡ Unknown → ⊥) × ((b : Bool) → known_or_undeclared d ≡ things.Known (Headless b) → ⊥)
+sound_by both_none = ((λ e. absurd cc), (λ b e. absurd cc))
+sound_by (both_some o m x q) = ((λ e. absurd cc), (λ b e. meaning_headed m (q ∙ e)))
 
 pub predeclared_sound : AreSound stands_predeclared
 predeclared_sound name = sound_by (beside_at (predeclared_alike {T = Breach}) name.name)

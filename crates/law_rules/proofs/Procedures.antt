@@ -120,7 +120,7 @@ module _ (g : Gathers) (j : Judges g) (lawful : Lawful g j) (exports : ℕ → I
     its_own_known x = record {
       stands = (its_standing, says (all_there (type_added m)) (it_says (x (type_added m) names_there (all_there (type_added m)))));
       seen = λ t w at. it_is_seen x w at;
-      heading = λ at r e f w. absurd cc;
+      heading = λ at b r e f w. absurd cc;
       broken = λ at r e f w. absurd cc;
       taking = (Some here_made.heading, awaits here_made);
     }
@@ -149,7 +149,7 @@ module _ (g : Gathers) (j : Judges g) (lawful : Lawful g j) (exports : ℕ → I
     its_unknown x = record {
       stands = (Unknown, says_nothing (all_there nothing_added) (it_says_nothing (x nothing_added names_there (all_there nothing_added))));
       seen = λ t w at. it_is_unknown x w at;
-      heading = λ at r q f w. absurd cc;
+      heading = λ at b r q f w. absurd cc;
       broken = λ at r q f w. its_refusals (x nothing_added names_there (all_there nothing_added)) (all_there nothing_added) f (subst (λ (r : g.Reported). j.Among r f) (sym (one_broken q)) w);
       taking = (None, is_taken refl);
     }

@@ -133,12 +133,12 @@ module _ (g : Gathers) (j : Judges g) (lawful : Lawful g j) (associates : Associ
     locals = λ name v e. absurd (known_foreign name (meaning.Local v) e);
   }
 
-  names_sound : (name : Ident) {s : Standing} → StandsFor tables none (all_imported m.imports) outside name s → (s ≡ Unknown → ⊥) × (s ≡ things.Known Headless → ⊥)
-  names_sound name (importing.imported o w b) = ((λ e. meaning_known w e), (λ e. meaning_headed w e))
+  names_sound : (name : Ident) {s : Standing} → StandsFor tables none (all_imported m.imports) outside name s → (s ≡ Unknown → ⊥) × ((b : Bool) → s ≡ things.Known (Headless b) → ⊥)
+  names_sound name (importing.imported o w b) = ((λ e. meaning_known w e), (λ b e. meaning_headed w e))
   names_sound name (importing.from_outside c) = sound name
 
   no_repeats : (f : Breach) → Repeats g j names start f → ⊥
-  no_repeats f (of_heading {name = name} e q a) = (names_sound name (stands name)).1 e
+  no_repeats f (of_heading {name = name} {nested = b} e q a) = (names_sound name (stands name)).1 b e
   no_repeats f (of_declaration {name = name} e q a) = (names_sound name (stands name)).0 e
 
   once : AreOnce (imported_all g first m.imports).0.own

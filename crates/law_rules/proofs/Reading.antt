@@ -27,7 +27,7 @@ procedure_decided (Known (AProcedure t)) = inl bodies.of_module
 procedure_decided (Known (ANested t)) = inl bodies.of_procedure
 procedure_decided (Known (AStandard f)) = inr (λ p. elim p [ ])
 procedure_decided (Known (AModule k)) = inr (λ p. elim p [ ])
-procedure_decided (Known Headless) = inl bodies.headless
+procedure_decided (Known (Headless b)) = inl bodies.headless
 procedure_decided Ahead = inr (λ p. elim p [ ])
 procedure_decided Undeclared = inr (λ p. elim p [ ])
 procedure_decided NotExported = inr (λ p. elim p [ ])
@@ -132,13 +132,13 @@ module _ (types : Types) (exports : ℕ → Ident → Standing) (outside : Ident
 
   -- ---- what a declaration says of its names
 
-  never_ahead_without : (d : Declaration) → without d ≡ Ahead → ⊥
+  never_ahead_without : (d : Declaration) → without nested d ≡ Ahead → ⊥
   never_ahead_without (OfConstant c) e = absurd cc
   never_ahead_without (OfType d) e = absurd cc
   never_ahead_without (OfVariables v) e = absurd cc
   never_ahead_without (OfProcedure h) e = absurd cc
 
-  never_undeclared_without : (d : Declaration) → without d ≡ Undeclared → ⊥
+  never_undeclared_without : (d : Declaration) → without nested d ≡ Undeclared → ⊥
   never_undeclared_without (OfConstant c) e = absurd cc
   never_undeclared_without (OfType d) e = absurd cc
   never_undeclared_without (OfVariables v) e = absurd cc
@@ -158,13 +158,13 @@ module _ (types : Types) (exports : ℕ → Ident → Standing) (outside : Ident
   meant_undeclared (rules.says all (rules.a_procedure h)) e = absurd cc
   meant_undeclared {d = d} (rules.says_nothing all n) e = never_undeclared_without d.what e
 
-  heading_without : (d : Declaration) → IsProcedure (without d) → IsHeading d
+  heading_without : (d : Declaration) → IsProcedure (without nested d) → IsHeading d
   heading_without (OfConstant c) p = elim p [ ]
   heading_without (OfType d) p = elim p [ ]
   heading_without (OfVariables v) p = elim p [ ]
   heading_without (OfProcedure h) p = tt
 
-  without_heading : (d : Declaration) → IsHeading d → IsProcedure (without d)
+  without_heading : (d : Declaration) → IsHeading d → IsProcedure (without nested d)
   without_heading (OfConstant c) p = absurd p
   without_heading (OfType d) p = absurd p
   without_heading (OfVariables v) p = absurd p

@@ -128,7 +128,7 @@ module _ (g : Gathers) (j : Judges g) (lawful : Lawful g j) (exports : ℕ → I
 
   -- ---- a declaration but a procedure
 
-  module _ (front : List Resolved) (d : Resolved) (ds : List Declaration) (undeclared : in_front_of d.what ≡ Undeclared) (unknown : without d.what ≡ Unknown) (no_formals : formals_in d.what ≡ []) where
+  module _ (front : List Resolved) (d : Resolved) (ds : List Declaration) (undeclared : in_front_of d.what ≡ Undeclared) (unknown : without nested d.what ≡ Unknown) (no_formals : formals_in d.what ≡ []) where
     abbrev Begun : List ℕ → Type 0
     Begun = Adding (names_of d.what) (Th front)
 

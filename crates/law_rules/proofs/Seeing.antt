@@ -85,20 +85,23 @@ module _ (g : Gathers) (j : Judges g) where
   pub sees_ok : {at : Pos} {s : Standing} {r : Result Meaning (Meaningless g.Reported)} (m : Meaning) → Sees g j at s r → r ≡ Ok m → s ≡ standing m
   sees_ok m (sees n) e = ap standing (same_ok e)
   sees_ok m sees_nothing e = absurd cc
-  sees_ok m (sees_headless r) e = absurd cc
+  sees_ok m (sees_headless b r) e = absurd cc
   sees_ok m (sees_unknown r) e = absurd cc
 
-  pub sees_headed : {at : Pos} {s : Standing} {r : Result Meaning (Meaningless g.Reported)} {q : g.Reported} → Sees g j at s r → r ≡ Err (meaningless.Headless q) → s ≡ things.Known Headless
+  same_nested : {b c : Bool} {r q : g.Reported} → ◌≡◌ {A = Result Meaning (Meaningless g.Reported)} (Err (meaningless.Headless b r)) (Err (meaningless.Headless c q)) → b ≡ c
+  same_nested e = cc
+
+  pub sees_headed : {at : Pos} {s : Standing} {r : Result Meaning (Meaningless g.Reported)} {b : Bool} {q : g.Reported} → Sees g j at s r → r ≡ Err (meaningless.Headless b q) → s ≡ things.Known (Headless b)
   sees_headed (sees n) e = absurd cc
   sees_headed sees_nothing e = absurd cc
-  sees_headed (sees_headless r) e = refl
+  sees_headed (sees_headless c r) e = ap (λ (x : Bool). things.Known (Headless x)) (same_nested e)
   sees_headed (sees_unknown r) e = absurd cc
 
   -- what stands for nothing that is known
   pub sees_broken : {at : Pos} {s : Standing} {r : Result Meaning (Meaningless g.Reported)} {q : g.Reported} → Sees g j at s r → r ≡ Err (meaningless.Broken q) → (s ≡ Undeclared) ⊎ (s ≡ Unknown)
   sees_broken (sees n) e = absurd cc
   sees_broken sees_nothing e = inl refl
-  sees_broken (sees_headless r) e = absurd cc
+  sees_broken (sees_headless b r) e = absurd cc
   sees_broken (sees_unknown r) e = inr refl
 
   no_procedure : {s : Standing} → (s ≡ Undeclared) ⊎ (s ≡ Unknown) → IsProcedure s → ⊥
@@ -109,7 +112,7 @@ module _ (g : Gathers) (j : Judges g) where
   pub sees_two : {at : Pos} {s t : Standing} {r q : Result Meaning (Meaningless g.Reported)} → Sees g j at s r → Sees g j at t q → r ≡ q → (s ≡ Undeclared → ⊥) → (t ≡ Undeclared → ⊥) → s ≡ t
   sees_two (sees m) z e a b = sym (sees_ok m z (sym e))
   sees_two sees_nothing z e a b = absurd (a refl)
-  sees_two (sees_headless r) z e a b = sym (sees_headed z (sym e))
+  sees_two (sees_headless c r) z e a b = sym (sees_headed z (sym e))
   sees_two (sees_unknown r) z e a b = elim (sees_broken z (sym e)) [ inl q ↦ absurd (b q) | inr q ↦ sym q ]
 
   local_procedure : (t : TypeNo) (k : LocalKind) → IsProcedure (of_local t k) → ⊥
@@ -169,7 +172,8 @@ module _ (g : Gathers) (j : Judges g) where
         behind_by Ahead e t a c f i o = absurd (never_ahead name t a (sees_ok meaning.Ahead (knows.of_names name) o))
         behind_by Begun e t a c f i o = is_unseen t a c (no_procedure (sees_broken (knows.of_names name) o)) i
         behind_by (Headed (Ok m)) e t a c f i o = is_procedure (subst IsProcedure (sym (sees_ok m (knows.of_names name) o)) (procedure_stands m f)) (i ∙ sym o)
-        behind_by (Headed (Err r)) e t a c f i o = is_procedure (subst IsProcedure (sym (sees_headed (knows.of_names name) o)) bodies.headless) (i ∙ sym o)
+        behind_by (Headed (Err (meaningless.Headless b r))) e t a c f i o = is_procedure (subst IsProcedure (sym (sees_headed (knows.of_names name) o)) bodies.headless) (i ∙ sym o)
+        behind_by (Headed (Err (meaningless.Broken r))) e t a c f i o = absurd f
         behind_by (Declared u (Ok m)) e t a c f i o = is_unseen t a c (λ p. fitting_procedure level m f (subst IsProcedure (sees_ok m (knows.of_names name) o) p)) i
         behind_by (Declared u (Err r)) e t a c f i o = is_unseen t a c (no_procedure (sees_broken (knows.of_names name) o)) i
 
@@ -232,7 +236,7 @@ module _ (g : Gathers) (j : Judges g) where
         seen_knows = record { of_names = λ name. has_by name (looked name) (all name); of_modules = λ k name. knows.of_modules k name }
 
         pub seen_repeats : (f : Breach) → Repeats g j sight In f → Repeats g j names w f
-        seen_repeats f (of_heading {name = name} {r = r} e q m) = let o = known_by name (looked name) (Err (meaningless.Headless r)) q (λ z w. absurd cc) in
+        seen_repeats f (of_heading {name = name} {nested = b} {r = r} e q m) = let o = known_by name (looked name) (Err (meaningless.Headless b r)) q (λ z w. absurd cc) in
             of_heading (sees_headed (knows.of_names name) o) o m
         seen_repeats f (of_declaration {name = name} e q m) = let z = unknown_by name (looked name) (all name) e in of_declaration z.0 (sym z.1 ∙ q) m
 

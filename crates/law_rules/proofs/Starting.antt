@@ -116,7 +116,7 @@ local_known t kind.Value e = absurd cc
 local_known t kind.Alias e = absurd cc
 local_known t kind.Open e = absurd cc
 
-local_headed : (t : TypeNo) (k : LocalKind) → of_local t k ≡ things.Known Headless → ⊥
+local_headed : {b : Bool} (t : TypeNo) (k : LocalKind) → of_local t k ≡ things.Known (Headless b) → ⊥
 local_headed t kind.Variable e = absurd cc
 local_headed t kind.Value e = absurd cc
 local_headed t kind.Alias e = absurd cc
@@ -134,7 +134,7 @@ meaning_known meaning.Ahead e = absurd cc
 meaning_known (meaning.Standard f) e = absurd cc
 meaning_known (meaning.Module k) e = absurd cc
 
-pub meaning_headed : (m : Meaning) → standing m ≡ things.Known Headless → ⊥
+pub meaning_headed : {b : Bool} (m : Meaning) → standing m ≡ things.Known (Headless b) → ⊥
 meaning_headed (meaning.Constant v) e = absurd cc
 meaning_headed (meaning.Type t n) e = absurd cc
 meaning_headed (meaning.Variable v) e = absurd cc
@@ -289,12 +289,12 @@ module _ (g : Gathers) (j : Judges g) (lawful : Lawful g j) (found : Finds g j) 
   told_by (reports_nothing n) = silent n
   told_by (reports_broken r a) = tells r a
 
-  names_sound : (name : Ident) {s : Standing} → StandsFor tables none (all_imported m.imports) outside name s → (s ≡ Unknown → ⊥) × (s ≡ things.Known Headless → ⊥)
-  names_sound name (imported o w b) = ((λ e. meaning_known w e), (λ e. meaning_headed w e))
+  names_sound : (name : Ident) {s : Standing} → StandsFor tables none (all_imported m.imports) outside name s → (s ≡ Unknown → ⊥) × ((b : Bool) → s ≡ things.Known (Headless b) → ⊥)
+  names_sound name (imported o w b) = ((λ e. meaning_known w e), (λ b e. meaning_headed w e))
   names_sound name (from_outside c) = sound name
 
   no_repeats : (f : Breach) → Repeats g j names start f → ⊥
-  no_repeats f (of_heading {name = name} e q a) = (names_sound name (stands name)).1 e
+  no_repeats f (of_heading {name = name} {nested = b} e q a) = (names_sound name (stands name)).1 b e
   no_repeats f (of_declaration {name = name} e q a) = (names_sound name (stands name)).0 e
 
   -- where the declarations begin

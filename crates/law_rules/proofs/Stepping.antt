@@ -56,7 +56,7 @@ module _ (g : Gathers) (j : Judges g) (exports : ℕ → Ident → Standing) whe
     pub record Owns (B : Breach → Type 0) (k : Known g.Reported) : Type 0 where
       pub stands : (s : Standing) × Means exports p s
       pub seen : (s : Standing) → Means exports p s → (at : Pos) → Sees g j at s (means_seen g at k true)
-      pub heading : (at : Pos) (r : g.Reported) → means_seen g at k true ≡ Err (meaningless.Headless r) → (f : Breach) → j.Among r f → B f
+      pub heading : (at : Pos) (b : Bool) (r : g.Reported) → means_seen g at k true ≡ Err (meaningless.Headless b r) → (f : Breach) → j.Among r f → B f
       pub broken : (at : Pos) (r : g.Reported) → means_seen g at k true ≡ Err (meaningless.Broken r) → (f : Breach) → j.Among r f → B f
       pub taking : (u : Option TypeNo) × TakenAs g j true u (Some k)
 
@@ -227,10 +227,10 @@ module _ (g : Gathers) (j : Judges g) (exports : ℕ → Ident → Standing) whe
 
       -- ---- what is repeated
 
-      repeats_heading : (x : Ident) {k : Option (Known g.Reported)} {r : g.Reported} {f : Breach} (w : NowKnown x.name k) → (named_by x w).0 ≡ things.Known Headless → looked (unmark k) x ≡ Err (meaningless.Headless r) → j.Among r f → More f
+      repeats_heading : (x : Ident) {k : Option (Known g.Reported)} {b : Bool} {r : g.Reported} {f : Breach} (w : NowKnown x.name k) → (named_by x w).0 ≡ things.Known (Headless b) → looked (unmark k) x ≡ Err (meaningless.Headless b r) → j.Among r f → More f
       repeats_heading x {f = f} (kept c e) q l m = inl (v.repeats f (of_heading q (looked_first x ∙ ap (λ (k : Option (Known g.Reported)). looked k x) (sym (bare_kept x.name e)) ∙ l) m))
       repeats_heading x {f = f} (marked c u i h) q l m = inl (v.repeats f (of_heading q (looked_first x ∙ ap (λ (k : Option (Known g.Reported)). looked k x) (sym (bare_marked x.name c u)) ∙ l) m))
-      repeats_heading x {r = r} {f = f} (owned {k = k} u o w) q l m = w.heading x.pos r (ap (λ (o : Option (Known g.Reported)). looked o x) (sym (bare_taken w.taking.1)) ∙ l) f m
+      repeats_heading x {b = b} {r = r} {f = f} (owned {k = k} u o w) q l m = w.heading x.pos b r (ap (λ (o : Option (Known g.Reported)). looked o x) (sym (bare_taken w.taking.1)) ∙ l) f m
       repeats_heading x (a_constant u o h w) q l m = absurd cc
 
       repeats_broken : (x : Ident) {k : Option (Known g.Reported)} {r : g.Reported} {f : Breach} (w : NowKnown x.name k) → (named_by x w).0 ≡ Unknown → looked (unmark k) x ≡ Err (meaningless.Broken r) → j.Among r f → More f

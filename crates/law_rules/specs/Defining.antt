@@ -53,7 +53,8 @@ pub data IsTaken (tables : List Table) (front : List Imported) (n : List ℕ) : 
 -- No rule is broken where these names are declared.
 abbrev pub AreSound : (Ident → Standing) → Type 0
 AreSound names =
-    (name : Ident) → (names name ≡ Unknown → ⊥) × (names name ≡ Known Headless → ⊥)
+    (name : Ident)
+    → (names name ≡ Unknown → ⊥) × ((nested : Bool) → names name ≡ Known (Headless nested) → ⊥)
 
 -- the types that are known there: those of the tables
 abbrev pub met_types : ℕ → List Table → Types

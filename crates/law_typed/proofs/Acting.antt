@@ -318,4 +318,4 @@ module _ (g : Gathers) (j : Judges g) (lawful : Lawful g j) (exports : ℕ → I
       by : {m : Result Designated (Meaningless g.Reported)} → IfMeant (Head d) m → So d args (ahead g (of_heading m ▷ callee_of g s.types (head g d).fixed.at) (breaches_in_all g s (map (meanings_of g) args)) (callee_statement g s (head g d).fixed.at (map (meanings_of g) args)))
       by (meant x i) = by_head x _ args i
       by (not_meant (meaningless.Broken r)) = refused r (breaches_in_all g s (map (meanings_of g) args)) (callee_statement g s (head g d).fixed.at (map (meanings_of g) args))
-      by (not_meant (meaningless.Headless r)) = refused r (breaches_in_all g s (map (meanings_of g) args)) (callee_statement g s (head g d).fixed.at (map (meanings_of g) args))
+      by (not_meant (meaningless.Headless b r)) = refused r (breaches_in_all g s (map (meanings_of g) args)) (callee_statement g s (head g d).fixed.at (map (meanings_of g) args))

@@ -21,7 +21,7 @@ use Rattle.typed_tree.specs.Types.{are_same, char}
 use Rattle.check_scope.specs.declared.meaningless.Meaningless.{Meaningless}
 use Rattle.check_scope.specs.declared.meaningless.Meaningless.TheVariants as meaningless
 use Rattle.check_scope.specs.declared.scope.Scope.{Scope}
-use Rattle.check_scope.specs.Elaborated.{Gathers, of_heading, of_sort, ◌▷◌}
+use Rattle.check_scope.specs.Elaborated.{Gathers, of_value, of_sort, ◌▷◌}
 use Rattle.check_operator.specs.declared.class.Class.{Class}
 use Rattle.check_operator.specs.declared.computed.Computed.{Computed}
 use Rattle.check_operator.specs.declared.computed.Computed.TheVariants as computed
@@ -47,7 +47,7 @@ use Rattle.def_typed.specs.Named.{Named, Variable, OpenArray, Senses}
 use Rattle.def_typed.specs.Expressions as rules
 use Rattle.def_typed.specs.Expressions.{Designates, Gives, IsPassed, ArePassed}
 use Rattle.law_typed.specs.Typed.{IsOne, IsNamed, Grasps}
-use Rattle.law_typed.proofs.Meant.{IfMeant, meant, not_meant, if_as, if_also, if_then, if_where, if_reported, if_sorted, if_headed, if_equal}
+use Rattle.law_typed.proofs.Meant.{IfMeant, meant, not_meant, if_as, if_also, if_then, if_where, if_reported, if_sorted, if_value, if_equal}
 use Rattle.law_typed.proofs.Values.{IsCoded}
 use Rattle.law_typed.proofs.Designators.{given}
 
@@ -107,7 +107,7 @@ module _ (g : Gathers) (j : Judges g) (lawful : Lawful g j) (names : Ident → S
 
   pub of_finds : {S : Thing → Type 0} {B : Breach → Type 0} {d : Result Designated (Meaningless g.Reported)} → Finds g j lawful (Repeats g j names s) S B d → IfMeant (IsFoundAs S) d
   of_finds (finds a x i m u n) = meant a (record { thing = x; is = i; stands = m; one = u })
-  of_finds (finds_headless r o m u n) = not_meant (meaningless.Headless r)
+  of_finds (finds_headless b r o m u n) = not_meant (meaningless.Headless b r)
   of_finds (finds_nothing r a n) = not_meant (meaningless.Broken r)
 
   pub there : (e : Expr) → IsTyped e → IfMeant (IsThere e) (means e)
@@ -279,9 +279,9 @@ module _ (g : Gathers) (j : Judges g) (lawful : Lawful g j) (names : Ident → S
       looked : (x : Designated) → IsThere e x → Passing f e (actual g s.types f at x)
       looked x i = by_formal f.is_var f.is_open f.of x at i (value_standing_by _ at x i.equal (given g j lawful names exports senses s knows grasps rule.WrongArgument f.of at e h.coded))
 
-      by_var : (v : Bool) → Passing f e (cond v (of_sort g at rule.NoVariable (means e)) (of_heading (means e)) ▷ actual g s.types f at)
+      by_var : (v : Bool) → Passing f e (cond v (of_sort g at rule.NoVariable (means e)) (of_value g at (means e)) ▷ actual g s.types f at)
       by_var true = if_then (if_sorted g at rule.NoVariable (there e h)) looked
-      by_var false = if_then (if_headed (there e h)) looked
+      by_var false = if_then (if_value g at (there e h)) looked
 
   -- ---- all of them
 

@@ -246,7 +246,8 @@ module _ (g : Gathers) (j : Judges g) (lawful : Lawful g j) (exports : ℕ → I
       by_head : {m : Result Designated (Meaningless g.Reported)} → IfMeant (λ x. IsNamed (Nd d) x × Codeless x) m → IfMeant (IsLaid (layer.Use d None)) (value_standing g s.types (meanings_of g e).fixed.at m)
       by_head (meant x p) = name_at _ x p.0 p.1
       by_head (not_meant (meaningless.Broken r)) = not_meant r
-      by_head (not_meant (meaningless.Headless r)) = not_meant r
+      by_head (not_meant (meaningless.Headless true r)) = not_meant _
+      by_head (not_meant (meaningless.Headless false r)) = not_meant r
 
   -- where a part of one is, it is
   laid_part : {x y : Expr-F Expr Selector Designator Item} {v : Computed} → ((t : TypeNo) (p : Place) → LiesAt s.types exports w x t p → LiesAt s.types exports w y t p) → ((t : TypeNo) (p : Place) → LiesAt s.types exports w y t p → LiesAt s.types exports w x t p) → IsLaid x v → IsLaid y v

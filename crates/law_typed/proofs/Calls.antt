@@ -69,7 +69,7 @@ use Rattle.def_typed.specs.Coded.{Applied}
 use Rattle.def_typed.specs.Expressions as rules
 use Rattle.def_typed.specs.Expressions.{Names, Computes, HasCode, Calls, ArePassed}
 use Rattle.law_typed.specs.Typed.{IsOne, IsNamed, code_of, Grasps}
-use Rattle.law_typed.proofs.Meant.{IfMeant, meant, not_meant, if_as, if_also, if_then, if_both, if_where, if_reported, if_sorted}
+use Rattle.law_typed.proofs.Meant.{IfMeant, meant, not_meant, if_as, if_also, if_then, if_both, if_where, if_reported, if_sorted, if_sorted_value}
 use Rattle.law_typed.proofs.Operators.{Coded, coded_as, constant_coded}
 use Rattle.law_typed.proofs.Values.{IsCoded, IsValue, value_is, coded_by}
 use Rattle.law_typed.proofs.Arguments.{IsTyped, IsThere, there, IsFoundAs, of_finds, actuals_so}
@@ -420,7 +420,7 @@ module _ (g : Gathers) (j : Judges g) (lawful : Lawful g j) (names : Ident → S
 
   high_call : {d : Designator} (at : Pos) (args : List Expr) → IsStandard d High → ((e : Expr) → Among e args → Typed e) → IfMeant (Coded (C (U d args))) (high g s at (map (meanings_of g) args))
   high_call at [] i w = refused_count at []
-  high_call at (e ∷ []) i w = if_then (if_sorted g _ rule.WrongArgument (there_so e (w e here))) (λ x h. high_so _ x i h)
+  high_call at (e ∷ []) i w = if_then (if_sorted_value g _ rule.WrongArgument (there_so e (w e here))) (λ x h. high_so _ x i h)
   high_call at (e ∷ x ∷ xs) i w = refused_count at (e ∷ x ∷ xs)
 
   -- ---- all calls
@@ -464,4 +464,4 @@ module _ (g : Gathers) (j : Judges g) (lawful : Lawful g j) (names : Ident → S
       by_head : {m : Result Designated (Meaningless g.Reported)} → IfMeant (IsHead d) m → IfMeant (Coded (C (U d args))) (call_in_expression g s (head g d).fixed.at m (map (meanings_of g) args))
       by_head (meant x i) = call_by_head x (head g d).fixed.at args i w
       by_head (not_meant (meaningless.Broken r)) = ahead_refused r (breaches_in_all g s (map (meanings_of g) args)) (callee_value g s (head g d).fixed.at (map (meanings_of g) args))
-      by_head (not_meant (meaningless.Headless r)) = ahead_refused r (breaches_in_all g s (map (meanings_of g) args)) (callee_value g s (head g d).fixed.at (map (meanings_of g) args))
+      by_head (not_meant (meaningless.Headless b r)) = ahead_refused r (breaches_in_all g s (map (meanings_of g) args)) (callee_value g s (head g d).fixed.at (map (meanings_of g) args))

@@ -280,12 +280,12 @@ module _ (g : Gathers) (j : Judges g) (lawful : Lawful g j) (names : Ident → S
   index_refused : (at at' : Pos) (r : Meaningless g.Reported) (v : Result Computed g.Reported) → IsRefused (index_at g s.types at (Err r) at' v)
   index_refused at at' (meaningless.Broken r) (Ok v) = is_refused _
   index_refused at at' (meaningless.Broken r) (Err q) = is_refused _
-  index_refused at at' (meaningless.Headless r) (Ok v) = is_refused _
-  index_refused at at' (meaningless.Headless r) (Err q) = is_refused _
+  index_refused at at' (meaningless.Headless b r) (Ok v) = is_refused _
+  index_refused at at' (meaningless.Headless b r) (Err q) = is_refused _
 
   field_refused : (at : Pos) (name : Ident) (r : Meaningless g.Reported) → IsRefused (field_at g s at name (Err r))
   field_refused at name (meaningless.Broken r) = is_refused _
-  field_refused at name (meaningless.Headless r) = is_refused _
+  field_refused at name (meaningless.Headless b r) = is_refused _
 
   pick_refused : (y : Selector) (l : Selector-F Expr Selector Designator Item) → out-Selector y ≡ l → (r : Meaningless g.Reported) → IsRefused ((picks g y).picks s (Err r))
   pick_refused y (layer.Field at name) q r = subst IsRefused (sym (ap (λ (m : Picks g.Reported). m.picks s (Err r)) (picks_is g y (layer.Field at name) q))) (field_refused at name r)

@@ -1,5 +1,5 @@
 -- The induction over expressions: what is answered is the one typed tree that the rules give.
-use Rattle.std.proofs.Common.{◌≡◌, ℕ, List, Some, None, Result, Ok, Err, refl, sym, ap, subst, ◌∙◌}
+use Rattle.std.proofs.Common.{false, true, ◌≡◌, ℕ, List, Some, None, Result, Ok, Err, refl, sym, ap, subst, ◌∙◌}
 use Rattle.m2_tree.specs.declared.pos.Pos.{Pos}
 use Rattle.m2_tree.specs.declared.name.Ident.{Ident}
 use Rattle.m2_tree.specs.declared.expr.Expr.{Expr, Expr-F, out-Expr}
@@ -135,7 +135,8 @@ module _ (g : Gathers) (j : Judges g) (lawful : Lawful g j) (names : Ident → S
       by_head : {m : Result Designated (Meaningless g.Reported)} (at : Pos) → IfMeant (λ x. IsNamed (N d) x × IsCodeless g j lawful names exports senses s knows grasps x) m → IfMeant (Coded (C (layer.Use d None))) (value_standing g s.types at m)
       by_head at (meant x p) = name_value at x p.0 p.1
       by_head at (not_meant (meaningless.Broken r)) = not_meant r
-      by_head at (not_meant (meaningless.Headless r)) = not_meant r
+      by_head at (not_meant (meaningless.Headless true r)) = not_meant _
+      by_head at (not_meant (meaningless.Headless false r)) = not_meant r
 
       coded : V e
       coded = subst (λ (y : Expr-F Expr Selector Designator Item). IfMeant (Coded (C y)) (value_of g s (meanings_of g e))) (sym h)

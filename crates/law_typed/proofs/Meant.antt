@@ -5,7 +5,7 @@ use Rattle.m2_rule.specs.declared.breach.Breach.{Breach}
 use Rattle.m2_tree.specs.declared.pos.Pos.{Pos}
 use Rattle.check_scope.specs.declared.meaningless.Meaningless.{Meaningless}
 use Rattle.check_scope.specs.declared.meaningless.Meaningless.TheVariants as meaningless
-use Rattle.check_scope.specs.Elaborated.{Gathers, both, report, reported_where, of_heading, of_sort, plain, ahead, ◌▷◌}
+use Rattle.check_scope.specs.Elaborated.{Gathers, both, report, reported_where, of_heading, of_value, of_sort_of_value, of_sort, plain, ahead, ◌▷◌}
 use Rattle.law_typing.specs.Judging.{Judges, Answers, means, refuses}
 use Rattle.law_typed.specs.Typed.{IsOne}
 
@@ -42,7 +42,7 @@ module _ {R : Type 0} where
   pub if_headed : {A : Type 0} {P : A → Type 0} {r : Result A (Meaningless R)} → IfMeant P r → IfMeant P (of_heading r)
   if_headed (meant a p) = meant a p
   if_headed (not_meant (meaningless.Broken e)) = not_meant e
-  if_headed (not_meant (meaningless.Headless e)) = not_meant e
+  if_headed (not_meant (meaningless.Headless b e)) = not_meant e
 
   pub if_plain : {A : Type 0} {P : A → Type 0} {r : Result A R} → IfMeant P r → IfMeant P (plain r)
   if_plain (meant a p) = meant a p
@@ -84,7 +84,19 @@ module _ (g : Gathers) where
   pub if_sorted : {A : Type 0} {P : A → Type 0} {r : Result A (Meaningless g.Reported)} (at : Pos) (broken : Rule) → IfMeant P r → IfMeant P (of_sort g at broken r)
   if_sorted at broken (meant a p) = meant a p
   if_sorted at broken (not_meant (meaningless.Broken e)) = not_meant e
-  if_sorted at broken (not_meant (meaningless.Headless e)) = not_meant _
+  if_sorted at broken (not_meant (meaningless.Headless b e)) = not_meant _
+
+  pub if_value : {A : Type 0} {P : A → Type 0} {r : Result A (Meaningless g.Reported)} (at : Pos) → IfMeant P r → IfMeant P (of_value g at r)
+  if_value at (meant a p) = meant a p
+  if_value at (not_meant (meaningless.Broken e)) = not_meant e
+  if_value at (not_meant (meaningless.Headless true e)) = not_meant _
+  if_value at (not_meant (meaningless.Headless false e)) = not_meant e
+
+  pub if_sorted_value : {A : Type 0} {P : A → Type 0} {r : Result A (Meaningless g.Reported)} (at : Pos) (broken : Rule) → IfMeant P r → IfMeant P (of_sort_of_value g at broken r)
+  if_sorted_value at broken (meant a p) = meant a p
+  if_sorted_value at broken (not_meant (meaningless.Broken e)) = not_meant e
+  if_sorted_value at broken (not_meant (meaningless.Headless true e)) = not_meant _
+  if_sorted_value at broken (not_meant (meaningless.Headless false e)) = not_meant _
 
   pub if_ahead : {A B : Type 0} {P : A → Type 0} {Q : B → Type 0} {r : Result A g.Reported} {f : A → Result B g.Reported} (rest : Result (Unit {0}) g.Reported) → IfMeant P r → ((a : A) → P a → IfMeant Q (f a)) → IfMeant Q (ahead g r rest f)
   if_ahead rest (meant a p) h = h a p

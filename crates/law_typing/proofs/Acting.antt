@@ -206,7 +206,7 @@ module _ (g : Gathers) (j : Judges g) (lawful : Lawful g j) (names : Ident → S
     action_answers d xs = subst (λ (t : Pos). Answers g j E {A = TypedStmt} {K = Unit {0}} (λ v u. Unit {0}) (λ u. IsAction s.types names exports d xs) (BrokenAction s.types names exports d xs) (ahead g (of_heading ((head g d).means s) ▷ callee_of g s.types t) (breaches_in_all g s (map (meanings_of g) xs)) (callee_statement g s t (map (meanings_of g) xs)))) (sym (head_at g d))
         (exact g j lawful E {M = λ u. (y : Thing) × IsCalled d y × A y xs} {B = Fails d xs} (λ u z. is_action (subst (D d) (sym z.1.2.1) z.1.1) z.2) (λ u z. parted z) (λ f z. into f z) (λ f z. out f z)
         (ahead_answers g j lawful E {N = λ y u. A y xs} {D = λ y f. M (out-Designator d).name.pos y xs f}
-        (heading_answers g j lawful E {N = λ x y. May x × (y ≡ x)} {D = λ x f. NoCall g j lawful names exports s (out-Designator d).name.pos x f} (designator_found g j lawful names exports s knows d) (callee_answers g j lawful names exports s (out-Designator d).name.pos) (λ y m. no_call_of g j lawful names exports s (λ h w. elim w [ ]) (λ p q. absurd cc) m.0) (λ f z. z.1.0 refl))
+        (heading_answers g j lawful E {N = λ x y. May x × (y ≡ x)} {D = λ x f. NoCall g j lawful names exports s (out-Designator d).name.pos x f} (designator_found g j lawful names exports s knows d) (callee_answers g j lawful names exports s (out-Designator d).name.pos) (λ b y m. no_call_of g j lawful names exports s (λ h w. elim w [ ]) (λ p q. absurd cc) m.0) (λ b f z. z.1.0 b refl))
         (look_tells g j lawful names exports s xs (λ x m. expression_found g j lawful names exports s knows x))
         (λ c y e m. act (out-Designator d).name.pos xs c y e (λ x m. expression_found g j lawful names exports s knows x))))
       where

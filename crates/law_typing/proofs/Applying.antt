@@ -118,7 +118,7 @@ type_thing (AProcedure h) e = absurd cc
 type_thing (ANested h) e = absurd cc
 type_thing (AStandard f) e = absurd cc
 type_thing (AModule k) e = absurd cc
-type_thing Headless e = absurd cc
+type_thing (Headless b) e = absurd cc
 
 scope_thing : {k : ℕ} (x : Thing) → AScope k ≡ fixed_thing x → x ≡ AModule k
 scope_thing {k = k} (AModule l) e = ap AModule (sym (ap (scope_number k) e))
@@ -129,7 +129,7 @@ scope_thing (AnOpenArray t) e = absurd cc
 scope_thing (AProcedure h) e = absurd cc
 scope_thing (ANested h) e = absurd cc
 scope_thing (AStandard f) e = absurd cc
-scope_thing Headless e = absurd cc
+scope_thing (Headless b) e = absurd cc
 
 type_standing : {u : TypeNo} (st : Standing) → FixedAs st (ANamedType u) → st ≡ Known (AType u)
 type_standing (Known x) e = ap Known (type_thing x e)
@@ -231,6 +231,7 @@ module _ (g : Gathers) (j : Judges g) (lawful : Lawful g j) (names : Ident → S
   in_scope _ ss (rules.of_module {k = k} {at = at} {name = name} p) r = (k, at, name, (refl, refl), p)
   in_scope _ ss (rules.of_field u) r = absurd (none_only ss r)
   in_scope _ ss (rules.of_element u) r = absurd (none_only ss r)
+  in_scope _ ss rules.element_of_module r = absurd (none_only ss r)
 
   member_selects : {k : ℕ} {at : Pos} {name : Ident} {x : Thing} {l : SF} → l ≡ layer.Field at name → exports k name ≡ Known x → Selects s.types names exports (AModule k) l x
   member_selects {k = k} {name = name} {x = x} h e = subst (λ (l : SF). Selects s.types names exports (AModule k) l x) (sym h) (bodies.field (subst (PicksName s.types exports name (AModule k)) e things.of_module))

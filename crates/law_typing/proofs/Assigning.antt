@@ -215,7 +215,7 @@ module _ (g : Gathers) (j : Judges g) (lawful : Lawful g j) (O : Breach → Type
   stores _ _ v k (target_variable t d) i = checks_as g j lawful O (λ m. (t, refl, m)) (λ m. subst (λ (t : TypeNo). MayTake types t k) (sym (same m.1)) m.2) (λ f z. z) (λ f z. z) (map_checks g j lawful O (λ a. store_statement t d a) (variable_takes t i))
     where
       same : {t u : TypeNo} → AVariable t ≡ AVariable u → t ≡ u
-      same {t = t} e = ap (λ z. elim z [ AVariable y ↦ y | AValue k ↦ t | AType y ↦ t | AnOpenArray y ↦ t | AProcedure y ↦ t | ANested y ↦ t | AStandard f ↦ t | AModule k ↦ t | Headless ↦ t ]) e
+      same {t = t} e = ap (λ z. elim z [ AVariable y ↦ y | AValue k ↦ t | AType y ↦ t | AnOpenArray y ↦ t | AProcedure y ↦ t | ANested y ↦ t | AStandard f ↦ t | AModule k ↦ t | Headless b ↦ t ]) e
   stores _ _ v k (target_open t) i = stopped g j lawful O at rule.NotAssignable (λ m. let e = m.1 in absurd cc) of_open_array (λ f m. one m)
     where
       one : {f : Breach} → Untaken types at k (AnOpenArray t) f → f ≡ at ! rule.NotAssignable
@@ -243,7 +243,7 @@ module _ (g : Gathers) (j : Judges g) (lawful : Lawful g j) (O : Breach → Type
   -- both sides
   pub sides_check : {S : Thing → Type 0} {B C : Breach → Type 0} {M : Kind → Type 0} {d : Result Designated (Meaningless g.Reported)} {v : Result Computed g.Reported} (spot : Pos) → Finds g j lawful O S B d → Answers g j O IsKind M C v
       → Checks g j lawful O ((p : Thing × Kind) × (((x : Thing) × S x × (IsTarget x × (p.0 ≡ x))) × M p.1) × Takes p) (λ f. ((B f ⊎ ((x : Thing) × S x × NoTarget spot x f)) ⊎ C f) ⊎ ((p : Thing × Kind) × (((x : Thing) × S x × (IsTarget x × (p.0 ≡ x))) × M p.1) × Refuses p f)) (assignment_of g types (target_at g spot d) at v)
-  sides_check spot h a = then_check g j lawful O {P = Takes} {D = Refuses} (both_answer g j lawful O (sort_answers g j lawful O {N = λ x y. IsTarget x × (y ≡ x)} {D = NoTarget spot} spot rule.WrongType h (targets spot) (missed spot (λ m. elim m [ ]))) a)
+  sides_check spot h a = then_check g j lawful O {P = Takes} {D = Refuses} (both_answer g j lawful O (sort_answers g j lawful O {N = λ x y. IsTarget x × (y ≡ x)} {D = NoTarget spot} spot rule.WrongType h (targets spot) (λ b. missed spot (λ m. elim m [ ]))) a)
       (λ v p i. stores v.0 p.0 v.1 p.1 i.0 i.1)
 
 -- ---- assignments and conditions

@@ -17,7 +17,9 @@ use Rattle.typed_tree.specs.declared.meaning.Meaning.TheVariants as meaning
 use Rattle.typed_tree.specs.Names.{find_name}
 use Rattle.check_scope.specs.declared.scope.Scope.{Scope}
 use Rattle.check_scope.specs.Elaborated.{Gathers, reported_where, beside, ◌▷◌}
-use Rattle.check_scope.specs.Scopes.{State, begin_name, finish_name}
+use Rattle.check_scope.specs.declared.meaningless.Meaningless.{Meaningless}
+use Rattle.check_scope.specs.declared.meaningless.Meaningless.TheVariants as meaningless
+use Rattle.check_scope.specs.Scopes.{State, heading_means, begin_name, finish_name}
 use Rattle.check_const.specs.Parts.{constant}
 use Rattle.check_expr.specs.Meanings.{part}
 use Rattle.check_type_expr.specs.Made.{nothing_of, type_of}
@@ -164,7 +166,7 @@ module _ (g : Gathers) (j : Judges g) (lawful : Lawful g j) (exports : ℕ → I
   no_waiting : {front : List Resolved} (d : Declaration) → in_front_of d ≡ Undeclared → NotAwaited front d
   no_waiting _ e t (rules.is_awaited v h) = absurd cc
 
-  module _ (front : List Resolved) (d : Resolved) (ds : List Declaration) (undeclared : in_front_of d.what ≡ Undeclared) (unknown : without d.what ≡ Unknown) (no_formals : formals_in d.what ≡ []) where
+  module _ (front : List Resolved) (d : Resolved) (ds : List Declaration) (undeclared : in_front_of d.what ≡ Undeclared) (unknown : without nested d.what ≡ Unknown) (no_formals : formals_in d.what ≡ []) where
     abbrev Begun : List ℕ → Type 0
     Begun = Adding (names_of d.what) (Th front)
 
@@ -533,7 +535,7 @@ module _ (g : Gathers) (j : Judges g) (lawful : Lawful g j) (exports : ℕ → I
         })
 
     -- what its heading means
-    says_heading : (ms : List Made) (made : Made → Meaning) → ((m : Made) → (said m).1 ≡ standing (made m)) → ((m : Made) → is_own_variable start (made m) ≡ false) → {r : Result Made g.Reported} → ExactHeading r → ((m : Made) → r ≡ Ok m → ms ≡ m ∷ []) → Saying g j exports outside start taken awaited nested block front (heading_with ms) (known.Headed (r ▷ λ m. Ok (made m)))
+    says_heading : (ms : List Made) (made : Made → Meaning) → ((m : Made) → (said m).1 ≡ standing (made m)) → ((m : Made) → is_own_variable start (made m) ≡ false) → {r : Result Made g.Reported} → ExactHeading r → ((m : Made) → r ≡ Ok m → ms ≡ m ∷ []) → Saying g j exports outside start taken awaited nested block front (heading_with ms) (known.Headed (heading_means nested (r ▷ λ m. Ok (made m))))
     says_heading ms made i w x e = saying_heading g j lawful exports outside start taken awaited nested block said front (heading_with ms) made i x (λ m z. ap (λ (ms : List Made). heading_adds ms) (e m z)) refl (λ m. w m) stand_now
 
     types_next : next_type (T front) ≡ next_type s.types
@@ -570,11 +572,14 @@ module _ (g : Gathers) (j : Judges g) (lawful : Lawful g j) (exports : ℕ → I
     made_ends n m x new false e q = subst (λ (b : Bool). Ended (m ∷ []) (cond b (with_known h.name.name (known.Headed (Ok (meaning.Procedure (record { home = s.types.home; number = length s.procedures; heading = next_type s.types })))) (with_procedure_type (with_shape s m) (Ok (next_type s.types)))) (with_known h.name.name (known.Headed (Ok (nested_made n m))) (with_shape s m)))) (sym e)
         (new_ends (m ∷ []) (known.Headed (Ok (nested_made n m))) (says_heading (m ∷ []) (nested_made n) (nested_is q n) (λ m. refl) x (λ w z. one_only z)) new (same_made m) refl)
 
+    abbrev Headed_says : List Made → Result Meaning (Meaningless g.Reported) → Type 0
+    Headed_says ms r = Saying g j exports outside start taken awaited nested block front (heading_with ms) (known.Headed r)
+
     none_ends : (n : ℕ) (r : g.Reported) → ExactHeading (Err r) → (Th front h.name.name → ⊥) → (b : Bool) → (s.level == 0) ≡ b → nested ≡ not b → Ended [] (new_procedure s h.name.name n (Err r))
-    none_ends n r x new true e q = subst (λ (b : Bool). Ended [] (cond b (with_known h.name.name (known.Headed (Err r)) s) (with_known h.name.name (known.Headed (Err r)) s))) (sym e)
-        (new_ends [] (known.Headed (Err r)) (says_heading [] (module_made 0 0) (module_is q 0 0) (λ m. refl) x (λ m z. absurd cc)) new same_none refl)
-    none_ends n r x new false e q = subst (λ (b : Bool). Ended [] (cond b (with_known h.name.name (known.Headed (Err r)) s) (with_known h.name.name (known.Headed (Err r)) s))) (sym e)
-        (new_ends [] (known.Headed (Err r)) (says_heading [] (nested_made n) (nested_is q n) (λ m. refl) x (λ m z. absurd cc)) new same_none refl)
+    none_ends n r x new true e q = subst (λ (b : Bool). Ended [] (cond b (with_known h.name.name (known.Headed (Err (meaningless.Headless false r))) s) (with_known h.name.name (known.Headed (Err (meaningless.Headless true r))) s))) (sym e)
+        (new_ends [] (known.Headed (Err (meaningless.Headless false r))) (subst (λ (b : Bool). Headed_says [] (Err (meaningless.Headless b r))) q (says_heading [] (module_made 0 0) (module_is q 0 0) (λ m. refl) x (λ m z. absurd cc))) new same_none refl)
+    none_ends n r x new false e q = subst (λ (b : Bool). Ended [] (cond b (with_known h.name.name (known.Headed (Err (meaningless.Headless false r))) s) (with_known h.name.name (known.Headed (Err (meaningless.Headless true r))) s))) (sym e)
+        (new_ends [] (known.Headed (Err (meaningless.Headless true r))) (subst (λ (b : Bool). Headed_says [] (Err (meaningless.Headless b r))) q (says_heading [] (nested_made n) (nested_is q n) (λ m. refl) x (λ m z. absurd cc))) new same_none refl)
 
     level_same : nested ≡ not (s.level == 0)
     level_same = level ∙ ap (λ (l : ℕ). not (l == 0)) (sym k.same.level)

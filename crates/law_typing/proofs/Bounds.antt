@@ -1,5 +1,5 @@
 -- A bound of a label of a CASE is answered exactly.
-use Rattle.std.proofs.Common.{◌≡◌, ℕ, ℤ, Bool, false, Option, Some, None, Result, Ok, ◌⊎◌, inl, inr, refl, sym, ap, subst, ◌∙◌}
+use Rattle.std.proofs.Common.{true, ◌≡◌, ℕ, ℤ, Bool, false, Option, Some, None, Result, Ok, ◌⊎◌, inl, inr, refl, sym, ap, subst, ◌∙◌}
 use Rattle.m2_rule.specs.declared.breach.Breach.{Breach}
 use Rattle.m2_rule.specs.declared.rule.Rule.TheVariants as rule
 use Rattle.m2_tree.specs.declared.pos.Pos.{Pos}
@@ -21,11 +21,11 @@ use Rattle.check_operator.specs.declared.class.Class.{Class}
 use Rattle.check_operator.specs.declared.computed.Computed.{Computed}
 use Rattle.check_operator.specs.declared.computed.Designated.{Designated}
 use Rattle.check_expr.specs.Meanings.{meanings_of}
-use Rattle.check_stmt_parts.specs.Labels.{suits_selector, no_constant, value_bound, variable_bound, bound_by, bound_in, bound_of}
+use Rattle.check_stmt_parts.specs.Labels.{suits_selector, suits_without, no_constant, value_bound, variable_bound, bound_by, bound_in, bound_of}
 use Rattle.def_typing.specs.Shapes.{shape_at}
 use Rattle.def_typing.specs.Amounts.{Constant, Value}
 use Rattle.def_typing.specs.Operators.{◌!◌, Kind, Scalar, operand}
-use Rattle.def_typing.specs.Things.{Thing, AValue, AVariable, Headless, Standing, content_of, content}
+use Rattle.def_typing.specs.Things.{Thing, AValue, AVariable, Headless, Standing, content_of, content, Mistaken}
 use Rattle.def_typing.specs.Parts.{first}
 use Rattle.def_typing.specs.Expressions.{Stands, Broken}
 use Rattle.def_typing.specs.Cases as rules
@@ -49,11 +49,11 @@ type_in t (Scalar (Value u)) = u
 type_in t other = t
 
 scalar_suits : (base : Option TypeNo) (k : Kind) (b : TypeNo) → k ≡ Scalar (Value b) → Decided (SuitsSelector base k) (suits_selector base b)
-scalar_suits None k b e = holds (b, e)
+scalar_suits None k b e = holds tt
 scalar_suits (Some t) k b e = decided_as (λ q. e ∙ ap (λ (u : TypeNo). Scalar (Value u)) q) (λ q. ap (type_in b) (sym e ∙ q)) (same_decided b t)
 
-none_suits : (base : Option TypeNo) (k : Kind) → ((t : TypeNo) → k ≡ Scalar (Value t) → ⊥) → Decided (SuitsSelector base k) false
-none_suits None k n = fails_it (λ q. n q.0 q.1)
+none_suits : (base : Option TypeNo) (k : Kind) → ((t : TypeNo) → k ≡ Scalar (Value t) → ⊥) → Decided (SuitsSelector base k) (suits_without base)
+none_suits None k n = holds tt
 none_suits (Some t) k n = fails_it (λ q. n t q)
 
 constant_thing : (v : ConstantValue) → IsConstantThing (AValue (kind_of v))
@@ -81,7 +81,7 @@ module _ (g : Gathers) (j : Judges g) (lawful : Lawful g j) (O : Breach → Type
     where
       none : {f : Breach} → Mis (AValue k) f → ⊥
       none (rules.no_number d n) = n a.sort a.number (is_bound e)
-      none (rules.no_value v) = v
+      none (rules.no_value m) = m
       none (rules.no_constant i) = i.not_constant c
       none (rules.other_type i n) = i.not_constant c
 
@@ -90,7 +90,7 @@ module _ (g : Gathers) (j : Judges g) (lawful : Lawful g j) (O : Breach → Type
     where
       one : {f : Breach} → Mis (AValue k) f → f ≡ at ! rule.WrongType
       one (rules.no_number d m) = refl
-      one (rules.no_value v) = absurd v
+      one (rules.no_value m) = absurd m
       one (rules.no_constant i) = absurd (i.not_constant c)
       one (rules.other_type i m) = refl
 
@@ -104,68 +104,86 @@ module _ (g : Gathers) (j : Judges g) (lawful : Lawful g j) (O : Breach → Type
   refused q n to from (passes a p m) = absurd (q p)
   refused q n to from (stops r c m) = refuses r (accounts_as g j lawful O to from c) n
 
-  varies : {x : Thing} (b : Bool) → IsNoConstant x → ((p : Option TypeNo × ℤ) → IsBound x p.0 p.1 → ⊥) → Decided (SuitsSelector base (run_time_kind types x)) b → BoundSo x (no_constant g b label at)
-  varies {x = x} b i n d = refused {P = SuitsSelector base (run_time_kind types x) × ⊥} {B = λ f. ((SuitsSelector base (run_time_kind types x) → ⊥) × (f ≡ at ! rule.WrongType)) ⊎ (f ≡ label ! rule.WrongLabel)} (λ p. p.1) n (λ f z. into f z) (λ f z. out z)
+  abbrev Told : Type 0 → Breach → Type 0
+  Told P f = ((P → ⊥) × (f ≡ at ! rule.WrongType)) ⊎ (f ≡ label ! rule.WrongLabel)
+
+  -- told at its own place, unless the type is right, and at the label
+  told_twice : {x : Thing} {P : Type 0} {b : Bool} → Decided P b → IsNoConstant x → ((p : Option TypeNo × ℤ) → IsBound x p.0 p.1 → ⊥) → ((P → ⊥) → Mis x (at ! rule.WrongType)) → ((f : Breach) → Mis x f → Told P f) → BoundSo x (no_constant g b label at)
+  told_twice {x = x} {P = P} {b = b} d i n to from = refused {P = P × ⊥} {B = Told P} (λ p. p.1) n (λ f z. into f z) from
       (map_checks g j lawful O (λ (p : Unit {0} × Ordinal). p.1) (both_checks g j lawful O (where_checks g j lawful O tt b at rule.WrongType d) (stopped g j lawful O {P = ⊥} {B = λ f. f ≡ label ! rule.WrongLabel} label rule.WrongLabel (λ p. p) refl (λ f e. e))))
     where
-      into : (f : Breach) → ((SuitsSelector base (run_time_kind types x) → ⊥) × (f ≡ at ! rule.WrongType)) ⊎ (f ≡ label ! rule.WrongLabel) → Mis x f
-      into f (inl (m, e)) = subst (Mis x) (sym e) (rules.other_type i m)
+      into : (f : Breach) → Told P f → Mis x f
+      into f (inl (m, e)) = subst (Mis x) (sym e) (to m)
       into f (inr e) = subst (Mis x) (sym e) (rules.no_constant i)
 
-      out : {f : Breach} → Mis x f → ((SuitsSelector base (run_time_kind types x) → ⊥) × (f ≡ at ! rule.WrongType)) ⊎ (f ≡ label ! rule.WrongLabel)
-      out (rules.no_number c m) = absurd (i.not_constant c)
-      out (rules.no_value v) = absurd (i.not_refused v)
-      out (rules.no_constant q) = inr refl
-      out (rules.other_type q m) = inl (m, refl)
+  -- what has a type at run time
+  varies : {x : Thing} (b : Bool) → IsNoConstant x → ((f : Breach) → Mistaken at x f → ⊥) → ((p : Option TypeNo × ℤ) → IsBound x p.0 p.1 → ⊥) → Decided (SuitsSelector base (run_time_kind types x)) b → BoundSo x (no_constant g b label at)
+  varies {x = x} b i u n d = told_twice d i n (λ m. rules.other_type i m) (λ f z. out f z)
+    where
+      out : (f : Breach) → Mis x f → Told (SuitsSelector base (run_time_kind types x)) f
+      out _ (rules.no_number c m) = absurd (i.not_constant c)
+      out f (rules.no_value m) = absurd (u f m)
+      out _ (rules.no_constant q) = inr refl
+      out _ (rules.other_type q m) = inl (m, refl)
+
+  -- types and modules
+  no_type_bound : {x : Thing} → IsNoConstant x → ((p : Option TypeNo × ℤ) → IsBound x p.0 p.1 → ⊥) → Mistaken at x (at ! rule.WrongType) → ((f : Breach) → Mistaken at x f → f ≡ at ! rule.WrongType) → BoundSo x (no_constant g false label at)
+  no_type_bound {x = x} i n v one = told_twice {P = ⊥} (fails_it (λ p. p)) i n (λ m. rules.no_value v) (λ f z. out f z)
+    where
+      out : (f : Breach) → Mis x f → Told ⊥ f
+      out _ (rules.no_number c m) = absurd (i.not_constant c)
+      out f (rules.no_value m) = inl ((λ p. p), one f m)
+      out _ (rules.no_constant q) = inr refl
+      out _ (rules.other_type q m) = inl ((λ p. p), refl)
 
   value_varies : {k : Kind} (b : Bool) → IsNoConstant (AValue k) → ((p : Option TypeNo × ℤ) → operand k ≡ Scalar (Constant p.0 p.1) → ⊥) → Decided (SuitsSelector base k) b → BoundSo (AValue k) (no_constant g b label at)
-  value_varies b i n d = varies b i (λ p m. n p (bound_operand m)) d
+  value_varies b i n d = varies b i (λ f m. m) (λ p m. n p (bound_operand m)) d
 
   value_bounds : {v : Computed} {k : Kind} → IsKind v k → BoundSo (AValue k) (value_bound g base label at v)
   value_bounds (kind_constant v) = constant_bound (constant_thing v) refl (constant_is v)
   value_bounds (kind_scalar t b e) = value_varies (suits_selector base b) (record { not_constant = λ z. z; not_refused = λ z. z }) (λ p q. absurd cc) (scalar_suits base (Scalar (Value b)) b refl)
-  value_bounds (kind_set e) = value_varies false (record { not_constant = λ z. z; not_refused = λ z. z }) (λ p q. absurd cc) (none_suits base _ (λ t q. absurd cc))
-  value_bounds (kind_routine t e) = value_varies false (record { not_constant = λ z. z; not_refused = λ z. z }) (λ p q. absurd cc) (none_suits base _ (λ t q. absurd cc))
-  value_bounds (kind_procedure p) = value_varies false (record { not_constant = λ z. z; not_refused = λ z. z }) (λ p q. absurd cc) (none_suits base _ (λ t q. absurd cc))
-  value_bounds (kind_whole t d) = value_varies false (record { not_constant = λ z. z; not_refused = λ z. z }) (λ p q. absurd cc) (none_suits base _ (λ t q. absurd cc))
-  value_bounds kind_untaken = value_varies false (record { not_constant = λ z. z; not_refused = λ z. z }) (λ p q. absurd cc) (none_suits base _ (λ t q. absurd cc))
+  value_bounds (kind_set e) = value_varies (suits_without base) (record { not_constant = λ z. z; not_refused = λ z. z }) (λ p q. absurd cc) (none_suits base _ (λ t q. absurd cc))
+  value_bounds (kind_routine t e) = value_varies (suits_without base) (record { not_constant = λ z. z; not_refused = λ z. z }) (λ p q. absurd cc) (none_suits base _ (λ t q. absurd cc))
+  value_bounds (kind_procedure p) = value_varies (suits_without base) (record { not_constant = λ z. z; not_refused = λ z. z }) (λ p q. absurd cc) (none_suits base _ (λ t q. absurd cc))
+  value_bounds (kind_whole t d) = value_varies (suits_without base) (record { not_constant = λ z. z; not_refused = λ z. z }) (λ p q. absurd cc) (none_suits base _ (λ t q. absurd cc))
+  value_bounds kind_untaken = value_varies (suits_without base) (record { not_constant = λ z. z; not_refused = λ z. z }) (λ p q. absurd cc) (none_suits base _ (λ t q. absurd cc))
 
   variable_varies : (t : TypeNo) (b : Bool) → Decided (SuitsSelector base (content types t)) b → BoundSo (AVariable t) (no_constant g b label at)
-  variable_varies t b d = varies b (record { not_constant = λ z. z; not_refused = λ z. z }) (λ p m. elim m [ ]) d
+  variable_varies t b d = varies b (record { not_constant = λ z. z; not_refused = λ z. z }) (λ f m. m) (λ p m. elim m [ ]) d
 
-  not_held : (t : TypeNo) (z : Option Shape) → shape_at types t ≡ z → ((u : TypeNo) → content_of t z ≡ Scalar (Value u) → ⊥) → Decided (SuitsSelector base (content types t)) false
+  not_held : (t : TypeNo) (z : Option Shape) → shape_at types t ≡ z → ((u : TypeNo) → content_of t z ≡ Scalar (Value u) → ⊥) → Decided (SuitsSelector base (content types t)) (suits_without base)
   not_held t z e n = none_suits base (content types t) (λ u q. n u (sym (ap (content_of t) e) ∙ q))
 
   variable_by : (t : TypeNo) (z : Option Shape) → shape_at types t ≡ z → BoundSo (AVariable t) (variable_bound g base label at (class_of z))
-  variable_by t None e = variable_varies t false (not_held t None e (λ u q. absurd cc))
+  variable_by t None e = variable_varies t (suits_without base) (not_held t None e (λ u q. absurd cc))
   variable_by t (Some (shape.Scalar r)) e = variable_varies t (suits_selector base r.base) (scalar_suits base (content types t) r.base (ap (content_of t) e))
-  variable_by t (Some shape.Set) e = variable_varies t false (not_held t _ e (λ u q. absurd cc))
-  variable_by t (Some (shape.Array i u)) e = variable_varies t false (not_held t _ e (λ u q. absurd cc))
-  variable_by t (Some (shape.Record fs)) e = variable_varies t false (not_held t _ e (λ u q. absurd cc))
-  variable_by t (Some (shape.Procedure p)) e = variable_varies t false (not_held t _ e (λ u q. absurd cc))
-  variable_by t (Some (shape.Open u)) e = variable_varies t false (not_held t _ e (λ u q. absurd cc))
+  variable_by t (Some shape.Set) e = variable_varies t (suits_without base) (not_held t _ e (λ u q. absurd cc))
+  variable_by t (Some (shape.Array i u)) e = variable_varies t (suits_without base) (not_held t _ e (λ u q. absurd cc))
+  variable_by t (Some (shape.Record fs)) e = variable_varies t (suits_without base) (not_held t _ e (λ u q. absurd cc))
+  variable_by t (Some (shape.Procedure p)) e = variable_varies t (suits_without base) (not_held t _ e (λ u q. absurd cc))
+  variable_by t (Some (shape.Open u)) e = variable_varies t (suits_without base) (not_held t _ e (λ u q. absurd cc))
 
-  no_value_bound : {x : Thing} → IsNoValue x → (IsConstantThing x → ⊥) → ((p : Option TypeNo × ℤ) → IsBound x p.0 p.1 → ⊥) → BoundSo x (report g at rule.NoProcedureValue)
-  no_value_bound {x = x} v c n = declined g j lawful O at rule.NoProcedureValue n (rules.no_value v) (λ f z. one z)
+  no_value_bound : {x : Thing} → IsNoValue x → (IsConstantThing x → ⊥) → ((p : Option TypeNo × ℤ) → IsBound x p.0 p.1 → ⊥) → Mistaken at x (at ! rule.NoProcedureValue) → ((f : Breach) → Mistaken at x f → f ≡ at ! rule.NoProcedureValue) → BoundSo x (report g at rule.NoProcedureValue)
+  no_value_bound {x = x} v c n m only = declined g j lawful O at rule.NoProcedureValue n (rules.no_value m) (λ f z. one f z)
     where
-      one : {f : Breach} → Mis x f → f ≡ at ! rule.NoProcedureValue
-      one (rules.no_number d m) = absurd (c d)
-      one (rules.no_value w) = refl
-      one (rules.no_constant i) = absurd (i.not_refused v)
-      one (rules.other_type i m) = absurd (i.not_refused v)
+      one : (f : Breach) → Mis x f → f ≡ at ! rule.NoProcedureValue
+      one _ (rules.no_number d m) = absurd (c d)
+      one f (rules.no_value w) = only f w
+      one _ (rules.no_constant i) = absurd (i.not_refused v)
+      one _ (rules.other_type i m) = absurd (i.not_refused v)
 
-  other_varies : {x : Thing} → IsNoConstant x → ((p : Option TypeNo × ℤ) → IsBound x p.0 p.1 → ⊥) → ((t : TypeNo) → run_time_kind types x ≡ Scalar (Value t) → ⊥) → BoundSo x (no_constant g false label at)
-  other_varies {x = x} i n q = varies false i n (none_suits base (run_time_kind types x) q)
+  other_varies : {x : Thing} → IsNoConstant x → ((f : Breach) → Mistaken at x f → ⊥) → ((p : Option TypeNo × ℤ) → IsBound x p.0 p.1 → ⊥) → ((t : TypeNo) → run_time_kind types x ≡ Scalar (Value t) → ⊥) → BoundSo x (no_constant g (suits_without base) label at)
+  other_varies {x = x} i u n q = varies (suits_without base) i u n (none_suits base (run_time_kind types x) q)
 
   bounds : (a : Designated) (x : Thing) → IsThing a x → BoundSo x (bound_by g types base label at a)
   bounds _ _ (thing_value i) = value_bounds i
   bounds _ _ (thing_variable t d) = subst (λ (c : Class). BoundSo (AVariable t) (variable_bound g base label at c)) (sym (class_is types t)) (variable_by t (shape_at types t) refl)
-  bounds _ _ (thing_nested p) = no_value_bound tt (λ z. z) (λ p m. elim m [ ])
-  bounds _ _ (thing_standard p) = no_value_bound tt (λ z. z) (λ p m. elim m [ ])
-  bounds _ _ (thing_open t d) = other_varies (record { not_constant = λ z. z; not_refused = λ z. z }) (λ p m. elim m [ ]) (λ t q. absurd cc)
-  bounds _ _ (thing_type t) = other_varies (record { not_constant = λ z. z; not_refused = λ z. z }) (λ p m. elim m [ ]) (λ t q. absurd cc)
-  bounds _ _ (thing_procedure p) = other_varies (record { not_constant = λ z. z; not_refused = λ z. z }) (λ p m. elim m [ ]) (λ t q. absurd cc)
-  bounds _ _ (thing_module k) = other_varies (record { not_constant = λ z. z; not_refused = λ z. z }) (λ p m. elim m [ ]) (λ t q. absurd cc)
+  bounds _ _ (thing_nested p) = no_value_bound tt (λ z. z) (λ p m. elim m [ ]) refl (λ f m. m)
+  bounds _ _ (thing_standard p) = no_value_bound tt (λ z. z) (λ p m. elim m [ ]) refl (λ f m. m)
+  bounds _ _ (thing_open t d) = other_varies (record { not_constant = λ z. z; not_refused = λ z. z }) (λ f m. m) (λ p m. elim m [ ]) (λ t q. absurd cc)
+  bounds _ _ (thing_type t) = no_type_bound (record { not_constant = λ z. z; not_refused = λ z. z }) (λ p m. elim m [ ]) refl (λ f m. m)
+  bounds _ _ (thing_procedure p) = other_varies (record { not_constant = λ z. z; not_refused = λ z. z }) (λ f m. m) (λ p m. elim m [ ]) (λ t q. absurd cc)
+  bounds _ _ (thing_module k) = no_type_bound (record { not_constant = λ z. z; not_refused = λ z. z }) (λ p m. elim m [ ]) refl (λ f m. m)
 
   -- what is found
   abbrev Meant : (Thing → Type 0) → Option TypeNo × ℤ → Type 0
@@ -179,7 +197,8 @@ module _ (g : Gathers) (j : Judges g) (lawful : Lawful g j) (O : Breach → Type
 
   pub bound_found : {S : Thing → Type 0} {B : Breach → Type 0} {d : Result Designated (Meaningless g.Reported)} → Finds g j lawful O S B d → Answers g j O IsOrdinal (Meant S) (Fails S B) (bound_in g types base label at d)
   bound_found (finds a x i m u n) = at_thing x m u n (bounds a x i)
-  bound_found (finds_headless r o m u n) = at_thing Headless m u n (other_varies (record { not_constant = λ z. z; not_refused = λ z. z }) (λ p q. elim q [ ]) (λ t q. absurd cc))
+  bound_found (finds_headless true r o m u n) = at_thing (Headless true) m u n (no_value_bound tt (λ z. z) (λ p q. elim q [ ]) refl (λ f z. z))
+  bound_found (finds_headless false r o m u n) = at_thing (Headless false) m u n (other_varies (record { not_constant = λ z. z; not_refused = λ z. z }) (λ f z. z) (λ p q. elim q [ ]) (λ t q. absurd cc))
   bound_found (finds_nothing r c n) = refuses r (accounts_as g j lawful O (λ f b. inl b) (λ f z. elim z [ inl b ↦ b | inr q ↦ absurd (n q.0 q.1) ]) c) (λ p z. n z.0 z.1)
 
 abbrev IsNumbered : Ordinal → Option TypeNo × ℤ → Type 0

@@ -15,7 +15,7 @@ use Rattle.typed_tree.specs.declared.shape.Shape.TheVariants as shape
 use Rattle.typed_tree.specs.Types.{cardinal}
 use Rattle.m2_rule.specs.declared.breach.Breach.{Breach}
 use Rattle.check_scope.specs.declared.scope.Scope.{Scope}
-use Rattle.check_scope.specs.Elaborated.{Gathers, report, reported_beside, of_sort, ◌▷◌}
+use Rattle.check_scope.specs.Elaborated.{Gathers, report, reported_beside, of_sort, of_sort_of_value, ◌▷◌}
 use Rattle.check_const.specs.Calls.{bound_by, scalar_type}
 use Rattle.check_operator.specs.declared.computed.Computed.{Computed}
 use Rattle.check_operator.specs.declared.computed.Computed.TheVariants as computed
@@ -36,7 +36,7 @@ use Rattle.def_typing.specs.Expressions.{Beside, beside, behind, Stands, Has, Ca
 use Rattle.def_typing.specs.Expressions as rules
 use Rattle.law_typing.specs.Judging.{Judges, Answers, means}
 use Rattle.law_typing.specs.Exact.{IsKind, kind_constant, kind_scalar, IsThing, thing_value, thing_variable, thing_open, thing_type, thing_procedure, thing_nested, thing_standard, thing_module}
-use Rattle.law_typing.proofs.Combining.{Lawful, declined, exact, both_answer, then_answer, declined_beside, sort_answers}
+use Rattle.law_typing.proofs.Combining.{Lawful, declined, exact, both_answer, then_answer, declined_beside, sort_answers, sort_value_answers}
 use Rattle.law_typing.proofs.Deciding.{some_same}
 use Rattle.law_typing.proofs.Places.{at_is}
 use Rattle.law_typing.proofs.Shaping.{scalar_of, scalar_is, one_made}
@@ -179,7 +179,7 @@ module _ (g : Gathers) (j : Judges g) (lawful : Lawful g j) (names : Ident → S
   proper_only at _ e (rules.no_open_array m z w) = absurd cc
 
   proper_calls : {p : Standard} {xs : List Expr} (at : Pos) → arity p ≡ None → ((y : Expr) → Among y xs → Found y) → CallsSo at (AStandard p) xs (reported_beside g at rule.WrongType (breaches_in_all g s (map (meanings_of g) xs)))
-  proper_calls at e h = refused_call at rule.WrongType (λ k c. let z = sym e ∙ standard_calls c in absurd cc) (rules.no_function (λ q. absurd cc) (λ n i. let z = sym e ∙ standard_function i in absurd cc)) (λ f m. proper_only at f e m) h
+  proper_calls at e h = refused_call at rule.WrongType (λ k c. let z = sym e ∙ standard_calls c in absurd cc) (rules.no_function (λ b q. absurd cc) (λ n i. let z = sym e ∙ standard_function i in absurd cc)) (λ f m. proper_only at f e m) h
 
   -- ---- functions of one value
 
@@ -281,7 +281,7 @@ module _ (g : Gathers) (j : Judges g) (lawful : Lawful g j) (names : Ident → S
 
   pub scalar_answers : {x : Expr} → Found x → Answers g j E IsOfRange (NamesIt x) (NameFails x) (scalar_named g s (meanings_of g x))
   scalar_answers {x = x} h = subst (λ (at : Pos). Answers g j E IsOfRange (NamesIt x) (NameFails x) (of_sort g at rule.NoType ((meanings_of g x).means s) ▷ type_named g s.types at)) (sym (at_is g x))
-      (sort_answers g j lawful E (first x) rule.NoType h (type_answers (first x)) (no_scalar (first x) (λ r n. elim n [ ])))
+      (sort_answers g j lawful E (first x) rule.NoType h (type_answers (first x)) (λ b. no_scalar (first x) (λ r n. elim n [ ])))
 
   -- MAX and MIN
   abbrev pub BoundedBy : Standard → Range → Kind → Type 0
@@ -446,10 +446,10 @@ module _ (g : Gathers) (j : Judges g) (lawful : Lawful g j) (names : Ident → S
   fails_high at f (inr (y, m, inl z)) = inl (rules.no_array m z)
   fails_high {x = x} at f (inr (y, m, inr (z, q, e))) = inl (subst (M at (AStandard High) (x ∷ [])) (sym e) (rules.no_open_array m z q))
 
-  high_called : {x : Expr} (at : Pos) → Found x → CallsSo at (AStandard High) (x ∷ []) (of_sort g (meanings_of g x).fixed.at rule.WrongArgument ((meanings_of g x).means s) ▷ high_of g (meanings_of g x).fixed.at)
-  high_called {x = x} at h = subst (λ (p : Pos). CallsSo at (AStandard High) (x ∷ []) (of_sort g p rule.WrongArgument ((meanings_of g x).means s) ▷ high_of g p)) (sym (at_is g x))
+  high_called : {x : Expr} (at : Pos) → Found x → CallsSo at (AStandard High) (x ∷ []) (of_sort_of_value g (meanings_of g x).fixed.at rule.WrongArgument ((meanings_of g x).means s) ▷ high_of g (meanings_of g x).fixed.at)
+  high_called {x = x} at h = subst (λ (p : Pos). CallsSo at (AStandard High) (x ∷ []) (of_sort_of_value g p rule.WrongArgument ((meanings_of g x).means s) ▷ high_of g p)) (sym (at_is g x))
       (exact g j lawful E calls_high (λ l m. high_calls_by m) (fails_high at) (λ f b. elim b [ inl m ↦ high_fails at f m | inr a ↦ inl (any_one f a) ])
-      (sort_answers g j lawful E (first x) rule.WrongArgument h (high_answers (first x)) (no_high (first x) (λ t e. absurd cc) (λ h m. m))))
+      (sort_value_answers g j lawful E (first x) rule.WrongArgument h (high_answers (first x)) (no_high (first x) (λ t e. absurd cc) (λ h m. m)) (mistaken_high (first x) rule.NoProcedureValue (λ t e. absurd cc) refl (λ h m. m))))
 
   high_calls : (at : Pos) (xs : List Expr) → ((y : Expr) → Among y xs → Found y) → CallsSo at (AStandard High) xs (meanings.high g s at (map (meanings_of g) xs))
   high_calls at [] h = miscounted_calls {p = High} at refl (λ e. absurd cc) h

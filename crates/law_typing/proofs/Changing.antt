@@ -331,7 +331,7 @@ module _ (g : Gathers) (j : Judges g) (lawful : Lawful g j) (names : Ident → S
 
   -- functions are no statements
   function_action : {p : Standard} {xs : List Expr} (at : Pos) → ((n : ℕ) → HasCount p n → ⊥) → ((y : Expr) → Among y xs → Found y) → ActsSo at (AStandard p) xs (function_done g s at (map (meanings_of g) xs))
-  function_action {xs = xs} at q h = refused_action at rule.WrongType (λ a. q (length xs) (acts_count a)) (rules.no_procedure (λ e. absurd cc) (λ n i. q n (standard_count i))) (λ f m. function_only at f q m) h
+  function_action {xs = xs} at q h = refused_action at rule.WrongType (λ a. q (length xs) (acts_count a)) (rules.no_procedure (λ b e. absurd cc) (λ n i. q n (standard_count i))) (λ f m. function_only at f q m) h
 
   -- ---- the arguments
 
@@ -349,11 +349,11 @@ module _ (g : Gathers) (j : Judges g) (lawful : Lawful g j) (names : Ident → S
 
   counted_variable : {p : Standard} {v : Expr} → IsCounting p → Found v → Checks g j lawful E {A = TypeNo × Place} (Variable p v) (VariableFails p v) (change_target_in g s (meanings_of g v))
   counted_variable {p = p} {v = v} c h = subst (λ (at : Pos). Checks g j lawful E {A = TypeNo × Place} (Variable p v) (VariableFails p v) (of_sort g at rule.NoVariable ((meanings_of g v).means s) ▷ change_target g s.types at)) (sym (at_is g v))
-      (sort_checks g j lawful E (first v) rule.NoVariable h (changed_checks g j lawful E s.types p (first v) c) (unchanged g j lawful E s.types p (first v) (λ m. elim m [ ])))
+      (sort_checks g j lawful E (first v) rule.NoVariable h (changed_checks g j lawful E s.types p (first v) c) (λ b. unchanged g j lawful E s.types p (first v) (λ m. elim m [ ])))
 
   set_variable_checks : {p : Standard} {v : Expr} → IsSetting p → Found v → Checks g j lawful E {A = Place} (Variable p v) (VariableFails p v) (set_in g s (meanings_of g v))
   set_variable_checks {p = p} {v = v} c h = subst (λ (at : Pos). Checks g j lawful E {A = Place} (Variable p v) (VariableFails p v) (of_sort g at rule.NoVariable ((meanings_of g v).means s) ▷ set_variable g s.types at)) (sym (at_is g v))
-      (sort_checks g j lawful E (first v) rule.NoVariable h (set_checks g j lawful E s.types p (first v) c) (unchanged g j lawful E s.types p (first v) (λ m. elim m [ ])))
+      (sort_checks g j lawful E (first v) rule.NoVariable h (set_checks g j lawful E s.types p (first v) c) (λ b. unchanged g j lawful E s.types p (first v) (λ m. elim m [ ])))
 
   amount_of : {p : Standard} {e : Expr} → IsCounting p → Found e → Checks g j lawful E {A = TypedExpr} (Amount p e) (AmountFails p e) (value_of g s (meanings_of g e) ▷ amount g (meanings_of g e).fixed.at)
   amount_of {p = p} {e = e} c h = subst (λ (at : Pos). Checks g j lawful E {A = TypedExpr} (Amount p e) (AmountFails p e) (value_of g s (meanings_of g e) ▷ amount g at)) (sym (at_is g e))

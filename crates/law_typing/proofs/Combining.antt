@@ -2,11 +2,12 @@
 use Rattle.std.proofs.Common.{◌≡◌, Bool, true, false, Result, Ok, Err, ◌⊎◌, inl, inr, refl, sym, ap, subst, ◌∙◌}
 use Rattle.std.specs.Prelude.{not}
 use Rattle.m2_rule.specs.declared.rule.Rule.{Rule}
+use Rattle.m2_rule.specs.declared.rule.Rule.TheVariants as rule
 use Rattle.m2_tree.specs.declared.pos.Pos.{Pos}
 use Rattle.m2_rule.specs.declared.breach.Breach.{Breach}
 use Rattle.check_scope.specs.declared.meaningless.Meaningless.{Meaningless}
 use Rattle.check_scope.specs.declared.meaningless.Meaningless.TheVariants as meaningless
-use Rattle.check_scope.specs.Elaborated.{Gathers, report, reported_where, both, beside, reported_beside, refusal_beside, ahead, of_sort, of_heading, plain, ◌▷◌}
+use Rattle.check_scope.specs.Elaborated.{Gathers, report, reported_where, both, beside, reported_beside, refusal_beside, ahead, of_sort, of_heading, of_value, of_sort_of_value, plain, ◌▷◌}
 use Rattle.check_operator.specs.declared.computed.Computed.{Computed}
 use Rattle.check_operator.specs.declared.computed.Designated.{Designated}
 use Rattle.check_operator.specs.declared.computed.Designated.TheVariants as designated
@@ -180,12 +181,12 @@ module _ (g : Gathers) (j : Judges g) (l : Lawful g j) (O : Breach → Type 0) w
 
   pub data Finds (S : Thing → Type 0) (Breaks : Breach → Type 0) : Result Designated (Meaningless g.Reported) → Type 0 where
     finds : (a : Designated) (x : Thing) → IsThing a x → S x → ((y : Thing) → S y → y ≡ x) → ((f : Breach) → Breaks f → ⊥) → Finds S Breaks (Ok a)
-    finds_headless : (r : g.Reported) → ((f : Breach) → j.Among r f → O f) → S Headless → ((y : Thing) → S y → y ≡ Headless) → ((f : Breach) → Breaks f → ⊥) → Finds S Breaks (Err (meaningless.Headless r))
+    finds_headless : (b : Bool) (r : g.Reported) → ((f : Breach) → j.Among r f → O f) → S (Headless b) → ((y : Thing) → S y → y ≡ Headless b) → ((f : Breach) → Breaks f → ⊥) → Finds S Breaks (Err (meaningless.Headless b r))
     finds_nothing : (r : g.Reported) → Accounts g j O Breaks r → ((y : Thing) → S y → ⊥) → Finds S Breaks (Err (meaningless.Broken r))
 
   pub finds_as : {S T : Thing → Type 0} {B C : Breach → Type 0} {d : Result Designated (Meaningless g.Reported)} → ((x : Thing) → S x → T x) → ((x : Thing) → T x → S x) → ((f : Breach) → B f → C f) → ((f : Breach) → C f → B f) → Finds S B d → Finds T C d
   finds_as st ts bc cb (finds a x i s u n) = finds a x i (st x s) (λ y t. u y (ts y t)) (λ f c. n f (cb f c))
-  finds_as st ts bc cb (finds_headless r o s u n) = finds_headless r o (st Headless s) (λ y t. u y (ts y t)) (λ f c. n f (cb f c))
+  finds_as st ts bc cb (finds_headless b r o s u n) = finds_headless b r o (st (Headless b) s) (λ y t. u y (ts y t)) (λ f c. n f (cb f c))
   finds_as st ts bc cb (finds_nothing r a n) = finds_nothing r (accounts_as bc cb a) (λ y t. n y (ts y t))
 
   pub plain_finds : {S : Thing → Type 0} {B : Breach → Type 0} {r : Result Designated g.Reported} → Answers g j O IsThing S B r → Finds S B (plain r)
@@ -198,49 +199,80 @@ module _ (g : Gathers) (j : Judges g) (l : Lawful g j) (O : Breach → Type 0) w
 
   -- a rule that looks at what sort of thing it is
   pub sort_answers : {A K : Type 0} {Is : A → K → Type 0} {S : Thing → Type 0} {N : Thing → K → Type 0} {B : Breach → Type 0} {D : Thing → Breach → Type 0} {d : Result Designated (Meaningless g.Reported)} {h : Designated → Result A g.Reported} (at : Pos) (broken : Rule)
-      → Finds S B d → ((a : Designated) (x : Thing) → IsThing a x → Answers g j O Is (N x) (D x) (h a)) → Answers g j O Is (N Headless) (D Headless) (report g at broken)
+      → Finds S B d → ((a : Designated) (x : Thing) → IsThing a x → Answers g j O Is (N x) (D x) (h a)) → ((b : Bool) → Answers g j O Is (N (Headless b)) (D (Headless b)) (report g at broken))
       → Answers g j O Is (λ k. (x : Thing) × S x × N x k) (λ f. B f ⊎ ((x : Thing) × S x × D x f)) (of_sort g at broken d ▷ h)
   sort_answers {N = N} {D = D} at broken (finds a x i s u n) next without = exact (λ l y. (x, s, y)) (λ l y. subst (λ x. N x l) (u y.0 y.1) y.2) (λ f y. inr (x, s, y))
       (λ f y. elim y [ inl c ↦ absurd (n f c) | inr e ↦ subst (λ x. D x f) (u e.0 e.1) e.2 ]) (next a x i)
-  sort_answers {N = N} {D = D} at broken (finds_headless r o s u n) next without = exact (λ l y. (Headless, s, y)) (λ l y. subst (λ x. N x l) (u y.0 y.1) y.2) (λ f y. inr (Headless, s, y))
-      (λ f y. elim y [ inl c ↦ absurd (n f c) | inr e ↦ subst (λ x. D x f) (u e.0 e.1) e.2 ]) without
+  sort_answers {N = N} {D = D} at broken (finds_headless b r o s u n) next without = exact (λ l y. (Headless b, s, y)) (λ l y. subst (λ x. N x l) (u y.0 y.1) y.2) (λ f y. inr (Headless b, s, y))
+      (λ f y. elim y [ inl c ↦ absurd (n f c) | inr e ↦ subst (λ x. D x f) (u e.0 e.1) e.2 ]) (without b)
   sort_answers at broken (finds_nothing r a n) next without = refuses r (accounts_as (λ f b. inl b) (λ f x. elim x [ inl b ↦ b | inr e ↦ absurd (n e.0 e.1) ]) a) (λ l x. n x.0 x.1)
 
   -- if the heading counts
   pub heading_answers : {A K : Type 0} {Is : A → K → Type 0} {S : Thing → Type 0} {N : Thing → K → Type 0} {B : Breach → Type 0} {D : Thing → Breach → Type 0} {d : Result Designated (Meaningless g.Reported)} {h : Designated → Result A g.Reported}
-      → Finds S B d → ((a : Designated) (x : Thing) → IsThing a x → Answers g j O Is (N x) (D x) (h a)) → ((k : K) → N Headless k → ⊥) → ((f : Breach) → D Headless f → ⊥)
+      → Finds S B d → ((a : Designated) (x : Thing) → IsThing a x → Answers g j O Is (N x) (D x) (h a)) → ((b : Bool) (k : K) → N (Headless b) k → ⊥) → ((b : Bool) (f : Breach) → D (Headless b) f → ⊥)
       → Answers g j O Is (λ k. (x : Thing) × S x × N x k) (λ f. B f ⊎ ((x : Thing) × S x × D x f)) (of_heading d ▷ h)
   heading_answers {N = N} {D = D} (finds a x i s u n) next nothing unsaid = exact (λ l y. (x, s, y)) (λ l y. subst (λ x. N x l) (u y.0 y.1) y.2) (λ f y. inr (x, s, y))
       (λ f y. elim y [ inl c ↦ absurd (n f c) | inr e ↦ subst (λ x. D x f) (u e.0 e.1) e.2 ]) (next a x i)
-  heading_answers {N = N} {D = D} (finds_headless r o s u n) next nothing unsaid = refuses r
+  heading_answers {N = N} {D = D} (finds_headless b r o s u n) next nothing unsaid = refuses r
+      (record { only = λ f m. inr (o f m); each = λ f y. elim y [ inl c ↦ absurd (n f c) | inr e ↦ absurd (unsaid b f (subst (λ x. D x f) (u e.0 e.1) e.2)) ] })
+      (λ l y. nothing b l (subst (λ x. N x l) (u y.0 y.1) y.2))
+  heading_answers (finds_nothing r a n) next nothing unsaid = refuses r (accounts_as (λ f b. inl b) (λ f x. elim x [ inl b ↦ b | inr e ↦ absurd (n e.0 e.1) ]) a) (λ l x. n x.0 x.1)
+
+  -- if it is taken as a value
+  pub value_answers : {A K : Type 0} {Is : A → K → Type 0} {S : Thing → Type 0} {N : Thing → K → Type 0} {B : Breach → Type 0} {D : Thing → Breach → Type 0} {d : Result Designated (Meaningless g.Reported)} {h : Designated → Result A g.Reported} (at : Pos)
+      → Finds S B d → ((a : Designated) (x : Thing) → IsThing a x → Answers g j O Is (N x) (D x) (h a)) → ((k : K) → N (Headless false) k → ⊥) → ((f : Breach) → D (Headless false) f → ⊥)
+      → Answers g j O Is (N (Headless true)) (D (Headless true)) (report g at rule.NoProcedureValue)
+      → Answers g j O Is (λ k. (x : Thing) × S x × N x k) (λ f. B f ⊎ ((x : Thing) × S x × D x f)) (of_value g at d ▷ h)
+  value_answers {N = N} {D = D} at (finds a x i s u n) next nothing unsaid nested = exact (λ l y. (x, s, y)) (λ l y. subst (λ x. N x l) (u y.0 y.1) y.2) (λ f y. inr (x, s, y))
+      (λ f y. elim y [ inl c ↦ absurd (n f c) | inr e ↦ subst (λ x. D x f) (u e.0 e.1) e.2 ]) (next a x i)
+  value_answers {N = N} {D = D} at (finds_headless true r o s u n) next nothing unsaid nested = exact (λ l y. (Headless true, s, y)) (λ l y. subst (λ x. N x l) (u y.0 y.1) y.2) (λ f y. inr (Headless true, s, y))
+      (λ f y. elim y [ inl c ↦ absurd (n f c) | inr e ↦ subst (λ x. D x f) (u e.0 e.1) e.2 ]) nested
+  value_answers {N = N} {D = D} at (finds_headless false r o s u n) next nothing unsaid nested = refuses r
       (record { only = λ f m. inr (o f m); each = λ f y. elim y [ inl c ↦ absurd (n f c) | inr e ↦ absurd (unsaid f (subst (λ x. D x f) (u e.0 e.1) e.2)) ] })
       (λ l y. nothing l (subst (λ x. N x l) (u y.0 y.1) y.2))
-  heading_answers (finds_nothing r a n) next nothing unsaid = refuses r (accounts_as (λ f b. inl b) (λ f x. elim x [ inl b ↦ b | inr e ↦ absurd (n e.0 e.1) ]) a) (λ l x. n x.0 x.1)
+  value_answers at (finds_nothing r a n) next nothing unsaid nested = refuses r (accounts_as (λ f b. inl b) (λ f x. elim x [ inl b ↦ b | inr e ↦ absurd (n e.0 e.1) ]) a) (λ l x. n x.0 x.1)
+
+  -- the same of a rule that looks at what sort of value it is
+  pub sort_value_answers : {A K : Type 0} {Is : A → K → Type 0} {S : Thing → Type 0} {N : Thing → K → Type 0} {B : Breach → Type 0} {D : Thing → Breach → Type 0} {d : Result Designated (Meaningless g.Reported)} {h : Designated → Result A g.Reported} (at : Pos) (broken : Rule)
+      → Finds S B d → ((a : Designated) (x : Thing) → IsThing a x → Answers g j O Is (N x) (D x) (h a)) → Answers g j O Is (N (Headless false)) (D (Headless false)) (report g at broken)
+      → Answers g j O Is (N (Headless true)) (D (Headless true)) (report g at rule.NoProcedureValue)
+      → Answers g j O Is (λ k. (x : Thing) × S x × N x k) (λ f. B f ⊎ ((x : Thing) × S x × D x f)) (of_sort_of_value g at broken d ▷ h)
+  sort_value_answers {N = N} {D = D} at broken (finds a x i s u n) next without nested = exact (λ l y. (x, s, y)) (λ l y. subst (λ x. N x l) (u y.0 y.1) y.2) (λ f y. inr (x, s, y))
+      (λ f y. elim y [ inl c ↦ absurd (n f c) | inr e ↦ subst (λ x. D x f) (u e.0 e.1) e.2 ]) (next a x i)
+  sort_value_answers {N = N} {D = D} at broken (finds_headless true r o s u n) next without nested = exact (λ l y. (Headless true, s, y)) (λ l y. subst (λ x. N x l) (u y.0 y.1) y.2) (λ f y. inr (Headless true, s, y))
+      (λ f y. elim y [ inl c ↦ absurd (n f c) | inr e ↦ subst (λ x. D x f) (u e.0 e.1) e.2 ]) nested
+  sort_value_answers {N = N} {D = D} at broken (finds_headless false r o s u n) next without nested = exact (λ l y. (Headless false, s, y)) (λ l y. subst (λ x. N x l) (u y.0 y.1) y.2) (λ f y. inr (Headless false, s, y))
+      (λ f y. elim y [ inl c ↦ absurd (n f c) | inr e ↦ subst (λ x. D x f) (u e.0 e.1) e.2 ]) without
+  sort_value_answers at broken (finds_nothing r a n) next without nested = refuses r (accounts_as (λ f b. inl b) (λ f x. elim x [ inl b ↦ b | inr e ↦ absurd (n e.0 e.1) ]) a) (λ l x. n x.0 x.1)
 
   -- the same of conditions
   pub sort_checks : {A : Type 0} {S : Thing → Type 0} {P : Thing → Type 0} {B : Breach → Type 0} {D : Thing → Breach → Type 0} {d : Result Designated (Meaningless g.Reported)} {h : Designated → Result A g.Reported} (at : Pos) (broken : Rule)
-      → Finds S B d → ((a : Designated) (x : Thing) → IsThing a x → Checks (P x) (D x) (h a)) → Checks {A = A} (P Headless) (D Headless) (report g at broken)
+      → Finds S B d → ((a : Designated) (x : Thing) → IsThing a x → Checks (P x) (D x) (h a)) → ((b : Bool) → Checks {A = A} (P (Headless b)) (D (Headless b)) (report g at broken))
       → Checks ((x : Thing) × S x × P x) (λ f. B f ⊎ ((x : Thing) × S x × D x f)) (of_sort g at broken d ▷ h)
   sort_checks {P = P} {D = D} at broken (finds a x i s u n) next without = checks_as (λ y. (x, s, y)) (λ y. subst P (u y.0 y.1) y.2) (λ f y. inr (x, s, y))
       (λ f y. elim y [ inl c ↦ absurd (n f c) | inr e ↦ subst (λ x. D x f) (u e.0 e.1) e.2 ]) (next a x i)
-  sort_checks {P = P} {D = D} at broken (finds_headless r o s u n) next without = checks_as (λ y. (Headless, s, y)) (λ y. subst P (u y.0 y.1) y.2) (λ f y. inr (Headless, s, y))
-      (λ f y. elim y [ inl c ↦ absurd (n f c) | inr e ↦ subst (λ x. D x f) (u e.0 e.1) e.2 ]) without
+  sort_checks {P = P} {D = D} at broken (finds_headless b r o s u n) next without = checks_as (λ y. (Headless b, s, y)) (λ y. subst P (u y.0 y.1) y.2) (λ f y. inr (Headless b, s, y))
+      (λ f y. elim y [ inl c ↦ absurd (n f c) | inr e ↦ subst (λ x. D x f) (u e.0 e.1) e.2 ]) (without b)
   sort_checks at broken (finds_nothing r a n) next without = stops r (accounts_as (λ f b. inl b) (λ f x. elim x [ inl b ↦ b | inr e ↦ absurd (n e.0 e.1) ]) a) (λ x. n x.0 x.1)
 
-  pub heading_checks : {A : Type 0} {S : Thing → Type 0} {P : Thing → Type 0} {B : Breach → Type 0} {D : Thing → Breach → Type 0} {d : Result Designated (Meaningless g.Reported)} {h : Designated → Result A g.Reported}
-      → Finds S B d → ((a : Designated) (x : Thing) → IsThing a x → Checks (P x) (D x) (h a)) → (P Headless → ⊥) → ((f : Breach) → D Headless f → ⊥)
-      → Checks ((x : Thing) × S x × P x) (λ f. B f ⊎ ((x : Thing) × S x × D x f)) (of_heading d ▷ h)
-  heading_checks {P = P} {D = D} (finds a x i s u n) next nothing unsaid = checks_as (λ y. (x, s, y)) (λ y. subst P (u y.0 y.1) y.2) (λ f y. inr (x, s, y))
+  -- if it is taken as a value
+  pub value_checks : {A : Type 0} {S : Thing → Type 0} {P : Thing → Type 0} {B : Breach → Type 0} {D : Thing → Breach → Type 0} {d : Result Designated (Meaningless g.Reported)} {h : Designated → Result A g.Reported} (at : Pos)
+      → Finds S B d → ((a : Designated) (x : Thing) → IsThing a x → Checks (P x) (D x) (h a)) → (P (Headless false) → ⊥) → ((f : Breach) → D (Headless false) f → ⊥)
+      → Checks {A = A} (P (Headless true)) (D (Headless true)) (report g at rule.NoProcedureValue)
+      → Checks ((x : Thing) × S x × P x) (λ f. B f ⊎ ((x : Thing) × S x × D x f)) (of_value g at d ▷ h)
+  value_checks {P = P} {D = D} at (finds a x i s u n) next nothing unsaid nested = checks_as (λ y. (x, s, y)) (λ y. subst P (u y.0 y.1) y.2) (λ f y. inr (x, s, y))
       (λ f y. elim y [ inl c ↦ absurd (n f c) | inr e ↦ subst (λ x. D x f) (u e.0 e.1) e.2 ]) (next a x i)
-  heading_checks {P = P} {D = D} (finds_headless r o s u n) next nothing unsaid = stops r
+  value_checks {P = P} {D = D} at (finds_headless true r o s u n) next nothing unsaid nested = checks_as (λ y. (Headless true, s, y)) (λ y. subst P (u y.0 y.1) y.2) (λ f y. inr (Headless true, s, y))
+      (λ f y. elim y [ inl c ↦ absurd (n f c) | inr e ↦ subst (λ x. D x f) (u e.0 e.1) e.2 ]) nested
+  value_checks {P = P} {D = D} at (finds_headless false r o s u n) next nothing unsaid nested = stops r
       (record { only = λ f m. inr (o f m); each = λ f y. elim y [ inl c ↦ absurd (n f c) | inr e ↦ absurd (unsaid f (subst (λ x. D x f) (u e.0 e.1) e.2)) ] })
       (λ y. nothing (subst P (u y.0 y.1) y.2))
-  heading_checks (finds_nothing r a n) next nothing unsaid = stops r (accounts_as (λ f b. inl b) (λ f x. elim x [ inl b ↦ b | inr e ↦ absurd (n e.0 e.1) ]) a) (λ x. n x.0 x.1)
+  value_checks at (finds_nothing r a n) next nothing unsaid nested = stops r (accounts_as (λ f b. inl b) (λ f x. elim x [ inl b ↦ b | inr e ↦ absurd (n e.0 e.1) ]) a) (λ x. n x.0 x.1)
 
   -- what is broken in a part, whatever it stands for
   pub heading_tells : {S : Thing → Type 0} {B : Breach → Type 0} {d : Result Designated (Meaningless g.Reported)} → Finds S B d → Tells B (of_heading d ▷ λ x. Ok tt)
   heading_tells (finds a x i s u n) = silent n
-  heading_tells (finds_headless r o s u n) = tells r (record { only = λ f m. inr (o f m); each = λ f b. absurd (n f b) })
+  heading_tells (finds_headless b r o s u n) = tells r (record { only = λ f m. inr (o f m); each = λ f b. absurd (n f b) })
   heading_tells (finds_nothing r a n) = tells r a
 
 -- ---- if more is repeated

@@ -603,7 +603,7 @@ module _ (g : Gathers) (j : Judges g) (lawful : Lawful g j) (names : Ident → S
   set_local t local.Open = no_set (AnOpenArray t) (λ e. absurd cc)
 
   type_same : {t u : TypeNo} → AType t ≡ AType u → t ≡ u
-  type_same {t = t} e = ap (λ z. elim z [ AType y ↦ y | AValue k ↦ t | AVariable y ↦ t | AnOpenArray y ↦ t | AProcedure y ↦ t | ANested y ↦ t | AStandard f ↦ t | AModule k ↦ t | Headless ↦ t ]) e
+  type_same {t = t} e = ap (λ z. elim z [ AType y ↦ y | AValue k ↦ t | AVariable y ↦ t | AnOpenArray y ↦ t | AProcedure y ↦ t | ANested y ↦ t | AStandard f ↦ t | AModule k ↦ t | Headless b ↦ t ]) e
 
   set_type_by : {at : Pos} (t : TypeNo) (b : Bool) → Decided (t ≡ bitset) b → SetType at (Known (AType t)) (cond (not b) (report g at rule.NoType) (Ok tt))
   set_type_by {at = at} t _ (holds e) = passes tt (ap (λ (t : TypeNo). Known (AType t)) e) (λ f m. none m)
@@ -638,7 +638,7 @@ module _ (g : Gathers) (j : Judges g) (lawful : Lawful g j) (names : Ident → S
 
       one : {f : Breach} → Misset name.pos Undeclared f → f ≡ name.pos ! rule.Undeclared
       one (rules.no_name m) = misnamed_one m.misnamed
-  seen_set name _ _ e q (sees_headless r) = no_set Headless (λ z. absurd cc)
+  seen_set name _ _ e q (sees_headless b r) = no_set (Headless b) (λ z. absurd cc)
   seen_set name _ _ e q (sees_unknown r) = stops r (record { only = λ f m. inr (of_declaration e q m); each = λ f m. none m }) (λ z. absurd cc)
     where
       none : {f : Breach} → Misset name.pos Unknown f → j.Covers r f

@@ -97,7 +97,7 @@ module _ (g : Gathers) (j : Judges g) (exports : ℕ → Ident → Standing) (ou
   pub record Saying (before : List Declared) (d : Declared) (k : Known g.Reported) : Type 0 where
     pub stands : (s : Standing) × Meant before d s
     pub seen : (s : Standing) → Meant before d s → (at : Pos) → Sees g j at s (means_seen g at k true)
-    pub heading : (at : Pos) (r : g.Reported) → means_seen g at k true ≡ Err (meaningless.Headless r) → (f : Breach) → j.Among r f → Elsewhere (d ∷ before) f
+    pub heading : (at : Pos) (b : Bool) (r : g.Reported) → means_seen g at k true ≡ Err (meaningless.Headless b r) → (f : Breach) → j.Among r f → Elsewhere (d ∷ before) f
     pub broken : (at : Pos) (r : g.Reported) → means_seen g at k true ≡ Err (meaningless.Broken r) → (f : Breach) → j.Among r f → Elsewhere (d ∷ before) f
     pub own : (at : Pos) (m : Meaning) → means_seen g at k true ≡ Ok m → is_own_variable start m ≡ is_variables d.what
     pub not_free : is_free (Some k) ≡ false
@@ -163,7 +163,7 @@ module _ (g : Gathers) (j : Judges g) (exports : ℕ → Ident → Standing) (ou
     mark_seen name (OfVariables v) = sees_nothing
     mark_seen name (OfProcedure h) = sees meaning.Ahead
 
-    mark_heading : (name : Ident) (d : Declaration) {r : g.Reported} → looked (Some (mark_of d)) name ≡ Err (meaningless.Headless r) → ⊥
+    mark_heading : (name : Ident) (d : Declaration) {b : Bool} {r : g.Reported} → looked (Some (mark_of d)) name ≡ Err (meaningless.Headless b r) → ⊥
     mark_heading name (OfConstant c) e = absurd cc
     mark_heading name (OfType d) e = absurd cc
     mark_heading name (OfVariables v) e = absurd cc
@@ -209,7 +209,7 @@ module _ (g : Gathers) (j : Judges g) (exports : ℕ → Ident → Standing) (ou
 
       -- what is repeated
 
-      heading_repeats : {k : Option (Known g.Reported)} {s : Standing} {r : g.Reported} {f : Breach} → K k → Behind front name s → s ≡ things.Known Headless → looked k name ≡ Err (meaningless.Headless r) → j.Among r f → Elsewhere front f
+      heading_repeats : {k : Option (Known g.Reported)} {s : Standing} {b : Bool} {r : g.Reported} {f : Breach} → K k → Behind front name s → s ≡ things.Known (Headless b) → looked k name ≡ Err (meaningless.Headless b r) → j.Among r f → Elsewhere front f
       heading_repeats (outer c w e) (rules.from_outside d) q l m = inl (of_heading q (looked_first name ∙ ap (λ (k : Option (Known g.Reported)). looked k name) (sym e) ∙ l) m)
       heading_repeats (outer c w e) (rules.declared t i o z) q l m = absurd (c t (within name.name (any_named i)))
       heading_repeats (outer c w e) (rules.enumerated t i o a z) q l m = absurd (c t (within name.name (any_named i)))
@@ -217,7 +217,7 @@ module _ (g : Gathers) (j : Judges g) (exports : ℕ → Ident → Standing) (ou
       heading_repeats (headed p y w e) z q l m = absurd cc
       heading_repeats (ahead d t i n b) z q l m = absurd (mark_heading name d l)
       heading_repeats (reading d t i n b e) z q l m = absurd cc
-      heading_repeats {r = r} {f = f} (behind k t i o s) z q l m = in_more i (s.heading name.pos r l f m)
+      heading_repeats {b = b} {r = r} {f = f} (behind k t i o s) z q l m = in_more i (s.heading name.pos b r l f m)
       heading_repeats (a_member t i o a e) z q l m = absurd cc
 
       broken_repeats : {k : Option (Known g.Reported)} {s : Standing} {r : g.Reported} {f : Breach} → K k → Behind front name s → s ≡ Unknown → looked k name ≡ Err (meaningless.Broken r) → j.Among r f → Elsewhere front f

@@ -203,7 +203,7 @@ module _ (g : Gathers) (j : Judges g) (exports : ℕ → Ident → Standing) (s 
       same_looked name never n e = let q = same_now name (find_name name.name a.brings) (find_name name.name s.own) (names name) never (there name.name) (frees name.name) n e in (q.0, looked_before name ∙ sym q.1 ∙ sym (looked_now name))
 
       pub repeats_more : (f : Breach) → Repeats g j (names_now names there) now f → Repeats g j names s f
-      repeats_more f (of_heading {name = name} e q m) = let z = same_looked name (things.Known Headless) (λ x w. absurd cc) e in of_heading z.0 (z.1 ∙ q) m
+      repeats_more f (of_heading {name = name} {nested = b} e q m) = let z = same_looked name (things.Known (Headless b)) (λ x w. absurd cc) e in of_heading z.0 (z.1 ∙ q) m
       repeats_more f (of_declaration {name = name} e q m) = let z = same_looked name Unknown (λ x w. absurd cc) e in of_declaration z.0 (z.1 ∙ q) m
 
 -- ---- an enumeration

@@ -152,7 +152,7 @@ module _ (g : Gathers) (j : Judges g) (lawful : Lawful g j) (names : Ident → S
   seen_fixes : (name : Ident) (st : Standing) (r : Result Meaning (Meaningless g.Reported)) → names name ≡ st → looked_up g s name ≡ r → Sees g j name.pos st r → NamedSo name.pos st (denoted_of r)
   seen_fixes name _ _ e q (sees m) = fixes_meaning m
   seen_fixes name _ _ e q sees_nothing = declined g j lawful E name.pos rule.Undeclared (λ x z. z) (record { not_ahead = λ z. absurd cc; misnamed = undeclared }) only_undeclared
-  seen_fixes name _ _ e q (sees_headless r) = fixes_name fixed_procedure
+  seen_fixes name _ _ e q (sees_headless b r) = fixes_name fixed_procedure
   seen_fixes name _ _ e q (sees_unknown r) = refuses r (record { only = λ f m. inr (of_declaration e q m); each = λ f m. elim m.misnamed [ ] }) (λ x z. z)
 
   pub name_fixes : (name : Ident) → NamedSo name.pos (names name) (denoted_of (looked_up g s name))
@@ -205,10 +205,10 @@ module _ (g : Gathers) (j : Judges g) (lawful : Lawful g j) (names : Ident → S
 
   no_element : {at : Pos} {e : Expr} {x y : Fixed} → IsUnfixed x → FixedPicks exports x (layer.Index at e) y → y ≡ NoConstant
   no_element u (rules.of_element v) = refl
+  no_element u rules.element_of_module = refl
 
   unindexed : {at : Pos} {e : Expr} {x : Fixed} {f : Breach} → IsUnfixed x → FixedMispicks exports x (layer.Index at e) f → ⊥
   unindexed u rules.constant_element = elim u [ ]
-  unindexed u rules.module_element = elim u [ ]
 
   element_of_none : {x : Fixed} (at : Pos) (e : Expr) → IsUnfixed x → PicksSo x (layer.Index at e) (Ok denoted.Variable)
   element_of_none at e u = no_more (layer.Index at e) (rules.of_element u) (λ y p. no_element u p) (λ f m. unindexed u m)
@@ -221,13 +221,11 @@ module _ (g : Gathers) (j : Judges g) (lawful : Lawful g j) (names : Ident → S
 
       one : {f : Breach} → FixedMispicks exports (AConstant k) (layer.Index at e) f → f ≡ at ! rule.WrongType
       one rules.constant_element = refl
-  element_fixes at e _ _ (fixed_module k) = declined g j lawful E at rule.WrongType (λ y p. no_pick p) rules.module_element (λ f m. one m)
+  element_fixes at e _ _ (fixed_module k) = no_more (layer.Index at e) rules.element_of_module (λ y p. whole p) (λ f m. elim m [ ])
     where
-      no_pick : {y : Fixed} → FixedPicks exports (AScope k) (layer.Index at e) y → ⊥
-      no_pick (rules.of_element u) = elim u [ ]
-
-      one : {f : Breach} → FixedMispicks exports (AScope k) (layer.Index at e) f → f ≡ at ! rule.WrongType
-      one rules.module_element = refl
+      whole : {y : Fixed} → FixedPicks exports (AScope k) (layer.Index at e) y → y ≡ NoConstant
+      whole (rules.of_element u) = refl
+      whole rules.element_of_module = refl
   element_fixes at e _ _ (fixed_type t) = element_of_none at e unfixed_type
   element_fixes at e _ _ fixed_variable = element_of_none at e unfixed_other
   element_fixes at e _ _ fixed_procedure = element_of_none at e unfixed_other

@@ -100,7 +100,7 @@ module _ (g : Gathers) (j : Judges g) (s : Scope g.Reported) (t : TypeNo) (field
     own_inside k name _ _ (is_field f e) m h = ap (own_by (into_record s t)) h
     own_inside k name _ _ is_other m h = k name m h ∙ same_own m
 
-    heading_inside : {f : Breach} {q : g.Reported} (name : Ident) (o : Option TypeNo) (p : Result Meaning (Meaningless g.Reported)) → InsideIs name o p → field_or o (names name) ≡ Known Headless → p ≡ Err (meaningless.Headless q) → j.Among q f → Repeats g j names s f
+    heading_inside : {f : Breach} {b : Bool} {q : g.Reported} (name : Ident) (o : Option TypeNo) (p : Result Meaning (Meaningless g.Reported)) → InsideIs name o p → field_or o (names name) ≡ Known (Headless b) → p ≡ Err (meaningless.Headless b q) → j.Among q f → Repeats g j names s f
     heading_inside name _ _ (is_field f e) h z m = absurd cc
     heading_inside name _ _ is_other h z m = of_heading h z m
 

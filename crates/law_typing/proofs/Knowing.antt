@@ -17,7 +17,7 @@ use Rattle.law_typing.specs.Exact.{standing, Sees, sees, sees_headless, sees_unk
 abbrev standing_by : {R : Type 0} → Result Meaning (Meaningless R) → Standing
 standing_by (Ok m) = standing m
 standing_by (Err (meaningless.Broken r)) = Unknown
-standing_by (Err (meaningless.Headless r)) = Known Headless
+standing_by (Err (meaningless.Headless nested r)) = Known (Headless nested)
 
 abbrev export_by : Option Meaning → Standing
 export_by None = NotExported
@@ -31,7 +31,7 @@ module _ (g : Gathers) (j : Judges g) where
   sees_it : (at : Pos) (r : Result Meaning (Meaningless g.Reported)) → Sees g j at (standing_by r) r
   sees_it at (Ok m) = sees m
   sees_it at (Err (meaningless.Broken r)) = sees_unknown r
-  sees_it at (Err (meaningless.Headless r)) = sees_headless r
+  sees_it at (Err (meaningless.Headless nested r)) = sees_headless nested r
 
   exports_it : (m : Option Meaning) → Exports g j (export_by m) m
   exports_it None = has_nothing

@@ -288,7 +288,7 @@ module _ (g : Gathers) (j : Judges g) (lawful : Lawful g j) (names : Ident → S
     where
       one : {f : Breach} → Misnamed name.pos Undeclared f → f ≡ name.pos ! rule.Undeclared
       one undeclared = refl
-  seen_control name _ _ e q o (sees_headless r) = wrong_control name e (no_variable e (λ t q. absurd cc))
+  seen_control name _ _ e q o (sees_headless b r) = wrong_control name e (no_variable e (λ t q. absurd cc))
   seen_control name _ _ e q o (sees_unknown r) = refuses r (record { only = λ f m. inr (of_declaration e q m); each = λ f x. elim (broken_name Unknown f e (λ x q. absurd cc) x) [ ] }) (unnamed Unknown e (λ x q. absurd cc))
 
   -- ---- all of it

@@ -383,13 +383,13 @@ module _ (g : Gathers) (j : Judges g) (lawful : Lawful g j) (exports : ℕ → I
 
     finds_more : {S : Thing → Type 0} {B Q : Breach → Type 0} {r : Result Designated (Meaningless g.Reported)} → ((f : Breach) → Q f → U f) → Finds g j lawful Q S B r → Finds g j lawful U S B r
     finds_more h (finds v x i m u n) = finds v x i m u n
-    finds_more h (finds_headless r o m u n) = finds_headless r (λ f z. h f (o f z)) m u n
+    finds_more h (finds_headless b r o m u n) = finds_headless b r (λ f z. h f (o f z)) m u n
     finds_more h (finds_nothing r c n) = finds_nothing r (record { only = λ f m. elim (c.only f m) [ inl b ↦ inl b | inr o ↦ inr (h f o) ]; each = c.each }) n
 
     record_answers : RecordAnswers (record_of g s (head g d))
     record_answers = subst (λ (at : Pos). RecordAnswers (of_sort g at rule.WrongType ((head g d).means s) ▷ record_by g s.types at)) (sym (head_at g d))
         (sort_answers g j lawful U {N = RecordIs s.types exports} {D = NoRecord s.types exports (out-Designator d).name.pos} (out-Designator d).name.pos rule.WrongType
-        (finds_as g j lawful U (λ x m. m) (λ x m. m) designator_in designator_out (finds_more (λ f o. inl o) (designator_found g j lawful w.names exports s k.of_names d))) records (no_record_there (λ t fs e m. absurd cc)))
+        (finds_as g j lawful U (λ x m. m) (λ x m. m) designator_in designator_out (finds_more (λ f o. inl o) (designator_found g j lawful w.names exports s k.of_names d))) records (λ b. no_record_there (λ t fs e m. absurd cc)))
 
     -- the statements inside
     abbrev Tell : Result (List TypedStmt) g.Reported → Type 0

@@ -1,5 +1,5 @@
 -- What a WITH opens, and what is known inside.
-use Rattle.std.proofs.Common.{◌≡◌, ℕ, List, [], ◌∷◌, Option, Some, None, Result, refl, sym, ap, subst, ◌∙◌}
+use Rattle.std.proofs.Common.{Bool, ◌≡◌, ℕ, List, [], ◌∷◌, Option, Some, None, Result, refl, sym, ap, subst, ◌∙◌}
 use Rattle.std.specs.Prelude.{cond}
 use Rattle.std.specs.List.{fold}
 use Rattle.std.specs.Option.{is_some}
@@ -47,7 +47,7 @@ module _ (g : Gathers) (j : Judges g) (lawful : Lawful g j) (names : Ident → S
   -- what is led to, if it is something
   data Leading (S : Thing → Type 0) : Option Designated → Type 0 where
     leading : (a : Designated) (x : Thing) → IsThing a x → S x → ((y : Thing) → S y → y ≡ x) → Leading S (Some a)
-    leading_nowhere : ((y : Thing) → S y → y ≡ Headless) → Leading S None
+    leading_nowhere : ((y : Thing) → S y → (b : Bool) × (y ≡ Headless b)) → Leading S None
 
   leading_as : {S T : Thing → Type 0} {o : Option Designated} → ((x : Thing) → S x → T x) → ((x : Thing) → T x → S x) → Leading S o → Leading T o
   leading_as st ts (leading a x i m u) = leading a x i (st x m) (λ y t. u y (ts y t))
@@ -55,7 +55,7 @@ module _ (g : Gathers) (j : Judges g) (lawful : Lawful g j) (names : Ident → S
 
   found_leads : {O : Breach → Type 0} {S : Thing → Type 0} {B : Breach → Type 0} {d : Result Designated (Meaningless g.Reported)} → Finds g j lawful O S B d → Leading S (known_of d)
   found_leads (finds a x i m u n) = leading a x i m u
-  found_leads (finds_headless r o m u n) = leading_nowhere u
+  found_leads (finds_headless b r o m u n) = leading_nowhere (λ y z. (b, u y z))
   found_leads (finds_nothing r c n) = leading_nowhere (λ y m. absurd (n y m))
 
   answer_leads : {O : Breach → Type 0} {M : Thing → Type 0} {B : Breach → Type 0} {r : Result Designated g.Reported} → Answers g j O IsThing M B r → Leading M (known_of r)
@@ -115,17 +115,17 @@ module _ (g : Gathers) (j : Judges g) (lawful : Lawful g j) (names : Ident → S
   element_leads _ _ (thing_standard p) = no_elements (λ i t q. elim q [ ])
   element_leads _ _ (thing_module k) = no_elements (λ i t q. elim q [ ])
 
-  no_pick : {name : Ident} {st : Standing} → Picks s.types exports name Headless st → ⊥
+  no_pick : {b : Bool} {name : Ident} {st : Standing} → Picks s.types exports name (Headless b) st → ⊥
   no_pick p = elim p [ ]
 
-  no_index : {i t : TypeNo} → Indexes s.types Headless i t → ⊥
+  no_index : {b : Bool} {i t : TypeNo} → Indexes s.types (Headless b) i t → ⊥
   no_index q = elim q [ ]
 
   steps : (S : Thing → Type 0) {o : Option Designated} (z : Selector-F Expr Selector Designator Item) → Leading S o → Leading (Stepped z S) (led_with z o)
   steps S (layer.Field at name) (leading a x i m u) = leading_as (λ y p. (x, m, p)) (λ y q. subst (λ (x : Thing). Picks s.types exports name x (Known y)) (u q.0 q.1) q.2) (answer_leads (field_answers g j lawful names exports s knows at name a x i))
-  steps S (layer.Field at name) (leading_nowhere n) = leading_nowhere (λ y q. absurd (no_pick (subst (λ (x : Thing). Picks s.types exports name x (Known y)) (n q.0 q.1) q.2)))
+  steps S (layer.Field at name) (leading_nowhere n) = leading_nowhere (λ y q. absurd (no_pick (subst (λ (x : Thing). Picks s.types exports name x (Known y)) (n q.0 q.1).1 q.2)))
   steps S (layer.Index at e) (leading a x i m u) = leading_as {T = ByIndex S} (λ y q. (x, q.0, q.1, m, q.2, q.3)) (λ y q. (q.1, q.2, subst (λ (x : Thing). Indexes s.types x q.1 q.2) (u q.0 q.3) q.4, q.5)) (element_leads a x i)
-  steps S (layer.Index at e) (leading_nowhere n) = leading_nowhere (λ y q. absurd (no_index (subst (λ (x : Thing). Indexes s.types x q.1 q.2) (n q.0 q.3) q.4)))
+  steps S (layer.Index at e) (leading_nowhere n) = leading_nowhere (λ y q. absurd (no_index (subst (λ (x : Thing). Indexes s.types x q.1 q.2) (n q.0 q.3).1 q.4)))
 
   abbrev L : Thing → List Selector → Thing → Type 0
   L = Leads s.types exports
@@ -173,7 +173,7 @@ module _ (g : Gathers) (j : Judges g) (lawful : Lawful g j) (names : Ident → S
   leading_opens S (leading _ _ (thing_nested p) m u) = no_variable S u (λ v e. absurd cc)
   leading_opens S (leading _ _ (thing_standard p) m u) = no_variable S u (λ v e. absurd cc)
   leading_opens S (leading _ _ (thing_module k) m u) = no_variable S u (λ v e. absurd cc)
-  leading_opens S (leading_nowhere n) = opened_nothing (λ v fs q w. let e = n (AVariable v) q in absurd cc)
+  leading_opens S (leading_nowhere n) = opened_nothing (λ v fs q w. let e = (n (AVariable v) q).1 in absurd cc)
 
   abbrev LedFrom : Designator → Thing → Type 0
   LedFrom d z = (x : Thing) × (names (out-Designator d).name ≡ Known x) × L x (out-Designator d).selectors z

@@ -30,7 +30,7 @@ use Rattle.def_typing.specs.Things as things
 use Rattle.def_typing.specs.Functions.{variable_formal, open_variable_formal, value_formal, open_value_formal, HasElements, has_elements, Accepts, variable, array_variable, open_variable, array, open_array, text, whole, compatible, Mispassed, no_variable, no_value, wrong_argument, out_of_range, IsPassed}
 use Rattle.law_typing.specs.Judging.{Judges}
 use Rattle.law_typing.specs.Exact.{IsKind, kind_constant, kind_scalar, kind_set, kind_routine, kind_procedure, kind_whole, kind_untaken, IsThing, thing_value, thing_variable, thing_open, thing_type, thing_procedure, thing_nested, thing_standard, thing_module}
-use Rattle.law_typing.proofs.Combining.{Lawful, Decided, holds, fails_it, decided_as, Checks, passes, stopped, checks_as, map_checks, then_check, Finds, sort_checks, heading_checks}
+use Rattle.law_typing.proofs.Combining.{Lawful, Decided, holds, fails_it, decided_as, Checks, passes, stopped, checks_as, map_checks, then_check, Finds, sort_checks, value_checks}
 use Rattle.law_typing.proofs.Deciding.{same_decided, within_decided, both_decided, some_same}
 use Rattle.law_typing.proofs.Placing.{goes_made, unmade_none, value_suits, taken_answers}
 use Rattle.law_typing.proofs.Shaping.{class_of, class_is, array_of, array_is, scalar_of, scalar_is, one_made}
@@ -46,7 +46,7 @@ taken_one types (AType t) p q = absurd p
 taken_one types (ANested h) p q = absurd p
 taken_one types (AStandard f) p q = absurd p
 taken_one types (AModule k) p q = absurd p
-taken_one types Headless p q = absurd p
+taken_one types (Headless b) p q = absurd p
 
 pub not_mistaken : (types : Types) (at : Pos) (x : Thing) (k : Kind) (f : Breach) → Taken types x k → Mistaken at x f → ⊥
 not_mistaken types at (AValue k) l f p m = m
@@ -57,7 +57,7 @@ not_mistaken types at (AType t) l f p m = p
 not_mistaken types at (ANested u) l f p m = p
 not_mistaken types at (AStandard u) l f p m = p
 not_mistaken types at (AModule k) l f p m = p
-not_mistaken types at Headless l f p m = p
+not_mistaken types at (Headless b) l f p m = p
 
 -- ---- arrays whose least index has number 0
 
@@ -267,7 +267,7 @@ module _ (g : Gathers) (j : Judges g) (lawful : Lawful g j) (O : Breach → Type
     whole_where e _ (fails_it n) = whole_stops (_, refl) (λ q. n (variable_same q))
       where
         variable_same : {u v : TypeNo} → AVariable u ≡ AVariable v → u ≡ v
-        variable_same {u = u} q = ap (λ x. elim x [ AVariable w ↦ w | AValue k ↦ u | AnOpenArray w ↦ u | AType w ↦ u | AProcedure w ↦ u | ANested w ↦ u | AStandard f ↦ u | AModule k ↦ u | Headless ↦ u ]) q
+        variable_same {u = u} q = ap (λ x. elim x [ AVariable w ↦ w | AValue k ↦ u | AnOpenArray w ↦ u | AType w ↦ u | AProcedure w ↦ u | ANested w ↦ u | AStandard f ↦ u | AModule k ↦ u | Headless b ↦ u ]) q
 
     whole_passes : (a : Designated) (x : Thing) → IsThing a x → Passes (value_formal t) x (whole_passed g t at a)
     whole_passes _ _ (thing_variable u d) = whole_where _ (are_same u t) (same_decided u t)
@@ -335,20 +335,26 @@ module _ (g : Gathers) (j : Judges g) (lawful : Lawful g j) (O : Breach → Type
   abbrev pub PassesSo : (Thing → Type 0) → (Breach → Type 0) → Formal → Result Argument g.Reported → Type 0
   PassesSo S B f r = Checks g j lawful O ((x : Thing) × S x × IsPassed types f x) (λ h. B h ⊎ ((x : Thing) × S x × Mispassed types at f x h)) r
 
-  headless_value : (o : Bool) (t : TypeNo) → Accepts types (record { is_var = false; is_open = o; of = t }) Headless → ⊥
-  headless_value _ t (compatible k p c) = p
+  headless_value : (b o : Bool) (t : TypeNo) → Accepts types (record { is_var = false; is_open = o; of = t }) (Headless b) → ⊥
+  headless_value b _ t (compatible k p c) = p
 
-  headless_unsaid : (o : Bool) (t : TypeNo) (f : Breach) → Mispassed types at (record { is_var = false; is_open = o; of = t }) Headless f → ⊥
+  headless_unsaid : (o : Bool) (t : TypeNo) (f : Breach) → Mispassed types at (record { is_var = false; is_open = o; of = t }) (Headless false) f → ⊥
   headless_unsaid o t f (no_value m) = m
   headless_unsaid o t _ (wrong_argument k p n) = p
   headless_unsaid _ t _ (out_of_range k p c q) = p
 
-  headless_variable : (o : Bool) (t : TypeNo) → Accepts types (record { is_var = true; is_open = o; of = t }) Headless → ⊥
-  headless_variable o t a = elim a [ ]
+  headless_nested : (o : Bool) (t : TypeNo) (f : Breach) → Mispassed types at (record { is_var = false; is_open = o; of = t }) (Headless true) f → f ≡ at ! rule.NoProcedureValue
+  headless_nested o t f (no_value m) = m
+  headless_nested o t _ (wrong_argument k p n) = absurd p
+  headless_nested _ t _ (out_of_range k p c q) = absurd p
+
+  headless_variable : (b o : Bool) (t : TypeNo) → Accepts types (record { is_var = true; is_open = o; of = t }) (Headless b) → ⊥
+  headless_variable b o t a = elim a [ ]
 
   argument_by_mode : {S : Thing → Type 0} {B : Breach → Type 0} {d : Result Designated (Meaningless g.Reported)} (v o : Bool) (t : TypeNo) → Finds g j lawful O S B d → let f : Formal = record { is_var = v; is_open = o; of = t } in PassesSo S B f (argument_by g types (Some f) at d)
-  argument_by_mode true o t h = sort_checks g j lawful O at rule.NoVariable h (actual_passes true o t) (var_stops (headless_variable o t))
-  argument_by_mode false o t h = heading_checks g j lawful O h (actual_passes false o t) (λ p. headless_value o t p.accepted) (headless_unsaid o t)
+  argument_by_mode true o t h = sort_checks g j lawful O at rule.NoVariable h (actual_passes true o t) (λ b. var_stops (headless_variable b o t))
+  argument_by_mode false o t h = value_checks g j lawful O at h (actual_passes false o t) (λ p. headless_value false o t p.accepted) (headless_unsaid o t)
+      (stopped g j lawful O at rule.NoProcedureValue (λ p. headless_value true o t p.accepted) (no_value refl) (headless_nested o t))
 
   pub argument_passes : {S : Thing → Type 0} {B : Breach → Type 0} {d : Result Designated (Meaningless g.Reported)} (f : Formal) → Finds g j lawful O S B d → PassesSo S B f (argument_by g types (Some f) at d)
   argument_passes f h = argument_by_mode f.is_var f.is_open f.of h

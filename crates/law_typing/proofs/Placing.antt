@@ -37,7 +37,7 @@ use Rattle.def_typing.specs.Things as things
 use Rattle.def_typing.specs.Functions.{result_of, result_kind}
 use Rattle.law_typing.specs.Judging.{Judges, Answers, means}
 use Rattle.law_typing.specs.Exact.{IsKind, kind_scalar, kind_set, kind_routine, kind_procedure, kind_whole, kind_untaken, IsThing, thing_value, thing_variable, thing_open, thing_type, thing_procedure, thing_nested, thing_standard, thing_module}
-use Rattle.law_typing.proofs.Combining.{Lawful, Decided, holds, fails_it, decided_as, declined, Checks, passes, stopped, Finds, heading_answers}
+use Rattle.law_typing.proofs.Combining.{Lawful, Decided, holds, fails_it, decided_as, declined, Checks, passes, stopped, Finds, value_answers as found_value}
 use Rattle.law_typing.proofs.Deciding.{same_decided, whole_decided, within_decided, both_decided}
 use Rattle.law_typing.proofs.Joining.{IsSide, side_scalar, side_set, side_routine, side_procedure, side_text, side_whole, side_untaken, side_is}
 use Rattle.law_typing.proofs.Shaping.{class_of, class_is, one_made, agree_decided}
@@ -226,4 +226,4 @@ module _ (g : Gathers) (j : Judges g) (lawful : Lawful g j) (O : Breach → Type
 
   pub value_answers : {S : Thing → Type 0} {B : Breach → Type 0} {d : Result Designated (Meaningless g.Reported)} → Finds g j lawful O S B d
       → Answers g j O IsKind (λ k. (x : Thing) × S x × Taken types x k) (λ f. B f ⊎ ((x : Thing) × S x × Mistaken at x f)) (value_standing g types at d)
-  value_answers h = heading_answers g j lawful O h taken_answers (λ k m. m) (λ f m. m)
+  value_answers h = found_value g j lawful O at h taken_answers (λ k m. m) (λ f m. m) (declined g j lawful O at rule.NoProcedureValue (λ k m. m) refl (λ f m. m))

@@ -69,10 +69,10 @@ module _ (types : Types) where
   pub no_standard : {p : Standard} {h : TypeNo} → Heads types (AStandard p) h → ⊥
   no_standard h = elim h [ ]
 
-  pub not_headless : {x : Thing} {h : TypeNo} → Heads types x h → x ≡ Headless → ⊥
-  not_headless (heads_procedure h) e = absurd cc
-  not_headless (heads_nested h) e = absurd cc
-  not_headless (heads_variable t m) e = absurd cc
+  pub not_headless : {x : Thing} {h : TypeNo} → Heads types x h → (b : Bool) → x ≡ Headless b → ⊥
+  not_headless (heads_procedure h) b e = absurd cc
+  not_headless (heads_nested h) b e = absurd cc
+  not_headless (heads_variable t m) b e = absurd cc
 
 module _ (g : Gathers) (j : Judges g) (lawful : Lawful g j) (names : Ident → Standing) (exports : ℕ → Ident → Standing) (s : Scope g.Reported) where
   abbrev E : Breach → Type 0
@@ -269,12 +269,12 @@ module _ (g : Gathers) (j : Judges g) (lawful : Lawful g j) (names : Ident → S
     may_standard : (p : Standard) → MayCall (AStandard p)
 
   abbrev pub NoCall : Pos → Thing → Breach → Type 0
-  NoCall at x f = (MayCall x → ⊥) × ((x ≡ Headless → ⊥) × (f ≡ at ! rule.WrongType))
+  NoCall at x f = (MayCall x → ⊥) × (((b : Bool) → x ≡ Headless b → ⊥) × (f ≡ at ! rule.WrongType))
 
   abbrev CalleeSo : Pos → Thing → Result Called g.Reported → Type 0
   CalleeSo at x r = Answers g j E IsCallee (λ y. MayCall x × (y ≡ x)) (NoCall at x) r
 
-  no_callee : {x : Thing} (at : Pos) → (MayCall x → ⊥) → (x ≡ Headless → ⊥) → CalleeSo at x (report g at rule.WrongType)
+  no_callee : {x : Thing} (at : Pos) → (MayCall x → ⊥) → ((b : Bool) → x ≡ Headless b → ⊥) → CalleeSo at x (report g at rule.WrongType)
   no_callee at n q = declined g j lawful E at rule.WrongType (λ y m. n m.0) (n, (q, refl)) (λ f z. z.1.1)
 
   a_callee : {x : Thing} {c : Called} (at : Pos) → IsCallee c x → MayCall x → CalleeSo at x (Ok c)
@@ -288,23 +288,23 @@ module _ (g : Gathers) (j : Judges g) (lawful : Lawful g j) (names : Ident → S
   no_call_of n q (may_standard p) = q p refl
 
   held_callee : (at : Pos) (t : TypeNo) (d : Place) (z : Option Shape) → shape_at s.types t ≡ z → CalleeSo at (AVariable t) (callee_in_variable g at t d (class_of z))
-  held_callee at t d None e = no_callee at (not_made None e (λ p q. absurd cc)) (λ q. absurd cc)
+  held_callee at t d None e = no_callee at (not_made None e (λ p q. absurd cc)) (λ b q. absurd cc)
   held_callee at t d (Some (shape.Procedure p)) e = a_callee at (callee_routine _ (heads_variable t e)) (may_routine (heads_variable t e))
-  held_callee at t d (Some (shape.Scalar r)) e = no_callee at (not_made _ e (λ p q. absurd cc)) (λ q. absurd cc)
-  held_callee at t d (Some shape.Set) e = no_callee at (not_made _ e (λ p q. absurd cc)) (λ q. absurd cc)
-  held_callee at t d (Some (shape.Array i u)) e = no_callee at (not_made _ e (λ p q. absurd cc)) (λ q. absurd cc)
-  held_callee at t d (Some (shape.Record fs)) e = no_callee at (not_made _ e (λ p q. absurd cc)) (λ q. absurd cc)
-  held_callee at t d (Some (shape.Open u)) e = no_callee at (not_made _ e (λ p q. absurd cc)) (λ q. absurd cc)
+  held_callee at t d (Some (shape.Scalar r)) e = no_callee at (not_made _ e (λ p q. absurd cc)) (λ b q. absurd cc)
+  held_callee at t d (Some shape.Set) e = no_callee at (not_made _ e (λ p q. absurd cc)) (λ b q. absurd cc)
+  held_callee at t d (Some (shape.Array i u)) e = no_callee at (not_made _ e (λ p q. absurd cc)) (λ b q. absurd cc)
+  held_callee at t d (Some (shape.Record fs)) e = no_callee at (not_made _ e (λ p q. absurd cc)) (λ b q. absurd cc)
+  held_callee at t d (Some (shape.Open u)) e = no_callee at (not_made _ e (λ p q. absurd cc)) (λ b q. absurd cc)
 
   pub callee_answers : (at : Pos) (a : Designated) (x : Thing) → IsThing a x → CalleeSo at x (callee_of g s.types at a)
   callee_answers at _ _ (thing_procedure p) = a_callee at (callee_routine _ (heads_procedure p.heading)) (may_routine (heads_procedure p.heading))
   callee_answers at _ _ (thing_nested p) = a_callee at (callee_routine _ (heads_nested p.heading)) (may_routine (heads_nested p.heading))
   callee_answers at _ _ (thing_standard p) = a_callee at (callee_standard p) (may_standard p)
   callee_answers at _ _ (thing_variable t d) = subst (λ (c : Class). CalleeSo at (AVariable t) (callee_in_variable g at t d c)) (sym (class_is s.types t)) (held_callee at t d (shape_at s.types t) refl)
-  callee_answers at _ _ (thing_value i) = no_callee at (no_call_of (λ h w. elim w [ ]) (λ p q. absurd cc)) (λ q. absurd cc)
-  callee_answers at _ _ (thing_open t d) = no_callee at (no_call_of (λ h w. elim w [ ]) (λ p q. absurd cc)) (λ q. absurd cc)
-  callee_answers at _ _ (thing_type t) = no_callee at (no_call_of (λ h w. elim w [ ]) (λ p q. absurd cc)) (λ q. absurd cc)
-  callee_answers at _ _ (thing_module k) = no_callee at (no_call_of (λ h w. elim w [ ]) (λ p q. absurd cc)) (λ q. absurd cc)
+  callee_answers at _ _ (thing_value i) = no_callee at (no_call_of (λ h w. elim w [ ]) (λ p q. absurd cc)) (λ b q. absurd cc)
+  callee_answers at _ _ (thing_open t d) = no_callee at (no_call_of (λ h w. elim w [ ]) (λ p q. absurd cc)) (λ b q. absurd cc)
+  callee_answers at _ _ (thing_type t) = no_callee at (no_call_of (λ h w. elim w [ ]) (λ p q. absurd cc)) (λ b q. absurd cc)
+  callee_answers at _ _ (thing_module k) = no_callee at (no_call_of (λ h w. elim w [ ]) (λ p q. absurd cc)) (λ b q. absurd cc)
 
   may_variable : (t : TypeNo) (z : Option Shape) → shape_at s.types t ≡ z → MayCall (AVariable t) ⊎ (MayCall (AVariable t) → ⊥)
   may_variable t None e = inr (not_made None e (λ p q. absurd cc))
@@ -324,7 +324,7 @@ module _ (g : Gathers) (j : Judges g) (lawful : Lawful g j) (names : Ident → S
   may_or_not (AnOpenArray t) = inr (no_call_of (λ h w. elim w [ ]) (λ p q. absurd cc))
   may_or_not (AType t) = inr (no_call_of (λ h w. elim w [ ]) (λ p q. absurd cc))
   may_or_not (AModule k) = inr (no_call_of (λ h w. elim w [ ]) (λ p q. absurd cc))
-  may_or_not Headless = inr (no_call_of (λ h w. elim w [ ]) (λ p q. absurd cc))
+  may_or_not (Headless b) = inr (no_call_of (λ h w. elim w [ ]) (λ p q. absurd cc))
 
   pub headed_may : {x : Thing} {p : Signature} → HasHeading s.types x p → MayCall x
   headed_may (of_procedure {h = h} m) = may_routine (heads_procedure h)
@@ -366,7 +366,7 @@ module _ (g : Gathers) (j : Judges g) (lawful : Lawful g j) (names : Ident → S
       {B = λ f. ((F f ⊎ ((x : Thing) × D x × NoCall at x f)) ⊎ ((y : Thing) × ((x : Thing) × D x × (MayCall x × (y ≡ x))) × M at y xs f)) ⊎ Any xs f}
       {C = λ f. (F f ⊎ ((x : Thing) × D x × M at x xs f)) ⊎ Any xs f}
       (λ k z. (z.0, subst D (sym z.1.2.1) z.1.1, z.2)) (λ k z. (z.0, (z.0, z.1, (calls_may z.2, refl)), z.2)) (λ f z. out f z) (λ f z. into f z)
-      (ahead_answers g j lawful E {N = λ y k. C y xs k} {D = λ y f. M at y xs f} (heading_answers g j lawful E {N = λ x y. MayCall x × (y ≡ x)} {D = λ x f. NoCall at x f} h (callee_answers at) (λ y m. no_call_of (λ h w. elim w [ ]) (λ p q. absurd cc) m.0) (λ f z. z.1.0 refl))
+      (ahead_answers g j lawful E {N = λ y k. C y xs k} {D = λ y f. M at y xs f} (heading_answers g j lawful E {N = λ x y. MayCall x × (y ≡ x)} {D = λ x f. NoCall at x f} h (callee_answers at) (λ b y m. no_call_of (λ h w. elim w [ ]) (λ p q. absurd cc) m.0) (λ b f z. z.1.0 b refl))
       (look_tells g j lawful names exports s xs q) (λ c y e m. called_answer at xs c y e q))
     where
       out : (f : Breach) → ((F f ⊎ ((x : Thing) × D x × NoCall at x f)) ⊎ ((y : Thing) × ((x : Thing) × D x × (MayCall x × (y ≡ x))) × M at y xs f)) ⊎ Any xs f → (F f ⊎ ((x : Thing) × D x × M at x xs f)) ⊎ Any xs f

@@ -115,7 +115,7 @@ module _ (g : Gathers) (j : Judges g) (lawful : Lawful g j) (exports : ℕ → I
 
     stands_by : {names : Ident → Standing} {r : Result A g.Reported} → ((a : A) → r ≡ Ok a → d.adds ≡ (said a).0) → Stand front names → Answers g j (O front) (λ a k. k ≡ said a) (SaysHere front names d.what) (Mis front names d.what) r → (s : Standing) × MeansHere s
     stands_by {names = names} h all (means a k i m u n) = (k.1, rules.says all (subst (λ (b : Added). SaysHere front names d.what (b, k.1)) (ap (λ (x : Saids). x.0) i ∙ sym (h a refl)) m))
-    stands_by h all (refuses r c n) = (without d.what, rules.says_nothing all (λ ms s m. n (ms, s) m))
+    stands_by h all (refuses r c n) = (without nested d.what, rules.says_nothing all (λ ms s m. n (ms, s) m))
 
     module _ (made : A → Meaning) (is_made : (a : A) → (said a).1 ≡ standing (made a)) where
       abbrev meant : Result A g.Reported → Result Meaning g.Reported
@@ -130,17 +130,17 @@ module _ (g : Gathers) (j : Judges g) (lawful : Lawful g j) (exports : ℕ → I
       seen_nothing (refuses r c w) n = (r, refl)
 
       -- with a meaning, or without one
-      seen_by : (into : Result Meaning g.Reported → Result Meaning (Meaningless g.Reported)) {r : Result A g.Reported} → Exactly said front d.what r → (at : Pos) → ((m : Meaning) → into (Ok m) ≡ Ok m) → ((q : g.Reported) → Sees g j at (without d.what) (into (Err q))) → {s : Standing} → MeansHere s → Sees g j at s (into (meant r))
+      seen_by : (into : Result Meaning g.Reported → Result Meaning (Meaningless g.Reported)) {r : Result A g.Reported} → Exactly said front d.what r → (at : Pos) → ((m : Meaning) → into (Ok m) ≡ Ok m) → ((q : g.Reported) → Sees g j at (without nested d.what) (into (Err q))) → {s : Standing} → MeansHere s → Sees g j at s (into (meant r))
       seen_by into h at ok err (rules.says {names = names} {s = s} all m) = let q = seen_says at (h names all) m in
           subst (λ (r : Result A g.Reported). Sees g j at s (into (meant r))) (sym q.1) (subst (λ (s : Standing). Sees g j at s (into (Ok (made q.0)))) (sym q.2) (subst (λ (x : Result Meaning (Meaningless g.Reported)). Sees g j at (standing (made q.0)) x) (sym (ok (made q.0))) (sees (made q.0))))
       seen_by into h at ok err (rules.says_nothing {names = names} all n) = let q = seen_nothing (h names all) n in
-          subst (λ (r : Result A g.Reported). Sees g j at (without d.what) (into (meant r))) (sym q.1) (err q.0)
+          subst (λ (r : Result A g.Reported). Sees g j at (without nested d.what) (into (meant r))) (sym q.1) (err q.0)
 
       repeats_by : {names : Ident → Standing} {r : Result A g.Reported} → Stand front names → Answers g j (O front) (λ a k. k ≡ said a) (SaysHere front names d.what) (Mis front names d.what) r → (q : g.Reported) → meant r ≡ Err q → (f : Breach) → j.Among q f → O (d ∷ front) f
       repeats_by all (means a k i m u n) q e f z = absurd cc
       repeats_by {names = names} all (refuses r c n) q e f z = let same : r ≡ q = cc in elim (c.only f (subst (λ (x : g.Reported). j.Among x f) (sym same) z)) [ inl b ↦ inr (rules.inside all b) | inr o ↦ elim o [ inl y ↦ inl y | inr y ↦ inr (rules.in_front y) ] ]
 
-      plain_heading : {q : g.Reported} (m : Result Meaning g.Reported) → plain m ≡ Err (meaningless.Headless q) → ⊥
+      plain_heading : {b : Bool} {q : g.Reported} (m : Result Meaning g.Reported) → plain m ≡ Err (meaningless.Headless b q) → ⊥
       plain_heading (Ok m) e = absurd cc
       plain_heading (Err r) e = absurd cc
 
@@ -148,11 +148,11 @@ module _ (g : Gathers) (j : Judges g) (lawful : Lawful g j) (exports : ℕ → I
       plain_broken (Ok m) e = absurd cc
       plain_broken (Err r) e = cc
 
-      heading_broken : {q : g.Reported} (m : Result Meaning g.Reported) → heading_means m ≡ Err (meaningless.Broken q) → ⊥
+      heading_broken : {q : g.Reported} (m : Result Meaning g.Reported) → heading_means nested m ≡ Err (meaningless.Broken q) → ⊥
       heading_broken (Ok m) e = absurd cc
       heading_broken (Err r) e = absurd cc
 
-      heading_heading : {q : g.Reported} (m : Result Meaning g.Reported) → heading_means m ≡ Err (meaningless.Headless q) → m ≡ Err q
+      heading_heading : {b : Bool} {q : g.Reported} (m : Result Meaning g.Reported) → heading_means nested m ≡ Err (meaningless.Headless b q) → m ≡ Err q
       heading_heading (Ok m) e = absurd cc
       heading_heading (Err r) e = cc
 
@@ -160,7 +160,7 @@ module _ (g : Gathers) (j : Judges g) (lawful : Lawful g j) (exports : ℕ → I
       plain_own h (Ok a) {m = m} e = let same : made a ≡ m = cc in subst (λ (m : Meaning). is_own_variable start m ≡ is_variables d.what) same (h a)
       plain_own h (Err q) e = absurd cc
 
-      heading_own : ((a : A) → is_own_variable start (made a) ≡ is_variables d.what) → (r : Result A g.Reported) {m : Meaning} → heading_means (meant r) ≡ Ok m → is_own_variable start m ≡ is_variables d.what
+      heading_own : ((a : A) → is_own_variable start (made a) ≡ is_variables d.what) → (r : Result A g.Reported) {m : Meaning} → heading_means nested (meant r) ≡ Ok m → is_own_variable start m ≡ is_variables d.what
       heading_own h (Ok a) {m = m} e = let same : made a ≡ m = cc in subst (λ (m : Meaning). is_own_variable start m ≡ is_variables d.what) same (h a)
       heading_own h (Err q) e = absurd cc
 
@@ -168,12 +168,12 @@ module _ (g : Gathers) (j : Judges g) (lawful : Lawful g j) (exports : ℕ → I
       settled_by h (Ok a) = h a
       settled_by h (Err e) = refl
 
-      pub saying : {r : Result A g.Reported} → Exactly said front d.what r → ((a : A) → r ≡ Ok a → d.adds ≡ (said a).0) → without d.what ≡ Unknown → ((a : A) → standing_of (made a) ≡ place.Taken) → ((a : A) → is_own_variable start (made a) ≡ is_variables d.what) → {names : Ident → Standing} → Stand front names
+      pub saying : {r : Result A g.Reported} → Exactly said front d.what r → ((a : A) → r ≡ Ok a → d.adds ≡ (said a).0) → without nested d.what ≡ Unknown → ((a : A) → standing_of (made a) ≡ place.Taken) → ((a : A) → is_own_variable start (made a) ≡ is_variables d.what) → {names : Ident → Standing} → Stand front names
           → Saying g j exports outside start taken awaited nested block front d (known.Declared Here (meant r))
       saying {r = r} h e u t w {names = names} all = record {
         stands = stands_by e all (h names all);
         seen = λ s m at. seen_by (λ m. plain m) h at (λ m. refl) (λ q. subst (λ (s : Standing). Sees g j at s (Err (meaningless.Broken q))) (sym u) (sees_unknown q)) m;
-        heading = λ at q z f m. absurd (plain_heading (meant r) z);
+        heading = λ at b q z f m. absurd (plain_heading (meant r) z);
         broken = λ at q z f m. repeats_by all (h names all) q (plain_broken (meant r) z) f m;
         own = λ at m z. plain_own w r z;
         not_free = refl;
@@ -181,12 +181,12 @@ module _ (g : Gathers) (j : Judges g) (lawful : Lawful g j) (exports : ℕ → I
         settled = settled_by t r;
       }
 
-      pub saying_heading : {r : Result A g.Reported} → Exactly said front d.what r → ((a : A) → r ≡ Ok a → d.adds ≡ (said a).0) → without d.what ≡ Known Headless → ((a : A) → is_own_variable start (made a) ≡ is_variables d.what) → {names : Ident → Standing} → Stand front names
-          → Saying g j exports outside start taken awaited nested block front d (known.Headed (meant r))
+      pub saying_heading : {r : Result A g.Reported} → Exactly said front d.what r → ((a : A) → r ≡ Ok a → d.adds ≡ (said a).0) → without nested d.what ≡ Known (Headless nested) → ((a : A) → is_own_variable start (made a) ≡ is_variables d.what) → {names : Ident → Standing} → Stand front names
+          → Saying g j exports outside start taken awaited nested block front d (known.Headed (heading_means nested (meant r)))
       saying_heading {r = r} h e u w {names = names} all = record {
         stands = stands_by e all (h names all);
-        seen = λ s m at. seen_by (λ m. heading_means m) h at (λ m. refl) (λ q. subst (λ (s : Standing). Sees g j at s (Err (meaningless.Headless q))) (sym u) (sees_headless q)) m;
-        heading = λ at q z f m. repeats_by all (h names all) q (heading_heading (meant r) z) f m;
+        seen = λ s m at. seen_by (λ m. heading_means nested m) h at (λ m. refl) (λ q. subst (λ (s : Standing). Sees g j at s (Err (meaningless.Headless nested q))) (sym u) (sees_headless nested q)) m;
+        heading = λ at b q z f m. repeats_by all (h names all) q (heading_heading (meant r) z) f m;
         broken = λ at q z f m. absurd (heading_broken (meant r) z);
         own = λ at m z. heading_own w r z;
         not_free = refl;

@@ -102,7 +102,7 @@ module _ (g : Gathers) (j : Judges g) (lawful : Lawful g j) (names : Ident → S
       → FindsIt st name.pos (r ▷ λ m. plain (designated_by g s.level name.pos m))
   seen_finds name _ _ e q (sees m) = plain_finds g j lawful R (designated_answers g j lawful R s.level name.pos m)
   seen_finds name _ _ e q sees_nothing = finds_nothing (g.one (name.pos ! rule.Undeclared)) (accounts_as g j lawful R (λ f x. subst (Misnamed name.pos Undeclared) (sym x) undeclared) (only_undeclared g j lawful R s.level name.pos) (accounts_one g j lawful R (name.pos ! rule.Undeclared))) (λ y x. absurd cc)
-  seen_finds name _ _ e q (sees_headless r) = finds_headless r (λ f m. of_heading e q m) refl (λ y x. sym (known_one x)) (λ f m. elim m [ ])
+  seen_finds name _ _ e q (sees_headless b r) = finds_headless b r (λ f m. of_heading e q m) refl (λ y x. sym (known_one x)) (λ f m. elim m [ ])
   seen_finds name _ _ e q (sees_unknown r) = finds_nothing r (record { only = λ f m. inr (of_declaration e q m); each = λ f m. elim m [ ] }) (λ y x. absurd cc)
 
   pub named_finds : (name : Ident) → FindsIt (names name) name.pos (first_name g s name)
@@ -172,7 +172,7 @@ module _ (g : Gathers) (j : Judges g) (lawful : Lawful g j) (names : Ident → S
 
     pub field_finds : {S : Thing → Type 0} {B : Breach → Type 0} {d : Result Designated (Meaningless g.Reported)} → Finds g j lawful R S B d
         → Finds g j lawful R (λ y. (x : Thing) × S x × Picks s.types exports name x (Known y)) (λ f. B f ⊎ ((x : Thing) × S x × FieldFails x f)) (field_at g s at name d)
-    field_finds h = plain_finds g j lawful R (sort_answers g j lawful R at rule.WrongType h field_answers (no_field (λ st p. elim p [ ])))
+    field_finds h = plain_finds g j lawful R (sort_answers g j lawful R at rule.WrongType h field_answers (λ b. no_field (λ st p. elim p [ ])))
 
   -- ---- elements
 
@@ -249,5 +249,5 @@ module _ (g : Gathers) (j : Judges g) (lawful : Lawful g j) (names : Ident → S
         → Finds g j lawful R (λ y. (p : (TypeNo × TypeNo) × Kind) × (((z : Thing) × S z × Indexes s.types z p.0.0 p.0.1) × M p.1) × ElementOf p y)
         (λ f. ((B f ⊎ ((z : Thing) × S z × NoElements z f)) ⊎ C f) ⊎ ((p : (TypeNo × TypeNo) × Kind) × (((z : Thing) × S z × Indexes s.types z p.0.0 p.0.1) × M p.1) × IndexFails spot p f)) (index_at g s.types at d spot x)
     index_finds spot h a = plain_finds g j lawful R (then_answer g j lawful R {N = λ p y. ElementOf p y} {D = λ p f. IndexFails spot p f}
-        (both_answer g j lawful R (sort_answers g j lawful R {N = λ z p. Indexes s.types z p.0 p.1} {D = NoElements} at rule.WrongType h indices_answers (no_elements (λ i t q. elim q [ ]))) a)
+        (both_answer g j lawful R (sort_answers g j lawful R {N = λ z p. Indexes s.types z p.0 p.1} {D = NoElements} at rule.WrongType h indices_answers (λ b. no_elements (λ i t q. elim q [ ]))) a)
         (λ p k i. index_answers spot p.0 k.0 p.1 k.1 i.0 i.1))

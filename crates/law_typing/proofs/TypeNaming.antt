@@ -122,7 +122,7 @@ module _ (g : Gathers) (j : Judges g) (lawful : Lawful g j) (names : Ident → S
       → TypeSo g j lawful R name.pos name.pos st (of_sort g name.pos rule.NoType r ▷ type_meant g name.pos)
   type_seen name _ _ e q (sees m) = type_by g j lawful R name.pos name.pos m
   type_seen name _ _ e q sees_nothing = undeclared_name name.pos (λ t z. absurd cc)
-  type_seen name _ _ e q (sees_headless r) = other_type g j lawful R name.pos name.pos Headless (λ z. let w = z.1 in absurd cc)
+  type_seen name _ _ e q (sees_headless b r) = other_type g j lawful R name.pos name.pos (Headless b) (λ z. let w = z.1 in absurd cc)
   type_seen name _ _ e q (sees_unknown r) = unknown_name name r e q (λ t z. absurd cc)
 
   -- ---- M.T
@@ -187,7 +187,7 @@ module _ (g : Gathers) (j : Judges g) (lawful : Lawful g j) (names : Ident → S
         → MemberSo st (of_sort g home.pos rule.NoType r ▷ in_module g s home.pos name)
     member_seen _ _ e q (sees m) = member_by m
     member_seen _ _ e q sees_nothing = no_member (λ k z. absurd cc) (undeclared_name home.pos (λ t z. z))
-    member_seen _ _ e q (sees_headless r) = other_module Headless (λ z. let w = z.1 in absurd cc)
+    member_seen _ _ e q (sees_headless b r) = other_module (Headless b) (λ z. let w = z.1 in absurd cc)
     member_seen _ _ e q (sees_unknown r) = no_member (λ k z. absurd cc) (unknown_name home r e q (λ t z. z))
 
   -- ---- T or M.T

@@ -112,8 +112,10 @@ is_own_variable s other = false
 module _ (g : Gathers) (j : Judges g) where
   -- what the use of a name repeats of its declaration
   pub data Repeats (names : Ident → Standing) (s : Scope g.Reported) (f : Breach) : Type 0 where
-    of_heading : {name : Ident} {r : g.Reported} → names name ≡ Known Headless
-        → looked_up g s name ≡ Err (meaningless.Headless r) → j.Among r f → Repeats names s f
+    of_heading : {name : Ident} {nested : Bool} {r : g.Reported}
+        → names name ≡ Known (Headless nested)
+        → looked_up g s name ≡ Err (meaningless.Headless nested r) → j.Among r f
+        → Repeats names s f
     of_declaration : {name : Ident} {r : g.Reported} → names name ≡ Unknown
         → looked_up g s name ≡ Err (meaningless.Broken r) → j.Among r f → Repeats names s f
 

@@ -1,5 +1,5 @@
 -- What a scope knows of names, and what tables have.
-use Rattle.std.specs.Prelude.{◌≡◌, ℕ, List, [], ◌∷◌, Option, Some, None, Result, Ok, Err, slice_get}
+use Rattle.std.specs.Prelude.{Bool, ◌≡◌, ℕ, List, [], ◌∷◌, Option, Some, None, Result, Ok, Err, slice_get}
 use Rattle.m2_rule.specs.declared.rule.Rule.TheVariants as rule
 use Rattle.m2_tree.specs.declared.pos.Pos.{Pos}
 use Rattle.m2_tree.specs.declared.name.Ident.{Ident}
@@ -52,7 +52,8 @@ module _ (g : Gathers) (j : Judges g) where
   pub data Sees (at : Pos) : Standing → Result Meaning (Meaningless g.Reported) → Type 0 where
     sees : (m : Meaning) → Sees at (standing m) (Ok m)
     sees_nothing : Sees at Undeclared (Err (meaningless.Broken (g.one (at ! rule.Undeclared))))
-    sees_headless : (r : g.Reported) → Sees at (Known Headless) (Err (meaningless.Headless r))
+    sees_headless : (nested : Bool) (r : g.Reported)
+        → Sees at (Known (Headless nested)) (Err (meaningless.Headless nested r))
     sees_unknown : (r : g.Reported) → Sees at Unknown (Err (meaningless.Broken r))
 
   -- what a module exports by a name

@@ -2,6 +2,7 @@
 use Rattle.std.proofs.Common.{◌≡◌, ℕ, Bool, true, false, Option, Some, None, Result, Ok, Err, refl, ap, ◌∙◌}
 use Rattle.m2_rule.specs.RuleNumber.{number_of}
 use Rattle.m2_rule.specs.declared.rule.Rule.{Rule}
+use Rattle.m2_rule.specs.declared.rule.Rule.TheVariants as rule
 use Rattle.m2_tree.specs.declared.pos.Pos.{Pos}
 use Rattle.typed_tree.specs.declared.known_types.Types.{Types}
 use Rattle.typed_tree.specs.declared.shape.Made.{Made}
@@ -15,7 +16,7 @@ use Rattle.typed_tree.specs.Known.{made_at, is_result_shape, is_result_made, is_
 use Rattle.typed_tree.specs.declared.meaning.Meaning.{Meaning}
 use Rattle.check_scope.specs.declared.meaningless.Meaningless.{Meaningless}
 use Rattle.check_scope.specs.declared.meaningless.Meaningless.TheVariants.{Broken, Headless}
-use Rattle.check_scope.specs.Elaborated.{Gathers, report, reported_where, both, refusal_beside, reported_beside, ahead, of_sort, of_heading, plain, ◌▷◌}
+use Rattle.check_scope.specs.Elaborated.{Gathers, report, reported_where, both, refusal_beside, reported_beside, ahead, of_sort, of_heading, of_value, of_sort_of_value, plain, ◌▷◌}
 use Rattle.check_scope.specs.Scopes.{heading_means}
 use Rattle.check_operator.specs.declared.class.Class.{Class}
 use Rattle.check_operator.specs.declared.class.Class.TheVariants as class
@@ -70,13 +71,25 @@ module _ (g : Gathers) where
   pub sort_holds : {A : Type 0} {P : A → Type 0} (at : Pos) (n : Rule) {r : Result A (Meaningless g.Reported)} → Holds P r → Holds P (of_sort g at n r)
   sort_holds at n (fine x p) = fine x p
   sort_holds at n (broken (Broken e)) = broken e
-  sort_holds at n (broken (Headless e)) = reported_holds at n
+  sort_holds at n (broken (Headless nested e)) = reported_holds at n
+
+  pub of_value_holds : {A : Type 0} {P : A → Type 0} (at : Pos) {r : Result A (Meaningless g.Reported)} → Holds P r → Holds P (of_value g at r)
+  of_value_holds at (fine x p) = fine x p
+  of_value_holds at (broken (Broken e)) = broken e
+  of_value_holds at (broken (Headless true e)) = reported_holds at rule.NoProcedureValue
+  of_value_holds at (broken (Headless false e)) = broken e
+
+  pub sort_of_value_holds : {A : Type 0} {P : A → Type 0} (at : Pos) (n : Rule) {r : Result A (Meaningless g.Reported)} → Holds P r → Holds P (of_sort_of_value g at n r)
+  sort_of_value_holds at n (fine x p) = fine x p
+  sort_of_value_holds at n (broken (Broken e)) = broken e
+  sort_of_value_holds at n (broken (Headless true e)) = reported_holds at rule.NoProcedureValue
+  sort_of_value_holds at n (broken (Headless false e)) = reported_holds at n
 
 module _ {T : Type 0} where
   pub of_heading_holds : {A : Type 0} {P : A → Type 0} {r : Result A (Meaningless T)} → Holds P r → Holds P (of_heading r)
   of_heading_holds (fine x p) = fine x p
   of_heading_holds (broken (Broken e)) = broken e
-  of_heading_holds (broken (Headless e)) = broken e
+  of_heading_holds (broken (Headless nested e)) = broken e
 
   pub plain_holds : {A : Type 0} {P : A → Type 0} {r : Result A T} → Holds P r → Holds P (plain r)
   plain_holds (fine x p) = fine x p
@@ -86,9 +99,9 @@ module _ {T : Type 0} where
   plain_ok {A = A} (Ok y) x e = let z : y ≡ x = cc in ap (λ (v : A). Ok v) z
   plain_ok (Err y) x e = absurd cc
 
-  pub heading_means_holds : {P : Meaning → Type 0} {r : Result Meaning T} → Holds P r → Holds P (heading_means r)
-  heading_means_holds (fine x p) = fine x p
-  heading_means_holds (broken e) = broken (Headless e)
+  pub heading_means_holds : (nested : Bool) {P : Meaning → Type 0} {r : Result Meaning T} → Holds P r → Holds P (heading_means nested r)
+  heading_means_holds nested (fine x p) = fine x p
+  heading_means_holds nested (broken e) = broken (Headless nested e)
 
 -- nothing is said of it
 pub any_holds : {A T : Type 0} (r : Result A T) → Holds (λ x. Unit {0}) r

@@ -50,7 +50,7 @@ use Rattle.check_const.specs.Calls.{sort_of, scalar_type, named_scalar, type_arg
 use Rattle.check_const.specs.Parts.{Part, Pick, Adds, sign_place, signed_first, first_name, field_of, constant, one, type_only, conversion, by_sort, standard_call_value, call_value, factor, term}
 use Rattle.check_expr.specs.Meanings.{Meant, Picks, expr_layer, selector_layer, designator_layer, item_layer, meanings_of, picks, head, item, part}
 use Rattle.law_well_formed.specs.Formed.{Holds, fine, broken}
-use Rattle.law_well_formed.proofs.Basics.{then_holds, reported_holds, plain_holds, heading_means_holds, any_holds}
+use Rattle.law_well_formed.proofs.Basics.{then_holds, reported_holds, plain_holds, any_holds}
 use Rattle.law_well_formed.specs.FormedRanges.{itself, fits_layer, fits_selector, fits_designator, fits_item, fits, ValueRanged, MeaningRanged, KnownRanged, NamesRanged, BlocksRanged, ExportsRanged, TablesRanged, ScopeRanged}
 use Rattle.law_well_formed.proofs.RangesTypes.{both_left, both_right}
 use Rattle.law_well_formed.proofs.Subranges.{from_le}
@@ -108,7 +108,7 @@ module _ (g : Gathers) (types : Types) where
   seen_means at Later seen p = plain_holds (reported_holds g at rule.Undeclared)
   seen_means at Ahead seen p = fine meaning.Ahead tt
   seen_means at Begun seen p = plain_holds (reported_holds g at rule.Undeclared)
-  seen_means at (Headed r) seen p = heading_means_holds p
+  seen_means at (Headed r) seen p = p
   seen_means at (Declared o r) seen p = plain_holds (declared_means at seen r p)
 
   means_ranged : (at : Pos) (o : Sight g.Reported) → RangedSight types o → Means_ (means_as g at o)
@@ -196,7 +196,7 @@ module _ (g : Gathers) (s : Scope g.Reported) (h : ScopeRanged s) where
   denoted_ranged : {r : Result Meaning (Meaningless g.Reported)} → Means_ g s.types r → D_ (denoted_of r)
   denoted_ranged (fine m p) = fine (denoted_by m) (by_meaning m p)
   denoted_ranged (broken (Broken e)) = broken e
-  denoted_ranged (broken (Headless e)) = fine denoted.Procedure tt
+  denoted_ranged (broken (Headless nested e)) = fine denoted.Procedure tt
 
   named_ranged : (name : Ident) → D_ (first_name g s name)
   named_ranged name = denoted_ranged (name_means name)
@@ -207,7 +207,7 @@ module _ (g : Gathers) (s : Scope g.Reported) (h : ScopeRanged s) where
   component_ranged at (denoted.Type t) = fine denoted.Variable tt
   component_ranged at denoted.Procedure = fine denoted.Variable tt
   component_ranged at (denoted.Standard f) = fine denoted.Variable tt
-  component_ranged at (denoted.Module k) = reported_holds g at rule.WrongType
+  component_ranged at (denoted.Module k) = fine denoted.Variable tt
 
   field_ranged : (at : Pos) (name : Ident) (d : Denoted) → D_ (field_of g s at name d)
   field_ranged at name (denoted.Module k) = then_holds (member_means k name) (λ m p. fine (denoted_by m) (by_meaning m p))

@@ -25,13 +25,14 @@ use Rattle.law_well_formed.proofs.ImportsLists.{each_entered}
 use Rattle.law_well_formed.specs.FormedTables.{IsExport, AreExports}
 use Rattle.law_well_formed.proofs.Own.{OwnFrom, OwnKnown, AreOwn, Leads, ◌⨾◌, fold_leads, def_marks, def_leads, import_leads}
 
-module _ {T : Type 0} (home : ℕ) where
-  meaning_exported : (so : List (List ℕ × Meaning)) (name : List ℕ) (r : Result Meaning T) → IfOk r (IsExport home) → AreExports home so → AreExports home (with_meaning so name r)
+module _ (home : ℕ) where
+  meaning_exported : {E : Type 0} (so : List (List ℕ × Meaning)) (name : List ℕ) (r : Result Meaning E) → IfOk r (IsExport home) → AreExports home so → AreExports home (with_meaning so name r)
   meaning_exported so name (Ok m) p all = each_entered (λ (e : List ℕ × Meaning). IsExport home e.1) name m so (λ other e. p) all
   meaning_exported so name (Err e) p all = all
 
+module _ {T : Type 0} (home : ℕ) where
   declared_exported : (so : List (List ℕ × Meaning)) (name : List ℕ) (o : Origin) (r : Result Meaning T) → OwnFrom home o r → AreExports home so → AreExports home (with_declared so name o r)
-  declared_exported so name origin.Here r p all = meaning_exported so name r p all
+  declared_exported so name origin.Here r p all = meaning_exported home so name r p all
   declared_exported so name (origin.Module k) r p all = all
   declared_exported so name (origin.Export k) r p all = all
 
@@ -39,7 +40,7 @@ module _ {T : Type 0} (home : ℕ) where
   known_exported so name Later p all = all
   known_exported so name Ahead p all = all
   known_exported so name Begun p all = all
-  known_exported so name (Headed r) p all = meaning_exported so name r p all
+  known_exported so name (Headed r) p all = meaning_exported home so name r p all
   known_exported so name (Declared o r) p all = declared_exported so name o r p all
 
   from_exports : (own : List (List ℕ × Known T)) (so : List (List ℕ × Meaning)) → AreOwn home own → AreExports home so → AreExports home (fold with_export so own)

@@ -31,6 +31,7 @@ use Rattle.check_scope.specs.Scopes.{State}
 use Rattle.check_scope.specs.declared.known.Known.{Known}
 use Rattle.check_scope.specs.declared.known.Known.TheVariants.{Headed}
 use Rattle.check_scope.specs.declared.scope.Scope.{Scope}
+use Rattle.check_scope.specs.Scopes.{heading_means}
 use Rattle.check_type_expr.specs.Headings.{formal_of, result_in, result_of, formal_for_each, with_section, heading_of, names_of}
 use Rattle.check_type_expr.specs.Made.{next_type, with_shape}
 use Rattle.check_type_expr.specs.Named.{first_of, named_type}
@@ -165,7 +166,7 @@ module _ (g : Gathers) where
       ∙ get_last s.types.own x
 
   new_by : (b : Bool) (s : Scope g.Reported) (name : List ℕ) (n : ℕ) (t : TypeNo) (x : Made) (sig : Signature) → made_at s.types t ≡ Some x → x.shape ≡ shape.Procedure sig
-      → Leaves (cond b (module_procedure s name (Ok t)) (set_heading name (nested_meaning s.level n (Ok t)) s)) name sig
+      → Leaves (cond b (module_procedure s name (Ok t)) (set_heading name (heading_means true (nested_meaning s.level n (Ok t))) s)) name sig
   new_by true s name n t x sig e k =
       let m : Meaning = meaning.Procedure (record { home = s.types.home; number = length s.procedures; heading = t }) in
       record { means = m; named = found_self name (Headed (Ok m)) s.own; heading = t; is = refl; made = x; there = e; shape = k }

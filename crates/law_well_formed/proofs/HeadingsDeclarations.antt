@@ -22,6 +22,8 @@ use Rattle.check_scope.specs.declared.known.Known.TheVariants.{Later, Ahead, Beg
 use Rattle.check_scope.specs.declared.known.Origin.{Origin}
 use Rattle.check_scope.specs.declared.known.Origin.TheVariants.{Here, Module, Export}
 use Rattle.check_scope.specs.declared.scope.Scope.{Scope}
+use Rattle.check_scope.specs.declared.meaningless.Meaningless.{Meaningless}
+use Rattle.check_scope.specs.Scopes.{heading_means}
 use Rattle.check_const.specs.Parts.{constant}
 use Rattle.check_expr.specs.Meanings.{part}
 use Rattle.check_type_expr.specs.Headings.{heading_of}
@@ -180,7 +182,7 @@ module _ (g : Gathers) where
 
   -- ---- headings
 
-  headed_changes : (s : Scope g.Reported) (h : Heading) (r : Result Meaning g.Reported) → holds_of is_settled (find_name h.name.name s.own) ≡ false → Changes (λ z. mark_name h.name Ahead z) s (set_heading h.name.name r s)
+  headed_changes : (s : Scope g.Reported) (h : Heading) (r : Result Meaning (Meaningless g.Reported)) → holds_of is_settled (find_name h.name.name s.own) ≡ false → Changes (λ z. mark_name h.name Ahead z) s (set_heading h.name.name r s)
   headed_changes s h r e = known_changes s h.name Ahead (Headed r) e
 
   procedure_type_changes : (marks : Marks g.Reported) (s : Scope g.Reported) (t : Result TypeNo g.Reported) → Changes marks s (with_procedure_type s t)
@@ -194,12 +196,12 @@ module _ (g : Gathers) where
   module_procedure_changes : (s : Scope g.Reported) (h : Heading) (t : Result TypeNo g.Reported) → holds_of is_settled (find_name h.name.name s.own) ≡ false → Changes (λ z. mark_name h.name Ahead z) s (module_procedure s h.name.name t)
   module_procedure_changes s h t e =
       changes_then (procedure_type_changes _ s t)
-      (headed_changes (with_procedure_type s t) h (procedure_meaning s.types.home (length s.procedures) t) (ap (λ (es : List (List ℕ × Known g.Reported)). holds_of is_settled (find_name h.name.name es)) (procedure_type_own s t) ∙ e))
+      (headed_changes (with_procedure_type s t) h (heading_means false (procedure_meaning s.types.home (length s.procedures) t)) (ap (λ (es : List (List ℕ × Known g.Reported)). holds_of is_settled (find_name h.name.name es)) (procedure_type_own s t) ∙ e))
 
   new_by : (b : Bool) (s : Scope g.Reported) (h : Heading) (n : ℕ) (t : Result TypeNo g.Reported) → holds_of is_settled (find_name h.name.name s.own) ≡ false
-      → Changes (λ z. mark_name h.name Ahead z) s (cond b (module_procedure s h.name.name t) (set_heading h.name.name (nested_meaning s.level n t) s))
+      → Changes (λ z. mark_name h.name Ahead z) s (cond b (module_procedure s h.name.name t) (set_heading h.name.name (heading_means true (nested_meaning s.level n t)) s))
   new_by true s h n t e = module_procedure_changes s h t e
-  new_by false s h n t e = headed_changes s h (nested_meaning s.level n t) e
+  new_by false s h n t e = headed_changes s h (heading_means true (nested_meaning s.level n t)) e
 
   new_changes : (s : Scope g.Reported) (h : Heading) (n : ℕ) (made : Result Made g.Reported) → holds_of is_settled (find_name h.name.name s.own) ≡ false → Changes (λ z. mark_name h.name Ahead z) s (with_new s h.name.name n made).0
   new_changes s h n (Ok x) e = changes_then (shape_changes _ s x) (new_by (s.level == 0) (with_shape s x) h n (Ok (next_type s)) e)

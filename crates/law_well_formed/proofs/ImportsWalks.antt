@@ -1,5 +1,5 @@
 -- Walks over bodies keep the tables of a scope, and which module it is of.
-use Rattle.std.proofs.Common.{◌≡◌, ℕ, ◌==◌, List, [], ◌∷◌, length, Option, None, Result, Ok, refl, sym, ap, subst, ◌∙◌}
+use Rattle.std.proofs.Common.{true, ◌≡◌, ℕ, ◌==◌, List, [], ◌∷◌, length, Option, None, Result, Ok, refl, sym, ap, subst, ◌∙◌}
 use Rattle.std.specs.Prelude.{map}
 use Rattle.std.specs.List.{fold}
 use Rattle.m2_tree.specs.declared.name.Ident.{Ident}
@@ -18,6 +18,7 @@ use Rattle.check_scope.specs.Elaborated.{Gathers}
 use Rattle.check_scope.specs.Scopes.{State}
 use Rattle.check_scope.specs.declared.known.Known.TheVariants.{Ahead}
 use Rattle.check_scope.specs.declared.scope.Scope.{Scope}
+use Rattle.check_scope.specs.Scopes.{heading_means}
 use Rattle.check_type_expr.specs.Headings.{heading_of}
 use Rattle.check_type_expr.specs.Made.{with_made, type_of}
 use Rattle.check_definition.specs.Declare.{with_constant, with_type, begun_name, with_variable_type, with_variables}
@@ -48,7 +49,7 @@ module _ {T : Type 0} where
   local_keeps t s name = finished_keeps (with_variable_type s t) name (local_meaning s.level (length s.variables) t) ∙ variable_type_keeps s t
 
   new_procedure_keeps : (s : Scope T) (name : List ℕ) (n : ℕ) (t : Result TypeNo T) → Keeps s (new_procedure s name n t)
-  new_procedure_keeps s name n t = either_scope s (s.level == 0) (module_procedure s name t) (set_heading name (nested_meaning s.level n t) s) (procedure_type_keeps s t) refl
+  new_procedure_keeps s name n t = either_scope s (s.level == 0) (module_procedure s name t) (set_heading name (heading_means true (nested_meaning s.level n t)) s) (procedure_type_keeps s t) refl
 
   new_keeps : (s : Scope T) (name : List ℕ) (n : ℕ) (r : Result Made T) → Keeps s (with_new s name n r).0
   new_keeps s name n r = let t = with_made s r in new_procedure_keeps t.0 name n t.1 ∙ made_keeps s r

@@ -33,7 +33,7 @@ use Rattle.typed_tree.specs.declared.typed_module.TypedModule.{TypedModule}
 use Rattle.typed_tree.specs.declared.types.TypeNo.{TypeNo}
 use Rattle.typed_tree.specs.Chains.{root_place}
 use Rattle.check_scope.specs.declared.meaningless.Meaningless.{Meaningless}
-use Rattle.check_scope.specs.Elaborated.{Gathers, reported_where, ahead, of_sort, of_heading, ◌▷◌}
+use Rattle.check_scope.specs.Elaborated.{Gathers, reported_where, ahead, of_sort, of_heading, of_value, ◌▷◌}
 use Rattle.check_scope.specs.declared.scope.Scope.{Scope}
 use Rattle.check_const.specs.Parts.{Part, Adds, sign_place}
 use Rattle.check_const_ops.specs.Operators.{mul_op, add_op}
@@ -57,7 +57,7 @@ use Rattle.check_expr.specs.Meanings.{Meant, Picks, of_computed, signed_first, f
 use Rattle.def_scheme.specs.Exprs.{is_there}
 use Rattle.law_modules.specs.WellFormed.{FunctionCall, AreArguments, no_arguments, FieldOf}
 use Rattle.law_well_formed.specs.Formed.{Holds, fine, FormedMeaning, FormedValue, FormedDesignated, IsFormed}
-use Rattle.law_well_formed.proofs.Basics.{then_holds, reported_holds, both_holds, refused_holds, reported_beside_holds, ahead_holds, sort_holds, of_heading_holds, plain_holds, any_holds, heading_kept}
+use Rattle.law_well_formed.proofs.Basics.{then_holds, reported_holds, both_holds, refused_holds, reported_beside_holds, ahead_holds, sort_holds, of_heading_holds, of_value_holds, sort_of_value_holds, plain_holds, any_holds, heading_kept}
 use Rattle.law_well_formed.proofs.Operators.{behind_formed, rooted_formed, signed_formed, negated_formed, combined_formed, field_formed, indexed_formed}
 use Rattle.law_well_formed.proofs.Calls.{given_formed, taken_formed, actual_formed, arguments_more, FormedCallee, FormedCalled, callee_formed, call_formed, unary_formed, bound_formed, conversion_formed, high_formed}
 
@@ -87,7 +87,7 @@ module _ (g : Gathers) (m : TypedModule) (opens : ℕ → Bool) (w : ℕ) (s : S
   AllP (x ∷ xs) = FP x × AllP xs
 
   pub value_formed : (x : Meant g.Reported) → FM x → Value_ (value_of g s x)
-  value_formed x p = then_holds (of_heading_holds p) (λ d k. taken_formed g m w opens s.types h.types x.fixed.at d k)
+  value_formed x p = then_holds (of_value_holds g x.fixed.at p) (λ d k. taken_formed g m w opens s.types h.types x.fixed.at d k)
 
   constant_meant : (x : Part g.Reported) → Designated_ (as_constant g s x)
   constant_meant x = plain_holds (then_holds (any_holds _) (λ v k. fine (designated.Value (value.Constant v)) tt))
@@ -130,9 +130,9 @@ module _ (g : Gathers) (m : TypedModule) (opens : ℕ → Bool) (w : ℕ) (s : S
 
   -- ---- calls
 
-  passed_by : (is_var : Bool) (at : Pos) {d : Result Designated (Meaningless g.Reported)} → Designated_ d → Designated_ (cond is_var (of_sort g at rule.NoVariable d) (of_heading d))
+  passed_by : (is_var : Bool) (at : Pos) {d : Result Designated (Meaningless g.Reported)} → Designated_ d → Designated_ (cond is_var (of_sort g at rule.NoVariable d) (of_value g at d))
   passed_by true at p = sort_holds g at rule.NoVariable p
-  passed_by false at p = of_heading_holds p
+  passed_by false at p = of_value_holds g at p
 
   passed_formed : (f : Formal) (at : Pos) {d : Result Designated (Meaningless g.Reported)} → Designated_ d → Designated_ (passed_for g f at d)
   passed_formed f at p = passed_by f.is_var at p
@@ -196,7 +196,7 @@ module _ (g : Gathers) (m : TypedModule) (opens : ℕ → Bool) (w : ℕ) (s : S
 
   high_all : (at : Pos) (args : List (Meant g.Reported)) → AllM args → Value_ (high g s at args)
   high_all at [] all = reported_beside_holds g at rule.ArgumentCount (breaches_in_all g s [])
-  high_all at (x ∷ []) all = then_holds (sort_holds g x.fixed.at rule.WrongArgument all.0) (λ d p. high_formed g m w opens s.types h.types x.fixed.at d)
+  high_all at (x ∷ []) all = then_holds (sort_of_value_holds g x.fixed.at rule.WrongArgument all.0) (λ d p. high_formed g m w opens s.types h.types x.fixed.at d)
   high_all at (x ∷ y ∷ xs) all = reported_beside_holds g at rule.ArgumentCount _
 
   form_formed : (at : Pos) (f : Standard) (args : List (Meant g.Reported)) (o : Form) → AllM args → Value_ (by_form g s at f args o)

@@ -24,7 +24,7 @@ use Rattle.check_scope.specs.Elaborated.{Gathers, report}
 use Rattle.check_const.specs.Denote.{exported_by, export_of, exported_meaning}
 use Rattle.check_type_expr.specs.Named.{type_meant, in_module, of_module, named_type}
 use Rattle.law_well_formed.specs.Formed.{Holds, fine}
-use Rattle.law_well_formed.proofs.Basics.{then_holds, reported_holds, sort_holds, plain_holds, heading_means_holds}
+use Rattle.law_well_formed.proofs.Basics.{then_holds, reported_holds, sort_holds, plain_holds}
 use Rattle.law_well_formed.specs.Ordered.{is_known}
 use Rattle.law_well_formed.specs.FormedOrder.{MeaningOrdered, KnownOrdered, NamesOrdered, BlocksOrdered, ExportsOrdered, TablesOrdered, ScopeOrdered}
 
@@ -101,7 +101,7 @@ module _ (g : Gathers) where
   means_ordered types at Later b p = plain_holds (reported_holds g at rule.Undeclared)
   means_ordered types at Ahead b p = fine meaning.Ahead tt
   means_ordered types at Begun b p = plain_holds (reported_holds g at rule.Undeclared)
-  means_ordered types at (Headed r) b p = heading_means_holds p
+  means_ordered types at (Headed r) b p = p
   means_ordered types at (Declared o r) b p = plain_holds (means_by types at b r p)
 
   sight_means : (types : Types) (at : Pos) (o : Sight g.Reported) → SightOrdered types o → Holds (MeaningOrdered types) (means_as g at o)

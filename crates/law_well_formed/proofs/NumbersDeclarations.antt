@@ -26,6 +26,9 @@ use Rattle.check_scope.specs.declared.known.Known.{Known}
 use Rattle.check_scope.specs.declared.known.Known.TheVariants.{Later, Ahead, Begun, Headed, Declared}
 use Rattle.check_scope.specs.declared.known.Origin.TheVariants.{Here, Module, Export}
 use Rattle.check_scope.specs.declared.scope.Scope.{Scope}
+use Rattle.check_scope.specs.declared.meaningless.Meaningless.{Meaningless}
+use Rattle.check_scope.specs.declared.meaningless.Meaningless.TheVariants.{Headless}
+use Rattle.check_scope.specs.Scopes.{heading_means}
 use Rattle.check_const.specs.Parts.{constant}
 use Rattle.check_expr.specs.Meanings.{part}
 use Rattle.check_type_expr.specs.Headings.{heading_of}
@@ -38,7 +41,7 @@ use Rattle.check_block.specs.Headings.{standing_of, standing_elaborated, name_st
 use Rattle.check_block.specs.Naming.{marked_layer}
 use Rattle.check_block.specs.Declarations.{finished_local, with_locals, Course, decl_layer}
 use Rattle.law_well_formed.specs.Formed.{Holds, fine, broken}
-use Rattle.law_well_formed.proofs.Basics.{then_holds, any_holds}
+use Rattle.law_well_formed.proofs.Basics.{then_holds, any_holds, heading_means_holds}
 use Rattle.law_well_formed.proofs.Names.{get_more, get_last}
 use Rattle.law_well_formed.specs.FormedNumbers.{lists_of, MeaningNumbered, KnownNumbered, NamesNumbered, IsNumbered, More, Grows}
 use Rattle.law_well_formed.proofs.NumbersGrowth.{grows_refl, grows_then, lists_grow, names_entered, known_grows, begun_grows, finished_grows, marked_grows, shape_grows}
@@ -159,7 +162,7 @@ module _ (fs : List Formal) (g : Gathers) where
 
   -- ---- headings
 
-  headed_grows : (s : Scope g.Reported) (name : List ℕ) (r : Result Meaning g.Reported) → (IsNumbered fs s → Holds (MeaningNumbered fs (lists_of s)) r) → Goes s (set_heading name r s)
+  headed_grows : (s : Scope g.Reported) (name : List ℕ) (r : Result Meaning (Meaningless g.Reported)) → (IsNumbered fs s → Holds (MeaningNumbered fs (lists_of s)) r) → Goes s (set_heading name r s)
   headed_grows s name r p = known_grows fs s name (Headed r) p
 
   procedure_type_grows : (s : Scope g.Reported) (t : Result TypeNo g.Reported) → Goes s (with_procedure_type s t)
@@ -173,16 +176,16 @@ module _ (fs : List Formal) (g : Gathers) where
   })
 
   module_procedure_grows : (s : Scope g.Reported) (name : List ℕ) (t : Result TypeNo g.Reported) → Goes s (module_procedure s name t)
-  module_procedure_grows s name (Err e) = headed_grows s name (Err e) (λ h. broken e)
+  module_procedure_grows s name (Err e) = headed_grows s name (Err (Headless false e)) (λ h. broken (Headless false e))
   module_procedure_grows s name (Ok t) =
       grows_then fs (procedure_type_grows s (Ok t))
       (headed_grows (with_procedure_type s (Ok t)) name (Ok (meaning.Procedure (record { home = s.types.home; number = length s.procedures; heading = t })))
       (λ h. fine (meaning.Procedure (record { home = s.types.home; number = length s.procedures; heading = t })) (λ e. get_last s.procedures t)))
 
-  nested_grows : (s : Scope g.Reported) (name : List ℕ) (n : ℕ) (t : Result TypeNo g.Reported) → Goes s (set_heading name (nested_meaning s.level n t) s)
-  nested_grows s name n t = headed_grows s name (nested_meaning s.level n t) (λ h. then_holds (any_holds t) (λ x k. fine (meaning.LocalProcedure (record { level = s.level; number = n; heading = x })) refl))
+  nested_grows : (s : Scope g.Reported) (name : List ℕ) (n : ℕ) (t : Result TypeNo g.Reported) → Goes s (set_heading name (heading_means true (nested_meaning s.level n t)) s)
+  nested_grows s name n t = headed_grows s name (heading_means true (nested_meaning s.level n t)) (λ h. heading_means_holds true (then_holds (any_holds t) (λ x k. fine (meaning.LocalProcedure (record { level = s.level; number = n; heading = x })) refl)))
 
-  new_by : (b : Bool) (s : Scope g.Reported) (name : List ℕ) (n : ℕ) (t : Result TypeNo g.Reported) → Goes s (cond b (module_procedure s name t) (set_heading name (nested_meaning s.level n t) s))
+  new_by : (b : Bool) (s : Scope g.Reported) (name : List ℕ) (n : ℕ) (t : Result TypeNo g.Reported) → Goes s (cond b (module_procedure s name t) (set_heading name (heading_means true (nested_meaning s.level n t)) s))
   new_by true s name n t = module_procedure_grows s name t
   new_by false s name n t = nested_grows s name n t
 

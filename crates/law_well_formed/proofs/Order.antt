@@ -121,6 +121,10 @@ module _ {V : Type 0} where
   distinct_entered name k [] d = (refl, tt)
   distinct_entered name k (e ∷ es) d = distinct_by name k e es (same_name name e.0) refl d (distinct_entered name k es d.1)
 
+abbrev pub number_if : {E : Type 0} → Result Meaning E → Option ℕ
+number_if (Ok m) = number_in m
+number_if (Err e) = None
+
 module _ {T : Type 0} where
   -- ---- names that are taken
 
@@ -178,10 +182,6 @@ module _ {T : Type 0} where
   now_taken name k (e ∷ es) h = now_by name k e es (same_name name e.0) refl h (now_taken name k es h)
 
   -- ---- procedures that are declared here, by their numbers
-
-  abbrev pub number_if : Result Meaning T → Option ℕ
-  number_if (Ok m) = number_in m
-  number_if (Err e) = None
 
   abbrev pub number_from : Origin → Result Meaning T → Option ℕ
   number_from Here r = number_if r

@@ -24,6 +24,7 @@ use Rattle.check_scope.specs.declared.known.Known.TheVariants.{Later, Ahead, Beg
 use Rattle.check_scope.specs.declared.known.Origin.{Origin}
 use Rattle.check_scope.specs.declared.known.Origin.TheVariants.{Here, Module, Export}
 use Rattle.check_scope.specs.declared.scope.Scope.{Scope}
+use Rattle.check_scope.specs.Scopes.{heading_means}
 use Rattle.check_const.specs.Parts.{constant}
 use Rattle.check_expr.specs.Meanings.{part}
 use Rattle.check_type_expr.specs.Headings.{heading_of, names_of}
@@ -34,7 +35,7 @@ use Rattle.check_block.specs.declared.heading.Standing.TheVariants.{Free, Awaite
 use Rattle.check_block.specs.Headings.{standing_of, standing_elaborated, standing_from, name_standing, nested_meaning, module_procedure, set_heading, headed_as, with_heading}
 use Rattle.check_block.specs.Declarations.{Course, local_meaning, finished_local, with_locals, decl_layer}
 use Rattle.law_well_formed.specs.Formed.{Holds, fine, broken}
-use Rattle.law_well_formed.proofs.Basics.{then_holds, holds_weaker, any_holds}
+use Rattle.law_well_formed.proofs.Basics.{then_holds, holds_weaker, any_holds, heading_means_holds}
 use Rattle.law_well_formed.proofs.RangesMade.{beside_then, const_holds}
 use Rattle.law_well_formed.specs.Ordered.{is_known}
 use Rattle.law_well_formed.specs.FormedOrder.{MeaningOrdered, ScopeOrdered, StateOrdered, MadeOrdered}
@@ -140,11 +141,11 @@ module _ (base : Types) where
         let r : TypeIn t.1 (with_procedure_type t.0 t.1) = procedure_type_in t.0 t.1 q in
         const_holds (unless_ordered g base (with_procedure_type t.0 t.1) h.name (Declared Here (procedure_meaning t.0.types.home (length t.0.procedures) t.1)) r.0 (then_holds r.1 (λ u z. fine _ z))) d.1)))
 
-    new_by : (b : Bool) (s : Scope g.Reported) (name : List ℕ) (n : ℕ) (t : Result TypeNo g.Reported) → TypeIn t s → ScopeOrdered base (cond b (module_procedure s name t) (set_heading name (nested_meaning s.level n t) s))
+    new_by : (b : Bool) (s : Scope g.Reported) (name : List ℕ) (n : ℕ) (t : Result TypeNo g.Reported) → TypeIn t s → ScopeOrdered base (cond b (module_procedure s name t) (set_heading name (heading_means true (nested_meaning s.level n t)) s))
     new_by true s name n t h =
         let r : TypeIn t (with_procedure_type s t) = procedure_type_in s t h in
-        known_ordered base (with_procedure_type s t) name (Headed (procedure_meaning s.types.home (length s.procedures) t)) r.0 (then_holds r.1 (λ u z. fine _ z))
-    new_by false s name n t h = known_ordered base s name (Headed (nested_meaning s.level n t)) h.0 (then_holds h.1 (λ u z. fine _ z))
+        known_ordered base (with_procedure_type s t) name (Headed (heading_means false (procedure_meaning s.types.home (length s.procedures) t))) r.0 (heading_means_holds false (then_holds r.1 (λ u z. fine _ z)))
+    new_by false s name n t h = known_ordered base s name (Headed (heading_means true (nested_meaning s.level n t))) h.0 (heading_means_holds true (then_holds h.1 (λ u z. fine _ z)))
 
     heading_by : (s : Scope g.Reported) (h : Heading) (n : ℕ) (o : Standing) → name_standing (find_name h.name.name s.own) ≡ o → ScopeOrdered base s → StateOrdered base (headed_as g s h n (heading_of g s h) o)
     heading_by s h n Free e k =

@@ -21,6 +21,7 @@ use Rattle.check_scope.specs.Scopes.{State, begin_name}
 use Rattle.check_scope.specs.declared.known.Known.TheVariants.{Begun, Headed, Declared}
 use Rattle.check_scope.specs.declared.known.Origin.TheVariants.{Here}
 use Rattle.check_scope.specs.declared.scope.Scope.{Scope}
+use Rattle.check_scope.specs.Scopes.{heading_means}
 use Rattle.check_const.specs.Parts.{constant}
 use Rattle.check_expr.specs.Meanings.{part}
 use Rattle.check_type_expr.specs.Headings.{heading_of, names_of}
@@ -31,7 +32,7 @@ use Rattle.check_block.specs.declared.heading.Standing.TheVariants.{Free, Awaite
 use Rattle.check_block.specs.Headings.{name_standing, nested_meaning, module_procedure, set_heading, headed_as, with_heading}
 use Rattle.check_block.specs.Declarations.{Course, local_meaning, finished_local, with_locals, decl_layer}
 use Rattle.law_well_formed.specs.Formed.{Holds, fine, broken}
-use Rattle.law_well_formed.proofs.Basics.{then_holds}
+use Rattle.law_well_formed.proofs.Basics.{then_holds, heading_means_holds}
 use Rattle.law_well_formed.specs.FormedRanges.{fits, fits_type, fits_constant, fits_type_decl, fits_variables, fits_def, fits_decl_layer, ScopeRanged, StateRanged, ConstantsAreRanged}
 use Rattle.law_well_formed.proofs.RangesTypes.{both_left, both_right}
 use Rattle.law_well_formed.proofs.RangesMade.{beside_then, const_holds, known_ranged, unless_ranged, finished_ranged, made_ranged, heading_ranged, type_of_ranged}
@@ -87,11 +88,11 @@ module _ (g : Gathers) where
       d.1)))
 
   new_by : (b : Bool) (s : Scope g.Reported) (name : List ℕ) (n : ℕ) (t : Result TypeNo g.Reported) → ScopeRanged s
-      → ScopeRanged (cond b (module_procedure s name t) (set_heading name (nested_meaning s.level n t) s))
+      → ScopeRanged (cond b (module_procedure s name t) (set_heading name (heading_means true (nested_meaning s.level n t)) s))
   new_by true s name n t h =
-      known_ranged (with_procedure_type s t) name (Headed (procedure_meaning s.types.home (length s.procedures) t)) (procedure_type_ranged s t h)
-      (meant_holds (λ u. meaning.Procedure (record { home = s.types.home; number = length s.procedures; heading = u })) (λ u. tt) t)
-  new_by false s name n t h = known_ranged s name (Headed (nested_meaning s.level n t)) h (meant_holds (λ u. meaning.LocalProcedure (record { level = s.level; number = n; heading = u })) (λ u. tt) t)
+      known_ranged (with_procedure_type s t) name (Headed (heading_means false (procedure_meaning s.types.home (length s.procedures) t))) (procedure_type_ranged s t h)
+      (heading_means_holds false (meant_holds (λ u. meaning.Procedure (record { home = s.types.home; number = length s.procedures; heading = u })) (λ u. tt) t))
+  new_by false s name n t h = known_ranged s name (Headed (heading_means true (nested_meaning s.level n t))) h (heading_means_holds true (meant_holds (λ u. meaning.LocalProcedure (record { level = s.level; number = n; heading = u })) (λ u. tt) t))
 
   heading_by : (s : Scope g.Reported) (h : Heading) (n : ℕ) (o : Standing) → ScopeRanged s → StateRanged (headed_as g s h n (heading_of g s h) o)
   heading_by s h n Free k =

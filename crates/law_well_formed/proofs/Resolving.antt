@@ -213,7 +213,7 @@ module _ (g : Gathers) (ends : List ℕ) (a : Scope g.Reported) (first : ℕ) (b
 
     type_by : (name : Ident) (t : TypeNo) (r : Result Meaning (Meaningless g.Reported)) → looked_up g here name ≡ r → (of_sort g name.pos rule.NoType r ▷ type_meant g name.pos) ≡ Ok t → (of_sort g name.pos rule.NoType (looked_up g inner name) ▷ type_meant g name.pos) ≡ Ok t
     type_by name t (Err (Broken e)) l f = absurd cc
-    type_by name t (Err (Headless e)) l f = absurd cc
+    type_by name t (Err (Headless nested e)) l f = absurd cc
     type_by name t (Ok (meaning.Type y n)) l f = ap (λ (r : Result Meaning (Meaningless g.Reported)). of_sort g name.pos rule.NoType r ▷ type_meant g name.pos) (name_stays name (meaning.Type y n) l refl) ∙ f
     type_by name t (Ok (meaning.Constant v)) l f = absurd cc
     type_by name t (Ok (meaning.Variable v)) l f = absurd cc
@@ -230,7 +230,7 @@ module _ (g : Gathers) (ends : List ℕ) (a : Scope g.Reported) (first : ℕ) (b
 
     module_by : (home name : Ident) (t : TypeNo) (r : Result Meaning (Meaningless g.Reported)) → looked_up g here home ≡ r → (of_sort g home.pos rule.NoType r ▷ in_module g here home.pos name) ≡ Ok t → (of_sort g home.pos rule.NoType (looked_up g inner home) ▷ in_module g inner home.pos name) ≡ Ok t
     module_by home name t (Err (Broken e)) l f = absurd cc
-    module_by home name t (Err (Headless e)) l f = absurd cc
+    module_by home name t (Err (Headless nested e)) l f = absurd cc
     module_by home name t (Ok (meaning.Module k)) l f =
         ap (λ (r : Result Meaning (Meaningless g.Reported)). of_sort g home.pos rule.NoType r ▷ in_module g inner home.pos name) (name_stays home (meaning.Module k) l refl)
         ∙ (ap (λ (ts : List Table). exported_meaning g ts k name ▷ type_meant g home.pos) same_tables ∙ f)

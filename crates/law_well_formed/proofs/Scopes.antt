@@ -29,7 +29,7 @@ use Rattle.check_const.specs.Denote.{exported_meaning}
 use Rattle.check_type_expr.specs.Headings.{formal_of}
 use Rattle.check_block.specs.Inner.{formal_kind, formal_meaning, Formals, with_formal, with_section, formals_in}
 use Rattle.law_well_formed.specs.Formed.{Holds, fine, FormedMeaning, IsFormed}
-use Rattle.law_well_formed.proofs.Basics.{then_holds, holds_weaker, reported_holds, plain_holds, heading_means_holds, any_holds}
+use Rattle.law_well_formed.proofs.Basics.{then_holds, holds_weaker, reported_holds, plain_holds, any_holds}
 use Rattle.law_well_formed.specs.FormedScopes.{holds_of, is_awaiting, FormedFrom, FormedKnown, AreFormedNames, AreFormedBlocks}
 use Rattle.law_well_formed.proofs.Names.{none_entered}
 use Rattle.law_well_formed.proofs.ScopesGrowth.{names_more}
@@ -95,7 +95,7 @@ module _ (m : TypedModule) (opens : ℕ → Bool) (g : Gathers) where
   seen_means at Later seen p = plain_holds (reported_holds g at rule.Undeclared)
   seen_means at Ahead seen p = fine meaning.Ahead tt
   seen_means at Begun seen p = plain_holds (reported_holds g at rule.Undeclared)
-  seen_means at (Headed r) seen p = heading_means_holds (holds_weaker (λ x q. q.0) p)
+  seen_means at (Headed r) seen p = holds_weaker (λ x q. q.0) p
   seen_means at (Declared o r) seen p = plain_holds (declared_means at seen r (from_means o r p))
 
   means_formed : (at : Pos) (o : Sight g.Reported) → FormedSight m opens o → Means_ (means_as g at o)

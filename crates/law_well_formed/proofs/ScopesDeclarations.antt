@@ -35,6 +35,8 @@ use Rattle.check_scope.specs.declared.known.Known.{Known}
 use Rattle.check_scope.specs.declared.known.Known.TheVariants.{Later, Ahead, Begun, Headed, Declared}
 use Rattle.check_scope.specs.declared.known.Origin.TheVariants.{Here}
 use Rattle.check_scope.specs.declared.scope.Scope.{Scope}
+use Rattle.check_scope.specs.declared.meaningless.Meaningless.{Meaningless}
+use Rattle.check_scope.specs.Scopes.{heading_means}
 use Rattle.check_const.specs.Parts.{constant}
 use Rattle.check_expr.specs.Meanings.{part}
 use Rattle.check_type_expr.specs.Named.{first_of, named_type}
@@ -201,12 +203,12 @@ module _ (m : TypedModule) (opens : ℕ → Bool) (g : Gathers) where
 
   -- ---- headings
 
-  pub headed_leads : (s : Scope g.Reported) (name : List ℕ) (r : Result Meaning g.Reported) → holds_of is_headed (find_name name s.own) ≡ false
+  pub headed_leads : (s : Scope g.Reported) (name : List ℕ) (r : Result Meaning (Meaningless g.Reported)) → holds_of is_headed (find_name name s.own) ≡ false
       → ((x : Meaning) → find_name name (set_heading name r s).own ≡ Some (Headed (Ok x)) → s.types.home ≡ m.types.home → FormedOwn m opens x) → Goes s (set_heading name r s)
   headed_leads s name r e k = known_leads m opens s name (Headed r) e refl (λ h. by r refl h) where
-    by : (q : Result Meaning g.Reported) → r ≡ q → s.types.home ≡ m.types.home → FormedKnown m opens (Headed r)
-    by (Err x) p h = subst (λ (z : Result Meaning g.Reported). Holds (FormedOwn m opens) z) (sym p) (broken x)
-    by (Ok x) p h = subst (λ (z : Result Meaning g.Reported). Holds (FormedOwn m opens) z) (sym p) (fine x (k x (found_self name (Headed r) s.own ∙ ap (λ (z : Result Meaning g.Reported). Some (Headed z)) p) h))
+    by : (q : Result Meaning (Meaningless g.Reported)) → r ≡ q → s.types.home ≡ m.types.home → FormedKnown m opens (Headed r)
+    by (Err x) p h = subst (λ (z : Result Meaning (Meaningless g.Reported)). Holds (FormedOwn m opens) z) (sym p) (broken x)
+    by (Ok x) p h = subst (λ (z : Result Meaning (Meaningless g.Reported)). Holds (FormedOwn m opens) z) (sym p) (fine x (k x (found_self name (Headed r) s.own ∙ ap (λ (z : Result Meaning (Meaningless g.Reported)). Some (Headed z)) p) h))
 
   procedure_type_leads : (s : Scope g.Reported) (t : Result TypeNo g.Reported) → Goes s (with_procedure_type s t)
   procedure_type_leads s (Err e) = leads_refl m opens s
@@ -231,13 +233,13 @@ module _ (m : TypedModule) (opens : ℕ → Bool) (g : Gathers) where
   module_procedure_leads : (s : Scope g.Reported) (name : List ℕ) (t : Result TypeNo g.Reported) → holds_of is_headed (find_name name s.own) ≡ false → HeadIs m opens s (module_procedure s name t) name → Goes s (module_procedure s name t)
   module_procedure_leads s name t e k =
       let mine = procedure_type_leads s t in
-      leads_then m opens mine (headed_leads (with_procedure_type s t) name (procedure_meaning s.types.home (length s.procedures) t)
+      leads_then m opens mine (headed_leads (with_procedure_type s t) name (heading_means false (procedure_meaning s.types.home (length s.procedures) t))
       (ap (λ (es : List (List ℕ × Known g.Reported)). holds_of is_headed (find_name name es)) (procedure_type_own s t) ∙ e) (λ x q h. k x q (sym mine.home ∙ h)))
 
   new_by : (b : Bool) (s : Scope g.Reported) (name : List ℕ) (n : ℕ) (t : Result TypeNo g.Reported) → holds_of is_headed (find_name name s.own) ≡ false
-      → HeadIs m opens s (cond b (module_procedure s name t) (set_heading name (nested_meaning s.level n t) s)) name → Goes s (cond b (module_procedure s name t) (set_heading name (nested_meaning s.level n t) s))
+      → HeadIs m opens s (cond b (module_procedure s name t) (set_heading name (heading_means true (nested_meaning s.level n t)) s)) name → Goes s (cond b (module_procedure s name t) (set_heading name (heading_means true (nested_meaning s.level n t)) s))
   new_by true s name n t e k = module_procedure_leads s name t e k
-  new_by false s name n t e k = headed_leads s name (nested_meaning s.level n t) e k
+  new_by false s name n t e k = headed_leads s name (heading_means true (nested_meaning s.level n t)) e k
 
   new_leads : (s : Scope g.Reported) (name : List ℕ) (n : ℕ) (made : Result Made g.Reported) → holds_of is_headed (find_name name s.own) ≡ false → HeadIs m opens s (with_new s name n made).0 name → Goes s (with_new s name n made).0
   new_leads s name n (Ok x) e k = leads_then m opens (shape_leads m opens s x) (new_by (s.level == 0) (with_shape s x) name n (Ok (next_type s)) e k)
@@ -372,7 +374,7 @@ module _ (g : Gathers) where
   NestedHead s s' h n = (t : TypeNo) × ((find_name h.name.name s'.own ≡ Some (Headed (Ok (meaning.LocalProcedure (record { level = s.level; number = n; heading = t }))))) × ResultIs s'.types t h.result)
 
   nested_new : (b : Bool) → b ≡ false → (s : Scope g.Reported) (h : Heading) (n : ℕ) (t : TypeNo) → ResultIs s.types t h.result
-      → NestedHead s (cond b (module_procedure s h.name.name (Ok t)) (set_heading h.name.name (nested_meaning s.level n (Ok t)) s)) h n
+      → NestedHead s (cond b (module_procedure s h.name.name (Ok t)) (set_heading h.name.name (heading_means true (nested_meaning s.level n (Ok t))) s)) h n
   nested_new true e s h n t r = absurd cc
   nested_new false e s h n t r = (t, (found_self h.name.name (Headed (Ok (meaning.LocalProcedure (record { level = s.level; number = n; heading = t })))) s.own, r))
 
@@ -405,7 +407,7 @@ module _ (g : Gathers) where
   ModuleHead s' h = (p : Procedure) × ((find_name h.name.name s'.own ≡ Some (Headed (Ok (meaning.Procedure p)))) × (IsProcedureOf s' p × ResultIs s'.types p.heading h.result))
 
   module_new : (b : Bool) → b ≡ true → (s : Scope g.Reported) (h : Heading) (n : ℕ) (t : TypeNo) → ResultIs s.types t h.result
-      → ModuleHead (cond b (module_procedure s h.name.name (Ok t)) (set_heading h.name.name (nested_meaning s.level n (Ok t)) s)) h
+      → ModuleHead (cond b (module_procedure s h.name.name (Ok t)) (set_heading h.name.name (heading_means true (nested_meaning s.level n (Ok t))) s)) h
   module_new true e s h n t r = (
     record { home = s.types.home; number = length s.procedures; heading = t },
     (found_self h.name.name (Headed (Ok (meaning.Procedure (record { home = s.types.home; number = length s.procedures; heading = t })))) s.own, ((refl, get_last s.procedures t), r)),

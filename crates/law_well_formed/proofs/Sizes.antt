@@ -80,7 +80,7 @@ module _ (types : Types) (o : AreOrdered types) (ranged : AreRanged types) where
   abbrev pub Small : TypeNo → Type 0
   Small u = (size (tree types u) ≤ cells_at types u * 4) × (cells_at types u ≤ max_cells)
 
-  plain_small : (n : ℕ) → Small (type_no Predeclared n)
+  pub plain_small : (n : ℕ) → Small (type_no Predeclared n)
   plain_small n = (scalar_few (type_no Predeclared n) (predeclared_scalar n), omega arith)
 
   row_few : (fs : List (List ℕ × TypeNo)) → AllByRecursion Small (map (λ f. f.1) fs) → size (row (map (λ f. tree types f.1) fs)) ≤ cells_of_fields types fs * 4
@@ -114,7 +114,7 @@ module _ (types : Types) (o : AreOrdered types) (ranged : AreRanged types) where
 
   -- ---- what is made in a module
 
-  abbrev Has : List (ℕ × List Made) → Type 0
+  abbrev pub Has : List (ℕ × List Made) → Type 0
   Has es = (k : ℕ) (l : List Made) → at k es ≡ Some l → (n : ℕ) (x : Made) → slice_get l n ≡ Some x → made_in types k n ≡ Some x
 
   step_small : (before : List (ℕ × List Made)) (k : ℕ) (all : List Made) → Has before → ((n : ℕ) (x : Made) → slice_get all n ≡ Some x → made_in types k n ≡ Some x) → Steps Small plain_small before k all
@@ -142,7 +142,7 @@ module _ (types : Types) (o : AreOrdered types) (ranged : AreRanged types) where
       stay u g = from u.home u.number g
 
   -- the types of others are made as they are there
-  has_others : Has types.others
+  pub has_others : Has types.others
   has_others k l q n x g = by (k == types.home) refl where
     here : k ≡ types.home → slice_get types.own n ≡ Some x
     here same =
@@ -153,7 +153,7 @@ module _ (types : Types) (o : AreOrdered types) (ranged : AreRanged types) where
     by true i = here (eqb-true k types.home i)
     by false i = ap (in_list n) q ∙ g
 
-  has_own : (n : ℕ) (x : Made) → slice_get types.own n ≡ Some x → made_in types types.home n ≡ Some x
+  pub has_own : (n : ℕ) (x : Made) → slice_get types.own n ≡ Some x → made_in types types.home n ≡ Some x
   has_own n x g = ap (λ (c : Bool). cond c (slice_get types.own n) (in_list n (at types.home types.others))) (itself types.home) ∙ g
 
   module _ (before rest : List (ℕ × List Made)) (k : ℕ) (all : List Made) (is : before ++ (k, all) ∷ rest ≡ types.others) (free : at k before ≡ None) where
@@ -166,7 +166,7 @@ module _ (types : Types) (o : AreOrdered types) (ranged : AreRanged types) where
   others_small : Hold Small plain_small types.others
   others_small = all_others Small plain_small types.others one_small o.others
 
-  own_small : HoldIn Small plain_small types.others types.home types.own
+  pub own_small : HoldIn Small plain_small types.others types.home types.own
   own_small =
       all_hold Small plain_small types.others types.home types.own (step_small types.others types.home types.own has_others has_own) types.own [] refl o.own
       (none_own Small plain_small types.others types.home others_small)
@@ -180,7 +180,7 @@ module _ (types : Types) (o : AreOrdered types) (ranged : AreRanged types) where
   numbers_small home zero h = refl
   numbers_small home (suc n) h = and_both (numbers_fit types home n) (type_fits (tree types (made_type home n))) (numbers_small home n (λ j l. h j (omega (arith, l)))) (type_small (made_type home n) (h n (omega arith)))
 
-  there : (xs : List Made) (n : ℕ) → n < length xs → is_some (slice_get xs n) ≡ true
+  pub there : (xs : List Made) (n : ℕ) → n < length xs → is_some (slice_get xs n) ≡ true
   there [] n l = absurd (omega (arith, l))
   there (x ∷ xs) zero l = refl
   there (x ∷ xs) (suc n) l = there xs n (omega (arith, l))

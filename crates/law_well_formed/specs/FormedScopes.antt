@@ -18,6 +18,7 @@ use Rattle.check_scope.specs.declared.known.Known.{Known}
 use Rattle.check_scope.specs.declared.known.Known.TheVariants.{Later, Ahead, Begun, Headed, Declared}
 use Rattle.check_scope.specs.declared.scope.Block.{Block}
 use Rattle.check_scope.specs.declared.scope.Scope.{Scope}
+use Rattle.check_scope.specs.declared.meaningless.Meaningless.{Meaningless}
 use Rattle.check_block.specs.Headings.{standing_known, with_heading}
 use Rattle.check_block.specs.Declarations.{Course, with_decl, is_awaited}
 use Rattle.law_well_formed.specs.Formed.{Holds, FormedMeaning}
@@ -98,8 +99,8 @@ module _ (m : TypedModule) (opens : ℕ → Bool) where
     pub types : (t : TypeNo) (x : Made) → made_at s.types t ≡ Some x → made_at s'.types t ≡ Some x
     pub procedures : (n : ℕ) (t : TypeNo) → slice_get s.procedures n ≡ Some t
         → slice_get s'.procedures n ≡ Some t
-    pub heads : (name : List ℕ) (x : Result Meaning T) → find_name name s.own ≡ Some (Headed x)
-        → find_name name s'.own ≡ Some (Headed x)
+    pub heads : (name : List ℕ) (x : Result Meaning (Meaningless T))
+        → find_name name s.own ≡ Some (Headed x) → find_name name s'.own ≡ Some (Headed x)
     pub awaits : (name : List ℕ) → holds_of is_awaiting (find_name name s.own) ≡ false
         → holds_of is_awaiting (find_name name s'.own) ≡ false
     pub awaited : (name : List ℕ) → holds_of is_awaiting (find_name name s'.own) ≡ true

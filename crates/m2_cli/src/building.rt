@@ -30,7 +30,6 @@ pub fn say_fault<R: Eprint>(rt: &R, path: &str, fault: ProgramFault) {
         ProgramFault::Workers => "the number of workers cannot be had (70)",
         ProgramFault::Pages => "the number of pages cannot be had (73)",
         ProgramFault::NoMemory => "no memory left (90)",
-        ProgramFault::NoEncoding => "a module is too large to encode",
         ProgramFault::Write => "standard output failed (91)",
     };
     let _ = eprintln!(rt; "{PROGRAM}: {path}: {words}");
@@ -92,12 +91,16 @@ where
     Ok(status)
 }
 
-/// Finds and builds the program of this file. What is refused, and what failed, is reported: the status.
-pub fn build_program<R>(rt: &R, setting: &Setting, path: &str) -> Result<Modules, Exit>
+/// Builds the program that was found for this file. What is refused, and what failed, is reported: the status.
+pub fn build_found<R>(
+    rt: &R,
+    setting: &Setting,
+    path: &str,
+    program: Program,
+) -> Result<Modules, Exit>
 where
-    R: Files + Print + Eprint + AllocGlobal + Threads + Sync,
+    R: Print + Eprint + AllocGlobal + Threads + Sync,
 {
-    let program = find_program(rt, setting, path)?;
     match build(rt, rt.alloc(), &program.files, setting.options, &Open) {
         Ok(Outcome::Refused(refusals)) => {
             Err(Exit::Reported(show_refused(rt, setting, &program, &refusals)?))
@@ -112,4 +115,13 @@ where
             Err(Exit::Reported(FAILED))
         }
     }
+}
+
+/// Finds and builds the program of this file. What is refused, and what failed, is reported: the status.
+pub fn build_program<R>(rt: &R, setting: &Setting, path: &str) -> Result<Modules, Exit>
+where
+    R: Files + Print + Eprint + AllocGlobal + Threads + Sync,
+{
+    let program = find_program(rt, setting, path)?;
+    build_found(rt, setting, path, program)
 }

@@ -1,5 +1,6 @@
-//! `m2 new`: the files of a new program.
+//! `m2 new`: the files of a new program, or of an exercise.
 
+use crate::exercise::{case_folder, exercise_of};
 use anyhow::Result;
 use command_words::{COMMAND_LINE, FAILED};
 use m2_scan::{ScanError, TokenRule, scan};
@@ -76,9 +77,9 @@ END $.
 
 /// A file of a new program.
 #[derive(Drop)]
-struct NewFile {
-    name: String,
-    text: String,
+pub struct NewFile {
+    pub name: String,
+    pub text: String,
 }
 
 /// Why this is no name of a program, as its tokens are these.
@@ -133,7 +134,12 @@ fn add_filled(
 }
 
 /// A text with these names in it.
-fn fill_text(alloc: Global, text: &str, name: &str, module: &str) -> Result<String, AllocError> {
+pub fn fill_text(
+    alloc: Global,
+    text: &str,
+    name: &str,
+    module: &str,
+) -> Result<String, AllocError> {
     let mut filled = String::new(alloc);
     for letter in text.chars() {
         add_filled(&mut filled, letter, name, module)?;
@@ -207,19 +213,52 @@ fn write_files<R: Files + Eprint>(rt: &R, files: &[NewFile]) -> bool {
     true
 }
 
-/// Writes a program of this name that runs, and a module for it, into the folder in which this program was called. What is
-/// there already stays, and then nothing is written. The status.
-pub fn create<R: Files + Print + Eprint + AllocGlobal>(rt: &R, name: &str) -> Result<u8> {
-    if let Some(fault) = name_fault(rt.alloc(), name) {
-        let _ = eprintln!(rt; "{PROGRAM}: '{name}' {fault}");
-        return Ok(COMMAND_LINE);
+/// Prints the names of files.
+fn say_files<R: Print>(rt: &R, files: &[NewFile]) -> Result<u8> {
+    for file in files {
+        println!(rt; "{}", file.name)?;
     }
+    Ok(WRITTEN)
+}
+
+/// Writes an exercise of this name: a solution, and a folder with its cases. The status.
+fn create_exercise<R: Files + Print + Eprint + AllocGlobal>(rt: &R, name: &str) -> Result<u8> {
+    let folder = case_folder(rt.alloc(), name)?;
+    if let Err(error) = fs::create_dir(rt, folder.as_str()) {
+        say_unwritten(rt, folder.as_str(), error);
+        return Ok(FAILED);
+    }
+    let files = exercise_of(rt.alloc(), name)?;
+    if !write_files(rt, &files) {
+        let _ = fs::remove_dir(rt, folder.as_str());
+        return Ok(FAILED);
+    }
+    say_files(rt, &files)
+}
+
+/// Writes a program of this name that runs, and a module for it, into the folder in which this program was called.
+fn create_program<R: Files + Print + Eprint + AllocGlobal>(rt: &R, name: &str) -> Result<u8> {
     let files = files_of(rt.alloc(), name)?;
     if !write_files(rt, &files) {
         return Ok(FAILED);
     }
-    for file in &files {
-        println!(rt; "{}", file.name)?;
+    say_files(rt, &files)
+}
+
+/// Writes a program of this name that runs, or an exercise with its cases, into the folder in which this program was called. What
+/// is there already stays, and then nothing is written. The status.
+pub fn create<R: Files + Print + Eprint + AllocGlobal>(
+    rt: &R,
+    name: &str,
+    is_class: bool,
+) -> Result<u8> {
+    if let Some(fault) = name_fault(rt.alloc(), name) {
+        let _ = eprintln!(rt; "{PROGRAM}: '{name}' {fault}");
+        return Ok(COMMAND_LINE);
     }
-    Ok(WRITTEN)
+    if is_class {
+        create_exercise(rt, name)
+    } else {
+        create_program(rt, name)
+    }
 }

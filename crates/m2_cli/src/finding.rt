@@ -134,7 +134,7 @@ fn with_modules<R: Files + Eprint + AllocGlobal>(
 }
 
 /// The program of this text, with the modules that it imports. A file that is there and cannot be read is reported.
-fn found_for<R: Files + Eprint + AllocGlobal>(
+pub fn program_of_text<R: Files + Eprint + AllocGlobal>(
     rt: &R,
     setting: &Setting,
     path: &str,
@@ -176,5 +176,5 @@ pub fn find_program<R: Files + Eprint + AllocGlobal>(
     path: &str,
 ) -> Result<Program, Exit> {
     let text = text_of(rt, path)?;
-    found_for(rt, setting, path, text)
+    program_of_text(rt, setting, path, text)
 }

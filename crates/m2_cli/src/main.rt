@@ -10,8 +10,11 @@
 mod building;
 mod checking;
 mod creating;
+mod exchanging;
+mod exercise;
 mod explaining;
 mod finding;
+mod giving;
 mod output;
 mod pages;
 mod passes;
@@ -20,15 +23,19 @@ mod running;
 mod saving;
 mod screen;
 mod showing;
+mod testing;
 
 use crate::checking::check_all;
 use crate::creating::create;
+use crate::exchanging::exchange_input;
 use crate::explaining::explain;
 use crate::passes::show_pass;
 use crate::running::run_file;
 use crate::saving::build_into;
+use crate::testing::{test_class, test_program};
 use anyhow::Result;
 use command_words::{Exit, FAILED};
+use judge_cases::Limits;
 use std::process::ExitCode;
 use std::rt::{Env, Files};
 use std::thread::Threads;
@@ -37,35 +44,63 @@ use tool_words::{Asked, PROGRAM, read_command_line};
 /// Does what was asked for, and answers the status. An error if memory or a stream failed.
 fn answer<R, P>(rt: &R, asked: &Asked, out: P) -> Result<u8, Exit>
 where
-    R: Files + Print + Eprint + AllocGlobal + Threads + Sync,
+    R: Files + Input + Print + Eprint + AllocGlobal + Threads + Sync + Clone + Drop,
     P: Print + Drop,
 {
     match asked {
         Asked::Run {
             program,
+            input,
             setting,
             steps,
-        } => run_file(rt, setting, program.as_str(), *steps, out),
+        } => run_file(rt, setting, program.as_str(), input, *steps, out),
         Asked::Build {
             program,
+            input,
             setting,
             out,
-        } => build_into(rt, setting, program.as_str(), out.as_str()),
+        } => build_into(rt, setting, program.as_str(), input, out.as_str()),
+        Asked::Input {
+            folder,
+            input,
+            setting,
+        } => exchange_input(rt, setting, folder.as_str(), input.as_str()),
         Asked::Check { programs, setting } => check_all(rt, setting, programs),
+        Asked::Test {
+            program,
+            is_class,
+            is_compared,
+            cases,
+            setting,
+            told,
+            steps,
+            bytes,
+        } => {
+            let limits = Limits {
+                steps: *steps,
+                bytes: *bytes as usize,
+            };
+            let (program, cases) = (program.as_str(), cases.as_str());
+            if *is_class {
+                test_class(rt, setting, program, cases, *is_compared, limits)
+            } else {
+                test_program(rt, setting, program, cases, *told, limits)
+            }
+        }
         Asked::Show {
             pass,
             program,
             setting,
         } => show_pass(rt, setting, *pass, program.as_str()),
         Asked::Explain { topic } => Ok(explain(rt, topic.as_str())),
-        Asked::New { name } => Ok(create(rt, name.as_str())?),
+        Asked::New { name, is_class } => Ok(create(rt, name.as_str(), *is_class)?),
     }
 }
 
 /// Does what the words ask for, and answers the status.
 fn elaborate<R, P>(rt: &R, out: P) -> Result<u8, Exit>
 where
-    R: Files + Env + Print + Eprint + AllocGlobal + Threads + Sync,
+    R: Files + Input + Env + Print + Eprint + AllocGlobal + Threads + Sync + Clone + Drop,
     P: Print + Drop,
 {
     let asked = read_command_line(rt)?;

@@ -4,6 +4,7 @@ ghost use Rattle.std.specs.Prelude.{◌≡◌, ◌<◌, ◌^◌, ◌+◌};
 
 use crate::building::{say_fault, show_refused};
 use crate::finding::{Program as FoundProgram, find_program};
+use crate::giving::give_input;
 use crate::output::say_output_fault;
 use crate::screen::Screen;
 use anyhow::Result;
@@ -175,14 +176,22 @@ where
     }
 }
 
-/// Builds the program of this file in memory, and executes it for at most `steps` reductions. It prints on this stream.
-/// The status.
-pub fn run_file<R, P>(rt: &R, setting: &Setting, path: &str, steps: u64, out: P) -> Result<u8, Exit>
+/// Builds the program of this file in memory, with this input, and executes it for at most `steps` reductions. It prints on
+/// this stream. The status.
+pub fn run_file<R, P>(
+    rt: &R,
+    setting: &Setting,
+    path: &str,
+    input: &Option<String>,
+    steps: u64,
+    out: P,
+) -> Result<u8, Exit>
 where
-    R: Files + Print + Eprint + AllocGlobal + Threads + Sync,
+    R: Files + Input + Print + Eprint + AllocGlobal + Threads + Sync,
     P: Print + Drop,
 {
-    let found = find_program(rt, setting, path)?;
+    let mut found = find_program(rt, setting, path)?;
+    give_input(rt, path, input, &mut found)?;
     match load_program(rt, rt.alloc(), &found.files, setting.options, &Open) {
         Ok(loaded) => Ok(finish(rt, setting, path, &found, loaded, steps, out)?),
         Err(fault) => {

@@ -1,6 +1,8 @@
 //! `m2 build`: the modules of a program, written into a folder.
 
-use crate::building::{Modules, build_program};
+use crate::building::{Modules, build_found};
+use crate::finding::find_program;
+use crate::giving::give_input;
 use command_words::{Exit, FAILED};
 use m2c::{SaveFault, save};
 use std::rt::Files;
@@ -12,7 +14,7 @@ use tool_words::{PROGRAM, Setting};
 const BUILT: u8 = 0;
 
 /// Writes modules into this folder, link last, and answers the status.
-fn save_modules<R: Files + Eprint + AllocGlobal>(rt: &R, modules: &Modules, out: &str) -> u8 {
+pub fn save_modules<R: Files + Eprint + AllocGlobal>(rt: &R, modules: &Modules, out: &str) -> u8 {
     let mut dir = OutFolder::at(rt, out);
     match save(rt.alloc(), &modules.link, &modules.others, &mut dir) {
         Ok(()) => BUILT,
@@ -28,11 +30,19 @@ fn save_modules<R: Files + Eprint + AllocGlobal>(rt: &R, modules: &Modules, out:
     }
 }
 
-/// Builds the program of this file, and writes its modules into this folder. The status.
-pub fn build_into<R>(rt: &R, setting: &Setting, program: &str, out: &str) -> Result<u8, Exit>
+/// Builds the program of this file, with this input, and writes its modules into this folder. The status.
+pub fn build_into<R>(
+    rt: &R,
+    setting: &Setting,
+    path: &str,
+    input: &Option<String>,
+    out: &str,
+) -> Result<u8, Exit>
 where
-    R: Files + Print + Eprint + AllocGlobal + Threads + Sync,
+    R: Files + Input + Print + Eprint + AllocGlobal + Threads + Sync,
 {
-    let modules = build_program(rt, setting, program)?;
+    let mut program = find_program(rt, setting, path)?;
+    give_input(rt, path, input, &mut program)?;
+    let modules = build_found(rt, setting, path, program)?;
     Ok(save_modules(rt, &modules, out))
 }

@@ -1,3 +1,5 @@
 pub mod Lists
 pub mod Fits
 pub mod Procedures
+pub mod Uncut
+pub mod Encoded

@@ -1,13 +1,16 @@
 -- Lists that are made one element after another, and their code.
-use Rattle.std.proofs.Common.{◌≡◌, ℕ, suc, zero, ◌+◌, List, [], ◌∷◌, ◌++◌, refl, ap, ◌∙◌, sym, add-one, arith}
+use Rattle.std.proofs.Common.{◌≡◌, ℕ, suc, zero, ◌+◌, List, [], ◌∷◌, ◌++◌, map, refl, ap, ◌∙◌, sym, add-one, arith}
 use Rattle.std.specs.List.{range_with_len}
+use Rattle.std.proofs.lemmas.List.{map-append}
 use Rattle.wasm_tree.specs.declared.code.Op.{Op}
 use Rattle.wasm_tree.specs.declared.code.Op.TheVariants as op
 use Rattle.wasm_tree.specs.declared.instr.Instr.{Instr}
 use Rattle.wasm_tree.specs.declared.instr.Instr.TheVariants as instr
 use Rattle.wasm_tree.specs.declared.kinds.ValueType.TheVariants.{I64}
-use Rattle.wasm_tree.specs.Code.{tree}
+use Rattle.wasm_tree.specs.Code.{tree, flat}
 use Rattle.wasm_tree.proofs.Flat.{tree_front, tree_none}
+use Rattle.emit_buffer.specs.Cut.{cut, cut_op, cut_code}
+use Rattle.emit_buffer.proofs.Plain.{single_flat}
 use Rattle.def_scheme.specs.Signatures.{so_many}
 use Rattle.def_scheme.specs.Modules.{Part, calls_from, data_of}
 
@@ -26,14 +29,16 @@ abbrev pub call_ops : (stack global : ℕ) → List Part → List Op
 call_ops stack global [] = []
 call_ops stack global (m ∷ ms) = op.I32Const stack ∷ op.GlobalGet global ∷ op.CallIndirect 1 ∷ call_ops stack (global + 3) ms
 
-pub calls : (stack global : ℕ) (ms : List Part) → tree (call_ops stack global ms) ≡ calls_from stack global ms
-calls stack global [] = tree_none
-calls stack global (m ∷ ms) =
-    let rest = call_ops stack (global + 3) ms in
-    tree_front (op.I32Const stack) (op.GlobalGet global ∷ op.CallIndirect 1 ∷ rest)
-    ∙ ap (λ is. instr.I32Const stack ∷ is) (tree_front (op.GlobalGet global) (op.CallIndirect 1 ∷ rest))
-    ∙ ap (λ is. instr.I32Const stack ∷ instr.GlobalGet global ∷ is) (tree_front (op.CallIndirect 1) rest)
-    ∙ ap (λ is. instr.I32Const stack ∷ instr.GlobalGet global ∷ instr.CallIndirect 1 ∷ is) (calls stack (global + 3) ms)
+calls_flat : (stack global : ℕ) (ms : List Part) → flat (calls_from stack global ms) ≡ call_ops stack global ms
+calls_flat stack global [] = refl
+calls_flat stack global (m ∷ ms) =
+    ap (λ (ops : List Op). ops ++ flat (instr.GlobalGet global ∷ instr.CallIndirect 1 ∷ calls_from stack (global + 3) ms)) (single_flat (op.I32Const stack) refl)
+    ∙ ap (λ (ops : List Op). op.I32Const stack ∷ (ops ++ flat (instr.CallIndirect 1 ∷ calls_from stack (global + 3) ms))) (single_flat (op.GlobalGet global) refl)
+    ∙ ap (λ (ops : List Op). op.I32Const stack ∷ op.GlobalGet global ∷ (ops ++ flat (calls_from stack (global + 3) ms))) (single_flat (op.CallIndirect 1) refl)
+    ∙ ap (λ (ops : List Op). op.I32Const stack ∷ op.GlobalGet global ∷ op.CallIndirect 1 ∷ ops) (calls_flat stack (global + 3) ms)
+
+pub calls : (stack global : ℕ) (ms : List Part) → tree (map cut_op (call_ops stack global ms)) ≡ cut_code (calls_from stack global ms)
+calls stack global ms = ap (λ (ops : List Op). tree (map cut_op ops)) (sym (calls_flat stack global ms))
 
 -- one more number of 64 bits
 more : (n : ℕ) → so_many n ++ I64 ∷ [] ≡ so_many (suc n)
@@ -50,8 +55,10 @@ bare a (suc n) =
     let e : a + suc n ≡ (a + 1) + n = omega arith in
     ap (λ (k : ℕ). a ∷ (range_with_len (a + 1) n ++ k ∷ [])) e ∙ ap (λ (ks : List ℕ). a ∷ ks) (bare (a + 1) n)
 
-pub range_more : (a n : ℕ) → range_with_len a n ++ (a + n) ∷ [] ≡ range_with_len a (n + 1)
-range_more a n = bare a n ∙ ap (λ (k : ℕ). range_with_len a k) (sym (add-one n))
+pub range_more : (a n : ℕ) → map cut (range_with_len a n) ++ cut (a + n) ∷ [] ≡ map cut (range_with_len a (n + 1))
+range_more a n =
+    sym (map-append cut (range_with_len a n) ((a + n) ∷ []))
+    ∙ ap (map cut) (bare a n ∙ ap (λ (k : ℕ). range_with_len a k) (sym (add-one n)))
 
 pub some_data : (bytes : List ℕ) → (bytes ≡ [] → ⊥) → data_of bytes ≡ record { memory = 0; offset = instr.GlobalGet 2 ∷ []; bytes = bytes } ∷ []
 some_data [] h = absurd (h refl)

@@ -6,38 +6,44 @@ ghost use Rattle.wasm_tree.specs.declared.kinds.ValueType.TheVariants as types;
 ghost use Rattle.wasm_tree.specs.declared.module.ExportKind.TheVariants as exported;
 ghost use Rattle.def_scheme.specs.Scheme.{exported_as, type_from};
 ghost use Rattle.def_scheme.specs.Modules.{all_slots, calls_from, exports_from, globals_from, link_of, max_pages, stack_begin};
+ghost use Rattle.emit_buffer.specs.Cut.{cut, cut_code, cut_export, cut_global, cut_module};
 ghost use Rattle.m2_emit.specs.Emitted.{parts, link_exports};
 
 use crate::emitted::ModuleBytes;
 use crate::helpers::helper;
 use crate::parts::{constant_global, exported_as, name_behind_word, one, type_from};
+use emit_buffer::Amount;
 use std::alloc::{AllocError, Global};
 use tree_parts::Items;
 use wasm_tree::{
-    Code, EncodeError, Export, ExportKind, FuncType, Function, Global as Constant, Limits,
-    MemoryType, Op, PAGE_SIZE, TableType, ValueType, WModule, plus,
+    Code, Export, ExportKind, FuncType, Function, Global as Constant, Limits, MemoryType, Op,
+    PAGE_SIZE, TableType, ValueType, WModule,
 };
 
+/// How many globals link has for each module: where its variables, its texts and its slots begin.
+const GLOBALS: usize = 3;
+
 /// Where the stack begins: behind the variables and texts of all modules.
-fn stack_begin(modules: &[&ModuleBytes]) -> Result<u32, EncodeError>
-    ensures { IfOk result (λ n. n ≡ stack_begin (parts (map (λ m. m.now) modules.now))) }
+fn stack_begin(modules: &[&ModuleBytes]) -> Amount
+    ensures { result ≡ stack_begin (parts (map (λ m. m.now) modules.now)) }
 {
-    let mut all = 0;
+    let mut all = Amount::of(0);
     for module in modules {
-        all = plus(all, plus(module.variables, module.texts)?)?;
+        let variables = Amount::of(module.variables as usize);
+        all = all.plus(&variables.plus(&Amount::of(module.texts as usize)));
     }
-    Ok(all)
+    all
 }
 
 /// The slots of all modules.
-fn all_slots(modules: &[&ModuleBytes]) -> Result<u32, EncodeError>
-    ensures { IfOk result (λ n. n ≡ all_slots (parts (map (λ m. m.now) modules.now))) }
+fn all_slots(modules: &[&ModuleBytes]) -> Amount
+    ensures { result ≡ all_slots (parts (map (λ m. m.now) modules.now)) }
 {
-    let mut all = 0;
+    let mut all = Amount::of(0);
     for module in modules {
-        all = plus(all, module.slots)?;
+        all = all.plus(&Amount::of(module.slots as usize));
     }
-    Ok(all)
+    all
 }
 
 /// Appends of each module the places of its variables and texts, and its first slot.
@@ -45,19 +51,19 @@ fn push_globals(
     alloc: Global,
     globals: &mut Items<Constant>,
     modules: &[&ModuleBytes],
-) -> Result<(), EncodeError>
-    ensures { OnOk result
-        (globals.new ≡ globals.old ++ globals_from 0 1 (parts (map (λ m. m.now) modules.now))) }
+) -> Result<(), AllocError>
+    ensures { let ms = parts (map (λ m. m.now) modules.now) in
+        OnOk result (globals.new ≡ globals.old ++ map cut_global (globals_from 0 1 ms)) }
 {
-    let mut place = 0;
-    let mut slot = 1;
+    let mut place = Amount::of(0);
+    let mut slot = Amount::of(1);
     for module in modules {
-        let texts = plus(place, module.variables)?;
-        globals.push(constant_global(alloc, place)?)?;
-        globals.push(constant_global(alloc, texts)?)?;
-        globals.push(constant_global(alloc, slot)?)?;
-        place = plus(texts, module.texts)?;
-        slot = plus(slot, module.slots)?;
+        let texts = place.plus(&Amount::of(module.variables as usize));
+        globals.push(constant_global(alloc, &place)?)?;
+        globals.push(constant_global(alloc, &texts)?)?;
+        globals.push(constant_global(alloc, &slot)?)?;
+        place = texts.plus(&Amount::of(module.texts as usize));
+        slot = slot.plus(&Amount::of(module.slots as usize));
     }
     Ok(())
 }
@@ -67,13 +73,14 @@ fn exported_global(
     alloc: Global,
     word: &[u8],
     name: &[u8],
-    global: u32,
+    global: &Amount,
 ) -> Result<Export, AllocError>
-    ensures { IfOk result (λ e. e ≡ exported_as (word.now ++ name.now) (exported.Global global)) }
+    ensures { let kind = exported.Global global.now in
+        IfOk result (λ e. e ≡ cut_export (exported_as (word.now ++ name.now) kind)) }
 {
     Ok(Export {
         name: name_behind_word(alloc, word, name)?,
-        kind: ExportKind::Global(global),
+        kind: ExportKind::Global(global.kept()),
     })
 }
 
@@ -82,26 +89,27 @@ fn push_modules(
     alloc: Global,
     exports: &mut Items<Export>,
     modules: &[&ModuleBytes],
-) -> Result<(), EncodeError>
-    ensures { OnOk result
-        (exports.new ≡ exports.old ++ exports_from 1 (parts (map (λ m. m.now) modules.now))) }
+) -> Result<(), AllocError>
+    ensures { let ms = parts (map (λ m. m.now) modules.now) in
+        OnOk result (exports.new ≡ exports.old ++ map cut_export (exports_from 1 ms)) }
 {
-    let mut global = 1;
+    let mut global = Amount::of(1);
     for module in modules {
-        let next = plus(global, 3)?;
         let name = module.name.as_bytes();
-        exports.push(exported_global(alloc, b"base.", name, global)?)?;
-        exports.push(exported_global(alloc, b"text.", name, global + 1)?)?;
-        exports.push(exported_global(alloc, b"tab.", name, global + 2)?)?;
-        global = next;
+        let text = global.plus(&Amount::of(1));
+        let slot = global.plus(&Amount::of(2));
+        exports.push(exported_global(alloc, b"base.", name, &global)?)?;
+        exports.push(exported_global(alloc, b"text.", name, &text)?)?;
+        exports.push(exported_global(alloc, b"tab.", name, &slot)?)?;
+        global = global.plus(&Amount::of(GLOBALS));
     }
     Ok(())
 }
 
 /// The memory, the table, the globals, and the function that runs the bodies.
-fn link_exports(alloc: Global, modules: &[&ModuleBytes]) -> Result<Items<Export>, EncodeError>
-    ensures { IfOk result (λ exports.
-        exports ≡ link_exports (parts (map (λ m. m.now) modules.now))) }
+fn link_exports(alloc: Global, modules: &[&ModuleBytes]) -> Result<Items<Export>, AllocError>
+    ensures { let ms = parts (map (λ m. m.now) modules.now) in
+        IfOk result (λ exports. exports ≡ map cut_export (link_exports ms)) }
 {
     let mut exports = one(alloc, exported_as(alloc, b"memory", ExportKind::Memory(0))?)?;
     exports.push(exported_as(alloc, b"table", ExportKind::Table(0))?)?;
@@ -112,27 +120,27 @@ fn link_exports(alloc: Global, modules: &[&ModuleBytes]) -> Result<Items<Export>
 }
 
 /// Appends a call of the body whose slot is in this global, on a stack that begins here.
-fn push_call(ops: &mut Vec<Op>, stack: u32, global: u32) -> Result<(), AllocError>
-    ensures { OnOk result
-        (ops.new.items
-        ≡ ops.old.items ++ op.I32Const stack ∷ op.GlobalGet global ∷ op.CallIndirect 1 ∷ []) }
+fn push_call(ops: &mut Vec<Op>, stack: &Amount, global: &Amount) -> Result<(), AllocError>
+    ensures { let more =
+        op.I32Const (cut stack.now) ∷ op.GlobalGet (cut global.now) ∷ op.CallIndirect 1 ∷ [] in
+        OnOk result (ops.new.items ≡ ops.old.items ++ more) }
 {
-    ops.push(Op::I32Const(stack))?;
-    ops.push(Op::GlobalGet(global))?;
+    ops.push(Op::I32Const(stack.kept()))?;
+    ops.push(Op::GlobalGet(global.kept()))?;
     ops.push(Op::CallIndirect(1))?;
     Ok(())
 }
 
 /// Calls of the bodies, one after another.
-fn calls(alloc: Global, stack: u32, modules: &[&ModuleBytes]) -> Result<Code, EncodeError>
-    ensures { IfOk result (λ code.
-        code ≡ calls_from stack 3 (parts (map (λ m. m.now) modules.now))) }
+fn calls(alloc: Global, stack: &Amount, modules: &[&ModuleBytes]) -> Result<Code, AllocError>
+    ensures { let ms = parts (map (λ m. m.now) modules.now) in
+        IfOk result (λ code. code ≡ cut_code (calls_from stack.now 3 ms)) }
 {
     let mut ops = Vec::new(alloc);
-    let mut global = 3;
+    let mut global = Amount::of(GLOBALS);
     for _ in modules {
-        push_call(&mut ops, stack, global)?;
-        global = plus(global, 3)?;
+        push_call(&mut ops, stack, &global)?;
+        global = global.plus(&Amount::of(GLOBALS));
     }
     Ok(Code::new(ops))
 }
@@ -154,15 +162,17 @@ fn fixed_limits(size: u32) -> Limits
     }
 }
 
-/// The module link for these modules in start order, with `pages` pages of memory.
-pub fn link_of(alloc: Global, modules: &[&ModuleBytes], pages: u32) -> Result<WModule, EncodeError>
+/// The module link for these modules in start order, with `pages` pages of memory and its numbers cut.
+pub fn link_of(alloc: Global, modules: &[&ModuleBytes], pages: u32) -> Result<WModule, AllocError>
     requires { pages ≤ max_pages }
-    ensures { IfOk result (λ m. m ≡ link_of (parts (map (λ m. m.now) modules.now)) pages) }
+    ensures { let ms = parts (map (λ m. m.now) modules.now) in
+        IfOk result (λ m. m ≡ cut_module (link_of ms pages)) }
 {
-    let slots = fixed_limits(plus(1, all_slots(modules)?)?);
-    let stack = stack_begin(modules)?;
-    let run = helper(alloc, 0, calls(alloc, stack, modules)?);
-    let mut globals = one(alloc, constant_global(alloc, PAGE_SIZE * pages)?)?;
+    let slots = fixed_limits(Amount::of(1).plus(&all_slots(modules)).kept());
+    let stack = stack_begin(modules);
+    let run = helper(alloc, 0, calls(alloc, &stack, modules)?);
+    let limit = Amount::of((PAGE_SIZE * pages) as usize);
+    let mut globals = one(alloc, constant_global(alloc, &limit)?)?;
     push_globals(alloc, &mut globals, modules)?;
     Ok(WModule {
         types: link_types(alloc)?,

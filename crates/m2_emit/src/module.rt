@@ -1,10 +1,12 @@
 //! The module of a body.
 
-ghost use Rattle.std.specs.Prelude.{◌≡◌, suc, length, IfOk};
-ghost use Rattle.layout_storage.specs.Layouts.{IsLayout, AllFits};
+ghost use Rattle.std.specs.Prelude.{◌≡◌, true, IfOk, map};
+ghost use Rattle.layout_storage.specs.Layouts.{IsLayout};
 ghost use Rattle.layout_storage.specs.Texts.{module_texts};
 ghost use Rattle.def_scheme.specs.Modules.{all_characters, functions, signatures, slots, typed_module};
 ghost use Rattle.emit_tables.specs.Offsets.{AreTexts};
+ghost use Rattle.emit_buffer.specs.Cut.{cut_function, cut_module};
+ghost use Rattle.emit_buffer.specs.Fitting.{sizes_fit};
 
 use crate::functions::functions_of;
 use crate::imports::imports_of;
@@ -13,16 +15,16 @@ use crate::types::types_of;
 use emit_buffer::Home;
 use emit_tables::{ModuleTexts, Signatures, module_texts, signatures_of};
 use layout_storage::Layout;
-use std::alloc::Global;
+use std::alloc::{AllocError, Global};
 use tree_parts::Items;
 use typed_tree::TypedModule;
-use wasm_tree::{EncodeError, Function, WModule, plus, small};
+use wasm_tree::{Function, WModule};
 
 /// How many slots a module fills.
-pub fn slots_of(module_body: &TypedModule) -> Result<u32, EncodeError>
-    ensures { IfOk result (λ n. n ≡ slots module_body.now) }
+pub fn slots_of(module_body: &TypedModule) -> usize
+    ensures { result ≡ slots module_body.now }
 {
-    plus(1, small(module_body.procedures.len())?)
+    module_body.procedures.as_slice().len() + 1
 }
 
 /// The functions of a module that has these texts and needs these signatures.
@@ -32,12 +34,12 @@ fn functions(
     layout: &Layout,
     needed: &Signatures,
     texts: &ModuleTexts,
-) -> Result<Items<Function>, EncodeError>
+) -> Result<Items<Function>, AllocError>
     requires layout { IsLayout module_body.now layout.now }
-    requires fits { AllFits module_body.now }
+    requires fits { sizes_fit module_body.now.types ≡ true }
     requires signatures { needed.now ≡ signatures module_body.now }
     requires texts { AreTexts module_body.now texts.now }
-    ensures { IfOk result (λ found. found ≡ functions module_body.now) }
+    ensures { IfOk result (λ found. found ≡ map cut_function (functions module_body.now)) }
 {
     let home = Home::new(alloc, module_body, layout, needed)?;
     functions_of(alloc, &home, texts)
@@ -50,11 +52,11 @@ fn assemble_module(
     needed: &Signatures,
     found: Items<Function>,
     bytes: Items<u8>,
-) -> Result<WModule, EncodeError>
+) -> Result<WModule, AllocError>
     requires signatures { needed.now ≡ signatures module_body.now }
-    requires functions { found ≡ functions module_body.now }
+    requires functions { found ≡ map cut_function (functions module_body.now) }
     requires texts { bytes ≡ all_characters (module_texts module_body.now) }
-    ensures { IfOk result (λ tree. tree ≡ typed_module module_body.now) }
+    ensures { IfOk result (λ tree. tree ≡ cut_module (typed_module module_body.now)) }
 {
     Ok(WModule {
         types: types_of(alloc, needed)?,
@@ -64,20 +66,20 @@ fn assemble_module(
         memories: Items::new(alloc),
         globals: Items::new(alloc),
         exports: Items::new(alloc),
-        elements: elements_of(alloc, slots_of(module_body)?)?,
+        elements: elements_of(alloc, slots_of(module_body))?,
         data: data_of(alloc, bytes)?,
     })
 }
 
-/// The module of a body.
+/// The module of a body, with its numbers cut.
 pub fn module_of(
     alloc: Global,
     module_body: &TypedModule,
     layout: &Layout,
-) -> Result<WModule, EncodeError>
+) -> Result<WModule, AllocError>
     requires layout { IsLayout module_body.now layout.now }
-    requires fits { AllFits module_body.now }
-    ensures { IfOk result (λ tree. tree ≡ typed_module module_body.now) }
+    requires fits { sizes_fit module_body.now.types ≡ true }
+    ensures { IfOk result (λ tree. tree ≡ cut_module (typed_module module_body.now)) }
 {
     let needed = signatures_of(alloc, module_body)?;
     let texts = module_texts(alloc, module_body, layout.texts as usize)?;

@@ -2,8 +2,10 @@
 
 ghost use Rattle.std.specs.Prelude.{◌≡◌, ◌++◌, ◌∷◌, [], IfOk};
 ghost use Rattle.def_scheme.specs.Scheme.{type_from, exported_as, constant_global};
+ghost use Rattle.emit_buffer.specs.Cut.{cut_global};
 
 use crate::code::number_code;
+use emit_buffer::Amount;
 use std::alloc::{AllocError, Global};
 use tree_parts::Items;
 use wasm_tree::{Export, ExportKind, FuncType, Global as Constant, Limits, ValueType};
@@ -45,13 +47,14 @@ pub fn type_from(
     })
 }
 
-/// A global with this number for ever.
-pub fn constant_global(alloc: Global, number: u32) -> Result<Constant, AllocError>
-    ensures { IfOk result (λ global. global ≡ constant_global number) }
+/// A global with this number for ever, cut to 32 bits.
+#[tactic(auto, using(crate::proofs::Uncut::constant_is))]
+pub fn constant_global(alloc: Global, number: &Amount) -> Result<Constant, AllocError>
+    ensures { IfOk result (λ global. global ≡ cut_global (constant_global number.now)) }
 {
     Ok(Constant {
         value_type: ValueType::I32,
-        value: number_code(alloc, number)?,
+        value: number_code(alloc, number.kept())?,
     })
 }
 

@@ -35,13 +35,15 @@ use Rattle.build_jobs.specs.declared.reading.Read.TheVariants as read
 use Rattle.build_jobs.specs.Reading.{HasTree, AreRead}
 use Rattle.build_jobs.specs.Own.{own_table, tables_behind}
 use Rattle.build_jobs.specs.Compiling.{tables_of}
-use Rattle.build_jobs.specs.Encoded.{needed_of}
+use Rattle.build_jobs.specs.Jobs.{needed_of}
 use Rattle.build_jobs.proofs.Rounds.{jobs_count}
 use Rattle.m2c.specs.Modules.{IsTyped, AreTyped}
 use Rattle.m2c.specs.Build.{modules, trees_of, refused_by, data_and_stack, AreTrees, HaveGraph}
 use Rattle.m2c.specs.Encodings.{ProgramsFit}
 use Rattle.m2c.proofs.Programs.{AreBuilt, all_built, distinct_all, count_all}
 use Rattle.m2c.proofs.Linked.{own_known, needed_tables, all_modules}
+use Rattle.m2c.proofs.Kept.{sizes_kept}
+use Rattle.emit_buffer.specs.Fitting.{sizes_fit}
 use Rattle.m2c.proofs.Fitting.{trees_fit, trees_whole, bodies_in}
 use Rattle.m2c.proofs.Alike.{one_program}
 
@@ -125,6 +127,14 @@ module _ (files : List SourceFile) (fs : List (List ℕ × Module)) (numbers : L
         types = all_fit m.types known.1.1 known.1.0;
         storage = all_fits m (each_at IsFit whole.program whole.small k m e).small;
       }
+
+  sizes_at : (k : ℕ) (m : TypedModule) → slice_get whole.program k ≡ Some m → sizes_fit m.types ≡ true
+  sizes_at k m e =
+      let known = graphs_coherent fs numbers jobs starts have.is_graph have.each (trees_fit files fs have.are_trees) whole.program (bodies_in fs numbers jobs starts whole.program whole.typed) k m e in
+      sizes_kept m.types known.1.1 known.1.0
+
+  pub sizes_all : All (λ m. sizes_fit m.types ≡ true) whole.program
+  sizes_all = all_from (λ m. sizes_fit m.types ≡ true) whole.program sizes_at
 
   -- ---- in pages with room
 

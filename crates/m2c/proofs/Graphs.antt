@@ -1,6 +1,6 @@
 -- Graphs, as the build goes on with them.
 use Rattle.std.proofs.Common.{◌≡◌, ◌⊎◌, inl, inr, ℕ, ◌≤◌, ◌<◌, ◌+◌, ◌*◌, Bool, true, false, List, [], ◌∷◌, ◌++◌, length, map, Option, refl, ap, sym, subst, ◌∙◌, arith}
-use Rattle.std.specs.Prelude.{slice_get, nat_lt}
+use Rattle.std.specs.Prelude.{slice_get, nat_lt, All}
 use Rattle.std.specs.List.{list_all}
 use Rattle.std.specs.Option.{option_and_then}
 use Rattle.std.specs.Borrow.{Bor}
@@ -10,7 +10,7 @@ use Rattle.wasm_binary.proofs.LawsModule.{one_module}
 use Rattle.m2_graph.specs.Files.{number_files}
 use Rattle.m2_graph.specs.Jobs.{ArePlaces, place_of}
 use Rattle.std.proofs.lemmas.List.{length-map}
-use Rattle.std.proofs.lemmas.List.Elements.{All-cons}
+use Rattle.std.proofs.lemmas.List.Elements.{All-cons, All-head, All-tail}
 use Rattle.std.proofs.lemmas.Bool.{ltb-true, ltb-false}
 use Rattle.m2_rule.specs.RuleNumber.{number_of}
 use Rattle.m2_rule.specs.declared.rule.Rule.TheVariants as rule
@@ -18,11 +18,17 @@ use Rattle.wasm_tree.specs.declared.module.WModule.{WModule}
 use Rattle.wasm_tree.specs.Validity.{IsValid}
 use Rattle.m2_tree.specs.declared.refusal.Refusal.{Refusal}
 use Rattle.typed_tree.specs.declared.typed_module.TypedModule.{TypedModule}
+use Rattle.layout_storage.specs.Sizes.{size}
+use Rattle.layout_storage.specs.Frames.{module_row}
+use Rattle.layout_storage.specs.Texts.{characters, module_texts}
 use Rattle.def_meaning.specs.Environment.{Modules}
 use Rattle.def_meaning.specs.Runs.{run}
 use Rattle.def_scheme.specs.Modules.{Part, typed_module, typed_link, part_of, link_of, stack_begin, max_pages}
 use Rattle.m2_emit.specs.declared.emitted.ModuleBytes.{ModuleBytes}
-use Rattle.m2_emit.specs.Emitted.{emitted, parts}
+use Rattle.emit_buffer.specs.Cut.{cut_module}
+use Rattle.emit_buffer.specs.Fitting.{sizes_fit}
+use Rattle.m2_emit.specs.Emitted.{emitted, parts, code_bytes, link_part}
+use Rattle.m2_emit.proofs.Encoded.{emitted_kept, fits_bytes}
 use Rattle.build_jobs.specs.declared.file.SourceFile.{SourceFile}
 use Rattle.build_jobs.specs.declared.outcome.Compiled.{Compiled}
 use Rattle.build_jobs.specs.declared.reading.Read.{Read}
@@ -46,7 +52,7 @@ use Rattle.m2c.proofs.Ruled.{all_ruled}
 use Rattle.m2c.proofs.Readings.{files_are_read}
 use Rattle.m2c.proofs.Valid.{all_valid}
 use Rattle.m2c.proofs.Programs.{AreBuilt}
-use Rattle.m2c.proofs.Encodings.{as_many, whole, bodies_few, begin_is, linkable, modules_are, typed_are, encodings}
+use Rattle.m2c.proofs.Encodings.{as_many, whole, bodies_few, begin_is, linkable, modules_are, typed_are, encodings, sizes_all}
 
 abbrev module_bytes : WModule → List ℕ
 module_bytes t = module_encoding t
@@ -60,20 +66,23 @@ one_encoded [] (m ∷ ms) ns h k = absurd h
 one_encoded (b ∷ bs) [] ns h k = absurd h
 one_encoded (b ∷ bs) (m ∷ ms) [] h k = absurd k
 
--- their modules have encodings
+-- their modules have encodings, and the sizes of their types are kept uncut
 abbrev AreFit : Modules → Type 0
 AreFit [] = Unit {0}
-AreFit (t ∷ ts) = (module_fits (typed_module t) ≡ true) × AreFit ts
+AreFit (t ∷ ts) = (module_fits (typed_module t) ≡ true) × (sizes_fit t.types ≡ true) × AreFit ts
 
-bodies_fit : (p : Modules) → list_all module_fits (map typed_module p) ≡ true → AreFit p
-bodies_fit [] e = tt
-bodies_fit (m ∷ ms) e =
-    (both_left (module_fits (typed_module m)) (list_all module_fits (map typed_module ms)) e, bodies_fit ms (both_right (module_fits (typed_module m)) (list_all module_fits (map typed_module ms)) e))
+bodies_fit : (p : Modules) → All (λ m. sizes_fit m.types ≡ true) p → list_all module_fits (map typed_module p) ≡ true → AreFit p
+bodies_fit [] s e = tt
+bodies_fit (m ∷ ms) s e = (
+  both_left (module_fits (typed_module m)) (list_all module_fits (map typed_module ms)) e,
+  All-head (λ m. sizes_fit m.types ≡ true) m ms s,
+  bodies_fit ms (All-tail (λ m. sizes_fit m.types ≡ true) m ms s) (both_right (module_fits (typed_module m)) (list_all module_fits (map typed_module ms)) e),
+)
 
 -- the bytes of modules that have encodings encode them
 pub all_encoded : (p : Modules) → AreFit p → BytesEncode (map module_bytes (map typed_module p)) (map typed_module p)
 all_encoded [] f = tt
-all_encoded (m ∷ ms) f = (record { fits = f.0; encoding = refl }, all_encoded ms f.1)
+all_encoded (m ∷ ms) f = (record { fits = f.0; encoding = refl }, all_encoded ms f.2)
 
 pub same_modules : (trees : List (Bor (List ℕ) × Bor Module)) → modules_borrowed trees ≡ modules (borrow_trees trees)
 same_modules [] = refl
@@ -86,15 +95,22 @@ seconds : (p : Modules) → map (λ m. m.1) (map built_of p) ≡ map module_byte
 seconds [] = refl
 seconds (m ∷ ms) = ap (λ (xs : List (List ℕ)). bytes_of m ∷ xs) (seconds ms)
 
-named_emitted : (p : Modules) → map named_bytes (map emitted p) ≡ map built_of p
+named_emitted : (p : Modules) → AreFit p → map named_bytes (map emitted p) ≡ map built_of p
 unfolding emitted
-named_emitted [] = refl
-named_emitted (m ∷ ms) = ap (λ (xs : List (List ℕ × List ℕ)). built_of m ∷ xs) (named_emitted ms)
+named_emitted [] f = refl
+named_emitted (m ∷ ms) f =
+    ap (λ (bytes : List ℕ). (m.name, bytes) ∷ map named_bytes (map emitted ms)) (emitted_kept m f.1 f.0).bytes
+    ∙ ap (λ (xs : List (List ℕ × List ℕ)). built_of m ∷ xs) (named_emitted ms f.2)
 
-parts_emitted : (p : Modules) → parts (map emitted p) ≡ map part_of p
+parts_emitted : (p : Modules) → AreFit p → parts (map emitted p) ≡ map part_of p
+parts_emitted [] f = refl
+parts_emitted (m ∷ ms) f =
+    ap (λ (x : Part). x ∷ parts (map emitted ms)) (emitted_kept m f.1 f.0).part ∙ ap (λ (xs : List Part). part_of m ∷ xs) (parts_emitted ms f.2)
+
+begin_emitted : (p : Modules) → stack_begin (parts (map emitted p)) ≡ stack_begin (map part_of p)
 unfolding emitted
-parts_emitted [] = refl
-parts_emitted (m ∷ ms) = ap (λ (xs : List Part). part_of m ∷ xs) (parts_emitted ms)
+begin_emitted [] = refl
+begin_emitted (m ∷ ms) = ap (λ (n : ℕ). size (module_row m) + characters (module_texts m) + n) (begin_emitted ms)
 
 -- ---- results by a table of places
 
@@ -147,23 +163,27 @@ module _ (files : List SourceFile) (fs : List (List ℕ × Module)) (numbers : L
   program_count = omega (arith, bodies_few files fs numbers jobs starts have none, ap length its.are, length-map its.program emitted)
 
   pub data_is : stack_begin (parts those) + 4096 ≡ stack_begin (map part_of its.program) + 4096
-  data_is = ap (λ (ms : List ModuleBytes). stack_begin (parts ms) + 4096) its.are ∙ ap (λ (ps : List Part). stack_begin ps + 4096) (parts_emitted its.program)
+  data_is = ap (λ (ms : List ModuleBytes). stack_begin (parts ms) + 4096) its.are ∙ ap (λ (n : ℕ). n + 4096) (begin_emitted its.program)
 
   -- what is built is the program
   pub is_program : (pages : ℕ) → 1 ≤ pages → pages ≤ 1024 → stack_begin (parts those) + 4096 ≤ 65536 * pages → (link : List ℕ) (built : List (List ℕ × List ℕ))
-      → Encodes link (link_of (parts those) pages) → built ≡ map named_bytes those → IsProgram files pages link built
+      → link ≡ code_bytes (cut_module (link_of (parts those) pages)) → built ≡ map named_bytes those → IsProgram files pages link built
   is_program pages least most fits link built link_is built_are =
       let p : Modules = its.program in
-      let link_encoded : Encodes link (typed_link p pages) =
-      subst (λ (ps : List Part). Encodes link (link_of ps pages)) (parts_emitted p) (subst (λ (ms : List ModuleBytes). Encodes link (link_of (parts ms) pages)) its.are link_is)
-      in
-      let built_whole : built ≡ map built_of p = built_are ∙ ap (map named_bytes) its.are ∙ named_emitted p in
       let fits_all : stack_begin (map part_of p) + 4096 ≤ 65536 * pages = subst (λ (n : ℕ). n ≤ 65536 * pages) data_is fits in
       let linkable : IsLinkable p pages = linkable files fs numbers jobs starts have none pages least most fits_all in
       let modules_are : AreModules p = modules_are files fs numbers jobs starts have none pages least most fits_all in
       let typed_are : AreTypedModules p pages = typed_are files fs numbers jobs starts have none pages least most fits_all in
       let encoded : list_all module_fits (all p pages) ≡ true = encodings files fs numbers jobs starts have none pages least most fits_all in
-      let bodies : AreFit p = bodies_fit p (both_right (module_fits (typed_link p pages)) (list_all module_fits (map typed_module p)) encoded) in
+      let bodies : AreFit p = bodies_fit p (sizes_all files fs numbers jobs starts have none) (both_right (module_fits (typed_link p pages)) (list_all module_fits (map typed_module p)) encoded) in
+      let same_link : link_of (parts those) pages ≡ typed_link p pages = ap (λ (ms : List ModuleBytes). link_of (parts ms) pages) its.are ∙ ap (λ (ps : List Part). link_of ps pages) (parts_emitted p bodies) in
+      let link_fits : module_fits (typed_link p pages) ≡ true = both_left (module_fits (typed_link p pages)) (list_all module_fits (map typed_module p)) encoded in
+      let link_encoded : Encodes link (typed_link p pages) = record {
+        fits = link_fits;
+        encoding = link_is ∙ ap (λ (w : WModule). code_bytes (cut_module w)) same_link ∙ fits_bytes (typed_link p pages) link_fits;
+      }
+      in
+      let built_whole : built ≡ map built_of p = built_are ∙ ap (map named_bytes) its.are ∙ named_emitted p bodies in
       let codes : map (λ m. m.1) built ≡ map module_bytes (map typed_module p) = ap (λ (ms : List (List ℕ × List ℕ)). map (λ m. m.1) ms) built_whole ∙ seconds p in
       let bodies_encoded : BytesEncode (map (λ m. m.1) built) (map typed_module p) = subst (λ (bs : List (List ℕ)). BytesEncode bs (map typed_module p)) (sym codes) (all_encoded p bodies) in
       let behaves = typed_behave p pages linkable fits_all most (slots_few p pages link_encoded.fits) modules_are typed_are in record {
@@ -211,14 +231,10 @@ module _ (files : List SourceFile) (fs : List (List ℕ × Module)) (numbers : L
   -- there are modules for it, if it fits
   pub has_modules : (pages : ℕ) → 1 ≤ pages → pages ≤ 1024 → stack_begin (parts those) + 4096 ≤ 65536 * pages → HaveModules files pages
   has_modules pages least most fits =
-      let p : Modules = its.program in
-      let fits_all : stack_begin (map part_of p) + 4096 ≤ 65536 * pages = subst (λ (n : ℕ). n ≤ 65536 * pages) data_is fits in
-      let encoded : list_all module_fits (all p pages) ≡ true = encodings files fs numbers jobs starts have none pages least most fits_all in
-      let same : link_of (parts those) pages ≡ typed_link p pages = ap (λ (ms : List ModuleBytes). link_of (parts ms) pages) its.are ∙ ap (λ (ps : List Part). link_of ps pages) (parts_emitted p) in
-      let link_fits : module_fits (link_of (parts those) pages) ≡ true = ap module_fits same ∙ both_left (module_fits (typed_link p pages)) (list_all module_fits (map typed_module p)) encoded in record {
-        link = module_bytes (link_of (parts those) pages);
+      let link : List ℕ = code_bytes (cut_module (link_of (parts those) pages)) in record {
+        link = link;
         built = map named_bytes those;
-        is_program = is_program pages least most fits (module_bytes (link_of (parts those) pages)) (map named_bytes those) (record { fits = link_fits; encoding = refl }) refl;
+        is_program = is_program pages least most fits link (map named_bytes those) refl refl;
       }
 
   is_large : (pages : ℕ) → 65536 * pages < stack_begin (parts those) + 4096 → AreLarge files pages

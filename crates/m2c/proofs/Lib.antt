@@ -10,6 +10,7 @@ pub mod Fitting
 pub mod Same
 pub mod Ranks
 pub mod Alike
+mod Kept
 pub mod Encodings
 pub mod Graphs
 pub mod Readings

@@ -15,7 +15,7 @@ use Rattle.write_directory.specs.Saves.{Saves}
 use Rattle.m2c.specs.declared.ending.Ending.{Ending}
 use Rattle.m2c.specs.declared.ending.Ending.TheVariants.{Unbuilt, Unread, Refused, Saved}
 use Rattle.m2c.specs.declared.files.BuildFault.{BuildFault}
-use Rattle.m2c.specs.declared.files.BuildFault.TheVariants.{Workers, Pages, NoMemory, NoEncoding}
+use Rattle.m2c.specs.declared.files.BuildFault.TheVariants.{Workers, Pages, NoMemory}
 pub use Rattle.build_jobs.specs.declared.options.Options.{Options}
 use Rattle.m2c.specs.declared.files.Outcome.TheVariants as outcome
 use Rattle.m2c.specs.Build.{IsBuilt}
@@ -35,7 +35,6 @@ abbrev pub IsWrong : Options → BuildFault → Type 0
 IsWrong o Workers = (o.workers < 1) ⊎ (max_workers < o.workers)
 IsWrong o Pages = AreWorkers o.workers × ((o.pages < 1) ⊎ (max_pages < o.pages))
 IsWrong o NoMemory = ⊥
-IsWrong o NoEncoding = ⊥
 
 abbrev pub AreFine : Options → Type 0
 AreFine o = AreWorkers o.workers × ArePages o.pages
@@ -107,8 +106,6 @@ module _ {D S : Type 0} (calls : D → Option (List Call)) (failures : D → ℕ
   abbrev pub ComesOf : List SourceFile → (pages : ℕ) → Ending → (dir dir_after : D)
       (out out_after : S) → Type 0
   ComesOf files pages (Unbuilt NoMemory) dir dir_after out out_after =
-      (dir_after ≡ dir) × (out_after ≡ out)
-  ComesOf files pages (Unbuilt NoEncoding) dir dir_after out out_after =
       (dir_after ≡ dir) × (out_after ≡ out)
   ComesOf files pages (Unbuilt Workers) dir dir_after out out_after = ⊥
   ComesOf files pages (Unbuilt Pages) dir dir_after out out_after = ⊥

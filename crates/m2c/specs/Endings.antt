@@ -14,7 +14,6 @@ abbrev pub status : Ending → ℕ
 status (Unbuilt build.Workers) = 2
 status (Unbuilt build.Pages) = 2
 status (Unbuilt build.NoMemory) = 3
-status (Unbuilt build.NoEncoding) = 3
 status (Unread name) = 3
 status (Refused all) = if all then 1 else 3
 status (Saved (Ok _)) = 0
@@ -32,7 +31,6 @@ fault_words front options build.Workers =
 fault_words front options build.Pages =
     range_words front (codes "--memory") max_pages options.pages
 fault_words front options build.NoMemory = front ++ codes "refusal 90\n"
-fault_words front options build.NoEncoding = front ++ codes "a module is too large to encode\n"
 
 abbrev pub unread_words : (front reason name : List ℕ) → List ℕ
 unread_words front reason name =

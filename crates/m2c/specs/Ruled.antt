@@ -8,7 +8,7 @@ use Rattle.typed_tree.specs.declared.table.Table.{Table}
 use Rattle.law_rules.specs.Ruled.{IsDefinitionRuled, IsProgramRuled, IsImplementationRuled, IsLonely}
 use Rattle.build_jobs.specs.Own.{own_table, tables_behind}
 use Rattle.build_jobs.specs.Compiling.{tables_of}
-use Rattle.build_jobs.specs.Encoded.{needed_of}
+use Rattle.build_jobs.specs.Jobs.{needed_of}
 
 -- an implementation, by the table of its definition
 abbrev pub IsRuledBy : Option Table → (number : ℕ) → Module → List Table → Block → Type 0

@@ -100,8 +100,8 @@ fn ending_of<'n, R: Threads + Sync, I: InDir, D: OutDir, S: Sink>(
 /// `dir`, which is not touched before.
 ///
 /// The answer is the status: 0 if the modules are saved; 1 if the program is refused; 2 if the options cannot be had (70,
-/// 73), and then no file is read; 3 if a file, memory, `dir` or `out` failed, or a module has no encoding. What 2 and 3 mean
-/// is said in a line on `err`, behind what `files` says of itself. Each stream is left alone after its first failure; one of
+/// 73), and then no file is read; 3 if a file, memory, `dir` or `out` failed. What 2 and 3 mean is
+/// said in a line on `err`, behind what `files` says of itself. Each stream is left alone after its first failure; one of
 /// `err` changes no status.
 pub fn compile<R: Threads + Sync, I: InDir, D: OutDir, S: Sink, E: Sink>(
     rt: &R,

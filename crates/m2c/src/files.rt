@@ -12,7 +12,6 @@ use pool_board::Gate;
 use std::alloc::{AllocError, Global};
 use std::thread::Threads;
 use thiserror::Error;
-use wasm_tree::EncodeError;
 
 /// What a build comes to.
 #[derive(Debug, Drop)]
@@ -38,23 +37,19 @@ pub enum BuildFault {
     /// 90: a request for memory was refused.
     #[error("refusal 90")]
     NoMemory,
-    /// A module has no encoding: a number of it does not fit into 32 bits, a part is too long, or blocks nest too deep.
-    #[error("a module is too large to encode")]
-    NoEncoding,
 }
 
 impl BuildFault {
     ghost use Rattle.m2c.specs.FaultNumber.{number_of};
 
-    /// The number by which the fault is reported, if it has one.
-    pub fn number(self) -> Option<u32>
+    /// The number by which the fault is reported.
+    pub fn number(self) -> u32
         ensures { result ≡ number_of self }
     {
         match self {
-            BuildFault::Workers => Some(70),
-            BuildFault::Pages => Some(73),
-            BuildFault::NoMemory => Some(90),
-            BuildFault::NoEncoding => None,
+            BuildFault::Workers => 70,
+            BuildFault::Pages => 73,
+            BuildFault::NoMemory => 90,
         }
     }
 }
@@ -66,19 +61,6 @@ impl From<AllocError> for BuildFault {
 
     fn from(_: AllocError) -> BuildFault {
         BuildFault::NoMemory
-    }
-}
-
-impl From<EncodeError> for BuildFault {
-    ghost use Rattle.m2c.specs.FaultNumber.{fault_of};
-
-    ghost from_gives = { λ error fault. fault ≡ fault_of error };
-
-    fn from(error: EncodeError) -> BuildFault {
-        match error {
-            EncodeError::NoMemory => BuildFault::NoMemory,
-            EncodeError::NoEncoding => BuildFault::NoEncoding,
-        }
     }
 }
 
@@ -103,8 +85,7 @@ impl From<EncodeError> for BuildFault {
 /// does not depend on how many workers there are, on whom the gate lets in, or on who comes first.
 ///
 /// `Workers` (70) if the number of workers is not from 1 to 64, else `Pages` (73) if the number of pages is not from 1
-/// to 1024; both come before memory is asked for. Else the only error is that memory ran out (`NoMemory`, 90), or that
-/// a module has no encoding (`NoEncoding`, which has no number).
+/// to 1024; both come before memory is asked for. Else the only error is that memory ran out (`NoMemory`, 90).
 pub fn build<R: Threads + Sync, G: Gate>(
     rt: &R,
     alloc: Global,

@@ -31,7 +31,7 @@ use pool_board::Gate;
 use std::alloc::{AllocError, AllocFailed, Global};
 use std::thread;
 use std::thread::Threads;
-use wasm_tree::{EncodeError, PAGE_SIZE};
+use wasm_tree::PAGE_SIZE;
 
 /// The least stack, in bytes, that a program has.
 const LEAST_STACK: u64 = 4096;
@@ -97,7 +97,7 @@ fn build_modules(
     graph: &Graph,
     modules: &[&ModuleBytes],
     pages: u32,
-) -> Result<Outcome, EncodeError>
+) -> Result<Outcome, AllocError>
     requires least { 1 ≤ pages }
     requires most { pages ≤ max_pages }
     requires graph { HaveGraph files.now (borrow_trees trees.now) graph.now.files.items
@@ -124,7 +124,7 @@ fn program(
     graph: &Graph,
     modules: &[&ModuleBytes],
     pages: u32,
-) -> Result<Outcome, EncodeError>
+) -> Result<Outcome, AllocError>
     requires least { 1 ≤ pages }
     requires most { pages ≤ max_pages }
     requires graph { HaveGraph files.now (borrow_trees trees.now) graph.now.files.items
@@ -163,7 +163,7 @@ fn of_results(
     graph: &Graph,
     results: &[Compiled],
     pages: u32,
-) -> Result<Outcome, EncodeError>
+) -> Result<Outcome, AllocError>
     requires least { 1 ≤ pages }
     requires most { pages ≤ max_pages }
     requires graph { HaveGraph files.now (borrow_trees trees.now) graph.now.files.items
@@ -188,7 +188,7 @@ fn of_graph<R: Threads + Sync, G: Gate>(
     trees: &[(&str, &Module)],
     graph: &Graph,
     pages: u32,
-) -> Result<Outcome, EncodeError>
+) -> Result<Outcome, AllocError>
     requires least { 1 ≤ pages }
     requires most { pages ≤ max_pages }
     requires graph { HaveGraph files.now (borrow_trees trees.now) graph.now.files.items
@@ -205,7 +205,7 @@ fn of_trees<R: Threads + Sync, G: Gate>(
     files: &[SourceFile],
     trees: &[(&str, &Module)],
     pages: u32,
-) -> Result<Outcome, EncodeError>
+) -> Result<Outcome, AllocError>
     requires least { 1 ≤ pages }
     requires most { pages ≤ max_pages }
     requires trees { AreTrees files.now (borrow_trees trees.now) }
@@ -214,7 +214,7 @@ fn of_trees<R: Threads + Sync, G: Gate>(
     match Graph::of(runner.alloc, trees) {
         Ok(graph) => of_graph(runner, files, trees, &graph, pages),
         Err(GraphError::Refused(refusals)) => Ok(Outcome::Refused(refusals)),
-        Err(GraphError::NoMemory) => Err(EncodeError::NoMemory),
+        Err(GraphError::NoMemory) => Err(AllocError),
     }
 }
 
@@ -224,7 +224,7 @@ fn of_reads<R: Threads + Sync, G: Gate>(
     files: &[SourceFile],
     reads: &[Read],
     pages: u32,
-) -> Result<Outcome, EncodeError>
+) -> Result<Outcome, AllocError>
     requires least { 1 ≤ pages }
     requires most { pages ≤ max_pages }
     requires read { AreRead files.now reads.now }
@@ -256,7 +256,7 @@ pub fn outcome_of<R: Threads + Sync, G: Gate>(
     runner: &Runner<'_, R, G>,
     files: &[SourceFile],
     pages: u32,
-) -> Result<Outcome, EncodeError>
+) -> Result<Outcome, AllocError>
     requires least { 1 ≤ pages }
     requires most { pages ≤ max_pages }
     ensures { IfOk result (IsBuilt files.now pages) }

@@ -23,7 +23,7 @@ const REFUSED: u8 = 1;
 /// The status of options that nothing can have.
 const WRONG: u8 = 2;
 
-/// The status if a file, memory or a stream failed, or a module has no encoding.
+/// The status if a file, memory or a stream failed.
 const FAILED: u8 = 3;
 
 /// Prints a refusal in a line. False if the stream failed.
@@ -71,7 +71,7 @@ fn status(ending: Ending<'_>) -> u8
 {
     match ending {
         Ending::Unbuilt(BuildFault::Workers) | Ending::Unbuilt(BuildFault::Pages) => WRONG,
-        Ending::Unbuilt(BuildFault::NoMemory) | Ending::Unbuilt(BuildFault::NoEncoding) => FAILED,
+        Ending::Unbuilt(BuildFault::NoMemory) => FAILED,
         Ending::Unread(_) => FAILED,
         Ending::Refused(all) => { if all { REFUSED } else { FAILED } }
         Ending::Saved(Ok(())) => BUILT,
@@ -129,7 +129,6 @@ fn say_fault<E: Sink>(err: &mut E, front: &str, options: Options, fault: BuildFa
             )
         }
         BuildFault::NoMemory => say_all(err, &[front, "refusal 90\n"]),
-        BuildFault::NoEncoding => say_all(err, &[front, "a module is too large to encode\n"]),
     }
 }
 

@@ -4,7 +4,7 @@ use Rattle.std.proofs.lemmas.Bool.{cases_lt}
 use Rattle.pool_board.specs.Seats.{max_workers}
 use Rattle.def_scheme.specs.Modules.{max_pages}
 use Rattle.m2c.specs.declared.files.BuildFault.{BuildFault}
-use Rattle.m2c.specs.declared.files.BuildFault.TheVariants.{Workers, Pages, NoMemory, NoEncoding}
+use Rattle.m2c.specs.declared.files.BuildFault.TheVariants.{Workers, Pages, NoMemory}
 use Rattle.build_jobs.specs.declared.options.Options.{Options}
 use Rattle.m2c.specs.declared.files.Outcome.{Outcome}
 use Rattle.m2c.specs.Compiles.{AreFine, AreWorkers}
@@ -48,7 +48,6 @@ module _ (o : Options) (r : Result Outcome BuildFault) (workers : (r ≡ Err Wor
   named_as Workers is = workers.0 is
   named_as Pages is = let w = few (is_other Pages Workers is (λ e. cc)) in (w, (pages w).0 is)
   named_as NoMemory is = fine (is_other NoMemory Workers is (λ e. cc)) (is_other NoMemory Pages is (λ e. cc))
-  named_as NoEncoding is = fine (is_other NoEncoding Workers is (λ e. cc)) (is_other NoEncoding Pages is (λ e. cc))
 
   -- a fault comes with these options
   pub comes_with : (fault : BuildFault) (reported : ProgramFault) → r ≡ Err fault → reported ≡ fault_of fault → IsUnbuilt reported o

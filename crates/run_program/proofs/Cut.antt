@@ -20,7 +20,7 @@ use Rattle.build_jobs.specs.declared.file.SourceFile.{SourceFile}
 use Rattle.build_jobs.specs.declared.options.Options.{Options}
 use Rattle.m2c.specs.Compiles.{AreFine}
 use Rattle.run_program.specs.declared.fault.ProgramFault.{ProgramFault}
-use Rattle.run_program.specs.declared.fault.ProgramFault.TheVariants.{Workers, Pages, NoMemory, NoEncoding, Write}
+use Rattle.run_program.specs.declared.fault.ProgramFault.TheVariants.{Workers, Pages, NoMemory, Write}
 use Rattle.run_program.specs.Faults.{ComesWith, IsUnbuilt, IsOfRun, IsFaultOf}
 use Rattle.run_program.specs.Cut.{IsPart, IsCutBy}
 use Rattle.run_program.specs.Runs.{IsProgramOf, modules_of}
@@ -90,13 +90,11 @@ module _ {S : Type 0} (reported : S → Option (List ℕ)) (failed : S → ℕ) 
     breaks Write ran = cut 1 ran
     breaks Workers not_so = absurd not_so
     breaks Pages not_so = absurd not_so
-    breaks NoEncoding not_so = absurd not_so
 
   -- a program that was not built
   pub unbuilt : (files : List SourceFile) (pages steps : ℕ) (s : S) (o : Options) (fault : ProgramFault) → IsUnbuilt fault o → Breaks reported failed files pages steps fault s s
   unbuilt files pages steps s o Workers not_so = nothing s
   unbuilt files pages steps s o Pages not_so = nothing s
-  unbuilt files pages steps s o NoEncoding not_so = nothing s
   unbuilt files pages steps s o NoMemory not_so = inl (nothing s)
   unbuilt files pages steps s o Write not_so = absurd not_so
 
@@ -105,7 +103,6 @@ module _ {S : Type 0} (reported : S → Option (List ℕ)) (failed : S → ℕ) 
 pub comes_unbuilt : (o : Options) (fault : ProgramFault) → IsUnbuilt fault o → ComesWith fault o
 comes_unbuilt o Workers h = h
 comes_unbuilt o Pages h = h
-comes_unbuilt o NoEncoding h = h
 comes_unbuilt o NoMemory h = h
 comes_unbuilt o Write h = absurd h
 
@@ -114,7 +111,6 @@ comes_in_run o fine NoMemory h = fine
 comes_in_run o fine Write h = fine
 comes_in_run o fine Workers h = absurd h
 comes_in_run o fine Pages h = absurd h
-comes_in_run o fine NoEncoding h = absurd h
 
 -- what is answered of a program that is ready
 pub comes_of_run : {A : Type 0} (o : Options) → AreFine o → (r : Result A ProgramFault) → IfErr r IsOfRun → MatchResult r (λ _. AreFine o) (λ e. ComesWith e o)
@@ -126,7 +122,6 @@ of_run reported failed trees steps before after NoMemory h = tt
 of_run reported failed trees steps before after Write h = tt
 of_run reported failed trees steps before after Workers h = absurd h
 of_run reported failed trees steps before after Pages h = absurd h
-of_run reported failed trees steps before after NoEncoding h = absurd h
 
 -- ---- faults of the machine
 

@@ -2,3 +2,4 @@ pub mod Right
 pub mod Decoded
 pub mod Cut
 pub mod Built
+mod Saved

@@ -28,4 +28,3 @@ IsCutBy reported failed modules steps fault.Write before after =
     IsPart reported failed modules steps 1 before after
 IsCutBy reported failed modules steps fault.Workers before after = ⊥
 IsCutBy reported failed modules steps fault.Pages before after = ⊥
-IsCutBy reported failed modules steps fault.NoEncoding before after = ⊥

@@ -1,5 +1,5 @@
 -- The faults of a program that is not run to where it was asked for.
-use Rattle.std.specs.Prelude.{◌≡◌, ◌<◌, ◌⊎◌, ℕ, Option, Some, None}
+use Rattle.std.specs.Prelude.{◌≡◌, ◌<◌, ◌⊎◌, ℕ}
 use Rattle.pool_board.specs.Seats.{max_workers}
 use Rattle.def_scheme.specs.Modules.{max_pages}
 use Rattle.wasm_engine.specs.declared.engine.RunFault.{RunFault}
@@ -9,21 +9,19 @@ use Rattle.m2c.specs.declared.files.BuildFault.TheVariants as build
 use Rattle.build_jobs.specs.declared.options.Options.{Options}
 use Rattle.m2c.specs.Compiles.{AreFine, AreWorkers}
 use Rattle.run_program.specs.declared.fault.ProgramFault.{ProgramFault}
-use Rattle.run_program.specs.declared.fault.ProgramFault.TheVariants.{Workers, Pages, NoMemory, NoEncoding, Write}
+use Rattle.run_program.specs.declared.fault.ProgramFault.TheVariants.{Workers, Pages, NoMemory, Write}
 
-abbrev pub number_of : ProgramFault → Option ℕ
-number_of Workers = Some 70
-number_of Pages = Some 73
-number_of NoMemory = Some 90
-number_of NoEncoding = None
-number_of Write = Some 91
+abbrev pub number_of : ProgramFault → ℕ
+number_of Workers = 70
+number_of Pages = 73
+number_of NoMemory = 90
+number_of Write = 91
 
 -- a build that was not made
 abbrev pub fault_of : BuildFault → ProgramFault
 fault_of build.Workers = Workers
 fault_of build.Pages = Pages
 fault_of build.NoMemory = NoMemory
-fault_of build.NoEncoding = NoEncoding
 
 -- The options with which a fault comes, if a program is not built. The fault of workers is the
 -- first, then the fault of pages. All others come with options that can be had.
@@ -31,7 +29,6 @@ abbrev pub IsUnbuilt : ProgramFault → Options → Type 0
 IsUnbuilt Workers o = (o.workers < 1) ⊎ (max_workers < o.workers)
 IsUnbuilt Pages o = AreWorkers o.workers × ((o.pages < 1) ⊎ (max_pages < o.pages))
 IsUnbuilt NoMemory o = AreFine o
-IsUnbuilt NoEncoding o = AreFine o
 IsUnbuilt Write o = ⊥
 
 -- the same, of a program that is run
@@ -39,7 +36,6 @@ abbrev pub ComesWith : ProgramFault → Options → Type 0
 ComesWith Workers o = IsUnbuilt Workers o
 ComesWith Pages o = IsUnbuilt Pages o
 ComesWith NoMemory o = AreFine o
-ComesWith NoEncoding o = AreFine o
 ComesWith Write o = AreFine o
 
 -- the fault is one of runs
@@ -48,7 +44,6 @@ IsOfRun NoMemory = Unit {0}
 IsOfRun Write = Unit {0}
 IsOfRun Workers = ⊥
 IsOfRun Pages = ⊥
-IsOfRun NoEncoding = ⊥
 
 -- a run that was broken off in its first call
 abbrev pub IsFaultOf : RunFault → ProgramFault → Type 0

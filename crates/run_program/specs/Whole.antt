@@ -5,7 +5,7 @@ use Rattle.wasm_engine.specs.declared.engine.End.{End}
 use Rattle.run_directory.specs.Reported.{IsRun, Printed}
 use Rattle.build_jobs.specs.declared.file.SourceFile.{SourceFile}
 use Rattle.run_program.specs.declared.fault.ProgramFault.{ProgramFault}
-use Rattle.run_program.specs.declared.fault.ProgramFault.TheVariants.{Workers, Pages, NoMemory, NoEncoding, Write}
+use Rattle.run_program.specs.declared.fault.ProgramFault.TheVariants.{Workers, Pages, NoMemory, Write}
 use Rattle.run_program.specs.declared.whole.ProgramEnd.{ProgramEnd}
 use Rattle.run_program.specs.declared.whole.ProgramEnd.TheVariants.{Refused, Ran}
 use Rattle.run_program.specs.Cut.{IsPart}
@@ -40,7 +40,6 @@ module _ {S : Type 0} (reported : S → Option (List ℕ)) (failed : S → ℕ) 
       → Type 0
   Breaks files pages steps Workers before after = Printed reported failed [] before after
   Breaks files pages steps Pages before after = Printed reported failed [] before after
-  Breaks files pages steps NoEncoding before after = Printed reported failed [] before after
   Breaks files pages steps NoMemory before after =
       Printed reported failed [] before after ⊎ IsCut files pages steps 0 before after
   Breaks files pages steps Write before after = IsCut files pages steps 1 before after

@@ -20,9 +20,6 @@ pub enum ProgramFault {
     /// 90: a request for memory was refused.
     #[error("refusal 90")]
     NoMemory,
-    /// A module has no encoding: a number of it does not fit into 32 bits, a part is too long, or blocks nest too deep.
-    #[error("a module is too large to encode")]
-    NoEncoding,
     /// 91: a printed byte was not taken.
     #[error("refusal 91")]
     Write,
@@ -31,16 +28,15 @@ pub enum ProgramFault {
 impl ProgramFault {
     ghost use Rattle.run_program.specs.Faults.{number_of};
 
-    /// The number by which the fault is reported, if it has one.
-    pub fn number(self) -> Option<u32>
+    /// The number by which the fault is reported.
+    pub fn number(self) -> u32
         ensures { result ≡ number_of self }
     {
         match self {
-            ProgramFault::Workers => Some(70),
-            ProgramFault::Pages => Some(73),
-            ProgramFault::NoMemory => Some(90),
-            ProgramFault::NoEncoding => None,
-            ProgramFault::Write => Some(91),
+            ProgramFault::Workers => 70,
+            ProgramFault::Pages => 73,
+            ProgramFault::NoMemory => 90,
+            ProgramFault::Write => 91,
         }
     }
 }
@@ -55,7 +51,6 @@ impl From<BuildFault> for ProgramFault {
             BuildFault::Workers => ProgramFault::Workers,
             BuildFault::Pages => ProgramFault::Pages,
             BuildFault::NoMemory => ProgramFault::NoMemory,
-            BuildFault::NoEncoding => ProgramFault::NoEncoding,
         }
     }
 }

@@ -2,6 +2,7 @@
 #![tactic(auto)]
 
 mod fault;
+mod laws;
 mod loading;
 mod program;
 mod reading;
@@ -10,6 +11,7 @@ mod tests;
 mod whole;
 
 pub use fault::ProgramFault;
+pub use laws::saved_laws;
 pub use loading::{Loaded, load_program};
 pub use program::Program;
 pub use wasm_engine::{End, Instances, Sink};

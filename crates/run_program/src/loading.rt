@@ -46,8 +46,7 @@ fn build_files<R: Threads + Sync, G: Gate>(
 
 /// Builds a program from its texts, and reads its modules back. It is refused exactly as `build` refuses it.
 ///
-/// `Workers` (70), `Pages` (73) and `NoEncoding` come as in `build`, and `NoMemory` (90) if a request for memory was
-/// refused. Modules that were built are always read, valid and linked.
+/// `Workers` (70) and `Pages` (73) come as in `build`, and `NoMemory` (90) if a request for memory was refused. Modules that were built are always read, valid and linked.
 pub fn load_program<R: Threads + Sync, G: Gate>(
     rt: &R,
     alloc: Global,

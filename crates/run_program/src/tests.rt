@@ -113,7 +113,7 @@ fn faults_have_their_numbers(rt: HostRuntime) {
             8,
             "",
             ProgramFault::Workers,
-            Some(70),
+            70,
         ),
         (
             Options {
@@ -123,9 +123,9 @@ fn faults_have_their_numbers(rt: HostRuntime) {
             8,
             "",
             ProgramFault::Pages,
-            Some(73),
+            73,
         ),
-        (OPTIONS, 2, "He", ProgramFault::Write, Some(91)),
+        (OPTIONS, 2, "He", ProgramFault::Write, 91),
     ];
     for (options, room, printed, fault, number) in rows {
         let mut screen = Screen::with_room(rt.alloc(), room);

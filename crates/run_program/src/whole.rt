@@ -59,8 +59,8 @@ fn end_of<S: Sink>(
 /// exactly as `build` refuses it.
 ///
 /// `Workers` (70) comes if the number of workers is not from 1 to 64, else `Pages` (73) if the number of pages is not from
-/// 1 to 1024. `NoEncoding` comes as in `build`. `Write` (91) comes if the sink failed, and `NoMemory` (90) if a request for
-/// memory was refused. There is no other fault: modules that were built are read, are valid and link.
+/// 1 to 1024. `Write` (91) comes if the sink failed, and `NoMemory` (90) if a request for memory was refused. There is no
+/// other fault: modules that were built are read, are valid and link.
 pub fn run_program<R: Threads + Sync, G: Gate, S: Sink>(
     rt: &R,
     alloc: Global,

@@ -5,6 +5,8 @@
 #[cfg(test)]
 mod gates;
 #[cfg(test)]
+mod large;
+#[cfg(test)]
 mod many;
 #[cfg(test)]
 mod rows;

@@ -1,4 +1,5 @@
 use crate::gates::{Always, Counting, Meeting};
+use crate::large::{ALL_BYTES, files_with};
 use crate::rows::files_of;
 use crate::{many, rows};
 use m2c::{BuildFault, Gate, Options, Outcome, SourceFile, build};
@@ -66,6 +67,21 @@ fn expect_with<R: Threads + Sync + Abort + AllocGlobal>(
         text.as_str() == expected,
         "expected {expected}, reported {text}"
     );
+}
+
+/// This is reported of the files, by one worker and by eight.
+fn expect_of<R: Threads + Sync + Abort + AllocGlobal>(
+    rt: &R,
+    files: &[SourceFile],
+    expected: &str,
+) {
+    for workers in [1, 8] {
+        let text = report_of(rt, files, options(workers), &Always(true)).expect(rt, "an answer");
+        assert!(rt;
+            text.as_str() == expected,
+            "expected {expected}, reported {text}"
+        );
+    }
 }
 
 /// The same by one worker and by eight.
@@ -205,6 +221,99 @@ fn reports_what_does_not_fit(rt: HostRuntime) {
     for (text, pages, expected) in rows {
         let options = Options { workers: 2, pages };
         expect_with(&rt, &[("m.mod", text)], options, expected);
+    }
+}
+
+#[test]
+fn what_is_refused_is_told_though_its_importers_name_places_beyond_32_bits(rt: HostRuntime) {
+    let chars = "a, b, c: ARRAY [0..131071] OF CHAR;";
+    let one_less = "d: ARRAY [0..131070] OF CHAR; z: CHAR;";
+    let one_more = "d: ARRAY [0..131071] OF CHAR; e, z: CHAR;";
+    let store = "MODULE M; IMPORT C; BEGIN C.z := 'x' END M.";
+    let rows = [
+        (
+            ALL_BYTES,
+            "",
+            "z: T;",
+            "MODULE M; IMPORT C; BEGIN C.z[0] := 1 END M.",
+        ),
+        (ALL_BYTES - 1, chars, one_less, store),
+        (ALL_BYTES, "", "z: CHAR;", store),
+        (ALL_BYTES - 1, chars, one_more, store),
+        (
+            ALL_BYTES,
+            "",
+            "z: ARRAY [0..1] OF CHAR;",
+            "MODULE M; IMPORT C; BEGIN C.z[1] := 'x' END M.",
+        ),
+        (
+            ALL_BYTES,
+            "",
+            "n: CARDINAL;",
+            "MODULE M; IMPORT C; VAR i: CARDINAL; BEGIN FOR i := 0 TO C.n DO END END M.",
+        ),
+        (
+            ALL_BYTES,
+            "",
+            "r: RECORD a, b: CARDINAL END;",
+            "MODULE M; IMPORT C; BEGIN WITH C.r DO b := a END END M.",
+        ),
+        (
+            ALL_BYTES,
+            "",
+            "n: CARDINAL;",
+            "MODULE M; IMPORT C; PROCEDURE P(VAR c: CARDINAL); BEGIN c := 1 END P; BEGIN P(C.n) END M.",
+        ),
+        (
+            ALL_BYTES,
+            "",
+            "z: T;",
+            "MODULE M; IMPORT C; PROCEDURE P(VAR a: ARRAY OF CARDINAL); BEGIN a[0] := 1 END P; \
+             BEGIN P(C.z) END M.",
+        ),
+    ];
+    for (count, front, behind, text) in rows {
+        let declared = format!(in rt.alloc(); "{front} {behind}").expect(&rt, "memory");
+        let files = files_with(rt.alloc(), count, declared.as_str(), &[("M.mod", text)]);
+        expect_of(&rt, &files.expect(&rt, "memory"), "C.mod:1:23: refusal 60;");
+    }
+}
+
+#[test]
+fn what_else_is_refused_beside_it_is_told(rt: HostRuntime) {
+    let rows = [
+        (
+            [
+                (
+                    "D.def",
+                    "DEFINITION MODULE D; IMPORT C; PROCEDURE P; END D.",
+                ),
+                (
+                    "D.mod",
+                    "IMPLEMENTATION MODULE D; IMPORT C; PROCEDURE P; BEGIN C.z[0] := 1 END P; END D.",
+                ),
+                ("M.mod", "MODULE M; IMPORT C, D; BEGIN D.P END M."),
+            ],
+            "C.mod:1:23: refusal 60;",
+        ),
+        (
+            [
+                (
+                    "D.def",
+                    "DEFINITION MODULE D; IMPORT C; PROCEDURE P; END D.",
+                ),
+                (
+                    "D.mod",
+                    "IMPLEMENTATION MODULE D; IMPORT C; PROCEDURE P; BEGIN C.z[0] := u END P; END D.",
+                ),
+                ("M.mod", "MODULE M; IMPORT C; BEGIN C.z[0] := u END M."),
+            ],
+            "C.mod:1:23: refusal 60;D.mod:1:65: refusal 30;M.mod:1:37: refusal 30;",
+        ),
+    ];
+    for (others, expected) in rows {
+        let files = files_with(rt.alloc(), ALL_BYTES, "z: T;", &others).expect(&rt, "memory");
+        expect_of(&rt, &files, expected);
     }
 }
 

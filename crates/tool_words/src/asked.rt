@@ -26,6 +26,19 @@ pub enum Pass {
     Code,
 }
 
+/// How it is said what came of cases.
+#[derive(Clone, Copy, PartialEq, Eq)]
+pub enum Told {
+    /// For people, a line a case.
+    Lines,
+    /// As JSON objects, a line each.
+    Json,
+    /// In the Test Anything Protocol.
+    Tap,
+    /// As the XML of JUnit.
+    Junit,
+}
+
 /// How programs are found and built.
 #[derive(Drop)]
 pub struct Setting {
@@ -42,22 +55,42 @@ pub struct Setting {
 /// What the command line asks for.
 #[derive(Drop)]
 pub enum Asked {
-    /// To run the program of this file, for at most this many reductions.
+    /// To run the program of this file, for at most this many reductions. It reads this file, or nothing.
     Run {
         program: String,
+        input: Option<String>,
         setting: Setting,
         steps: u64,
     },
-    /// To write the modules of the program of this file into a folder.
+    /// To write the modules of the program of this file into a folder. It reads this file, or nothing.
     Build {
         program: String,
+        input: Option<String>,
         setting: Setting,
         out: String,
+    },
+    /// To give the program that was built into this folder another input, the bytes of this file.
+    Input {
+        folder: String,
+        input: String,
+        setting: Setting,
     },
     /// To say what is refused of the programs of these files.
     Check {
         programs: Vec<String>,
         setting: Setting,
+    },
+    /// To judge the program of this file by the cases of a folder: each run makes at most so many reductions, and prints at most
+    /// so many bytes. Or to judge each program of a class, whose files this is a pattern of.
+    Test {
+        program: String,
+        is_class: bool,
+        is_compared: bool,
+        cases: String,
+        setting: Setting,
+        told: Told,
+        steps: u64,
+        bytes: u64,
     },
     /// To show what a pass makes of the program of this file.
     Show {
@@ -69,8 +102,9 @@ pub enum Asked {
     Explain {
         topic: String,
     },
-    /// To write the files of a new program of this name.
+    /// To write the files of a new program of this name, or of an exercise with its cases.
     New {
         name: String,
+        is_class: bool,
     },
 }

@@ -1,14 +1,14 @@
 //! The words of the command line.
 
 use crate::PROGRAM;
-use crate::asked::{Asked, Pass, Setting, Style};
+use crate::asked::{Asked, Pass, Setting, Style, Told};
 use crate::libraries::libraries_of;
 use anyhow::Result;
 use build_words::{memory_option, options_of, out_option, workers_option};
 use clap::{Arg, ArgAction, ArgMatches, Command};
 use command_words::{
-    COMMAND_LINE, Exit, VERSION, are_named, command_line, is_named, matches_of, steps_of,
-    steps_option, strings_of,
+    COMMAND_LINE, Exit, VERSION, are_named, command_line, is_named, matches_of, number_option,
+    steps_of, steps_option, strings_of,
 };
 use std::alloc::Global;
 use std::rt::{Env, Files};
@@ -16,8 +16,35 @@ use std::rt::{Env, Files};
 /// The name of the word for the program's file.
 const FILE: &str = "PROGRAM";
 
+/// The name of the word for a folder with a program that is built.
+const DIR: &str = "DIR";
+
+/// The name of the word for the file that a program that is built reads.
+const INPUT_FILE: &str = "FILE";
+
+/// The name of the word for the folder of cases.
+const CASES: &str = "CASES";
+
+/// The name of the option for a class.
+const EACH: &str = "each";
+
+/// The name of the option for work that was handed in twice.
+const SAME: &str = "same";
+
+/// The name of the option for an exercise.
+const CLASS: &str = "class";
+
+/// The name of the option for what a case may print.
+const BYTES: &str = "bytes";
+
+/// The most bytes that a case may be allowed.
+const MOST_BYTES: u64 = 16777216;
+
+/// The name of the option for what the program reads.
+const INPUT: &str = "input";
+
 /// The options that say how a program is found and built.
-fn with_setting<'a>(alloc: Global, command: Command<'a>) -> Result<Command<'a>> {
+fn with_building<'a>(alloc: Global, command: Command<'a>) -> Result<Command<'a>> {
     Ok(
         command
             .arg(
@@ -29,6 +56,19 @@ fn with_setting<'a>(alloc: Global, command: Command<'a>) -> Result<Command<'a>> 
             )?
             .arg(memory_option(alloc))?
             .arg(workers_option(alloc))?
+            .arg(
+                Arg::new(alloc, "verbose")
+                    .long("verbose")
+                    .action(ArgAction::SetTrue)
+                    .help("Says which files are found"),
+            )?,
+    )
+}
+
+/// The options that say how a program is found and built, and how refusals are shown.
+fn with_setting<'a>(alloc: Global, command: Command<'a>) -> Result<Command<'a>> {
+    Ok(
+        with_building(alloc, command)?
             .arg(
                 Arg::new(alloc, "format")
                     .long("format")
@@ -42,12 +82,6 @@ fn with_setting<'a>(alloc: Global, command: Command<'a>) -> Result<Command<'a>> 
                     .value_name("WHEN")
                     .default_value("never")
                     .help("Whether the mark under a refusal is red: never or always"),
-            )?
-            .arg(
-                Arg::new(alloc, "verbose")
-                    .long("verbose")
-                    .action(ArgAction::SetTrue)
-                    .help("Says which files are found"),
             )?,
     )
 }
@@ -59,10 +93,18 @@ fn program_word<'a>(alloc: Global) -> Arg<'a> {
         .help("The file of the program module; what it imports is found")
 }
 
+/// The option `--input`.
+fn input_option<'a>(alloc: Global) -> Arg<'a> {
+    Arg::new(alloc, INPUT).long(INPUT).value_name("FILE").help(
+        "What a program that imports Input reads; - is standard input, to its end",
+    )
+}
+
 fn run_command<'a>(alloc: Global) -> Result<Command<'a>> {
     let command = Command::new(alloc, "run")
         .about("Compiles a program in memory and runs it")
         .arg(program_word(alloc))?
+        .arg(input_option(alloc))?
         .arg(steps_option(alloc))?;
     with_setting(alloc, command)
 }
@@ -71,7 +113,26 @@ fn build_command<'a>(alloc: Global) -> Result<Command<'a>> {
     let command = Command::new(alloc, "build")
         .about("Compiles a program to WebAssembly modules, link.wasm last")
         .arg(program_word(alloc))?
+        .arg(input_option(alloc))?
         .arg(out_option(alloc))?;
+    with_setting(alloc, command)
+}
+
+fn input_command<'a>(alloc: Global) -> Result<Command<'a>> {
+    let command = Command::new(alloc, "input")
+        .about(
+            "Gives a program that is built another input: InputBytes.wasm and link.wasm are written anew",
+        )
+        .arg(
+            Arg::new(alloc, DIR)
+                .required(true)
+                .help("The folder into which the program was built"),
+        )?
+        .arg(
+            Arg::new(alloc, INPUT_FILE)
+                .required(true)
+                .help("What the program reads; - is standard input, to its end"),
+        )?;
     with_setting(alloc, command)
 }
 
@@ -80,6 +141,47 @@ fn check_command<'a>(alloc: Global) -> Result<Command<'a>> {
         .about("Says which rules a program breaks, and writes nothing")
         .arg(program_word(alloc).action(ArgAction::Append).num_args(1..))?;
     with_setting(alloc, command)
+}
+
+fn test_command<'a>(alloc: Global) -> Result<Command<'a>> {
+    let command = Command::new(alloc, "test")
+        .about("Judges a program by cases: what it prints and how it ends, for each input")
+        .arg(program_word(alloc))?
+        .arg(
+            Arg::new(alloc, CASES).required(true).help(
+                "The folder of the cases: NAME.out, and NAME.in and NAME.status if need be",
+            ),
+        )?
+        .arg(
+            Arg::new(alloc, EACH)
+                .long(EACH)
+                .action(ArgAction::SetTrue)
+                .help(
+                    "PROGRAM is a pattern with stars, and each program of it is judged, a line each",
+                ),
+        )?
+        .arg(
+            Arg::new(alloc, SAME)
+                .long(SAME)
+                .action(ArgAction::SetTrue)
+                .help("With --each: says which programs differ in spaces and comments alone"),
+        )?
+        .arg(steps_option(alloc))?
+        .arg(
+            Arg::new(alloc, BYTES)
+                .long(BYTES)
+                .value_name("N")
+                .default_value("1048576")
+                .help("The most bytes that a case may print, from 1 to 16777216"),
+        )?
+        .arg(
+            Arg::new(alloc, "format")
+                .long("format")
+                .value_name("FORMAT")
+                .default_value("text")
+                .help("How verdicts are shown: text, json, tap or junit"),
+        )?;
+    with_building(alloc, command)
 }
 
 fn show_command<'a>(alloc: Global) -> Result<Command<'a>> {
@@ -115,6 +217,12 @@ fn new_command<'a>(alloc: Global) -> Result<Command<'a>> {
                 Arg::new(alloc, "NAME")
                     .required(true)
                     .help("The name of the program module"),
+            )?
+            .arg(
+                Arg::new(alloc, CLASS)
+                    .long(CLASS)
+                    .action(ArgAction::SetTrue)
+                    .help("Writes an exercise: a solution, and a folder of cases for m2 test"),
             )?,
     )
 }
@@ -127,7 +235,9 @@ fn command<'a>(alloc: Global) -> Result<Command<'a>> {
             .subcommand_required(true)
             .subcommand(run_command(alloc)?)?
             .subcommand(build_command(alloc)?)?
+            .subcommand(input_command(alloc)?)?
             .subcommand(check_command(alloc)?)?
+            .subcommand(test_command(alloc)?)?
             .subcommand(show_command(alloc)?)?
             .subcommand(explain_command(alloc)?)?
             .subcommand(new_command(alloc)?)?,
@@ -169,10 +279,18 @@ fn setting_of<R>(rt: &R, matches: &ArgMatches) -> Result<Setting, Exit>
 where
     R: Files + Env + Eprint + AllocGlobal,
 {
-    let options = options_of(rt, PROGRAM, matches)?;
     let Some(style) = style_of(rt, matches) else {
         return Err(Exit::Reported(COMMAND_LINE));
     };
+    setting_in(rt, matches, style)
+}
+
+/// How programs are found and built, with refusals in this style. What cannot be had is reported.
+fn setting_in<R>(rt: &R, matches: &ArgMatches, style: Style) -> Result<Setting, Exit>
+where
+    R: Files + Env + Eprint + AllocGlobal,
+{
+    let options = options_of(rt, PROGRAM, matches)?;
     let folders = matches.get_strs("lib").unwrap_or(&[]);
     Ok(Setting {
         options,
@@ -194,6 +312,17 @@ where
     Ok(String::from_str(rt.alloc(), name)?)
 }
 
+/// The name of the file that the program reads, if one is named. An empty name is reported.
+fn input_of<R>(rt: &R, matches: &ArgMatches) -> Result<Option<String>, Exit>
+where
+    R: Eprint + AllocGlobal,
+{
+    if matches.get_str(INPUT).is_none() {
+        return Ok(None);
+    }
+    Ok(Some(name_of(rt, matches, INPUT, "--input")?))
+}
+
 fn run_asked<R>(rt: &R, matches: &ArgMatches) -> Result<Asked, Exit>
 where
     R: Files + Env + Eprint + AllocGlobal,
@@ -201,6 +330,7 @@ where
     Ok(Asked::Run {
         steps: steps_of(rt, PROGRAM, matches)?,
         program: name_of(rt, matches, FILE, FILE)?,
+        input: input_of(rt, matches)?,
         setting: setting_of(rt, matches)?,
     })
 }
@@ -212,6 +342,18 @@ where
     Ok(Asked::Build {
         out: name_of(rt, matches, "out", "--out")?,
         program: name_of(rt, matches, FILE, FILE)?,
+        input: input_of(rt, matches)?,
+        setting: setting_of(rt, matches)?,
+    })
+}
+
+fn input_asked<R>(rt: &R, matches: &ArgMatches) -> Result<Asked, Exit>
+where
+    R: Files + Env + Eprint + AllocGlobal,
+{
+    Ok(Asked::Input {
+        folder: name_of(rt, matches, DIR, DIR)?,
+        input: name_of(rt, matches, INPUT_FILE, INPUT_FILE)?,
         setting: setting_of(rt, matches)?,
     })
 }
@@ -227,6 +369,45 @@ where
     Ok(Asked::Check {
         programs: strings_of(rt.alloc(), programs)?,
         setting: setting_of(rt, matches)?,
+    })
+}
+
+/// How verdicts are shown. Any other word is reported.
+fn told_of<R: Eprint>(rt: &R, word: &str) -> Option<Told> {
+    match word {
+        "text" => Some(Told::Lines),
+        "json" => Some(Told::Json),
+        "tap" => Some(Told::Tap),
+        "junit" => Some(Told::Junit),
+        _ => {
+            let _ = eprintln!(rt; "{PROGRAM}: --format takes text, json, tap or junit, not {word}");
+            None
+        }
+    }
+}
+
+/// The most bytes that a case may print. A number that they cannot be is reported.
+fn bytes_of<R: Eprint>(rt: &R, matches: &ArgMatches) -> Result<u64, Exit> {
+    let text = matches.get_str(BYTES).unwrap_or("");
+    number_option(rt, PROGRAM, BYTES, text, MOST_BYTES).ok_or(Exit::Reported(COMMAND_LINE))
+}
+
+fn test_asked<R>(rt: &R, matches: &ArgMatches) -> Result<Asked, Exit>
+where
+    R: Files + Env + Eprint + AllocGlobal,
+{
+    let Some(told) = told_of(rt, matches.get_str("format").unwrap_or("")) else {
+        return Err(Exit::Reported(COMMAND_LINE));
+    };
+    Ok(Asked::Test {
+        told,
+        is_class: matches.get_flag(EACH),
+        is_compared: matches.get_flag(SAME),
+        steps: steps_of(rt, PROGRAM, matches)?,
+        bytes: bytes_of(rt, matches)?,
+        program: name_of(rt, matches, FILE, FILE)?,
+        cases: name_of(rt, matches, CASES, CASES)?,
+        setting: setting_in(rt, matches, Style::Text)?,
     })
 }
 
@@ -283,6 +464,7 @@ where
 {
     Ok(Asked::New {
         name: name_of(rt, matches, "NAME", "NAME")?,
+        is_class: matches.get_flag(CLASS),
     })
 }
 
@@ -294,7 +476,9 @@ where
     match matches.subcommand() {
         Some(("run", inner)) => run_asked(rt, inner),
         Some(("build", inner)) => build_asked(rt, inner),
+        Some(("input", inner)) => input_asked(rt, inner),
         Some(("check", inner)) => check_asked(rt, inner),
+        Some(("test", inner)) => test_asked(rt, inner),
         Some(("show", inner)) => show_asked(rt, inner),
         Some(("explain", inner)) => explain_asked(rt.alloc(), inner),
         Some(("new", inner)) => new_asked(rt, inner),

@@ -3,7 +3,7 @@
 use crate::topic::{Topic, page_in};
 
 /// The topics, each with its page.
-static TOPICS: [Topic; 7] = [
+static TOPICS: [Topic; 8] = [
     Topic {
         name: "profile",
         page: r#"# Not in this profile
@@ -64,8 +64,44 @@ VAR i, j: INTEGER; c: CARDINAL; p: CARDINAL; s: BITSET; ch: CHAR;
 
 ## Input and files
 - The keyboard: `MODULE M; FROM InOut IMPORT ReadInt; END M.`, refusal 32 at `ReadInt`. Write
-  `CONST input = "12 7";`, and use this string.
+  `MODULE M; FROM Input IMPORT ReadInt; END M.`: it stands in Input, see `m2 explain input`.
 - Files: a program cannot open any. Its output can be sent to a file.
+"#,
+    },
+    Topic {
+        name: "input",
+        page: r#"# How a program reads
+
+The language has no input. What a program reads is a module of it: a program that imports Input is
+linked with a module InputBytes that holds the bytes of its input. So the program with its input is
+a program like any other, and it does the same at each run, on each engine.
+
+- `m2 run --input FILE P.mod` gives the program the bytes of a file, and `--input -` those of
+  standard input, up to its end. `m2 build --input FILE` builds a program with its input.
+- With no `--input` the input is empty, and `m2` says so on standard error.
+- Any bytes can be read. The text of the module that holds them may have 1048576 bytes. That is
+  enough for any 500000 bytes, and for nearly a million letters. A longer input is refused, and
+  never cut. The bytes stand in the memory of the program: `--memory PAGES` asks for more, if it
+  is refused with 61.
+
+## What Input has
+
+- `Read(ch)`: one character. At the end of the input ch becomes 0C.
+- `ReadString(text)`: a word, up to the next blank.
+- `ReadLine(text)`: a line, without its end.
+- `ReadInt(number)`, `ReadCard(number)`: a number.
+- `Done`: whether the last of these found what it reads. `Cut`: whether the array had no room for
+  all of it; the rest is read next, so nothing is lost.
+- `Peek()`: the next character, which is not read. `AtEnd()`: whether all is read.
+- `Skip`, `SkipLine`: up to the next character that is no blank, and up to the next line.
+- `Size()`: the number of bytes. `Restart`: begins with the first again.
+
+`lib/Input.def` says what each does with every byte, on overflow, and at the end.
+
+## Dialogues
+
+Nobody can type while a program runs. Write the answers into a file, a line each, and let the
+program print its questions: exercises/adventure is a game of this kind.
 "#,
     },
     Topic {
@@ -106,7 +142,8 @@ VAR i, j: INTEGER; c: CARDINAL; p: CARDINAL; s: BITSET; ch: CHAR;
 ## m2
 
 - **1: refused, or a fault.** The program breaks a rule of the language, or it ended with a fault.
-  `m2 check` ends with the greatest status of its programs.
+  `m2 check` ends with the greatest status of its programs. `m2 test` ends so if a case did not
+  pass.
 "#,
     },
     Topic {
@@ -136,8 +173,7 @@ VAR i, j: INTEGER; c: CARDINAL; p: CARDINAL; s: BITSET; ch: CHAR;
 ## m2c
 
 - **3: failed.** A file cannot be read or written, the folder does not exist, there is no memory
-  left (90), or standard output is full. Or a module is too large to encode. Standard error says
-  which. If writing failed halfway, `link.wasm` is missing, so that old and new modules do not mix.
+  left (90), or standard output is full. Standard error says which. If writing failed halfway, `link.wasm` is missing, so that old and new modules do not mix.
 
 ## m2run
 
@@ -189,8 +225,7 @@ last command.
 - **2: wrong command line.** An option is unknown, a number is out of its range, or a name is
   missing. Standard error says which. No file was read.
 - **3: failed.** A file cannot be read or written, the folder does not exist, there is no memory
-  left (90), or standard output is full. Or a module is too large to encode. Standard error says
-  which. If writing failed halfway, `link.wasm` is missing, so that old and new modules do not mix.
+  left (90), or standard output is full. Standard error says which. If writing failed halfway, `link.wasm` is missing, so that old and new modules do not mix.
 
 `m2c` has no status 4.
 
@@ -216,7 +251,8 @@ a loop without end.
 - **0: well.** The program ended by itself or by HALT, its modules are written, no program is
   refused, the page is printed, or the files are written.
 - **1: refused, or a fault.** The program breaks a rule of the language, or it ended with a fault.
-  `m2 check` ends with the greatest status of its programs.
+  `m2 check` ends with the greatest status of its programs. `m2 test` ends so if a case did not
+  pass.
 - **2: wrong command line.** An option is unknown, a number is out of its range, a name is missing,
   there is no page on a topic, or `m2 new` was given what is no name of a program.
 - **3: failed.** A file or a folder cannot be read or written, there is no memory left, or standard

@@ -1,5 +1,5 @@
-use Rattle.law_readings.proofs.Reading.{readings_alike}
+use Rattle.law_readings.proofs.Reading.{readings_alike, modules_alike}
 use Rattle.law_readings.proofs.reading_laws.Goals as goal
 
 pub returns : goal.returns
-returns c = record { alike = readings_alike }
+returns c = record { alike = readings_alike; modules = modules_alike }

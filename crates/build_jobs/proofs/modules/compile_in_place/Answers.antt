@@ -1,5 +1,5 @@
 use Rattle.std.proofs.Common.{◌≡◌, ℕ, List, map, Option, Some, sym, ap, subst, ◌∙◌}
-use Rattle.std.specs.Prelude.{Result, IfOk, OnOk, slice_get}
+use Rattle.std.specs.Prelude.{Result, IfOk, slice_get}
 use Rattle.std.specs.Option.{option_copied, option_map}
 use Rattle.std.specs.Borrow.{Bor}
 use Rattle.std.proofs.lemmas.Option.{slice_get-map}
@@ -7,8 +7,6 @@ use Rattle.m2_tree.specs.declared.decl.Module.{Module}
 use Rattle.build_jobs.specs.declared.outcome.Compiled.{Compiled}
 use Rattle.build_jobs.specs.Compiling.{compilation_of}
 use Rattle.build_jobs.specs.Jobs.{compile_in_place}
-use Rattle.build_jobs.specs.ModuleEncoded.{IsEncoded}
-use Rattle.build_jobs.specs.Encoded.{encoded_in}
 use Rattle.build_jobs.specs.Borrowed.{modules_borrowed}
 use Rattle.build_jobs.proofs.modules.compile_in_place.Goals as goal
 
@@ -19,20 +17,9 @@ in_place : {E : Type 0} (r : Result Compiled E) (o : Option Module) (m : Module)
     → IfOk r (λ x. x ≡ compilation_of m job needed) → IfOk r (λ x. x ≡ compile_in_place o job needed)
 in_place r o m job needed e h = subst (λ (p : Option Module). IfOk r (λ x. x ≡ compile_in_place p job needed)) (sym e) h
 
-pub returns-in-Some-clause-becomes : goal.returns-in-Some-clause-becomes
-returns-in-Some-clause-becomes c =
+pub returns-in-Some : goal.returns-in-Some
+returns-in-Some c =
     let some : slice_get (modules_borrowed c.args.trees.now) c.args.file ≡ Some c.in-Some.tree.now.1.now =
     slice_get-map tree_of c.args.trees.now c.args.file ∙ ap (option_map tree_of) (sym c.at.ensures ∙ ap option_copied c.in-Some.is)
     in
-    in_place c.compile.result (slice_get (modules_borrowed c.args.trees.now) c.args.file) c.in-Some.tree.now.1.now c.args.job (map (λ (n : Bor Compiled). n.now) c.args.needed.now) some c.compile.ensures.becomes
-
-encoded_in_place : {E : Type 0} (r : Result Compiled E) (o : Option Module) (m : Module) (job : ℕ) (needed : List Compiled) → o ≡ Some m
-    → OnOk r (IsEncoded m job needed) → OnOk r (encoded_in o job needed)
-encoded_in_place r o m job needed e h = subst (λ (p : Option Module). OnOk r (encoded_in p job needed)) (sym e) h
-
-pub returns-in-Some-clause-encoded : goal.returns-in-Some-clause-encoded
-returns-in-Some-clause-encoded c =
-    let some : slice_get (modules_borrowed c.args.trees.now) c.args.file ≡ Some c.in-Some.tree.now.1.now =
-    slice_get-map tree_of c.args.trees.now c.args.file ∙ ap (option_map tree_of) (sym c.at.ensures ∙ ap option_copied c.in-Some.is)
-    in
-    encoded_in_place c.compile.result (slice_get (modules_borrowed c.args.trees.now) c.args.file) c.in-Some.tree.now.1.now c.args.job (map (λ (n : Bor Compiled). n.now) c.args.needed.now) some c.compile.ensures.encoded
+    in_place c.compile.result (slice_get (modules_borrowed c.args.trees.now) c.args.file) c.in-Some.tree.now.1.now c.args.job (map (λ (n : Bor Compiled). n.now) c.args.needed.now) some c.compile.ensures

@@ -1,4 +1,8 @@
-use Rattle.check_expr.proofs.Variants.{relation_is, relation_by}
+use Rattle.std.proofs.Common.{◌≡◌}
+use Rattle.std.proofs.lemmas.Result.{IfOk-weaker}
+use Rattle.check_expr.specs.Meanings.{meanings_of, value_of}
+use Rattle.check_scope.specs.Elaborated.{least}
+use Rattle.check_expr.proofs.Variants.{relation_is, relation_by, not_by, sum_by}
 use Rattle.check_expr.proofs.body.+body.Goals as goal
 
 pub denotes-returns-in_ok-right-in-Relation : goal.denotes-returns-in_ok-right-in-Relation
@@ -10,3 +14,16 @@ pub operation_value-returns-in_ok-value-in-Relation : goal.operation_value-retur
 operation_value-returns-in_ok-value-in-Relation t c =
     relation_by c.args.scope.now c.args.e.now c.in-Relation.a c.in-Relation.operator c.in-Relation.b _ _ c.in_ok-value-in-Relation.value _ _
     c.in-Relation.is c.get-a.ensures c.get-b.ensures c.in_ok-x-in-Relation.ensures c.in_ok-y-in-Relation.ensures c.in_ok-value-in-Relation.ensures
+
+pub operation_value-returns-in_ok-operand-in-Not : goal.operation_value-returns-in_ok-operand-in-Not
+operation_value-returns-in_ok-operand-in-Not t c =
+    IfOk-weaker c.negation.result _ (λ v. v ≡ value_of least c.args.scope.now (meanings_of least c.args.e.now))
+    (λ v q. not_by c.args.scope.now c.args.e.now c.in-Not.inner _ c.in-Not.at c.in_ok-operand-in-Not.operand v
+    c.in-Not.is c.get.ensures c.in_ok-operand-in-Not.ensures q) c.negation.ensures
+
+pub operation_value-returns-in_ok-start-in-Sum : goal.operation_value-returns-in_ok-start-in-Sum
+operation_value-returns-in_ok-start-in-Sum t c =
+    IfOk-weaker c.terms.result _ (λ v. v ≡ value_of least c.args.scope.now (meanings_of least c.args.e.now))
+    (λ v q. sum_by c.args.scope.now c.args.e.now c.in-Sum.front _ _ c.in-Sum.sign c.in-Sum.rest _ c.in_ok-term-in-Sum.term c.in_ok-start-in-Sum.start v _ _
+    c.in-Sum.is c.get-in-Sum.ensures c.get-in-Sum-2.ensures c.as_slice-in-Sum.ensures c.in_ok-term-in-Sum.ensures c.in_ok-start-in-Sum.ensures
+    c.place_of-in-Sum.ensures c.sign_place-place.ensures q) c.terms.ensures

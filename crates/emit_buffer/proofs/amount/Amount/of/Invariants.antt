@@ -1,0 +1,4 @@
+use Rattle.emit_buffer.proofs.amount.Amount.of.Given as goal
+
+abbrev pub ghost-exact_as : goal.ghost-exact_as
+ghost-exact_as a = a._number.now

@@ -1,0 +1,1 @@
+"""How edits are tried that the prover must refuse."""
