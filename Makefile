@@ -1,6 +1,6 @@
 # The toolchain's command `rt` proves, builds and tests; see README.md.
 
-.PHONY: build plain web snapshot example programs compare hostile browser test test-tools book explanations install dist
+.PHONY: build plain web snapshot example programs compare hostile browser test test-tools editors book explanations install dist
 
 PREFIX ?= /usr/local
 
@@ -54,13 +54,17 @@ browser:
 	tools/try_page
 
 # The gate: no source makes up want of memory or has a number without a name, no crate lists a library that it does not name,
-# definitions are laid out, the pages of m2 are those of docs/ and so are the numbers of definitions and the index of rules, each
+# definitions are laid out, the pages of m2 are those of docs/ and so are the numbers of definitions and the index of rules, what
+# editors and shells read has the language's words and m2's options, each
 # edit still fits its file, the gate's copies of exercises are copies, and a sample of requests for memory is refused.
+# What the pages name is there, and links lead somewhere.
 # Then every proof, the tests and the programs, and behind them the edits of gate-edits/, which the prover must refuse.
 test:
+	tools/check_pages
 	tools/check_sources
 	tools/lay_out --check
 	tools/write_explanations --check
+	tools/write_editors --check
 	tools/try_explanations --rows --check
 	tools/believed_definitions --check
 	tools/rule_index --check
@@ -73,6 +77,10 @@ test:
 # Tries the tools themselves, in seconds.
 test-tools:
 	tools/test_tools
+
+# Tries what is in editors/ by the editors, highlighters and shells that are there.
+editors: build
+	tools/try_editors
 
 # Tries the programs of docs/book/.
 book: build

@@ -1,6 +1,8 @@
-// Runs m2 beside the page, in memory. It is sent { id, words, files } to call m2, or { id, program, files, machine, steps, input } to
-// compile a program and run it. It sends { id, stream, bytes } for what is printed, and then { id, end }.
+// Runs m2 beside the page, in memory. It is sent { id, words, files } to call m2, { id, program, files, machine, steps, input } to
+// compile a program and run it, or { id, modules, input } to give a program that is built another input. It sends { id, stream, bytes }
+// for what is printed, and then { id, end }. Files and modules are lists of names and bytes, and an input is bytes.
 import { Refused, outputTo, readProgram, runProgram } from "../common/host.mjs";
+import { LIBRARY_FILES, filesWithInput } from "../common/input.mjs";
 import { MemoryFiles } from "../common/memory_files.mjs";
 import { runOnce } from "../common/system.mjs";
 
@@ -8,6 +10,8 @@ const OUTPUT = 1;
 const FOLDER = "out";
 /** The folder of the library among the files. */
 const LIBRARY = ["--lib", "lib"];
+/** The file of the input, whose name m2 says where it does not take it. */
+const INPUT = "given";
 const encoder = new TextEncoder();
 let loading;
 
@@ -19,27 +23,30 @@ async function bytesAt(path) {
   return answer.arrayBuffer();
 }
 
-/** The compiler, which is loaded once. */
+/** The compiler, which is loaded once. Where that fails it is tried again with the next call. */
 function compiler() {
   loading ??= bytesAt("../m2/m2.wasm").then((bytes) => WebAssembly.compile(bytes));
+  loading.catch(() => {
+    loading = undefined;
+  });
   return loading;
 }
 
 /** Calls m2 over these files. Answers how it ended. */
-async function call(id, words, files, input) {
+async function call(id, words, files) {
   const module = await compiler();
   const print = (stream, bytes) => {
     const copy = bytes.slice();
     postMessage({ id, stream, bytes: copy }, [copy.buffer]);
   };
-  const system = { files: new MemoryFiles(files, print, input), words: ["m2", ...words].map((it) => encoder.encode(it)), variables: () => undefined };
+  const system = { files: new MemoryFiles(files, print), words: ["m2", ...words].map((it) => encoder.encode(it)), variables: () => undefined };
   return runOnce(module, system);
 }
 
 /** Builds a program, and runs its modules on the engine. */
-async function runOnEngine(id, program, files) {
+async function runOnEngine(id, words, files) {
   files.set(`${FOLDER}/`, new Uint8Array(0));
-  const built = await call(id, ["build", "--out", FOLDER, ...LIBRARY, program], files);
+  const built = await call(id, ["build", "--out", FOLDER, ...words], files);
   if (built.kind !== "exit" || built.status !== 0) {
     return built;
   }
@@ -49,12 +56,25 @@ async function runOnEngine(id, program, files) {
   return { ...runProgram(modules, output), milliseconds: performance.now() - began };
 }
 
-async function answer({ id, words, program, files, machine, steps, input }) {
-  const own = new Map(files);
-  if (words !== undefined) {
-    return call(id, words, own, input);
+async function runWith(id, { program, machine, steps, input }, files) {
+  files.set(INPUT, input);
+  const words = [...LIBRARY, "--input", INPUT, program];
+  return machine ? call(id, ["run", "--steps", String(steps), ...words], files) : runOnEngine(id, words, files);
+}
+
+/** The modules of a program that is built which another input changes. */
+async function exchanged(modules, input) {
+  const own = new Map(modules);
+  const library = await Promise.all(LIBRARY_FILES.map(async (name) => [name, new Uint8Array(await bytesAt(`../m2/lib/${name}`))]));
+  return { kind: "exchanged", modules: [...(await filesWithInput(async (name) => own.get(name), input, new Map(library), compiler))] };
+}
+
+async function answer({ id, words, files, modules, ...asked }) {
+  if (modules !== undefined) {
+    return exchanged(modules, asked.input);
   }
-  return machine ? call(id, ["run", "--steps", String(steps), ...LIBRARY, program], own, input) : runOnEngine(id, program, own);
+  const own = new Map(files);
+  return words === undefined ? runWith(id, asked, own) : call(id, words, own);
 }
 
 onmessage = async ({ data }) => {

@@ -4,12 +4,13 @@ import { Compiler, Stopped } from "./compiler.mjs";
 import { countOf } from "./reductions.mjs";
 import { list, programOfAll, refusalsOf } from "./refusals.mjs";
 import { Screen } from "./screen.mjs";
-import { BadLink, fragmentOf, hasProgram, programOf } from "./share.mjs";
+import { BadLink, hasProgram, isProgram, programOf } from "./share.mjs";
+import { ShareDialog } from "./sharing.mjs";
 import { keep, kept } from "./storage.mjs";
 import { Tabs } from "./tabs.mjs";
 import { bytesOf, textOf } from "./text_of_files.mjs";
 import { PASSES, View } from "./views.mjs";
-import { Workspace, isName } from "./workspace.mjs";
+import { Workspace, importsInput, isName } from "./workspace.mjs";
 
 /** The compiler has to be of this version. */
 const VERSION = "0.1.0";
@@ -35,11 +36,14 @@ const REFUSED = 1;
 const FAULTED = 1;
 const VIEWS = [["output", "Output"], ["refusals", "Refusals"], ["explain", "Explain"], ...PASSES];
 const FULL = "The browser's storage is full or closed, so what you write is not kept here. Save the files, or share a link.";
+const READ = "What the program reads by the module Input. A change runs the program again.";
+const UNREAD = "No module here imports Input, so nothing of this is read.";
 const LINKED = "This is the program of the link.";
 const OPENED = "What you wrote before is kept.";
 
 const element = (id) => document.getElementById(id);
 const decoder = new TextDecoder();
+const encoder = new TextEncoder();
 const screen = new Screen(element("output"), element("left-out"));
 const view = new View(element("shown"));
 const runner = new Compiler();
@@ -57,12 +61,19 @@ let shownView = "output";
 let topic = [];
 let refusals = [];
 let isRunning = false;
+/** Whether the program is to be run once more when this run has ended. */
+let isToRunAgain = false;
 let isReady = false;
+/** Whether the browser keeps what is written, and whether the program reads or is given an input. */
+let isKept = true;
+let isReading = false;
 let pause;
+let pauseOfInput;
 let checks = 0;
 
-const workspace = new Workspace({ editor: element("editor"), tabs: element("modules"), run, changed: startPause, moved });
+const workspace = new Workspace({ editor: element("editor"), tabs: element("modules"), run: () => run(), changed: startPause, moved });
 const views = new Tabs(element("views"), element("panel"), showView);
+new ShareDialog(programToShare, notice);
 
 // What the page says.
 
@@ -98,23 +109,54 @@ function setButtons() {
 // Programs: what is kept, opened and shared.
 
 function current() {
-  return { files: workspace.files, active: workspace.active };
+  return { files: workspace.files, active: workspace.active, input: element("input").value };
 }
 
+/** What a link holds. */
+function programToShare() {
+  const { files, input } = current();
+  return input === "" ? { files } : { files, input };
+}
+
+/** Keeps the program. That the browser does not take it is said once. */
 function save() {
-  if (!keep(place, current())) {
+  const wasKept = isKept;
+  isKept = keep(place, current());
+  if (wasKept && !isKept) {
     notice(FULL);
   }
 }
 
+/** The program that is kept at this place, if there is one. */
+function keptProgram(at) {
+  const program = kept(at);
+  return isProgram(program) ? program : undefined;
+}
+
+/** Takes a program in place of the one that is here. */
+function take({ files, active, input = "" }) {
+  element("input").value = input;
+  workspace.open(files, active);
+  showReading();
+}
+
+/** The field of the input opens when the program begins to read, or when something stands in it. */
+function showReading() {
+  const isGiven = element("input").value !== "";
+  const isRead = [...workspace.files, ...(task?.hidden ?? [])].some(importsInput);
+  element("reading").open ||= !isReading && (isRead || isGiven);
+  isReading = isRead || isGiven;
+  element("input-hint").textContent = isGiven && !isRead ? UNREAD : READ;
+}
+
 /** Opens a program. What was written is kept, and can be taken back. */
 function openProgram(program, words) {
-  keep(BEFORE, { place, ...current() });
-  const back = kept(BEFORE);
-  workspace.open(program.files, program.active);
+  const back = current();
+  keep(BEFORE, back);
+  take(program);
   notice(words, "Back to what I wrote", () => {
     notice("");
-    workspace.open(back.files, back.active);
+    take(back);
   });
 }
 
@@ -127,25 +169,25 @@ function showTask() {
 
 /** Takes the program of a link, whose task, if it has one, has a place of its own in the storage. */
 function takeLink(program, fragment) {
-  const before = kept(PROGRAM);
-  task = undefined;
-  place = PROGRAM;
+  const before = keptProgram(PROGRAM);
+  task = program.task === undefined ? undefined : program;
+  place = task === undefined ? PROGRAM : `m2.task.${fragment.split(".").at(-1)}`;
   showTask();
-  if (program.task === undefined) {
-    history.replaceState(null, "", location.pathname + location.search);
-    workspace.open(before?.files ?? program.files, before?.active);
-    if (before !== undefined && JSON.stringify(before.files) !== JSON.stringify(program.files)) {
-      openProgram(program, LINKED);
-    } else {
-      workspace.open(program.files);
-    }
+  if (task !== undefined) {
+    take(keptProgram(place) ?? program);
     return;
   }
-  task = program;
-  place = `m2.task.${fragment.split(".").at(-1)}`;
-  const done = kept(place);
-  workspace.open(done?.files ?? program.files, done?.active);
-  showTask();
+  history.replaceState(null, "", location.pathname + location.search);
+  if (before === undefined || isSame(before, program)) {
+    take(program);
+  } else {
+    take(before);
+    openProgram(program, LINKED);
+  }
+}
+
+function isSame(one, other) {
+  return JSON.stringify(one.files) === JSON.stringify(other.files) && (one.input ?? "") === (other.input ?? "");
 }
 
 async function begin() {
@@ -157,8 +199,7 @@ async function begin() {
       wrong = error instanceof BadLink ? error.message : String(error);
     }
   }
-  const before = kept(PROGRAM);
-  workspace.open(before?.files ?? [{ name: "Hello.mod", text: HELLO }], before?.active);
+  take(keptProgram(PROGRAM) ?? { files: [{ name: "Hello.mod", text: HELLO }] });
   notice(wrong);
 }
 
@@ -203,6 +244,7 @@ function startPause() {
 /** Nothing was typed for a while. */
 async function rest() {
   save();
+  showReading();
   await check();
   await refreshView();
 }
@@ -216,19 +258,23 @@ async function check() {
   const own = checks;
   const { programs, files } = asked();
   const end = await checker.said(["check", "--format", "json", "--lib", "lib", ...programs], files);
-  if (own !== checks) {
-    return undefined;
-  }
   if (end.kind !== "exit" || end.status > REFUSED) {
     show("wrong", end.words ?? decoder.decode(end.error).trim());
     return undefined;
   }
-  refusals = refusalsOf(end.out);
+  const found = refusalsOf(end.out);
+  if (own === checks) {
+    showRefusals(found);
+  }
+  return found;
+}
+
+function showRefusals(found) {
+  refusals = found;
   workspace.mark(refusals);
   list(element("refusals"), refusals, (it) => workspace.go(it), explain);
   showViews();
   moved();
-  return refusals;
 }
 
 /** The sentence of a refusal on the line of the cursor. */
@@ -271,7 +317,7 @@ async function refreshView() {
   const end = await checker.said(name === "explain" ? ["explain", ...topic] : wordsOfPass(name), filesForCompiler());
   if (name === shownView) {
     const isWell = end.kind === "exit" && end.status === 0;
-    view.show(isWell ? name : "", isWell ? end.out : new TextEncoder().encode(end.words ?? decoder.decode(end.error) + decoder.decode(end.out)));
+    view.show(isWell ? name : "", isWell ? end.out : encoder.encode(end.words ?? decoder.decode(end.error) + decoder.decode(end.out)));
     light();
   }
 }
@@ -303,15 +349,15 @@ function showEnd(end, printed) {
   }
 }
 
-/** Runs the program that is seen, or the first. */
-async function run() {
+/** Runs the program that is seen, or the first. A reader who asked for it is led to the answer. */
+async function run(isAsked = true) {
   if (!isReady || isRunning) {
     return;
   }
   isRunning = true;
   setButtons();
   try {
-    await runChecked();
+    await runChecked(isAsked);
   } catch (error) {
     if (!(error instanceof Stopped)) {
       throw error;
@@ -321,10 +367,32 @@ async function run() {
     isRunning = false;
     setButtons();
   }
+  if (isToRunAgain) {
+    isToRunAgain = false;
+    await run(false);
+  }
 }
 
-async function runChecked() {
+/** The input was changed: after a pause the program runs again. */
+function startPauseOfInput() {
+  clearTimeout(pauseOfInput);
+  pauseOfInput = setTimeout(runAgain, MILLISECONDS_OF_A_PAUSE);
+}
+
+function runAgain() {
+  save();
+  showReading();
+  isToRunAgain = isRunning;
+  if (isRunning) {
+    stop();
+  } else {
+    run(false);
+  }
+}
+
+async function runChecked(isAsked) {
   clearTimeout(pause);
+  clearTimeout(pauseOfInput);
   counter.stop();
   save();
   screen.clear();
@@ -338,17 +406,20 @@ async function runChecked() {
   if (found === undefined) {
     return;
   }
+  showView(found.length > 0 ? "refusals" : "output");
   if (found.length > 0) {
-    showView("refusals");
     show("wrong", `The program is refused at ${found.length === 1 ? "one place" : `${found.length} places`}: ${found[0].sentence}.`);
-    workspace.go(found[0]);
+    if (isAsked) {
+      workspace.go(found[0]);
+    }
     return;
   }
-  showView("output");
-  element("panel").scrollIntoView({ block: "nearest" });
+  if (isAsked) {
+    element("panel").scrollIntoView({ block: "nearest" });
+  }
   show("running", `${program} runs.`);
   const errors = [];
-  const asked = { program, files: filesForCompiler(), machine: element("machine").value === "machine", steps: Number(element("steps").value) };
+  const asked = { program, files: filesForCompiler(), machine: element("machine").value === "machine", steps: Number(element("steps").value), input: encoder.encode(element("input").value) };
   const end = await runner.call(asked, (stream, bytes) => (stream === OUTPUT ? screen.take(bytes) : errors.push(bytes)));
   await screen.finish();
   showEnd(end, new Uint8Array(await new Blob(errors).arrayBuffer()));
@@ -370,6 +441,11 @@ async function showCount(asked) {
       throw error;
     }
   }
+}
+
+function stopForGood() {
+  isToRunAgain = false;
+  stop();
 }
 
 function stop() {
@@ -449,9 +525,10 @@ async function filesBeside(names) {
 async function openExample({ target }) {
   const [kind, name] = target.value.split(" ");
   target.value = "";
-  if (kind === "example") {
-    const example = beside.examples.find((it) => it.name === name);
-    openProgram({ files: await filesBeside(example.files), active: example.program }, OPENED);
+  if (kind !== "module") {
+    const example = (kind === "example" ? beside.examples : beside.exercises).find((it) => it.name === name);
+    const input = example.input === undefined ? "" : decoder.decode(await fetched(`../m2/${example.input}`));
+    openProgram({ files: await filesBeside(example.files), active: example.program, input }, OPENED);
   } else {
     for (const file of await filesBeside(beside.library.filter((it) => it.startsWith(`lib/${name}.`)))) {
       workspace.put(file);
@@ -469,62 +546,9 @@ function offer() {
   const modules = beside.library.filter((it) => it.endsWith(".def")).map((it) => it.slice("lib/".length, -".def".length));
   element("examples").append(
     group("Examples", beside.examples.map(({ name }) => [name, `example ${name}`])),
+    group("Programs that read", beside.exercises.map(({ name }) => [name, `exercise ${name}`])),
     group("Library", modules.map((name) => [name, `module ${name}`])),
   );
-}
-
-// Sharing.
-
-function sharedProgram() {
-  const hiddenNames = [...document.querySelectorAll("#hidden-modules input:checked")].map(({ value }) => value);
-  const isHidden = ({ name }) => hiddenNames.includes(name);
-  const files = workspace.files;
-  const words = element("task-input").value;
-  if (words === "") {
-    return { files };
-  }
-  const prints = element("prints-input").value;
-  const tests = prints === "" ? [] : [{ name: "The output", prints }];
-  return { files: files.filter((it) => !isHidden(it)), hidden: files.filter(isHidden), task: words, tests };
-}
-
-async function writeLink() {
-  const address = `${location.origin}${location.pathname}${await fragmentOf(sharedProgram())}`;
-  element("link").value = address;
-  element("frame").value = `<iframe src="${address}" width="100%" height="700" title="Modula-2"></iframe>`;
-}
-
-function hiddenChoice({ name }) {
-  const label = document.createElement("label");
-  const box = document.createElement("input");
-  box.type = "checkbox";
-  box.value = name;
-  box.addEventListener("change", writeLink);
-  label.append(box, ` ${name}`);
-  return label;
-}
-
-async function share() {
-  element("hidden-modules").replaceChildren(element("hidden-modules").firstElementChild, ...workspace.files.map(hiddenChoice));
-  element("copied").textContent = "";
-  try {
-    await writeLink();
-  } catch (error) {
-    notice(error instanceof BadLink ? error.message : String(error));
-    return;
-  }
-  element("share-dialog").showModal();
-  element("link").select();
-}
-
-async function copyLink() {
-  element("link").select();
-  try {
-    await navigator.clipboard.writeText(element("link").value);
-    element("copied").textContent = "It is copied.";
-  } catch {
-    element("copied").textContent = "The browser does not let it be copied: it is selected, so copy it by the keyboard.";
-  }
 }
 
 // The look.
@@ -566,7 +590,7 @@ async function load() {
 }
 
 function listen() {
-  const presses = { run, stop, add, rename, remove, download, share, copy: copyLink, theme: changeTheme, "files-button": () => element("files").click() };
+  const presses = { run: () => run(), stop: stopForGood, add, rename, remove, download, theme: changeTheme, "files-button": () => element("files").click() };
   for (const [id, press] of Object.entries(presses)) {
     element(id).addEventListener("click", press);
   }
@@ -575,8 +599,7 @@ function listen() {
   element("machine").addEventListener("change", () => {
     element("steps-label").hidden = element("machine").value !== "machine";
   });
-  element("task-input").addEventListener("input", writeLink);
-  element("prints-input").addEventListener("input", writeLink);
+  element("input").addEventListener("input", startPauseOfInput);
   element("try-tests").addEventListener("click", () => tryTests(element("tests"), task.tests, () => workspace.programs[0], filesForCompiler));
   element("reset").addEventListener("click", () => openProgram(task, OPENED));
   addEventListener("hashchange", takeNewLink);

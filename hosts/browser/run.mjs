@@ -1,5 +1,7 @@
 // The page: chooses a program, runs it in a worker, shows what it prints and how it ends, and stops it.
 import { Refused, readProgram } from "../common/host.mjs";
+import { CHANGED_FILES, readsInput } from "../common/input.mjs";
+import { Compiler } from "./compiler.mjs";
 import { Screen } from "./screen.mjs";
 import { namesBeside, sourceBeside, sourceOfFiles } from "./sources.mjs";
 
@@ -7,9 +9,18 @@ const element = (id) => document.getElementById(id);
 const screen = new Screen(element("output"), element("left-out"));
 const STACK = "The browser's call stack is used up before the program's storage. A page cannot give it more; m2run and node can.";
 
-/** The program that was chosen last, and the run that goes on. */
+/** How the paths of what belongs to the compiler begin. */
+const COMPILER = "../m2/";
+const NO_COMPILER = 'For another input the folder "m2", which `make web` makes, has to stand beside this page\'s folder.';
+const MILLISECONDS_OF_A_PAUSE = 400;
+const encoder = new TextEncoder();
+const compiler = new Compiler();
+
+/** The program that was chosen last, the input that it is given in place of its own, and the run that goes on. */
 let source;
+let input;
 let running;
+let pause;
 
 /** Shows a line of one of the kinds `running`, `well`, `wrong` and `stopped`, or of none. */
 function show(kind, words) {
@@ -69,8 +80,23 @@ function wordsOf(error) {
   return error instanceof Refused ? error.message : String(error);
 }
 
+/** The function that reads a file of the program, with the input if one is given. */
+async function readerOf({ read }) {
+  if (input === undefined) {
+    return read;
+  }
+  const modules = await Promise.all(CHANGED_FILES.map(async (name) => [name, new Uint8Array(await read(name))]));
+  const end = await compiler.call({ modules, input: encoder.encode(input) }, () => {});
+  if (end.kind !== "exchanged") {
+    throw new Refused(end.words.includes(COMPILER) ? `${end.words}. ${NO_COMPILER}` : `The input is not taken: ${end.words}`);
+  }
+  const changed = new Map(end.modules);
+  return async (name) => changed.get(name) ?? read(name);
+}
+
 /** Runs the program that was chosen, from its begin. */
 async function run() {
+  clearTimeout(pause);
   leave();
   screen.clear();
   const own = {};
@@ -78,8 +104,9 @@ async function run() {
   document.title = source.name;
   show("running", `${source.name} is read.`);
   try {
-    const modules = await readProgram(source.read);
+    const modules = await readProgram(await readerOf(source));
     if (own === running) {
+      element("reading").hidden = !readsInput(modules[0].module);
       startWorker(own, modules);
     }
   } catch (error) {
@@ -92,6 +119,9 @@ function choose(find) {
   leave();
   screen.clear();
   source = undefined;
+  input = undefined;
+  element("input").value = "";
+  element("reading").hidden = true;
   try {
     source = find();
   } catch (error) {
@@ -128,7 +158,14 @@ function forgetFiles({ target }) {
   target.value = "";
 }
 
+function changeInput({ target }) {
+  input = target.value;
+  clearTimeout(pause);
+  pause = setTimeout(run, MILLISECONDS_OF_A_PAUSE);
+}
+
 function stop() {
+  clearTimeout(pause);
   leave();
   screen.finish();
   show("stopped", "The program was stopped.");
@@ -146,6 +183,7 @@ function begin() {
     element(id).addEventListener("change", chooseFiles);
   }
   element("examples").addEventListener("change", chooseExample);
+  element("input").addEventListener("input", changeInput);
   element("again").addEventListener("click", run);
   element("stop").addEventListener("click", stop);
   show("", "Choose a program.");

@@ -74,15 +74,28 @@ function isFile(it) {
   return isText(it?.name) && NAME.test(it.name) && isText(it.text);
 }
 
-function isTest(it) {
-  return isText(it?.name) && isText(it.prints);
+function isMaybe(it, fits) {
+  return it === undefined || fits(it);
 }
 
-/** Whether this has the form of a program: modules, and maybe a task with tests. */
-function isProgram(it) {
-  const { files, task, tests } = it ?? {};
-  const isTask = task === undefined || isText(task);
-  return Array.isArray(files) && files.length > 0 && files.every(isFile) && isTask && (tests === undefined || (Array.isArray(tests) && tests.every(isTest)));
+function isListOf(it, fits) {
+  return Array.isArray(it) && it.every(fits);
+}
+
+/** Whether these are texts by the names of files. */
+function areModules(it) {
+  return typeof it === "object" && it !== null && Object.entries(it).every(([name, text]) => NAME.test(name) && isText(text));
+}
+
+function isTest(it) {
+  return isText(it?.name) && isText(it.prints) && isMaybe(it.input, isText) && isMaybe(it.program, isText) && isMaybe(it.modules, areModules);
+}
+
+/** Whether this has the form of a program: modules, maybe an input, and maybe a task with tests and modules that are not shown. */
+export function isProgram(it) {
+  const { files, input, task, tests, hidden } = it ?? {};
+  const areMore = isMaybe(hidden, (all) => isListOf(all, isFile)) && isMaybe(tests, (all) => isListOf(all, isTest));
+  return isListOf(files, isFile) && files.length > 0 && isMaybe(input, isText) && isMaybe(task, isText) && areMore;
 }
 
 /** Whether the address has a program, whole or not. */

@@ -5,12 +5,18 @@ import { bytesOf, characterAt } from "./text_of_files.mjs";
 const NAME = /^[A-Za-z][A-Za-z0-9]{0,63}\.(?:mod|def)$/;
 const PROGRAM = /^(?:\s|\(\*[^]*?\*\))*MODULE\b/;
 const HEADING = /^(?:\s|\(\*[^]*?\*\))*(?:(?:DEFINITION|IMPLEMENTATION)\s+)?MODULE\s+([A-Za-z][A-Za-z0-9]*)/;
+const READS = /\b(?:FROM\s+Input\s+IMPORT|IMPORT\s+(?:[A-Za-z][A-Za-z0-9]*\s*,\s*)*Input)\b/;
 const INDENT = 2;
 const GUTTER = "refusals";
 
 /** Whether a file may have this name. */
 export function isName(name) {
   return NAME.test(name);
+}
+
+/** Whether a module imports Input, as far as its words tell. */
+export function importsInput({ text }) {
+  return READS.test(text);
 }
 
 /** Whether a text is that of a program module. */
@@ -33,6 +39,8 @@ export class Workspace {
       inputStyle: "contenteditable", gutters: [GUTTER, "CodeMirror-linenumbers"], screenReaderLabel: "Text of the module", lineWrapping: false,
       extraKeys: { "Ctrl-Enter": run, "Cmd-Enter": run, Tab: false, "Shift-Tab": false, "Ctrl-/": "toggleComment", "Cmd-/": "toggleComment", "Alt-F": "findPersistent" },
     });
+    // the editor's own role hides its name from screen readers
+    Object.entries({ role: "textbox", "aria-multiline": "true" }).forEach(([name, value]) => this.#editor.getInputField().setAttribute(name, value));
     this.#told = { changed, moved };
     this.#tabs = new Tabs(tabs, editor, (name) => this.show(name));
     this.#editor.on("change", () => changed());

@@ -38,7 +38,8 @@ function moduleNames(link) {
     .filter((name) => MODULE_NAME.test(name) && name !== "link");
 }
 
-async function compiled(name, read) {
+/** A module of a program, compiled by the engine, with its name. `read` takes the name of a file and answers a promise of its bytes. */
+export async function readModule(name, read) {
   const bytes = await read(`${name}.wasm`);
   try {
     return { name, module: await WebAssembly.compile(bytes) };
@@ -49,10 +50,10 @@ async function compiled(name, read) {
 
 /** The modules of a program, link first. `read` takes the name of a file and answers a promise of its bytes. */
 export async function readProgram(read) {
-  const link = await compiled("link", read);
+  const link = await readModule("link", read);
   const modules = [link];
   for (const name of moduleNames(link.module)) {
-    modules.push(await compiled(name, read));
+    modules.push(await readModule(name, read));
   }
   return modules;
 }

@@ -1,4 +1,5 @@
 // Files in memory, for a module that has no file system: what hosts/SYSTEM.md says of files and streams.
+import { FolderNames } from "./folder_names.mjs";
 import { ERRORS, IS_FOLDER, IS_STREAM, OPENS, SystemError } from "./system.mjs";
 
 const STANDARD_INPUT = 0;
@@ -6,6 +7,7 @@ const STANDARD_ERROR = 2;
 const FIRST = 3;
 const NO_BYTES = new Uint8Array(0);
 const decoder = new TextDecoder("utf-8");
+const encoder = new TextEncoder();
 
 /** The name of a path: the folder in which the program runs has no name of its own. */
 function nameOf(path) {
@@ -51,8 +53,32 @@ export class MemoryFiles {
     return this.#open.get(number) ?? fail(ERRORS.EBADF);
   }
 
+  /** The names in a folder. */
+  #namesIn(folder) {
+    const front = folder === "" || folder === "." ? "" : `${folder}/`;
+    const paths = [...this.#files.keys()].filter((it) => it.startsWith(front) && it !== front);
+    return [...new Set(paths.map((it) => it.slice(front.length).split("/")[0]))];
+  }
+
+  #openFolder(name) {
+    if (!this.#isFolder(name)) {
+      fail(this.#files.has(name) ? ERRORS.ENOTDIR : ERRORS.ENOENT);
+    }
+    return this.#newDescriptor(new FolderNames(this.#namesIn(name).map((it) => encoder.encode(it))));
+  }
+
+  #newDescriptor(opened) {
+    this.#open.set(this.#next, opened);
+    this.#next += 1;
+    return this.#next - 1;
+  }
+
   open(path, flags) {
     const name = nameOf(path);
+    return (flags & OPENS.folder) === 0 ? this.#openFile(name, flags) : this.#openFolder(name);
+  }
+
+  #openFile(name, flags) {
     const isThere = this.#files.has(name);
     if (!isThere && this.#isFolder(name)) {
       fail(ERRORS.EISDIR);
@@ -67,9 +93,7 @@ export class MemoryFiles {
     if (!isThere || (flags & OPENS.empty) !== 0) {
       this.#files.set(name, NO_BYTES);
     }
-    this.#open.set(this.#next, { name, at: 0, parts: [], bytes: this.#files.get(name) });
-    this.#next += 1;
-    return this.#next - 1;
+    return this.#newDescriptor({ name, at: 0, parts: [], bytes: this.#files.get(name) });
   }
 
   #checkFolderOf(name) {
@@ -81,6 +105,9 @@ export class MemoryFiles {
 
   read(number, to) {
     const file = number === STANDARD_INPUT ? this.#input : this.#descriptor(number);
+    if (file instanceof FolderNames) {
+      return file.read(to);
+    }
     const part = file.bytes.subarray(file.at, file.at + to.length);
     to.set(part);
     file.at += part.length;
@@ -100,7 +127,7 @@ export class MemoryFiles {
     if (number <= STANDARD_ERROR) {
       return;
     }
-    const { name, parts } = this.#descriptor(number);
+    const { name, parts = [] } = this.#descriptor(number);
     if (parts.length > 0) {
       this.#files.set(name, joined([this.#files.get(name), ...parts]));
     }
@@ -108,7 +135,11 @@ export class MemoryFiles {
   }
 
   sizeOf(number) {
-    return number < FIRST ? IS_STREAM : BigInt(this.#descriptor(number).bytes.length);
+    if (number < FIRST) {
+      return IS_STREAM;
+    }
+    const file = this.#descriptor(number);
+    return file instanceof FolderNames ? IS_FOLDER : BigInt(file.bytes.length);
   }
 
   sizeAt(path) {
@@ -123,5 +154,25 @@ export class MemoryFiles {
     if (!this.#files.delete(nameOf(path))) {
       fail(ERRORS.ENOENT);
     }
+  }
+
+  makeFolder(path) {
+    const name = nameOf(path);
+    if (this.#files.has(name) || this.#isFolder(name)) {
+      fail(ERRORS.EEXIST);
+    }
+    this.#checkFolderOf(name);
+    this.#files.set(`${name}/`, NO_BYTES);
+  }
+
+  removeFolder(path) {
+    const name = nameOf(path);
+    if (!this.#isFolder(name)) {
+      fail(this.#files.has(name) ? ERRORS.ENOTDIR : ERRORS.ENOENT);
+    }
+    if (this.#namesIn(name).length > 0) {
+      fail(ERRORS.ENOTEMPTY);
+    }
+    this.#files.delete(`${name}/`);
   }
 }

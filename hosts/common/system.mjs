@@ -8,7 +8,7 @@ export const ERRORS = {
   ENAMETOOLONG: 36, ENOTEMPTY: 39, ELOOP: 40,
 };
 /** How a file is opened. */
-export const OPENS = { write: 1, readAndWrite: 2, make: 0o100, onlyNew: 0o200, empty: 0o1000, append: 0o2000 };
+export const OPENS = { write: 1, readAndWrite: 2, make: 0o100, onlyNew: 0o200, empty: 0o1000, append: 0o2000, folder: 0o200000 };
 /** What `size` answers of what is no file. */
 export const IS_FOLDER = 1n << 62n;
 export const IS_STREAM = 1n << 61n;
@@ -21,7 +21,7 @@ const LEAST_STACK = 4096n;
 /** A call of the system that failed. */
 export class SystemError extends Error {
   constructor(number) {
-    super(`error ${number}`);
+    super(Object.keys(ERRORS).find((name) => ERRORS[name] === number) ?? `error ${number}`);
     this.number = number;
   }
 }
@@ -65,6 +65,8 @@ function functionsOf({ files, words, variables }, bytesAt) {
     close: (file) => answered(() => files.close(file) ?? 0),
     size: (path, length, file) => BigInt(answered(() => (length === 0n ? files.sizeOf(file) : files.sizeAt(pathAt(path, length))))),
     unlink: (path, length) => answered(() => files.unlink(pathAt(path, length)) ?? 0),
+    mkdir: (path, length) => answered(() => files.makeFolder(pathAt(path, length)) ?? 0),
+    rmdir: (path, length) => answered(() => files.removeFolder(pathAt(path, length)) ?? 0),
     word: (number, to, room) => wordsInto(bytesAt, words[Number(number)], to, room),
     variable: (name, length, to, room) => wordsInto(bytesAt, variables(pathAt(name, length)), to, room),
     exit: (status) => {

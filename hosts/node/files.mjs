@@ -1,6 +1,8 @@
 // The real file system, for a module that runs on node: what hosts/SYSTEM.md says of files and streams.
-import { closeSync, constants, fstatSync, openSync, readSync, statSync, unlinkSync, writeSync } from "node:fs";
+import { closeSync, constants, fstatSync, mkdirSync, openSync, readSync, readdirSync, rmdirSync, statSync, unlinkSync, writeSync } from "node:fs";
+import { FolderNames } from "../common/folder_names.mjs";
 import { ERRORS, IS_FOLDER, IS_STREAM, OPENS, SystemError } from "../common/system.mjs";
+import { systemPath } from "./paths.mjs";
 
 const FLAGS = [
   [OPENS.write, constants.O_WRONLY],
@@ -11,7 +13,11 @@ const FLAGS = [
   [OPENS.append, constants.O_APPEND],
 ];
 const MODE = 0o666;
+const FOLDER_MODE = 0o777;
+/** The descriptors of folders, which node has none of: more than of files. */
+const FIRST_FOLDER = 2 ** 20;
 const MILLISECONDS_OF_A_WAIT = 1;
+const folders = new Map();
 const nothing = new Int32Array(new SharedArrayBuffer(4));
 
 /** What node throws, as an error of the system. */
@@ -59,12 +65,33 @@ function sizeIn(found) {
   return found.isFile() ? BigInt(found.size) : IS_STREAM;
 }
 
+function openFolder(path) {
+  const names = readdirSync(path, { encoding: "buffer" });
+  const number = FIRST_FOLDER + folders.size;
+  folders.set(number, new FolderNames(names));
+  return number;
+}
+
+function openFile(path, flags) {
+  return (flags & OPENS.folder) === 0 ? openSync(path, flagsOf(flags), MODE) : openFolder(path);
+}
+
+function closeAny(file) {
+  if (folders.has(file)) {
+    folders.set(file, undefined);
+  } else {
+    closeSync(file);
+  }
+}
+
 export const nodeFiles = {
-  open: (path, flags) => answerOf(() => openSync(Buffer.from(path), flagsOf(flags), MODE)),
-  read: (file, to) => waitFor(() => readSync(file, to)),
+  open: (path, flags) => answerOf(() => openFile(systemPath(path), flags)),
+  read: (file, to) => folders.get(file)?.read(to) ?? waitFor(() => readSync(file, to)),
   write: (file, from) => waitFor(() => writeSync(file, from)),
-  close: (file) => answerOf(() => closeSync(file)),
-  sizeOf: (file) => answerOf(() => sizeIn(fstatSync(file))),
-  sizeAt: (path) => answerOf(() => sizeIn(statSync(Buffer.from(path)))),
-  unlink: (path) => answerOf(() => unlinkSync(Buffer.from(path))),
+  close: (file) => answerOf(() => closeAny(file)),
+  sizeOf: (file) => (folders.has(file) ? IS_FOLDER : answerOf(() => sizeIn(fstatSync(file)))),
+  sizeAt: (path) => answerOf(() => sizeIn(statSync(systemPath(path)))),
+  unlink: (path) => answerOf(() => unlinkSync(systemPath(path))),
+  makeFolder: (path) => answerOf(() => mkdirSync(systemPath(path), FOLDER_MODE)),
+  removeFolder: (path) => answerOf(() => rmdirSync(systemPath(path))),
 };

@@ -2,11 +2,13 @@
 // m2 on node, over the real file system: node hosts/node/m2.mjs run Hello.mod
 // It behaves as the program m2 does. It needs node 20 or later and the module: M2_WASM, else m2.wasm beside this file, else that of
 // build/web, else the snapshot in dist.
-import { existsSync, readFileSync, writeSync } from "node:fs";
-import { fileURLToPath } from "node:url";
+import { readFileSync, writeSync } from "node:fs";
 import { Worker, isMainThread, parentPort, workerData } from "node:worker_threads";
+import { Refused } from "../common/host.mjs";
 import { runOnce } from "../common/system.mjs";
 import { nodeFiles } from "./files.mjs";
+import { loadModule } from "./module.mjs";
+import { givenFolders, givenWord } from "./paths.mjs";
 
 const STANDARD_ERROR = 2;
 /** The status where memory, a file or a stream failed. */
@@ -14,8 +16,8 @@ const FAILED = 3;
 /** Deep texts need 1.6 MiB of the engine's stack, and node's own is less than 1. */
 const MEGABYTES_OF_STACK = 32;
 const WORDS_BEFORE = 2;
-const PLACES = ["m2.wasm", "../../build/web/m2.wasm", "../../dist/m2.wasm"];
-const NOT_THERE = "m2.wasm is not there; M2_WASM names it";
+/** The variable that names folders. */
+const FOLDERS = "M2_LIB";
 const REPLACED = "\ufffd";
 const EQUALS = 61;
 
@@ -24,13 +26,6 @@ function say(words) {
   try {
     writeSync(STANDARD_ERROR, `${words}\n`);
   } catch {}
-}
-
-/** The path of the module. */
-function modulePath() {
-  const given = process.env.M2_WASM;
-  const places = given ? [given] : PLACES.map((it) => fileURLToPath(new URL(it, import.meta.url)));
-  return places.find((it) => existsSync(it));
 }
 
 /** The entries of a file of Linux that ends each with a 0; none on other systems. */
@@ -47,15 +42,16 @@ function entriesOf(file) {
 function commandLine() {
   const words = process.argv.slice(WORDS_BEFORE);
   const raw = words.some((it) => it.includes(REPLACED)) ? entriesOf("/proc/self/cmdline") : [];
-  const bytes = raw.length > words.length ? raw.slice(raw.length - words.length) : words.map((it) => Buffer.from(it));
+  const bytes = raw.length > words.length ? raw.slice(raw.length - words.length) : words.map((it) => Buffer.from(givenWord(it)));
   return [Buffer.from("m2"), ...bytes];
 }
 
 /** The value of a variable as bytes, or nothing where there is none. */
 function variable(name) {
-  const value = process.env[Buffer.from(name).toString()];
+  const asText = Buffer.from(name).toString();
+  const value = process.env[asText];
   if (value === undefined || !value.includes(REPLACED)) {
-    return value === undefined ? undefined : Buffer.from(value);
+    return value === undefined ? undefined : Buffer.from(asText === FOLDERS ? givenFolders(value) : value);
   }
   const isIt = (entry) => entry[name.length] === EQUALS && entry.subarray(0, name.length).equals(name);
   return entriesOf("/proc/self/environ").find(isIt)?.subarray(name.length + 1) ?? Buffer.from(value);
@@ -78,15 +74,13 @@ function fail(words) {
 
 /** The module, or nothing where it is not to be had, which is said. */
 function loadedModule() {
-  const path = modulePath();
-  if (path === undefined) {
-    fail(NOT_THERE);
-    return undefined;
-  }
   try {
-    return new WebAssembly.Module(readFileSync(path));
+    return loadModule();
   } catch (error) {
-    fail(`${path} is no module of m2: ${error.message}`);
+    if (!(error instanceof Refused)) {
+      throw error;
+    }
+    fail(error.message);
     return undefined;
   }
 }

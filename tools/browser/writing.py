@@ -14,8 +14,10 @@ SHOWN = "document.getElementById('shown').textContent"
 LIT = "[...document.querySelectorAll('#shown .lit')].map((it) => it.textContent).join('')"
 READY = f"!document.getElementById('run').disabled && {STATUS} !== ''"
 HAS_ENDED = f"['well', 'wrong', 'stopped'].includes({KIND})"
-KEYS = {"Enter": 13, "Tab": 9, "Escape": 27, "ArrowRight": 39, "ArrowLeft": 37, "Home": 36, "End": 35, "a": 65}
+KEYS = {"Enter": 13, "Tab": 9, "Escape": 27, "ArrowRight": 39, "ArrowLeft": 37, "Home": 36, "End": 35, "Backspace": 8, "a": 65, "f": 70, "z": 90, "/": 191}
+CODES = {"a": "KeyA", "f": "KeyF", "z": "KeyZ", "/": "Slash"}
 CONTROL, SHIFT = 2, 8
+INPUT = "document.getElementById('input')"
 LOAD = 60
 
 
@@ -40,7 +42,7 @@ class Page:
         return self.open()
 
     def key(self, key, modifiers=0):
-        code = {"a": "KeyA"}.get(key, key)
+        code = CODES.get(key, key)
         said = {"key": key, "code": code, "windowsVirtualKeyCode": KEYS[key], "modifiers": modifiers}
         if key == "Enter" and not modifiers:
             said["text"] = "\r"
@@ -53,9 +55,25 @@ class Page:
         self.key("a", CONTROL)
         self.browser.call("Input.insertText", text=text)
 
+    def type(self, text):
+        """Presses the keys of a text, one after another."""
+        for character in text:
+            if character == "\n":
+                self.key("Enter")
+            else:
+                self.browser.call("Input.dispatchKeyEvent", type="char", text=character)
+
     def put(self, text):
         """The text of the module, at once."""
         self.browser.value(f"{EDITOR}.setValue({json.dumps(text)})")
+
+    def write_input(self, text):
+        """Writes into the field of the input, in place of what stands there."""
+        self.browser.value(f"{INPUT}.focus(); {INPUT}.select()")
+        if text:
+            self.browser.call("Input.insertText", text=text)
+        else:
+            self.key("Backspace")
 
     def text(self):
         return self.browser.value(f"{EDITOR}.getValue()")

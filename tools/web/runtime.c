@@ -15,6 +15,8 @@ HOST(write) i64 host_write(int file, const void *from, u64 size);
 HOST(close) int host_close(int file);
 HOST(size) i64 host_size(const u8 *path, u64 length, int file);
 HOST(unlink) int host_unlink(const u8 *path, u64 length);
+HOST(mkdir) int host_mkdir(const u8 *path, u64 length);
+HOST(rmdir) int host_rmdir(const u8 *path, u64 length);
 HOST(word) i64 host_word(u64 number, void *to, u64 room);
 HOST(variable) i64 host_variable(const u8 *name, u64 length, void *to, u64 room);
 HOST(exit) __attribute__((noreturn)) void host_exit(int status);
@@ -169,6 +171,35 @@ i64 write(int file, const void *from, u64 size) { return answered(host_write(fil
 i64 __write(int file, const void *from, u64 size) { return write(file, from, size); }
 int close(int file) { return (int)answered(host_close(file)); }
 int unlink(const u8 *path) { return (int)answered(host_unlink(path, length_of(path))); }
+
+int mkdir(const u8 *path, u32 mode) { return (int)answered(host_mkdir(path, length_of(path))); }
+int rmdir(const u8 *path) { return (int)answered(host_rmdir(path, length_of(path))); }
+
+/* Folders. The host hands out the names in a folder as the bytes of a file: a 0 stands behind each, and a reading gives whole names. */
+
+enum { OPEN_FOLDER = 0200000, SIZE_PLACE = 16, NAME_PLACE = 19, LEAST_NAME = 2 };
+
+/* Only folders that are named from where the program runs are opened. */
+int rattle_open_dir_at(int from, const u8 *path) { return open(path, OPEN_FOLDER); }
+
+/* Linux's getdents64: entries, each with its own size at SIZE_PLACE and its name at NAME_PLACE. The names are read into the end of the
+   room. An entry takes NAME_PLACE bytes more than its name, so no entry reaches a name that is not yet moved. */
+i64 getdents64(int folder, u8 *to, u64 room) {
+  u64 most_names = room * LEAST_NAME / (LEAST_NAME + NAME_PLACE), made = 0;
+  const u8 *name = to + room - most_names;
+  i64 count = read(folder, (u8 *)name, most_names);
+  if (count <= 0) return count;
+  for (const u8 *last = name + count; name < last;) {
+    u64 length = length_of(name) + 1, size = NAME_PLACE + length;
+    __builtin_memmove(to + made + NAME_PLACE, name, length);
+    __builtin_memset(to + made, 0, NAME_PLACE);
+    to[made + SIZE_PLACE] = (u8)size;
+    to[made + SIZE_PLACE + 1] = (u8)(size >> 8);
+    made += size;
+    name += length;
+  }
+  return (i64)made;
+}
 
 enum { ILLEGAL_SEEK = 29, NO_THREAD = 11, NO_SUCH_THREAD = 3, TOO_SHORT = 34 };
 i64 lseek(int file, i64 offset, int from) { return answered(-ILLEGAL_SEEK); }

@@ -1,4 +1,5 @@
-/* What tools/try_runtime calls of runtime.c: the heap, and the arithmetic of 128 bits on numbers that stand in memory. */
+/* What tools/try_runtime calls of runtime.c: the heap, the entries of folders, and the arithmetic of 128 bits on numbers that stand in
+   memory. */
 #include "runtime.c"
 
 int rattle_main(void) { return 0; }
@@ -14,3 +15,4 @@ FOR_HOST(shift_signed) void try_shift_signed(i128 *numbers, int by) { numbers[2]
 
 FOR_HOST(words_of) int words_of(int number, u8 *to, u64 room) { return __xpg_strerror_r(number, to, room); }
 FOR_HOST(compare) int try_compare(const void *first, const void *second, u64 size) { return memcmp(first, second, size); }
+FOR_HOST(entries) i64 try_entries(int folder, u8 *to, u64 room) { return getdents64(folder, to, room); }

@@ -1,6 +1,7 @@
 // Tries the C functions of a module on random requests: node runtime_test.mjs MODULE.wasm
 // Numbers of 128 bits are compared with what JavaScript says of them, and blocks of memory with what was written into them.
 import { readFileSync } from "node:fs";
+import { FolderNames } from "../../hosts/common/folder_names.mjs";
 
 const BITS = 128;
 const NUMBERS = 20000;
@@ -11,9 +12,15 @@ const LIMIT = 40 * MEGABYTE;
 const NO_SUCH_FILE = 2;
 const UNKNOWN = 999;
 const TOO_SHORT = 34;
+const ROOM_OF_ENTRIES = 4096;
+const SIZE_PLACE = 16;
+const NAME_PLACE = 19;
 const SIZES = [[6, 200], [9, 5000], [10, 300000]];
 const [, , path] = process.argv;
-const imports = { system: new Proxy({}, { get: () => () => 0 }) };
+/** The folder that `read` reads. */
+let folder;
+const read = (file, to, most) => BigInt(folder.read(bytesAt(to, Number(most))));
+const imports = { system: new Proxy({ read }, { get: (own, name) => own[name] ?? (() => 0) }) };
 const c = new WebAssembly.Instance(new WebAssembly.Module(readFileSync(path)), imports).exports;
 let seed = 12345;
 let tried = 0;
@@ -138,8 +145,34 @@ function tryWords() {
   check("a second call of start traps", isTrapped);
 }
 
+/** The names that entries in Linux's form have: each has its own size in two bytes, and a name that ends with a 0. */
+function namesOf(entries) {
+  const names = [];
+  for (let at = 0; at < entries.length; at += entries.readUInt16LE(at + SIZE_PLACE)) {
+    names.push(entries.subarray(at + NAME_PLACE, entries.indexOf(0, at + NAME_PLACE)).toString("latin1"));
+  }
+  return names;
+}
+
+/** Reads folders of random names, of one letter and of 255. */
+function tryFolders() {
+  const room = c.malloc(BigInt(ROOM_OF_ENTRIES));
+  for (const longest of [1, 8, 255]) {
+    const names = Array.from({ length: 2000 }, () => String.fromCharCode(...Array.from({ length: below(longest) + 1 }, () => 1 + below(255))));
+    folder = new FolderNames(names.map((it) => Buffer.from(it, "latin1")));
+    const found = [];
+    for (let size = 1n; size > 0n; ) {
+      size = c.entries(0, room, BigInt(ROOM_OF_ENTRIES));
+      check("entries fit", size <= BigInt(ROOM_OF_ENTRIES));
+      found.push(...namesOf(Buffer.from(bytesAt(room, Number(size)))));
+    }
+    check(`names of up to ${longest} bytes`, found.join("/") === names.join("/"));
+  }
+}
+
 tryWords();
 tryNumbers();
+tryFolders();
 tryHeap();
 console.log(`${tried - wrong} of ${tried} rows are well`);
 process.exitCode = wrong === 0 ? 0 : 1;

@@ -1,5 +1,5 @@
 -- What each variant of a statement means, from what its parts mean.
-use Rattle.std.proofs.Common.{◌≡◌, ℤ, List, [], ◌∷◌, Option, Some, None, Result, Ok, Err, refl, ap, ◌∙◌}
+use Rattle.std.proofs.Common.{◌≡◌, List, [], ◌∷◌, Option, Some, None, Result, Ok, Err, refl, ap, ◌∙◌}
 use Rattle.std.specs.Prelude.{map}
 use Rattle.std.specs.List.{fold}
 use Rattle.m2_tree.specs.declared.pos.Pos.{Pos}
@@ -25,6 +25,7 @@ use Rattle.check_expr.specs.Effects.{call_statement}
 use Rattle.check_stmt_parts.specs.declared.around.Around.{Around}
 use Rattle.check_stmt_parts.specs.Lists.{standing, if_statement, chosen_else, base_in, case_statement, arm_of, repeated_while, repeated_until, loop_statement, within, reported_in}
 use Rattle.check_stmt_parts.specs.Simple.{meant_if, in_loop, exit_statement, return_statement, condition, assignment, case_selector, record_of, opened_type, into_record, opened_if}
+use Rattle.check_stmt_parts.specs.Ranges.{Range}
 use Rattle.check_stmt_parts.specs.Labels.{labels_in}
 use Rattle.check_stmt_parts.specs.Control.{course_of, repeated_for}
 use Rattle.check_stmt.specs.Statements.{Elaborates, ElaboratesRest, ElaboratesArm, Arms, args_meant, with_stmt, with_arm, stmt_layer, rest_layer, arm_layer, stmt, rest, arm, statements, arms}
@@ -146,7 +147,7 @@ module _ (s : Scope Breach) (w : Around Breach) where
   is_With d body = ap (λ (f : S). f s w) (at (With d body) (layer.With d body) (outs-With d body))
       ∙ with_same (record_of least s (head least d)) _ _ _ (λ t. statements least (into_record s t) w body) (body_is (opened_if s (opened_type least s d)) w body) (λ t. body_is (into_record s t) w body)
 
-  pub arm_is : (a : Arm) (base : Option TypeNo) (ranges : List (ℤ × ℤ)) →
+  pub arm_is : (a : Arm) (base : Option TypeNo) (ranges : List Range) →
       arm least a s w base ranges ≡ ((labels_in least s base ranges (out-Arm a).labels).0, arm_of least (labels_in least s base ranges (out-Arm a).labels).1 (statements least s w (out-Arm a).body))
   arm_is a base ranges = ap (λ (f : A). f s w base ranges) (at_arm a)
       ∙ ap (λ (x : Steps). ((labels_in least s base ranges (out-Arm a).labels).0, arm_of least (labels_in least s base ranges (out-Arm a).labels).1 x)) (body_is s w (out-Arm a).body)

@@ -1,5 +1,5 @@
 -- What statements of bodies mean: each is a typed statement, or breaks rules.
-use Rattle.std.specs.Prelude.{ℤ, List, [], map, Option, Some, None, Result, Ok}
+use Rattle.std.specs.Prelude.{List, [], map, Option, Some, None, Result, Ok}
 use Rattle.std.specs.List.{fold}
 use Rattle.m2_tree.specs.declared.expr.Expr.{Expr}
 use Rattle.m2_tree.specs.declared.expr.Designator.{Designator}
@@ -18,6 +18,7 @@ use Rattle.check_expr.specs.Effects.{call_statement}
 use Rattle.check_stmt_parts.specs.declared.around.Around.{Around}
 use Rattle.check_stmt_parts.specs.Lists.{with_next, standing, if_statement, chosen_else, base_in, case_statement, arm_of, repeated_while, repeated_until, loop_statement, within, reported_in}
 use Rattle.check_stmt_parts.specs.Simple.{meant_if, in_loop, exit_statement, return_statement, condition, assignment, or_none, case_selector, record_of, opened_type, into_record, opened_if}
+use Rattle.check_stmt_parts.specs.Ranges.{Range}
 use Rattle.check_stmt_parts.specs.Labels.{labels_in}
 use Rattle.check_stmt_parts.specs.Control.{course_of, repeated_for}
 
@@ -33,11 +34,11 @@ ElaboratesRest T = Scope T → Around T → Result (Option (List TypedStmt)) T
 -- before it
 abbrev pub ElaboratesArm : Type 0 → Type 0
 ElaboratesArm T =
-    Scope T → Around T → Option TypeNo → List (ℤ × ℤ) → List (ℤ × ℤ) × Result TypedArm T
+    Scope T → Around T → Option TypeNo → List Range → List Range × Result TypedArm T
 
 -- the values of the labels so far, and the arms
 abbrev pub Arms : Type 0 → Type 0
-Arms T = List (ℤ × ℤ) × Result (List TypedArm) T
+Arms T = List Range × Result (List TypedArm) T
 
 module _ (g : Gathers) where
   abbrev pub args_meant : Option (List Expr) → List (Meant g.Reported)

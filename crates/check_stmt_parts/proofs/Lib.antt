@@ -1,3 +1,4 @@
 pub mod Closing
 pub mod Spans
+pub mod Points
 pub mod Apart

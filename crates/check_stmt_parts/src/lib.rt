@@ -1,7 +1,7 @@
 //! One step of checking a statement: each function elaborates one form of a statement, of parts that are known.
 //!
-//! The labels of a CASE are ranges of whole numbers, no two of which may have a value in common: `Ranges` keeps them in a
-//! search tree.
+//! The labels of a CASE are ranges of the values of a base type, no two of which may have a value in common: `Ranges` keeps
+//! them in a search tree.
 #![tactic(auto)]
 
 mod around;
@@ -20,7 +20,7 @@ pub use lists::{
     repeated_while, reported_in, standing, with_next, within,
 };
 pub use opened::opened_type;
-pub use ranges::Ranges;
+pub use ranges::{Point, Ranges};
 pub use simple::{
     assignment, case_selector, close, condition, open, procedure_call, record_of, return_statement,
 };

@@ -187,8 +187,9 @@ module _ (types : Types) (exports : ℕ → Ident → Standing) where
 
   pub data AreLabels (w : Site) (base : TypeNo) : List Item → List Label → Type 0 where
     no_label : AreLabels w base [] []
-    one_label : {i : Item} {is : List Item} {n m : ℤ} {ls : List Label}
-        → IsLabel types w.spot.names exports (Some base) i n m → AreLabels w base is ls
+    one_label : {i : Item} {is : List Item} {s t : Option TypeNo} {n m : ℤ} {ls : List Label}
+        → IsLabel types w.spot.names exports (Some base) i (Some ((s, n), (t, m)))
+        → AreLabels w base is ls
         → AreLabels w base (i ∷ is) (record { low = n; high = m } ∷ ls)
 
   mutual

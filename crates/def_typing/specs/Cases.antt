@@ -9,7 +9,7 @@ use Rattle.m2_tree.specs.declared.expr.Item.{Item, out-Item}
 use Rattle.typed_tree.specs.declared.types.TypeNo.{TypeNo}
 use Rattle.typed_tree.specs.declared.known_types.Types.{Types}
 use Rattle.typed_tree.specs.Types.{integer, cardinal}
-use Rattle.def_typing.specs.Amounts.{Amount, Constant, Value, GoTogether, Suits}
+use Rattle.def_typing.specs.Amounts.{Amount, Constant, Value, IsNumber, GoTogether, Suits}
 use Rattle.def_typing.specs.Operators.{◌!◌, Kind, Scalar, Set, Text, Untaken, operand}
 use Rattle.def_typing.specs.Things.{Thing, AValue, AVariable, ANested, AStandard, Headless, Standing, content, Mistaken}
 use Rattle.def_typing.specs.Parts.{first}
@@ -55,15 +55,23 @@ abbrev pub SuitsSelector : Option TypeNo → Kind → Type 0
 SuitsSelector None k = Unit {0}
 SuitsSelector (Some base) k = k ≡ Scalar (Value base)
 
+-- a number of a base type, if it has one
+abbrev pub Number : Type 0
+Number = Option TypeNo × ℤ
+
 -- the number of a bound
-pub data IsBound : Thing → Option TypeNo → ℤ → Type 0 where
+pub data IsBound (base : Option TypeNo) : Thing → Option Number → Type 0 where
   is_bound : {k : Kind} {sort : Option TypeNo} {n : ℤ} → operand k ≡ Scalar (Constant sort n)
-      → IsBound (AValue k) sort n
+      → IsBound base (AValue k) (Some (sort, n))
+  -- A set or a string has none. If the selector has no meaning, none is asked for.
+  no_number : {k : Kind} → base ≡ None → IsConstantThing (AValue k)
+      → ((sort : Option TypeNo) (n : ℤ) → operand k ≡ Scalar (Constant sort n) → ⊥)
+      → IsBound base (AValue k) None
 
 -- the refusals of a bound at its place, in a label
 pub data Misbounds (types : Types) (base : Option TypeNo) (label at : Pos) (x : Thing)
     : Breach → Type 0 where
-  no_number : IsConstantThing x → ((sort : Option TypeNo) (n : ℤ) → IsBound x sort n → ⊥)
+  no_bound : IsConstantThing x → ((p : Option Number) → IsBound base x p → ⊥)
       → Misbounds types base label at x (at ! rule.WrongType)
   no_value : {f : Breach} → Mistaken at x f → Misbounds types base label at x f
   -- a label that is no constant, whatever the selector
@@ -83,6 +91,10 @@ pub record FitsSelector (base sort : Option TypeNo) (n : ℤ) : Type 0 where
   pub of_base : IsOfBase base sort
   pub suits : Suits base (Constant sort n)
 
+abbrev pub Fits : Option TypeNo → Option Number → Type 0
+Fits base None = Unit {0}
+Fits base (Some p) = FitsSelector base p.0 p.1
+
 pub data Misfits (at : Pos) (base sort : Option TypeNo) (n : ℤ) : Breach → Type 0 where
   other_base : (IsOfBase base sort → ⊥) → Misfits at base sort n (at ! rule.WrongType)
   not_in_base : IsOfBase base sort → (Suits base (Constant sort n) → ⊥)
@@ -92,11 +104,39 @@ pub data Misfits (at : Pos) (base sort : Option TypeNo) (n : ℤ) : Breach → T
 pub data IsEmpty (s t : Option TypeNo) (n m : ℤ) : Type 0 where
   is_empty : {u : Option TypeNo} → GoTogether s t u → int_lt m n ≡ true → IsEmpty s t n m
 
--- The first range has values, and neither ends before the other begins.
-pub record Meets (a b : ℤ × ℤ) : Type 0 where
-  pub has_values : int_lt a.1 a.0 ≡ false
-  pub from_low : int_le b.0 a.1 ≡ true
-  pub to_high : int_le a.0 b.1 ≡ true
+abbrev pub IsEmptyRange : Option Number → Option Number → Type 0
+IsEmptyRange (Some p) (Some q) = IsEmpty p.0 q.0 p.1 q.1
+IsEmptyRange (Some p) None = ⊥
+IsEmptyRange None q = ⊥
+
+-- what a label stands for: the values from the first to the last, or none
+abbrev pub Values : Type 0
+Values = Option (Number × Number)
+
+abbrev pub from_to : Option Number → Option Number → Values
+from_to (Some p) (Some q) = Some (p, q)
+from_to (Some p) None = None
+from_to None q = None
+
+-- two bounds of one base type, or two whole numbers
+pub data AreOfOneBase : Option TypeNo → Option TypeNo → Type 0 where
+  one_type : {t : TypeNo} → AreOfOneBase (Some t) (Some t)
+  whole_numbers : {s t : Option TypeNo} → IsNumber s → IsNumber t → AreOfOneBase s t
+
+-- All bounds are of one base, the first range has values, and neither ends before the other
+-- begins.
+pub record ShareValues (a b : Number × Number) : Type 0 where
+  pub first_base : AreOfOneBase a.0.0 a.1.0
+  pub second_base : AreOfOneBase b.0.0 b.1.0
+  pub one_base : AreOfOneBase a.0.0 b.0.0
+  pub has_values : int_lt a.1.1 a.0.1 ≡ false
+  pub from_low : int_le b.0.1 a.1.1 ≡ true
+  pub to_high : int_le a.0.1 b.1.1 ≡ true
+
+abbrev pub Meets : Values → Values → Type 0
+Meets (Some a) (Some b) = ShareValues a b
+Meets (Some a) None = ⊥
+Meets None b = ⊥
 
 -- ---- the selector
 
@@ -112,9 +152,9 @@ module _ (types : Types) (names : Ident → Standing) (exports : ℕ → Ident �
         → ((a : Amount) → operand k ≡ Scalar a → ⊥) → BrokenSelector e (first e ! rule.WrongType)
 
   -- a bound of a label
-  pub data IsLabelBound (e : Expr) (sort : Option TypeNo) (n : ℤ) : Type 0 where
-    is_label_bound : {x : Thing} → Stands types names exports e x → IsBound x sort n
-        → IsLabelBound e sort n
+  pub data IsLabelBound (base : Option TypeNo) (e : Expr) (p : Option Number) : Type 0 where
+    is_label_bound : {x : Thing} → Stands types names exports e x → IsBound base x p
+        → IsLabelBound base e p
 
   pub data BrokenLabelBound (base : Option TypeNo) (label : Pos) (e : Expr) (f : Breach)
       : Type 0 where
@@ -128,41 +168,40 @@ module _ (types : Types) (names : Ident → Standing) (exports : ℕ → Ident �
   SelectsBy e None = (base : TypeNo) → IsSelector e base → ⊥
 
   module _ (base : Option TypeNo) where
-    -- A label stands for the numbers from the first to the last.
-    pub data IsLabel (i : Item) : ℤ → ℤ → Type 0 where
-      single : {sort : Option TypeNo} {n : ℤ} → (out-Item i).high ≡ None
-          → IsLabelBound (out-Item i).low sort n → FitsSelector base sort n → IsLabel i n n
-      range : {high : Expr} {s t : Option TypeNo} {n m : ℤ} → (out-Item i).high ≡ Some high
-          → IsLabelBound (out-Item i).low s n → IsLabelBound high t m → FitsSelector base s n
-          → FitsSelector base t m → (IsEmpty s t n m → ⊥) → IsLabel i n m
+    pub data IsLabel (i : Item) : Values → Type 0 where
+      single : {p : Option Number} → (out-Item i).high ≡ None
+          → IsLabelBound base (out-Item i).low p → Fits base p → IsLabel i (from_to p p)
+      range : {high : Expr} {p q : Option Number} → (out-Item i).high ≡ Some high
+          → IsLabelBound base (out-Item i).low p → IsLabelBound base high q → Fits base p
+          → Fits base q → (IsEmptyRange p q → ⊥) → IsLabel i (from_to p q)
 
     pub data BrokenLabel (i : Item) : Breach → Type 0 where
       in_label_bound : {e : Expr} {f : Breach} → Bounds e (out-Item i)
           → BrokenLabelBound base (first (out-Item i).low) e f → BrokenLabel i f
       misfits : {e : Expr} {sort : Option TypeNo} {n : ℤ} {f : Breach} → Bounds e (out-Item i)
-          → IsLabelBound e sort n → Misfits (first e) base sort n f → BrokenLabel i f
-      empty : {high : Expr} {s t : Option TypeNo} {n m : ℤ} → (out-Item i).high ≡ Some high
-          → IsLabelBound (out-Item i).low s n → IsLabelBound high t m → IsEmpty s t n m
+          → IsLabelBound base e (Some (sort, n)) → Misfits (first e) base sort n f
+          → BrokenLabel i f
+      empty : {high : Expr} {p q : Option Number} → (out-Item i).high ≡ Some high
+          → IsLabelBound base (out-Item i).low p → IsLabelBound base high q → IsEmptyRange p q
           → BrokenLabel i (first (out-Item i).low ! rule.EmptyRange)
 
     -- A label is there twice if it meets a label in front of it that is not there twice itself.
     -- The nearest one stands first.
-    abbrev pub IsTwice : List Item → ℤ × ℤ → Type 0
+    abbrev pub IsTwice : List Item → Values → Type 0
     IsTwice [] b = ⊥
     IsTwice (i ∷ front) b =
-        ((a : ℤ × ℤ) × IsLabel i a.0 a.1 × Meets a b × (IsTwice front a → ⊥)) ⊎ IsTwice front b
+        ((a : Values) × IsLabel i a × Meets a b × (IsTwice front a → ⊥)) ⊎ IsTwice front b
 
     -- labels behind others
     pub data AreLabels : List Item → List Item → Type 0 where
       no_label : {front : List Item} → AreLabels front []
-      one_label : {front is : List Item} {i : Item} {n m : ℤ} → IsLabel i n m
-          → (IsTwice front (n, m) → ⊥) → AreLabels (i ∷ front) is → AreLabels front (i ∷ is)
+      one_label : {front is : List Item} {i : Item} {a : Values} → IsLabel i a
+          → (IsTwice front a → ⊥) → AreLabels (i ∷ front) is → AreLabels front (i ∷ is)
 
     pub data BrokenLabels : List Item → List Item → Breach → Type 0 where
       in_label : {front is : List Item} {i : Item} {f : Breach} → BrokenLabel i f
           → BrokenLabels front (i ∷ is) f
-      there_twice : {front is : List Item} {i : Item} {n m : ℤ} → IsLabel i n m
-          → IsTwice front (n, m)
+      there_twice : {front is : List Item} {i : Item} {a : Values} → IsLabel i a → IsTwice front a
           → BrokenLabels front (i ∷ is) (first (out-Item i).low ! rule.WrongLabel)
       behind_label : {front is : List Item} {i : Item} {f : Breach}
           → BrokenLabels (i ∷ front) is f → BrokenLabels front (i ∷ is) f

@@ -1,5 +1,5 @@
 -- What statements mean nests no deeper than they do, by induction.
-use Rattle.std.proofs.Common.{map, ◌≡◌, ℕ, ◌+◌, ◌≤◌, ℤ, List, [], ◌∷◌, ◌++◌, Option, Some, None, Result, Ok, sym, ap, subst, ◌∙◌, arith}
+use Rattle.std.proofs.Common.{map, ◌≡◌, ℕ, ◌+◌, ◌≤◌, List, [], ◌∷◌, ◌++◌, Option, Some, None, Result, Ok, sym, ap, subst, ◌∙◌, arith}
 use Rattle.std.specs.Prelude.{map}
 use Rattle.std.specs.List.{fold}
 use Rattle.m2_tree.specs.declared.expr.Expr.{Expr}
@@ -22,6 +22,7 @@ use Rattle.check_stmt_parts.specs.Lists.{with_next, if_statement, chosen_else, b
 use Rattle.check_stmt_parts.specs.Simple.{meant_if, in_loop, case_selector, into_record}
 use Rattle.check_stmt.specs.Statements.{Elaborates, ElaboratesRest, ElaboratesArm, Arms, args_meant, with_stmt, all_of, all_if, with_arm, arms_of, stmt_layer, rest_layer, arm_layer, stmt, rest, arm, with_written, statements}
 use Rattle.check_expr.specs.Effects.{call_statement}
+use Rattle.check_stmt_parts.specs.Ranges.{Range}
 use Rattle.check_stmt_parts.specs.Labels.{with_item}
 use Rattle.check_stmt_parts.specs.Lists.{with_next}
 use Rattle.m2_tree.specs.declared.expr.Designator.{Designator}
@@ -48,7 +49,7 @@ module _ (g : Gathers) where
   Rest_ n f = (s : Scope g.Reported) (a : Around g.Reported) → AtMost depth_body_if n (f s a)
 
   abbrev Arm_ : ℕ → ElaboratesArm g.Reported → Type 0
-  Arm_ n f = (s : Scope g.Reported) (a : Around g.Reported) (base : Option TypeNo) (ranges : List (ℤ × ℤ)) → AtMost typed.depth_arm n (f s a base ranges).1
+  Arm_ n f = (s : Scope g.Reported) (a : Around g.Reported) (base : Option TypeNo) (ranges : List Range) → AtMost typed.depth_arm n (f s a base ranges).1
 
   abbrev AllJ : List ℕ → List (Elaborates g.Reported) → Type 0
   AllJ [] [] = Unit {0}

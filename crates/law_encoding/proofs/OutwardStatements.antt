@@ -1,5 +1,5 @@
 -- What statements mean goes no further outwards than the procedure around them stands deep, by induction.
-use Rattle.std.proofs.Common.{map, ◌≡◌, ℕ, ◌≤◌, ℤ, List, [], ◌∷◌, ◌++◌, Option, Some, None, Result, Ok, sym, ap, subst, ◌∙◌, arith}
+use Rattle.std.proofs.Common.{map, ◌≡◌, ℕ, ◌≤◌, List, [], ◌∷◌, ◌++◌, Option, Some, None, Result, Ok, sym, ap, subst, ◌∙◌, arith}
 use Rattle.std.specs.Prelude.{map}
 use Rattle.std.specs.List.{fold}
 use Rattle.m2_tree.specs.declared.expr.Expr.{Expr}
@@ -22,6 +22,7 @@ use Rattle.check_stmt_parts.specs.Lists.{with_next, if_statement, chosen_else, b
 use Rattle.check_stmt_parts.specs.Simple.{meant_if, in_loop, case_selector, into_record}
 use Rattle.check_stmt.specs.Statements.{Elaborates, ElaboratesRest, ElaboratesArm, Arms, args_meant, with_stmt, all_of, all_if, with_arm, arms_of, stmt_layer, rest_layer, arm_layer, stmt, rest, arm, with_written, statements}
 use Rattle.check_expr.specs.Effects.{call_statement}
+use Rattle.check_stmt_parts.specs.Ranges.{Range}
 use Rattle.check_stmt_parts.specs.Labels.{with_item}
 use Rattle.check_stmt_parts.specs.Lists.{with_next}
 use Rattle.m2_tree.specs.declared.expr.Designator.{Designator}
@@ -45,7 +46,7 @@ module _ (g : Gathers) where
   Rest_ f = (s : Scope g.Reported) (a : Around g.Reported) → AtMost outward_body_if s.level (f s a)
 
   abbrev Arm_ : ElaboratesArm g.Reported → Type 0
-  Arm_ f = (s : Scope g.Reported) (a : Around g.Reported) (base : Option TypeNo) (ranges : List (ℤ × ℤ)) → AtMost typed.outward_arm s.level (f s a base ranges).1
+  Arm_ f = (s : Scope g.Reported) (a : Around g.Reported) (base : Option TypeNo) (ranges : List Range) → AtMost typed.outward_arm s.level (f s a base ranges).1
 
   abbrev AllJ : List (Elaborates g.Reported) → Type 0
   AllJ [] = Unit {0}

@@ -1,5 +1,5 @@
 -- What statements mean counts no more than they do, by induction.
-use Rattle.std.proofs.Common.{map, ◌≡◌, ℕ, ◌+◌, ◌≤◌, ℤ, List, [], ◌∷◌, ◌++◌, length, Option, Some, None, Result, Ok, Err, sym, ap, subst, ◌∙◌, length-append, arith}
+use Rattle.std.proofs.Common.{map, ◌≡◌, ℕ, ◌+◌, ◌≤◌, List, [], ◌∷◌, ◌++◌, length, Option, Some, None, Result, Ok, Err, sym, ap, subst, ◌∙◌, length-append, arith}
 use Rattle.std.specs.Prelude.{map}
 use Rattle.std.specs.List.{fold}
 use Rattle.std.proofs.lemmas.List.{length-append}
@@ -23,7 +23,8 @@ use Rattle.check_stmt_parts.specs.Lists.{with_next, if_statement, chosen_else, b
 use Rattle.check_stmt_parts.specs.Simple.{meant_if, in_loop, case_selector, into_record}
 use Rattle.check_stmt.specs.Statements.{Elaborates, ElaboratesRest, ElaboratesArm, Arms, args_meant, with_stmt, all_of, all_if, with_arm, arms_of, stmt_layer, rest_layer, arm_layer, stmt, rest, arm, with_written, statements}
 use Rattle.check_expr.specs.Effects.{call_statement}
-use Rattle.check_stmt_parts.specs.Labels.{Labels, with_label, with_item, item_label}
+use Rattle.check_stmt_parts.specs.Ranges.{Range}
+use Rattle.check_stmt_parts.specs.Labels.{Bounds, Labels, with_label, with_item, item_label}
 use Rattle.check_stmt_parts.specs.Lists.{with_next}
 use Rattle.m2_tree.specs.declared.pos.Pos.{Pos}
 use Rattle.m2_tree.specs.declared.expr.Item.{Item, out-Item}
@@ -50,7 +51,7 @@ module _ (g : Gathers) where
   Rest_ n f = (s : Scope g.Reported) (a : Around g.Reported) → AtMost size_body_if n (f s a)
 
   abbrev Arm_ : ℕ → ElaboratesArm g.Reported → Type 0
-  Arm_ n f = (s : Scope g.Reported) (a : Around g.Reported) (base : Option TypeNo) (ranges : List (ℤ × ℤ)) → AtMost typed.size_arm n (f s a base ranges).1
+  Arm_ n f = (s : Scope g.Reported) (a : Around g.Reported) (base : Option TypeNo) (ranges : List Range) → AtMost typed.size_arm n (f s a base ranges).1
 
   abbrev AllJ : List ℕ → List (Elaborates g.Reported) → Type 0
   AllJ [] [] = Unit {0}
@@ -111,8 +112,12 @@ module _ (g : Gathers) where
   next_label : (k : ℕ) {so : Result (List Label) g.Reported} (x : Result Label g.Reported) → AtMost (λ (xs : List Label). length xs) k so → AtMost (λ (xs : List Label). length xs) (k + 1) (with_next g so x)
   next_label k x p = then_most (both_most g p (any_most x)) (λ v l. fine (v.0 ++ v.1 ∷ []) (one_longer _ _ k (length-append v.0 (v.1 ∷ [])) l))
 
-  label_most : (k : ℕ) (at : Pos) (st : Labels g.Reported) (r : Result Label g.Reported) → AtMost (λ (xs : List Label). length xs) k st.1 → AtMost (λ (xs : List Label). length xs) (k + 1) (with_label g at st r).1
-  label_most k at st (Ok l) p = next_label k _ p
+  one_more : (k : ℕ) → k ≤ k + 1
+  one_more k = omega arith
+
+  label_most : (k : ℕ) (at : Pos) (st : Labels g.Reported) (r : Result Bounds g.Reported) → AtMost (λ (xs : List Label). length xs) k st.1 → AtMost (λ (xs : List Label). length xs) (k + 1) (with_label g at st r).1
+  label_most k at st (Ok None) p = at_more (one_more k) p
+  label_most k at st (Ok (Some b)) p = next_label k _ p
   label_most k at st (Err e) p = next_label k (Err e) p
 
   one_label : (k n b : ℕ) → k + 1 + b ≤ k + (1 + n + b)

@@ -1,5 +1,5 @@
 -- Labels of CASE: their bounds are numbers of 32 bits in order.
-use Rattle.std.proofs.Common.{◌≡◌, ℕ, ℤ, Bool, true, false, List, [], ◌∷◌, ◌++◌, Option, Some, None, Result, Ok, Err, refl, sym, ap, subst, ◌∙◌}
+use Rattle.std.proofs.Common.{◌≡◌, ℕ, Bool, true, false, List, [], ◌∷◌, ◌++◌, Option, Some, None, Result, Ok, Err, refl, sym, ap, subst, ◌∙◌}
 use Rattle.std.specs.Prelude.{◌≤ℤ◌, int_lt, if◌then◌else◌}
 use Rattle.std.specs.List.{fold, list_all}
 use Rattle.m2_rule.specs.declared.rule.Rule.TheVariants as rule
@@ -19,7 +19,7 @@ use Rattle.check_const_ops.specs.declared.operand.Operand.TheVariants as operand
 use Rattle.check_const_ops.specs.declared.operand.Ordinal.{Ordinal}
 use Rattle.check_const_ops.specs.Operands.{operand_of}
 use Rattle.check_const_ops.specs.Common.{common}
-use Rattle.check_const_ops.specs.Bounds.{are_ordered, fits_base, is_of_base, ordered_if, ordinal_in}
+use Rattle.check_const_ops.specs.Bounds.{fits_base, is_of_base, ordered_if}
 use Rattle.check_operator.specs.Classes.{class_at}
 use Rattle.check_operator.specs.declared.class.Class.{Class}
 use Rattle.check_operator.specs.declared.class.Class.TheVariants as class
@@ -39,7 +39,8 @@ use Rattle.law_programs.specs.Typing.{ValueTyped, DesignatedTyped, IsTyped, Expr
 use Rattle.law_programs.proofs.Operators.{where_not}
 use Rattle.check_stmt_parts.specs.Lists.{with_next}
 use Rattle.check_stmt_parts.specs.Simple.{meant_if}
-use Rattle.check_stmt_parts.specs.Labels.{of_type, no_constant, value_bound, variable_bound, bound_by, bound_in, bound_of, suits_base, bound_suits, single, label_range, label_between, Labels, with_label, item_label, with_item, labels_in}
+use Rattle.check_stmt_parts.specs.Ranges.{Range}
+use Rattle.check_stmt_parts.specs.Labels.{Bound, of_type, no_constant, constant_bound, value_bound, variable_bound, bound_by, bound_in, bound_of, suits_base, bound_suits, Bounds, bounds_of, bounds_ordered, single, label_range, label_between, Labels, label_by, enter_label, with_label, item_label, with_item, labels_in}
 use Rattle.law_programs.specs.TypingStmts.{fits_if, fits_label}
 use Rattle.law_programs.proofs.StmtsSteps.{small}
 
@@ -68,24 +69,28 @@ module _ (g : Gathers) (x : Context) (ws : List Ty) (opens : ℕ → Bool) (s : 
   abbrev types : Types
   types = x.home.types
 
-  abbrev InSort : Ordinal → Type 0
-  InSort a = SortRanged types a.sort a.number
+  abbrev IsInSort : Ordinal → Type 0
+  IsInSort a = SortRanged types a.sort a.number
+
+  abbrev InSort : Option Ordinal → Type 0
+  InSort None = Unit {0}
+  InSort (Some a) = IsInSort a
 
   -- ---- bounds
 
-  ordinal_typed : (at : Pos) (o : Option Operand) → OperandRanged types o → Holds InSort (ordinal_in g at o)
-  ordinal_typed at None p = reported_holds g at rule.WrongType
-  ordinal_typed at (Some (operand.Set bits)) p = reported_holds g at rule.WrongType
-  ordinal_typed at (Some (operand.Scalar a)) p = fine a p
+  constant_typed : (base : TypeNo) (at : Pos) (o : Option Operand) → OperandRanged types o → Holds InSort (constant_bound g (Some base) at o)
+  constant_typed base at None p = reported_holds g at rule.WrongType
+  constant_typed base at (Some (operand.Set bits)) p = reported_holds g at rule.WrongType
+  constant_typed base at (Some (operand.Scalar a)) p = fine (Some a) p
 
-  reported_label : (label : Pos) → Holds (λ (a : Ordinal). ⊥) (report g {A = Ordinal} label rule.WrongLabel)
+  reported_label : (label : Pos) → Holds (λ (a : Option Ordinal). ⊥) (report g {A = Option Ordinal} label rule.WrongLabel)
   reported_label label = reported_holds g label rule.WrongLabel
 
   none_typed : (alike : Bool) (label at : Pos) → Holds InSort (no_constant g alike label at)
   none_typed alike label at = then_holds (both_holds g (any_holds (of_type g alike at)) (reported_label label)) (λ v k. absurd k.1)
 
   value_typed : (base : TypeNo) (label at : Pos) (v : Computed) → ValueTyped x ws v → Holds InSort (value_bound g (Some base) label at v)
-  value_typed base label at (value.Constant v) p = ordinal_typed at (operand_of v) (operand_ranged types v p.0)
+  value_typed base label at (value.Constant v) p = constant_typed base at (operand_of v) (operand_ranged types v p.0)
   value_typed base label at (value.Scalar t b e) p = none_typed (are_same b base) label at
   value_typed base label at (value.Set e) p = none_typed false label at
   value_typed base label at (value.Routine t e) p = none_typed false label at
@@ -123,11 +128,19 @@ module _ (g : Gathers) (x : Context) (ws : List Ty) (opens : ℕ → Bool) (s : 
 
   -- ---- labels
 
-  label_of : (a b : Ordinal) → InSort a → InSort b → a.number ≤ℤ b.number → IsLabel (record { low = a.number; high = b.number })
+  abbrev AreBounds : Bounds → Type 0
+  AreBounds None = Unit {0}
+  AreBounds (Some b) = IsLabel (label_by b)
+
+  label_of : (a b : Ordinal) → IsInSort a → IsInSort b → a.number ≤ℤ b.number → AreBounds (Some (a, b))
   label_of a b p q r = record { low = (small types h.all.ranged a.sort a.number p).0; order = r; high = (small types h.all.ranged b.sort b.number q).1 }
 
-  single_typed : (base : TypeNo) (at : Pos) {a : Result Ordinal g.Reported} → Holds InSort a → Holds IsLabel (single g (Some base) at a)
-  single_typed base at {a = a} p = then_holds (both_holds g p (any_holds (bound_suits g (Some base) at a))) (λ v k. fine (record { low = v.0.number; high = v.0.number }) (label_of v.0 v.0 k.0 k.0 (at_itself v.0.number)))
+  single_typed : (base : TypeNo) (at : Pos) {a : Bound g.Reported} → Holds InSort a → Holds AreBounds (single g (Some base) at a)
+  single_typed base at {a = a} p = then_holds (both_holds g p (any_holds (bound_suits g (Some base) at a))) (λ v k. fine (bounds_of v.0 v.0) (at_both v.0 k.0))
+    where
+      at_both : (o : Option Ordinal) → InSort o → AreBounds (bounds_of o o)
+      at_both None q = tt
+      at_both (Some o) q = label_of o o q q (at_itself o.number)
 
   suits_typed : (base : TypeNo) (at : Pos) (a : Ordinal) → Holds (λ u. is_of_base base a.sort ≡ true) (suits_base g (Some base) at a)
   suits_typed base at a = where_not g (is_of_base base a.sort) at rule.WrongType (λ e. then_any e (fits_base g at base a.sort a.number)) where
@@ -162,27 +175,37 @@ module _ (g : Gathers) (x : Context) (ws : List Ty) (opens : ℕ → Bool) (s : 
       weaker f (fine u p) = fine u (f p)
       weaker f (broken e) = broken e
 
-  no_ordinal : (e : g.Reported) → Holds {A = Ordinal} (λ d. ⊥) (Err e)
+  no_ordinal : (e : g.Reported) → Holds {A = Option Ordinal} (λ d. ⊥) (Err e)
   no_ordinal e = broken e
 
-  two_ordinals : (a b : Ordinal) → Holds {A = Ordinal × Ordinal} {T = g.Reported} (λ v. v ≡ (a, b)) (Ok (a, b))
-  two_ordinals a b = fine (a, b) refl
+  two_bounds : (a b : Option Ordinal) → Holds {A = Option Ordinal × Option Ordinal} {T = g.Reported} (λ v. v ≡ (a, b)) (Ok (a, b))
+  two_bounds a b = fine (a, b) refl
 
-  spanned_typed : (base : TypeNo) (at : Pos) {a : Result Ordinal g.Reported} (at' : Pos) {b : Result Ordinal g.Reported} → Holds InSort a → Holds InSort b → Holds IsLabel (label_range g (Some base) at a at' b)
-  spanned_typed base at at' (fine a p) (fine b q) =
-      then_holds (both_holds g (two_ordinals a b) (third_typed base at at' a b)) (λ v k.
-      fine (record { low = v.0.0.number; high = v.0.1.number })
-      (subst (λ (z : Ordinal × Ordinal). IsLabel (record { low = z.0.number; high = z.1.number })) (sym k.0) (label_of a b p q k.1)))
+  abbrev Besides : TypeNo → Pos → Pos → Bound g.Reported → Bound g.Reported → Result (Unit {0}) g.Reported
+  Besides base at at' a b = beside g (beside g (bound_suits g (Some base) at a) (bound_suits g (Some base) at' b)) (bounds_ordered g at a b)
+
+  abbrev BoundsOf : Option Ordinal × Option Ordinal → Type 0
+  BoundsOf z = AreBounds (bounds_of z.0 z.1)
+
+  without_typed : (base : TypeNo) (at at' : Pos) (a b : Option Ordinal) → BoundsOf (a, b) → Holds AreBounds (label_range g (Some base) at (Ok a) at' (Ok b))
+  without_typed base at at' a b p = then_holds (both_holds g (two_bounds a b) (any_holds (Besides base at at' (Ok a) (Ok b)))) (λ v k. fine (bounds_of v.0.0 v.0.1) (subst BoundsOf (sym k.0) p))
+
+  spanned_typed : (base : TypeNo) (at : Pos) {a : Bound g.Reported} (at' : Pos) {b : Bound g.Reported} → Holds InSort a → Holds InSort b → Holds AreBounds (label_range g (Some base) at a at' b)
+  spanned_typed base at at' (fine (Some a) p) (fine (Some b) q) =
+      then_holds (both_holds g (two_bounds (Some a) (Some b)) (third_typed base at at' a b)) (λ v k.
+      fine (bounds_of v.0.0 v.0.1) (subst BoundsOf (sym k.0) (label_of a b p q k.1)))
+  spanned_typed base at at' (fine (Some a) p) (fine None q) = without_typed base at at' (Some a) None tt
+  spanned_typed base at at' (fine None p) (fine b q) = without_typed base at at' None b tt
   spanned_typed base at {a = a} at' {b = b} (fine k p) (broken e) =
-      then_holds (both_holds g (both_holds g (any_holds a) (no_ordinal e)) (any_holds (beside g (beside g (bound_suits g (Some base) at a) (bound_suits g (Some base) at' b)) (are_ordered g at a b)))) (λ v j. absurd j.0.1)
+      then_holds (both_holds g (both_holds g (any_holds a) (no_ordinal e)) (any_holds (Besides base at at' a b))) (λ v j. absurd j.0.1)
   spanned_typed base at {a = a} at' {b = b} (broken e) q =
-      then_holds (both_holds g (both_holds g (no_ordinal e) (any_holds b)) (any_holds (beside g (beside g (bound_suits g (Some base) at a) (bound_suits g (Some base) at' b)) (are_ordered g at a b)))) (λ v j. absurd j.0.0)
+      then_holds (both_holds g (both_holds g (no_ordinal e) (any_holds b)) (any_holds (Besides base at at' a b))) (λ v j. absurd j.0.0)
 
   abbrev KnownIf : Option (Meant g.Reported) → Type 0
   KnownIf None = Unit {0}
   KnownIf (Some y) = Known_ y
 
-  between_typed : (base : TypeNo) (low : Meant g.Reported) (high : Option (Meant g.Reported)) → Known_ low → KnownIf high → Holds IsLabel (label_between g s (Some base) low high)
+  between_typed : (base : TypeNo) (low : Meant g.Reported) (high : Option (Meant g.Reported)) → Known_ low → KnownIf high → Holds AreBounds (label_between g s (Some base) low high)
   between_typed base low None p q = single_typed base low.fixed.at (bound_typed base low.fixed.at low p)
   between_typed base low (Some high) p q = spanned_typed base low.fixed.at high.fixed.at (bound_typed base low.fixed.at low p) (bound_typed base low.fixed.at high q)
 
@@ -195,16 +218,17 @@ module _ (g : Gathers) (x : Context) (ws : List Ty) (opens : ℕ → Bool) (s : 
   next_label : {so : Result (List Label) g.Reported} {r : Result Label g.Reported} → Holds AreLabels so → Holds IsLabel r → Holds AreLabels (with_next g so r)
   next_label p q = then_holds (both_holds g p q) (λ v k. fine (v.0 ++ v.1 ∷ []) (labels_more v.0 v.1 k.0 k.1))
 
-  with_typed : (at : Pos) (st : Labels g.Reported) (r : Result Label g.Reported) → Holds AreLabels st.1 → Holds IsLabel r → Holds AreLabels (with_label g at st r).1
-  with_typed at st (Ok l) p q = next_label p (where_not g _ at rule.WrongLabel (λ e. q))
-  with_typed at st (Err e) p q = next_label p (broken e)
+  with_typed : (at : Pos) (st : Labels g.Reported) {r : Result Bounds g.Reported} → Holds AreLabels st.1 → Holds AreBounds r → Holds AreLabels (with_label g at st r).1
+  with_typed at st p (fine None q) = p
+  with_typed at st p (fine (Some b) q) = next_label p (where_not g (enter_label b st.0).1 at rule.WrongLabel (λ e. fine (label_by b) q))
+  with_typed at st p (broken e) = next_label p (broken e)
 
   module _ (exprs : ExpressionsAreTyped g) where
     high_known : (o : Option Expr) → fits_if o ≡ true → KnownIf (meant_if g o)
     high_known None f = tt
     high_known (Some e) f = exprs x ws opens s h e f
 
-    item_typed : (base : TypeNo) (i : Item) → fits_label i ≡ true → Holds IsLabel (item_label g s (Some base) i)
+    item_typed : (base : TypeNo) (i : Item) → fits_label i ≡ true → Holds AreBounds (item_label g s (Some base) i)
     item_typed base i f =
         between_typed base (meanings_of g (out-Item i).low) (meant_if g (out-Item i).high) (exprs x ws opens s h (out-Item i).low (both_left (fits_whole (out-Item i).low) (fits_if (out-Item i).high) f))
         (high_known (out-Item i).high (both_right (fits_whole (out-Item i).low) (fits_if (out-Item i).high) f))
@@ -213,7 +237,7 @@ module _ (g : Gathers) (x : Context) (ws : List Ty) (opens : ℕ → Bool) (s : 
     from_labels base [] st f p = p
     from_labels base (i ∷ is) st f p =
         from_labels base is (with_item g s (Some base) st i) (both_right (fits_label i) (list_all fits_label is) f)
-        (with_typed (meanings_of g (out-Item i).low).fixed.at st (item_label g s (Some base) i) p (item_typed base i (both_left (fits_label i) (list_all fits_label is) f)))
+        (with_typed (meanings_of g (out-Item i).low).fixed.at st p (item_typed base i (both_left (fits_label i) (list_all fits_label is) f)))
 
-    pub labels_typed : (base : TypeNo) (ranges : List (ℤ × ℤ)) (is : List Item) → list_all fits_label is ≡ true → Holds AreLabels (labels_in g s (Some base) ranges is).1
+    pub labels_typed : (base : TypeNo) (ranges : List Range) (is : List Item) → list_all fits_label is ≡ true → Holds AreLabels (labels_in g s (Some base) ranges is).1
     labels_typed base ranges is f = from_labels base is (ranges, Ok []) f (fine [] tt)

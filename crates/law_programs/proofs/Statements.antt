@@ -1,5 +1,5 @@
 -- Statements of bodies, by induction.
-use Rattle.std.proofs.Common.{◌≡◌, ℕ, ℤ, Bool, true, ◌&&◌, List, [], ◌∷◌, ◌++◌, length, Option, Some, None, Result, Ok, Err, sym, ap, subst, ◌∙◌}
+use Rattle.std.proofs.Common.{◌≡◌, ℕ, Bool, true, ◌&&◌, List, [], ◌∷◌, ◌++◌, length, Option, Some, None, Result, Ok, Err, sym, ap, subst, ◌∙◌}
 use Rattle.std.specs.Prelude.{map}
 use Rattle.std.specs.List.{fold, list_all}
 use Rattle.m2_tree.specs.declared.expr.Expr.{Expr}
@@ -31,6 +31,7 @@ use Rattle.law_programs.specs.Typing.{fits_whole, fits_head, PlaceTyped, ValueTy
 use Rattle.law_programs.proofs.Operators.{SomeTyped}
 use Rattle.law_programs.proofs.Meanings.{AllM, value_typed}
 use Rattle.check_stmt_parts.specs.declared.around.Around.{Around}
+use Rattle.check_stmt_parts.specs.Ranges.{Range}
 use Rattle.check_stmt_parts.specs.Lists.{with_next, if_statement, chosen_else, base_in, case_statement, arm_of, repeated_while, repeated_until, loop_statement, within}
 use Rattle.check_stmt_parts.specs.Simple.{condition, meant_if, in_loop, into_record}
 use Rattle.check_stmt.specs.Statements.{Elaborates, ElaboratesRest, ElaboratesArm, Arms, args_meant, with_stmt, all_of, all_if, with_arm, arms_of, stmt_layer, rest_layer, arm_layer, stmt, rest, arm, with_written, statements}
@@ -83,7 +84,7 @@ module _ (g : Gathers) (exprs : ExpressionsAreTyped g) (heads : DesignatorsAreTy
   TypedRest f = (ws : List Ty) (s : Scope g.Reported) → In ws s → (a : Around g.Reported) → Returned a → Others_ ws a (f s a)
 
   abbrev TypedArms : ElaboratesArm g.Reported → Type 0
-  TypedArms f = (ws : List Ty) (s : Scope g.Reported) → In ws s → (a : Around g.Reported) → Returned a → (base : TypeNo) (ranges : List (ℤ × ℤ)) → Arm_ ws a (f s a (Some base) ranges).1
+  TypedArms f = (ws : List Ty) (s : Scope g.Reported) → In ws s → (a : Around g.Reported) → Returned a → (base : TypeNo) (ranges : List Range) → Arm_ ws a (f s a (Some base) ranges).1
 
   abbrev AllJ : List (Elaborates g.Reported) → Type 0
   AllJ [] = Unit {0}

@@ -1,5 +1,5 @@
 -- The induction over statements: what is answered is the one typed tree that the rules give.
-use Rattle.std.proofs.Common.{◌≡◌, ℕ, ℤ, not, List, [], ◌∷◌, ◌++◌, ◌+◌, Option, Some, None, Result, Ok, Err, refl, sym, ap, subst, ◌∙◌, append-nil, append_assoc, length-append}
+use Rattle.std.proofs.Common.{◌≡◌, ℕ, not, List, [], ◌∷◌, ◌++◌, ◌+◌, Option, Some, None, Result, Ok, Err, refl, sym, ap, subst, ◌∙◌, append-nil, append_assoc, length-append}
 use Rattle.std.specs.Prelude.{map}
 use Rattle.std.specs.List.{fold}
 use Rattle.std.specs.Option.{is_some}
@@ -31,6 +31,7 @@ use Rattle.check_operator.specs.declared.computed.Designated.TheVariants as desi
 use Rattle.check_expr.specs.Meanings.{meanings_of, head, value_of}
 use Rattle.check_stmt_parts.specs.declared.around.Around.{Around}
 use Rattle.check_stmt_parts.specs.declared.control.Course.{Course}
+use Rattle.check_stmt_parts.specs.Ranges.{Range}
 use Rattle.check_stmt_parts.specs.Lists.{with_next, base_in, case_statement}
 use Rattle.check_stmt_parts.specs.Simple.{meant_if, in_loop, given_back, return_statement, condition, record_by, record_of, into_record}
 use Rattle.check_stmt.specs.Statements.{Elaborates, ElaboratesRest, ElaboratesArm, with_stmt, all_of, with_arm, arms_of, stmt_layer, rest_layer, stmt, rest, arm}
@@ -212,15 +213,15 @@ module _ (g : Gathers) (j : Judges g) (lawful : Lawful g j) (exports : ℕ → I
     abbrev ArmIs : TypeNo → Arm → TypedArm → Type 0
     ArmIs base x y = IsOne (Ls base (out-Arm x).labels) y.labels × IsOne (All (out-Arm x).body) y.body
 
-    arm_so : (k : Known w s a) (base : TypeNo) (x : Arm) (rs : List (ℤ × ℤ)) → ListSo (out-Arm x).body → IfMeant (ArmIs base x) (arm g x s a (Some base) rs).1
+    arm_so : (k : Known w s a) (base : TypeNo) (x : Arm) (rs : List Range) → ListSo (out-Arm x).body → IfMeant (ArmIs base x) (arm g x s a (Some base) rs).1
     arm_so k base x rs h = subst (λ (q : ElaboratesArm g.Reported). IfMeant (ArmIs base x) (q s a (Some base) rs).1) (sym (arm_is g x))
         (if_then (if_both g (labels_so g j lawful exports w s k.of_spot.of_names base (out-Arm x).labels rs) h) (λ p q. meant _ q))
 
-    broken_arms : {Q : List TypedArm → Type 0} (base : Option TypeNo) (xs : List Arm) (rs : List (ℤ × ℤ)) (r : g.Reported) → IfMeant Q (fold (with_arm g s a base) (rs, Err r) (map (arm g) xs)).1
+    broken_arms : {Q : List TypedArm → Type 0} (base : Option TypeNo) (xs : List Arm) (rs : List Range) (r : g.Reported) → IfMeant Q (fold (with_arm g s a base) (rs, Err r) (map (arm g) xs)).1
     broken_arms base [] rs r = not_meant r
     broken_arms base (x ∷ xs) rs r = by_arm _ (arm g x s a base rs).1 (λ qs q. broken_arms base xs qs q)
       where
-        by_arm : {Q : List TypedArm → Type 0} (qs : List (ℤ × ℤ)) (z : Result TypedArm g.Reported) → ((qs : List (ℤ × ℤ)) (q : g.Reported) → IfMeant Q (fold (with_arm g s a base) (qs, Err q) (map (arm g) xs)).1) → IfMeant Q (fold (with_arm g s a base) (qs, with_next g (Err r) z) (map (arm g) xs)).1
+        by_arm : {Q : List TypedArm → Type 0} (qs : List Range) (z : Result TypedArm g.Reported) → ((qs : List Range) (q : g.Reported) → IfMeant Q (fold (with_arm g s a base) (qs, Err q) (map (arm g) xs)).1) → IfMeant Q (fold (with_arm g s a base) (qs, with_next g (Err r) z) (map (arm g) xs)).1
         by_arm qs (Ok z) h = h qs r
         by_arm qs (Err q) h = h qs (g.join r q)
 
@@ -230,7 +231,7 @@ module _ (g : Gathers) (j : Judges g) (lawful : Lawful g j) (exports : ℕ → I
     same_arm : (y : TypedArm) (ls : List Label) (xs : List TypedStmt) → ls ≡ y.labels → xs ≡ y.body → ◌≡◌ {A = TypedArm} (record { labels = ls; body = xs }) y
     same_arm y ls xs p q = ap (λ (z : List Label). let k : TypedArm = record { labels = z; body = xs } in k) p ∙ ap (λ (z : List TypedStmt). let k : TypedArm = record { labels = y.labels; body = z } in k) q
 
-    arms_from : (k : Known w s a) (base : TypeNo) (xs : List Arm) (rs : List (ℤ × ℤ)) (so : List TypedArm) → ((x : Arm) → Among x xs → ListSo (out-Arm x).body) → IfMeant (Armed base so xs) (fold (with_arm g s a (Some base)) (rs, Ok so) (map (arm g) xs)).1
+    arms_from : (k : Known w s a) (base : TypeNo) (xs : List Arm) (rs : List Range) (so : List TypedArm) → ((x : Arm) → Among x xs → ListSo (out-Arm x).body) → IfMeant (Armed base so xs) (fold (with_arm g s a (Some base)) (rs, Ok so) (map (arm g) xs)).1
     arms_from k base [] rs so h = meant so ([], sym (append-nil so), record { holds = rules.no_arm; alone = λ ys r. alone ys r })
       where
         alone : (ys : List TypedArm) → AM base [] ys → ys ≡ []
@@ -243,7 +244,7 @@ module _ (g : Gathers) (j : Judges g) (lawful : Lawful g j) (exports : ℕ → I
             alone : (ys : List TypedArm) → AM base (x ∷ xs) ys → ys ≡ z ∷ r.0
             alone _ (rules.one_arm {ls = ls} {xs = zs} {ys = ys} p q m) = let h = same_arm z ls zs (o.0.alone ls p) (o.1.alone zs q) in cc (h, r.2.alone ys m)
 
-        by_arm : (qs : List (ℤ × ℤ)) {z : Result TypedArm g.Reported} → ((qs : List (ℤ × ℤ)) (to : List TypedArm) → IfMeant (Armed base to xs) (fold (with_arm g s a (Some base)) (qs, Ok to) (map (arm g) xs)).1) → IfMeant (ArmIs base x) z → IfMeant (Armed base so (x ∷ xs)) (fold (with_arm g s a (Some base)) (qs, with_next g (Ok so) z) (map (arm g) xs)).1
+        by_arm : (qs : List Range) {z : Result TypedArm g.Reported} → ((qs : List Range) (to : List TypedArm) → IfMeant (Armed base to xs) (fold (with_arm g s a (Some base)) (qs, Ok to) (map (arm g) xs)).1) → IfMeant (ArmIs base x) z → IfMeant (Armed base so (x ∷ xs)) (fold (with_arm g s a (Some base)) (qs, with_next g (Ok so) z) (map (arm g) xs)).1
         by_arm qs r (meant z o) = if_as (λ zs q. joined o q) (r qs (so ++ z ∷ []))
         by_arm qs r (not_meant q) = broken_arms (Some base) xs qs q
 

@@ -1,5 +1,5 @@
 -- A CASE is answered exactly if its statements are.
-use Rattle.std.proofs.Common.{◌≡◌, ℕ, ℤ, List, [], ◌∷◌, ◌++◌, Option, Some, None, Result, Ok, Err, ◌⊎◌, inl, inr, refl, sym, ap, subst, ◌∙◌}
+use Rattle.std.proofs.Common.{◌≡◌, ℕ, List, [], ◌∷◌, ◌++◌, Option, Some, None, Result, Ok, Err, ◌⊎◌, inl, inr, refl, sym, ap, subst, ◌∙◌}
 use Rattle.std.specs.Prelude.{map}
 use Rattle.std.specs.List.{fold}
 use Rattle.m2_rule.specs.declared.breach.Breach.{Breach}
@@ -19,6 +19,7 @@ use Rattle.typed_tree.specs.declared.statement.TypedArm.{TypedArm}
 use Rattle.check_scope.specs.declared.scope.Scope.{Scope}
 use Rattle.check_scope.specs.Elaborated.{Gathers}
 use Rattle.check_stmt_parts.specs.declared.around.Around.{Around}
+use Rattle.check_stmt_parts.specs.Ranges.{Range}
 use Rattle.check_stmt_parts.specs.Lists.{base_in, case_statement}
 use Rattle.check_stmt.specs.Statements.{Elaborates, ElaboratesRest, ElaboratesArm, with_arm, arms_of, all_of, stmt_layer, rest_layer, arm_layer, stmt, rest, arm}
 use Rattle.def_typing.specs.Things.{Standing}
@@ -79,13 +80,13 @@ module _ (g : Gathers) (j : Judges g) (lawful : Lawful g j) (exports : ℕ → I
     abbrev BLs : List Item → List Item → Breach → Type 0
     BLs front is = BrokenLabels s.types w.names exports base front is
 
-    abbrev K : List Item → List (ℤ × ℤ) → Type 0
+    abbrev K : List Item → List Range → Type 0
     K front rs = Keeps g j lawful w.names exports s knows base front rs
 
-    abbrev ArmSo : List Item → Arm → List (ℤ × ℤ) × Result TypedArm g.Reported → Type 0
+    abbrev ArmSo : List Item → Arm → List Range × Result TypedArm g.Reported → Type 0
     ArmSo front x q = K (behind (out-Arm x).labels front) q.0 × Checks g j lawful U {A = TypedArm} (AL front (out-Arm x).labels × BodyObeys x) (λ f. BLs front (out-Arm x).labels f ⊎ BodyBroken x f) q.1
 
-    arm_checks : (x : Arm) → BodySo x → (front : List Item) (rs : List (ℤ × ℤ)) → K front rs → ArmSo front x (arm g x s a base rs)
+    arm_checks : (x : Arm) → BodySo x → (front : List Item) (rs : List Range) → K front rs → ArmSo front x (arm g x s a base rs)
     arm_checks x b front rs k = subst (λ (q : ElaboratesArm g.Reported). ArmSo front x (q s a base rs)) (sym (arm_is g x))
         (let q = labels_check g j lawful w.names exports s knows base (out-Arm x).labels front k in
         (q.0, map_checks g j lawful U (λ (p : List Label × List TypedStmt). let t : TypedArm = record { labels = p.0; body = p.1 } in t) (both_checks g j lawful U (more_checks g j lawful (λ f o. inl o) q.1) b)))
@@ -96,7 +97,7 @@ module _ (g : Gathers) (j : Judges g) (lawful : Lawful g j) (exports : ℕ → I
     abbrev Wrong : List Item → List Arm → Breach → Type 0
     Wrong front xs f = BLs front (labels_of xs) f ⊎ AnyBroken xs f
 
-    arms_from : (xs : List Arm) → ((x : Arm) → Among x xs → BodySo x) → (front : List Item) (rs : List (ℤ × ℤ)) → K front rs
+    arms_from : (xs : List Arm) → ((x : Arm) → Among x xs → BodySo x) → (front : List Item) (rs : List Range) → K front rs
         → {P : Type 0} {B : Breach → Type 0} {so : Result (List TypedArm) g.Reported} → Checks g j lawful U {A = List TypedArm} P B so
         → Checks g j lawful U {A = List TypedArm} (P × Arms front xs) (λ f. B f ⊎ Wrong front xs f) (fold (with_arm g s a base) (rs, so) (map (arm g) xs)).1
     arms_from [] h front rs k c = checks_as g j lawful U (λ z. (z, (cases.no_label, λ x m. elim m [ ]))) (λ z. z.0) (λ f b. inl b) (λ f z. elim z [ inl b ↦ b | inr y ↦ elim y [ inl b ↦ elim b [ ] | inr b ↦ elim b.1 [ ] ] ]) c

@@ -35,7 +35,7 @@ use Rattle.def_typing.specs.Things.{Standing}
 use Rattle.def_typing.specs.Parts.{first}
 use Rattle.def_typing.specs.Constants.{AConstant, Fixes}
 use Rattle.def_typing.specs.Expressions.{BrokenAsConstant}
-use Rattle.def_typing.specs.Cases.{SelectsIn, constant_type, negative, not_negative, IsOfBase, IsEmpty, is_empty}
+use Rattle.def_typing.specs.Cases.{Number, SelectsIn, constant_type, negative, not_negative, IsOfBase, IsEmpty, is_empty}
 use Rattle.def_typing.specs.TypeNames.{NamesType, BrokenTypeName}
 use Rattle.def_typing.specs.Subranges as rules
 use Rattle.def_typing.specs.Subranges.{IsUnder, Exceeds, IsTypeBound, is_type_bound, BrokenTypeBound, NamesRange, names_range, IsSubrange, BrokenSubrange}
@@ -48,7 +48,7 @@ use Rattle.law_typing.proofs.Elements.{IsOrdinal, is_ordinal, one_meaning, check
 use Rattle.law_typing.proofs.Places.{at_is}
 use Rattle.law_typing.proofs.Expressing.{exactly_fixed}
 use Rattle.law_typing.proofs.Heading.{place_same}
-use Rattle.law_typing.proofs.Labelling.{Number, base_decided, suits_decided}
+use Rattle.law_typing.proofs.Labelling.{base_decided, suits_decided}
 use Rattle.law_typing.proofs.Shaping.{scalar_of, scalar_is}
 use Rattle.law_typing.proofs.TypeNaming.{type_name_answers}
 

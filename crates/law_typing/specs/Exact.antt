@@ -1,5 +1,6 @@
 -- What is elaborated, and what it stands for.
 use Rattle.std.specs.Prelude.{◌≡◌, ◌⊎◌, ◌&&◌, ◌==◌, Bool, true, false, not, ℕ, ℤ, List, [], Option, Some, None, Result, Ok, Err, map}
+use Rattle.std.specs.Option.{option_map}
 use Rattle.m2_rule.specs.declared.rule.Rule.TheVariants as rule
 use Rattle.m2_tree.specs.declared.pos.Pos.{Pos}
 use Rattle.m2_tree.specs.declared.name.Ident.{Ident}
@@ -44,7 +45,7 @@ use Rattle.check_stmt_parts.specs.Simple.{meant_if, exit_statement, return_state
 use Rattle.def_typing.specs.Returns.{Giving, Nothing, AResult, AnyResult, Returns, BrokenReturn, IsExit, BrokenExit}
 use Rattle.check_stmt_parts.specs.declared.control.Course.{Course}
 use Rattle.check_stmt_parts.specs.Control.{is_own, course_of}
-use Rattle.def_typing.specs.Cases.{IsSelector, BrokenSelector, IsLabelBound, BrokenLabelBound}
+use Rattle.def_typing.specs.Cases.{IsSelector, BrokenSelector, Number, IsLabelBound, BrokenLabelBound}
 use Rattle.check_stmt_parts.specs.Labels.{bound_of}
 use Rattle.check_const_ops.specs.declared.operand.Ordinal.{Ordinal}
 use Rattle.def_typing.specs.Loops.{Runs, BrokenRun}
@@ -329,14 +330,16 @@ SelectorsAreExact g j =
     (case_selector g s (meanings_of g e))
 
 -- Each bound of a label is answered exactly, whether the base type of the selector is known or not.
+-- It has a number, unless it is a set or a string and none is asked for.
 abbrev pub BoundsAreExact : (g : Gathers) → Judges g → Type 0
 BoundsAreExact g j =
     (names : Ident → Standing) (exports : ℕ → Ident → Standing) (s : Scope g.Reported)
     → Knows g j names exports s
     → (base : Option TypeNo) (label : Pos) (e : Expr)
     → Answers g j (Repeats g j names s)
-    (λ (a : Ordinal) (p : Option TypeNo × ℤ). (a.sort ≡ p.0) × (a.number ≡ p.1))
-    (λ p. IsLabelBound s.types names exports e p.0 p.1)
+    (λ (a : Option Ordinal) (p : Option Number).
+    option_map (λ (x : Ordinal). (x.sort, x.number)) a ≡ p)
+    (IsLabelBound s.types names exports base e)
     (BrokenLabelBound s.types names exports base label e)
     (bound_of g s base label (meanings_of g e))
 

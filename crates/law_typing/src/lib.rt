@@ -87,7 +87,7 @@ pub fn selector_laws()
     ensures least_rule { SelectorsAreExact least the_least }
 {}
 
-/// The same of each bound of a label of a CASE, with its number.
+/// The same of each bound of a label of a CASE, with its number, if it has one.
 pub fn bound_laws()
     ensures every_rule { BoundsAreExact every all_of_them }
     ensures least_rule { BoundsAreExact least the_least }

@@ -1,5 +1,5 @@
 -- Statements of bodies, by induction.
-use Rattle.std.proofs.Common.{◌≡◌, ℕ, suc, ℤ, Bool, List, [], ◌∷◌, ◌++◌, length, Option, Some, None, Result, Ok, refl, sym, ap, subst, ◌∙◌, arith}
+use Rattle.std.proofs.Common.{◌≡◌, ℕ, suc, Bool, List, [], ◌∷◌, ◌++◌, length, Option, Some, None, Result, Ok, refl, sym, ap, subst, ◌∙◌, arith}
 use Rattle.std.specs.Prelude.{map}
 use Rattle.std.specs.List.{fold}
 use Rattle.std.proofs.lemmas.List.{length-append}
@@ -23,6 +23,7 @@ use Rattle.def_scheme.specs.Exprs.{is_there}
 use Rattle.law_modules.specs.WellFormed.{IsExpr, IsPlace, IsStmt, If, Case, While, Repeat, Loop, With, AreStmts, no_stmts, more_stmts, AreOthers, no_others, others, AreArms, no_arms, more_arms}
 use Rattle.check_stmt_parts.specs.declared.around.Around.{Around}
 use Rattle.check_stmt_parts.specs.Lists.{with_next, if_statement, chosen_else, base_in, case_statement, arm_of, repeated_while, repeated_until, loop_statement, within}
+use Rattle.check_stmt_parts.specs.Ranges.{Range}
 use Rattle.check_stmt_parts.specs.Labels.{labels_in}
 use Rattle.check_stmt_parts.specs.Simple.{meant_if, in_loop, case_selector, into_record}
 use Rattle.check_stmt.specs.Statements.{Elaborates, ElaboratesRest, ElaboratesArm, Arms, args_meant, with_stmt, all_of, all_if, with_arm, arms_of, stmt_layer, rest_layer, arm_layer, stmt, rest, arm, with_written, statements}
@@ -68,7 +69,7 @@ module _ (g : Gathers) (m : TypedModule) (opens : ℕ → Bool) where
   FormedRest f = (s : Scope g.Reported) → InScope s → (a : Around g.Reported) → Others_ s a (f s a)
 
   abbrev FormedArm : ElaboratesArm g.Reported → Type 0
-  FormedArm f = (s : Scope g.Reported) → InScope s → (a : Around g.Reported) (base : Option TypeNo) (ranges : List (ℤ × ℤ)) → Arm_ s a (f s a base ranges).1
+  FormedArm f = (s : Scope g.Reported) → InScope s → (a : Around g.Reported) (base : Option TypeNo) (ranges : List Range) → Arm_ s a (f s a base ranges).1
 
   abbrev AllJ : List (Elaborates g.Reported) → Type 0
   AllJ [] = Unit {0}

@@ -4,7 +4,7 @@
 //!   `tools/random_programs` made, with what the definition of a run prints of them;
 //! - `data/refusals.txt`: files with all that `build` is to report of them;
 //! - `data/corners.txt`: the same, each aimed at a corner where two rules meet or a place is unclear (docs/CORNERS.md);
-//! - `data/rows-programs.txt` and `data/rows-refusals.txt`: the rows that the language's plan works out by hand (docs/ROWS.md);
+//! - `data/rows-programs.txt` and `data/rows-refusals.txt`: the rows that the language's plan works out by hand (docs/TESTS.md);
 //! - `data/explanations.txt`: the examples of docs/refusals, broken and mended, as `tools/try_explanations --rows` writes them;
 //! - `data/definitions.txt`: texts of definitions, each of which may import those before it, with the least rule that the
 //!   last one breaks.

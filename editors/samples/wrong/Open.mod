@@ -1,0 +1,6 @@
+MODULE Open;
+FROM Console IMPORT Put;
+BEGIN
+  Put("a);
+  Put(12C)
+END Open.

@@ -1,0 +1,6 @@
+IMPLEMENTATION MODULE Parts;
+PROCEDURE Total(first: INTEGER; second: INTEGER): INTEGER;
+BEGIN
+  RETURN first + sum
+END Total;
+END Parts.

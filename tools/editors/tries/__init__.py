@@ -1,0 +1,1 @@
+"""How tools/try_editors tries what is in editors/ by the programs that read it."""
