@@ -1,4 +1,4 @@
-//! The one tool for people: `m2 run`, `m2 build`, `m2 check`, `m2 fmt`, `m2 show`, `m2 explain` and `m2 new`.
+//! The one tool for people: `m2 run`, `m2 build`, `m2 check`, `m2 show`, `m2 explain` and `m2 new`.
 //!
 //! The words of the command line are read first. Then the modules that a program imports are found in folders, and the whole
 //! is built in memory. `run` executes what was built, `build` writes it into a folder, and `check` does neither. What is
@@ -9,16 +9,16 @@
 
 mod building;
 mod checking;
+mod creating;
 mod exchanging;
+mod exercise;
 mod explaining;
-mod formatting;
+mod finding;
 mod giving;
-mod linking;
-mod mending;
 mod output;
 mod pages;
 mod passes;
-mod rewriting;
+mod places;
 mod running;
 mod saving;
 mod screen;
@@ -26,17 +26,15 @@ mod showing;
 mod testing;
 
 use crate::checking::check_all;
+use crate::creating::create;
 use crate::exchanging::exchange_input;
 use crate::explaining::explain;
-use crate::formatting::format_all;
-use crate::linking::build_single;
 use crate::passes::show_pass;
 use crate::running::run_file;
 use crate::saving::build_into;
 use crate::testing::{test_class, test_program};
 use anyhow::Result;
 use command_words::{Exit, FAILED};
-use create_program::create;
 use judge_cases::Limits;
 use std::process::ExitCode;
 use std::rt::{Env, Files};
@@ -55,31 +53,19 @@ where
             input,
             setting,
             steps,
-            told,
-        } => run_file(rt, setting, program.as_str(), input, *steps, *told, out),
+        } => run_file(rt, setting, program.as_str(), input, *steps, out),
         Asked::Build {
             program,
             input,
             setting,
             out,
         } => build_into(rt, setting, program.as_str(), input, out.as_str()),
-        Asked::Single {
-            program,
-            input,
-            setting,
-            host,
-            out,
-        } => build_single(rt, setting, program.as_str(), input, *host, out.as_str()),
         Asked::Input {
             folder,
             input,
             setting,
         } => exchange_input(rt, setting, folder.as_str(), input.as_str()),
-        Asked::Check {
-            programs,
-            setting,
-            fix,
-        } => check_all(rt, setting, programs, *fix),
+        Asked::Check { programs, setting } => check_all(rt, setting, programs),
         Asked::Test {
             program,
             is_class,
@@ -96,7 +82,7 @@ where
             };
             let (program, cases) = (program.as_str(), cases.as_str());
             if *is_class {
-                test_class(rt, setting, program, cases, *is_compared, *told, limits)
+                test_class(rt, setting, program, cases, *is_compared, limits)
             } else {
                 test_program(rt, setting, program, cases, *told, limits)
             }
@@ -106,11 +92,6 @@ where
             program,
             setting,
         } => show_pass(rt, setting, *pass, program.as_str()),
-        Asked::Format {
-            files,
-            layout,
-            style,
-        } => format_all(rt, *style, files, *layout),
         Asked::Explain { topic } => Ok(explain(rt, topic.as_str())),
         Asked::New { name, is_class } => Ok(create(rt, name.as_str(), *is_class)?),
     }

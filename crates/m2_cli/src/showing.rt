@@ -1,10 +1,10 @@
 //! What people are told of a program that is refused.
 
+use crate::finding::Program;
 use crate::output::say_output_fault;
 use crate::screen::Screen;
 use anyhow::Result;
 use command_words::FAILED;
-use find_files::Program;
 use m2_tree::Refusal;
 use m2c::SourceFile;
 use show_refusals::{explanation, show_json};

@@ -1,4 +1,4 @@
-//! Folders and streams over memory, and what is executed there.
+//! Folders and streams over memory, and what is executed there, for the crates of tests.
 #![tactic(auto)]
 
 mod files;

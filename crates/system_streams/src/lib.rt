@@ -3,12 +3,10 @@
 
 mod notes;
 mod reading;
-mod sources;
 mod stream;
 mod writing;
 
 pub use notes::Notes;
 pub use reading::InFolder;
-pub use sources::read_text;
 pub use stream::{ByteStream, LineStream};
 pub use writing::OutFolder;

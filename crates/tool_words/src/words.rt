@@ -1,7 +1,7 @@
 //! The words of the command line.
 
 use crate::PROGRAM;
-use crate::asked::{Asked, Fix, Layout, Measured, Pass, Setting, Style, Told};
+use crate::asked::{Asked, Pass, Setting, Style, Told};
 use crate::libraries::libraries_of;
 use anyhow::Result;
 use build_words::{memory_option, options_of, out_option, workers_option};
@@ -10,7 +10,6 @@ use command_words::{
     COMMAND_LINE, Exit, VERSION, are_named, command_line, is_named, matches_of, number_option,
     steps_of, steps_option, strings_of,
 };
-use link_single::Host;
 use std::alloc::Global;
 use std::rt::{Env, Files};
 
@@ -26,25 +25,11 @@ const INPUT_FILE: &str = "FILE";
 /// The name of the word for the folder of cases.
 const CASES: &str = "CASES";
 
-/// The name of the word for a text.
-const TEXT: &str = "TEXT";
-
-/// The names of the options of which files have another layout, and of what would change.
-const CHECK: &str = "check";
-
-const DIFF: &str = "diff";
-
 /// The name of the option for a class.
 const EACH: &str = "each";
 
 /// The name of the option for work that was handed in twice.
 const SAME: &str = "same";
-
-/// The name of the option that writes mends.
-const FIX: &str = "fix";
-
-/// The name of the option that writes them without asking.
-const YES: &str = "yes";
 
 /// The name of the option for an exercise.
 const CLASS: &str = "class";
@@ -55,23 +40,8 @@ const BYTES: &str = "bytes";
 /// The most bytes that a case may be allowed.
 const MOST_BYTES: u64 = 16777216;
 
-/// The name of the option for a profile.
-const PROFILE: &str = "profile";
-
-/// The name of the option for the lines that did not run.
-const COVERAGE: &str = "coverage";
-
 /// The name of the option for what the program reads.
 const INPUT: &str = "input";
-
-/// The name of the option for the folder of the modules.
-const OUT: &str = "out";
-
-/// The name of the option for one module.
-const SINGLE: &str = "single";
-
-/// The name of the option for the host of one module.
-const HOST: &str = "host";
 
 /// The options that say how a program is found and built.
 fn with_building<'a>(alloc: Global, command: Command<'a>) -> Result<Command<'a>> {
@@ -95,16 +65,16 @@ fn with_building<'a>(alloc: Global, command: Command<'a>) -> Result<Command<'a>>
     )
 }
 
-/// The options that say how refusals are shown.
-fn with_style<'a>(alloc: Global, command: Command<'a>) -> Result<Command<'a>> {
+/// The options that say how a program is found and built, and how refusals are shown.
+fn with_setting<'a>(alloc: Global, command: Command<'a>) -> Result<Command<'a>> {
     Ok(
-        command
+        with_building(alloc, command)?
             .arg(
                 Arg::new(alloc, "format")
                     .long("format")
                     .value_name("FORMAT")
                     .default_value("text")
-                    .help("How refusals and faults are shown: text, or json for other programs"),
+                    .help("How refusals are shown: text, or json for other programs"),
             )?
             .arg(
                 Arg::new(alloc, "color")
@@ -114,11 +84,6 @@ fn with_style<'a>(alloc: Global, command: Command<'a>) -> Result<Command<'a>> {
                     .help("Whether the mark under a refusal is red: never or always"),
             )?,
     )
-}
-
-/// The options that say how a program is found and built, and how refusals are shown.
-fn with_setting<'a>(alloc: Global, command: Command<'a>) -> Result<Command<'a>> {
-    with_style(alloc, with_building(alloc, command)?)
 }
 
 /// The word for the program's file.
@@ -140,38 +105,16 @@ fn run_command<'a>(alloc: Global) -> Result<Command<'a>> {
         .about("Compiles a program in memory and runs it")
         .arg(program_word(alloc))?
         .arg(input_option(alloc))?
-        .arg(steps_option(alloc))?
-        .arg(
-            Arg::new(alloc, PROFILE)
-                .long(PROFILE)
-                .action(ArgAction::SetTrue)
-                .help("Says how often each procedure and line ran, and its reductions"),
-        )?
-        .arg(
-            Arg::new(alloc, COVERAGE)
-                .long(COVERAGE)
-                .action(ArgAction::SetTrue)
-                .help("Says on which lines nothing ran"),
-        )?;
+        .arg(steps_option(alloc))?;
     with_setting(alloc, command)
 }
 
 fn build_command<'a>(alloc: Global) -> Result<Command<'a>> {
     let command = Command::new(alloc, "build")
-        .about("Compiles a program to WebAssembly modules, link.wasm last, or to one module")
+        .about("Compiles a program to WebAssembly modules, link.wasm last")
         .arg(program_word(alloc))?
         .arg(input_option(alloc))?
-        .arg(out_option(alloc).required(false))?
-        .arg(
-            Arg::new(alloc, SINGLE).long(SINGLE).value_name("FILE").help(
-                "The file into which the program is written as one module, in place of --out",
-            ),
-        )?
-        .arg(
-            Arg::new(alloc, HOST).long(HOST).value_name("HOST").help(
-                "What the one module imports: wasi for WASI preview 1, else plain for put and stop",
-            ),
-        )?;
+        .arg(out_option(alloc))?;
     with_setting(alloc, command)
 }
 
@@ -195,22 +138,8 @@ fn input_command<'a>(alloc: Global) -> Result<Command<'a>> {
 
 fn check_command<'a>(alloc: Global) -> Result<Command<'a>> {
     let command = Command::new(alloc, "check")
-        .about("Says which rules a program breaks, and how it can be mended")
-        .arg(program_word(alloc).action(ArgAction::Append).num_args(1..))?
-        .arg(
-            Arg::new(alloc, FIX)
-                .long(FIX)
-                .action(ArgAction::SetTrue)
-                .help(
-                    "Writes mends with which the program is accepted, after asking for each file",
-                ),
-        )?
-        .arg(
-            Arg::new(alloc, YES)
-                .long(YES)
-                .action(ArgAction::SetTrue)
-                .help("With --fix: writes them without asking"),
-        )?;
+        .about("Says which rules a program breaks, and writes nothing")
+        .arg(program_word(alloc).action(ArgAction::Append).num_args(1..))?;
     with_setting(alloc, command)
 }
 
@@ -267,33 +196,6 @@ fn show_command<'a>(alloc: Global) -> Result<Command<'a>> {
     with_setting(alloc, command)
 }
 
-fn fmt_command<'a>(alloc: Global) -> Result<Command<'a>> {
-    let command = Command::new(alloc, "fmt")
-        .about("Lays out texts in one style: spaces, levels and lines to 100 columns")
-        .arg(
-            Arg::new(alloc, TEXT)
-                .required(true)
-                .action(ArgAction::Append)
-                .num_args(1..)
-                .help(
-                    "The files that are written anew; - is standard input, laid out on standard output",
-                ),
-        )?
-        .arg(
-            Arg::new(alloc, CHECK)
-                .long(CHECK)
-                .action(ArgAction::SetTrue)
-                .help("Prints the names of the files that have another layout, and writes nothing"),
-        )?
-        .arg(
-            Arg::new(alloc, DIFF)
-                .long(DIFF)
-                .action(ArgAction::SetTrue)
-                .help("Prints what would change as a unified diff, and writes nothing"),
-        )?;
-    with_style(alloc, command)
-}
-
 fn explain_command<'a>(alloc: Global) -> Result<Command<'a>> {
     Ok(
         Command::new(alloc, "explain")
@@ -329,7 +231,7 @@ fn command<'a>(alloc: Global) -> Result<Command<'a>> {
     Ok(
         Command::new(alloc, PROGRAM)
             .version(VERSION)
-            .about("Runs, builds, checks, lays out, shows and explains Modula-2 programs")
+            .about("Runs, builds, checks, shows and explains Modula-2 programs")
             .subcommand_required(true)
             .subcommand(run_command(alloc)?)?
             .subcommand(build_command(alloc)?)?
@@ -337,7 +239,6 @@ fn command<'a>(alloc: Global) -> Result<Command<'a>> {
             .subcommand(check_command(alloc)?)?
             .subcommand(test_command(alloc)?)?
             .subcommand(show_command(alloc)?)?
-            .subcommand(fmt_command(alloc)?)?
             .subcommand(explain_command(alloc)?)?
             .subcommand(new_command(alloc)?)?,
     )
@@ -431,60 +332,15 @@ where
         program: name_of(rt, matches, FILE, FILE)?,
         input: input_of(rt, matches)?,
         setting: setting_of(rt, matches)?,
-        told: Measured {
-            is_profiled: matches.get_flag(PROFILE),
-            is_covered: matches.get_flag(COVERAGE),
-        },
     })
 }
 
-/// Reports that words of the command line do not go together.
-fn refuse<R: Eprint>(rt: &R, words: &str) -> Exit {
-    let _ = eprintln!(rt; "{PROGRAM}: {words}");
-    Exit::Reported(COMMAND_LINE)
-}
-
-/// The host of one module. Any other word is reported.
-fn host_of<R: Eprint>(rt: &R, matches: &ArgMatches) -> Result<Host, Exit> {
-    match choice_of(rt, matches, HOST, "wasi", "plain") {
-        None => Err(Exit::Reported(COMMAND_LINE)),
-        Some(false) => Ok(Host::Wasi),
-        Some(true) => Ok(Host::Plain),
-    }
-}
-
-fn single_asked<R>(rt: &R, matches: &ArgMatches) -> Result<Asked, Exit>
-where
-    R: Files + Env + Eprint + AllocGlobal,
-{
-    if matches.get_str(OUT).is_some() {
-        return Err(refuse(rt, "build takes --out or --single, not both"));
-    }
-    Ok(Asked::Single {
-        host: host_of(rt, matches)?,
-        out: name_of(rt, matches, SINGLE, "--single")?,
-        program: name_of(rt, matches, FILE, FILE)?,
-        input: input_of(rt, matches)?,
-        setting: setting_of(rt, matches)?,
-    })
-}
-
-/// Modules in a folder, or one module.
 fn build_asked<R>(rt: &R, matches: &ArgMatches) -> Result<Asked, Exit>
 where
     R: Files + Env + Eprint + AllocGlobal,
 {
-    if matches.get_str(SINGLE).is_some() {
-        return single_asked(rt, matches);
-    }
-    if matches.get_str(HOST).is_some() {
-        return Err(refuse(rt, "--host goes with --single"));
-    }
-    if matches.get_str(OUT).is_none() {
-        return Err(refuse(rt, "build needs --out DIR or --single FILE"));
-    }
     Ok(Asked::Build {
-        out: name_of(rt, matches, OUT, "--out")?,
+        out: name_of(rt, matches, "out", "--out")?,
         program: name_of(rt, matches, FILE, FILE)?,
         input: input_of(rt, matches)?,
         setting: setting_of(rt, matches)?,
@@ -502,17 +358,6 @@ where
     })
 }
 
-/// What becomes of mends.
-fn fix_of(matches: &ArgMatches) -> Fix {
-    if !matches.get_flag(FIX) {
-        Fix::Show
-    } else if matches.get_flag(YES) {
-        Fix::Write
-    } else {
-        Fix::Ask
-    }
-}
-
 fn check_asked<R>(rt: &R, matches: &ArgMatches) -> Result<Asked, Exit>
 where
     R: Files + Env + Eprint + AllocGlobal,
@@ -524,7 +369,6 @@ where
     Ok(Asked::Check {
         programs: strings_of(rt.alloc(), programs)?,
         setting: setting_of(rt, matches)?,
-        fix: fix_of(matches),
     })
 }
 
@@ -595,31 +439,6 @@ where
     })
 }
 
-fn fmt_asked<R>(rt: &R, matches: &ArgMatches) -> Result<Asked, Exit>
-where
-    R: Eprint + AllocGlobal,
-{
-    let files = matches.get_strs(TEXT).unwrap_or(&[]);
-    let Some(style) = style_of(rt, matches) else {
-        return Err(Exit::Reported(COMMAND_LINE));
-    };
-    if !are_named(rt, PROGRAM, TEXT, files) {
-        return Err(Exit::Reported(COMMAND_LINE));
-    }
-    let layout = if matches.get_flag(DIFF) {
-        Layout::Diff
-    } else if matches.get_flag(CHECK) {
-        Layout::Check
-    } else {
-        Layout::Write
-    };
-    Ok(Asked::Format {
-        files: strings_of(rt.alloc(), files)?,
-        layout,
-        style,
-    })
-}
-
 /// The words of a topic, with a blank between two.
 fn topic_of(alloc: Global, words: &[&str]) -> Result<String> {
     let mut topic = String::new(alloc);
@@ -661,7 +480,6 @@ where
         Some(("check", inner)) => check_asked(rt, inner),
         Some(("test", inner)) => test_asked(rt, inner),
         Some(("show", inner)) => show_asked(rt, inner),
-        Some(("fmt", inner)) => fmt_asked(rt, inner),
         Some(("explain", inner)) => explain_asked(rt.alloc(), inner),
         Some(("new", inner)) => new_asked(rt, inner),
         _ => Err(Exit::Reported(COMMAND_LINE)),

@@ -48,7 +48,7 @@ VAR i, j: INTEGER; c: CARDINAL; p: CARDINAL; s: BITSET; ch: CHAR;
 - Opaque types in a definition: `TYPE Stack;`, refusal 10 at `;`. Write `TYPE Stack = [0..100];`,
   and keep the records in the implementation.
 - PROC: `VAR run: PROC;`, refusal 30 at `PROC`. Write `VAR run: PROCEDURE;`.
-- SIZE and TSIZE: `c := SIZE(c)`, refusal 30 at `SIZE`. Write `c := 4`, by hand.
+- SIZE and TSIZE: `c := SIZE(c)`, refusal 30 at `SIZE`. Write `c := 4`.
 - Arrays from 1 as open arrays: `WriteString(fromOne)`, refusal 43 at `fromOne`. Write
   `WriteString(name)`, with `ARRAY [0..19] OF CHAR`.
 
@@ -60,7 +60,7 @@ VAR i, j: INTEGER; c: CARDINAL; p: CARDINAL; s: BITSET; ch: CHAR;
   `PROCEDURE Inner; END Inner;`, or a module with its own files.
 - Priorities: `MODULE M[4]; END M.`, refusal 10 at `[`. Write `MODULE M; END M.`.
 - SYSTEM, with WORD, ADR and coroutines: `MODULE M; FROM SYSTEM IMPORT ADR; END M.`, refusal 20 at
-  `SYSTEM`. Write nothing: nothing stands for it, and addresses cannot be had.
+  `SYSTEM`. Write nothing.
 
 ## Input and files
 - The keyboard: `MODULE M; FROM InOut IMPORT ReadInt; END M.`, refusal 32 at `ReadInt`. Write

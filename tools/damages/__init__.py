@@ -1,1 +1,0 @@
-"""Damages to programs that compile, and the slips of people, for `damage_programs` and `try_slips`."""
