@@ -39,7 +39,8 @@ BEGIN
   END
 END Append;
 
-PROCEDURE Write(number: CARDINAL; base: Base; isNegative: BOOLEAN; width: CARDINAL; VAR text: ARRAY OF CHAR);
+PROCEDURE Write(number: CARDINAL; base: Base; isNegative: BOOLEAN; width: CARDINAL;
+  VAR text: ARRAY OF CHAR);
 (* Makes the text of a number whose digits are those of `number`. *)
 VAR
   digits: ARRAY [1 .. MostDigits] OF CHAR;    (* the last digit stands first *)
@@ -108,7 +109,8 @@ BEGIN
   RETURN length
 END LengthWithout;
 
-PROCEDURE Read(text: ARRAY OF CHAR; at: CARDINAL; base: Base; most: CARDINAL; VAR number: CARDINAL; VAR done: BOOLEAN);
+PROCEDURE Read(text: ARRAY OF CHAR; at: CARDINAL; base: Base; most: CARDINAL; VAR number: CARDINAL;
+  VAR done: BOOLEAN);
 (* Reads the number of at most `most` whose digits begin at `at` and end where the text does, but for spaces. *)
 VAR length, value: CARDINAL;
 BEGIN

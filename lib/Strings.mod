@@ -8,7 +8,8 @@ BEGIN
   RETURN length
 END Length;
 
-PROCEDURE Append(source: ARRAY OF CHAR; from, to: CARDINAL; VAR text: ARRAY OF CHAR; VAR length: CARDINAL);
+PROCEDURE Append(source: ARRAY OF CHAR; from, to: CARDINAL; VAR text: ARRAY OF CHAR;
+  VAR length: CARDINAL);
 (* Writes the characters of `source` from `from` to before `to` behind the first `length` characters of `text`, as far as
    there is room, and counts them in `length`. *)
 BEGIN
@@ -71,7 +72,8 @@ BEGIN
   Close(result, copied)
 END Copy;
 
-PROCEDURE Join(old: ARRAY OF CHAR; to: CARDINAL; part: ARRAY OF CHAR; from: CARDINAL; VAR text: ARRAY OF CHAR);
+PROCEDURE Join(old: ARRAY OF CHAR; to: CARDINAL; part: ARRAY OF CHAR; from: CARDINAL;
+  VAR text: ARRAY OF CHAR);
 (* `text` becomes `old` to before `to`, then `part`, then `old` from `from` on. *)
 VAR length: CARDINAL;
 BEGIN

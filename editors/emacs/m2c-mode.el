@@ -79,7 +79,7 @@
   (is-definition nil)
   (last ""))
 
-(defvar-local m2c--known nil "Pairs of the begin of a line and what is known before it, newest first.")
+(defvar-local m2c--known nil "Pairs of the beginning of a line and what is known before it, newest first.")
 
 (defconst m2c--token
   "(\\*\\|\"[^\"\n]*\"\\|'[^'\n]*'\\|[A-Za-z][A-Za-z0-9]*\\|[0-9][0-9A-Za-z]*\\|:=\\|\\.\\.\\|[^ \t\r\n]")

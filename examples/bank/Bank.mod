@@ -1,7 +1,8 @@
 MODULE Bank;
 (* A bank over the definition module Accounts: it opens accounts, moves money, pays interest, and shows what was refused. *)
 
-FROM Accounts IMPORT Close, Deposit, Inspect, LastNumber, Open, Outcome, Owner, OwnerLength, Transfer, Withdraw;
+FROM Accounts IMPORT Close, Deposit, Inspect, LastNumber, Open, Outcome, Owner, OwnerLength,
+  Transfer, Withdraw;
 FROM InOut IMPORT Write, WriteCard, WriteLn, WriteString;
 FROM Money IMPORT Amount, InterestOn, MostMoney, WriteAmount;
 FROM Strings IMPORT Length;

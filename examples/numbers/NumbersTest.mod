@@ -2,7 +2,8 @@ MODULE NumbersTest;
 (* Tries the library module Numbers: numbers to texts and back, at the limits of the types, and texts that are no numbers. *)
 
 FROM InOut IMPORT Write, WriteCard, WriteInt, WriteLn, WriteString;
-FROM Numbers IMPORT CardToStr, HexToStr, IntToStr, OctToStr, StrToCard, StrToHex, StrToInt, StrToOct;
+FROM Numbers IMPORT CardToStr, HexToStr, IntToStr, OctToStr, StrToCard, StrToHex, StrToInt,
+  StrToOct;
 
 TYPE
   Conversion = PROCEDURE (CARDINAL, CARDINAL, VAR ARRAY OF CHAR);

@@ -7,7 +7,7 @@ FROM PL0Scanner IMPORT column, GetSymbol, line, name, number, Start, Stop, Symbo
 IMPORT PL0Generator, PL0Names;
 
 CONST
-  LinkLength = 3;    (* the places at the begin of a frame that the machine needs for itself *)
+  LinkLength = 3;    (* the places at the beginning of a frame that the machine needs for itself *)
 
 VAR
   isWrong: BOOLEAN;

@@ -2,7 +2,8 @@ MODULE SetsTest;
 (* Tries the library module Sets: small sets with all operations, the ends of the range, and the numbers without divisors. *)
 
 FROM InOut IMPORT Write, WriteCard, WriteLn, WriteString;
-FROM Sets IMPORT Clear, Count, Difference, Excl, In, Incl, InclRange, Intersection, IsEmpty, IsEqual, IsSubset, LastElement, Set,
+FROM Sets IMPORT Clear, Count, Difference, Excl, In, Incl, InclRange, Intersection, IsEmpty,
+  IsEqual, IsSubset, LastElement, Set,
   SymmetricDifference, Union;
 
 VAR

@@ -11,7 +11,7 @@ TYPE
 VAR
   here: Place;
   hasKey, isOver: BOOLEAN;
-  word: ARRAY [0..15] OF CHAR;
+  word: ARRAY [0 .. 15] OF CHAR;
 
 PROCEDURE Say(text: ARRAY OF CHAR);
 BEGIN
@@ -24,9 +24,9 @@ BEGIN
   CASE here OF
     Hall: Say("You are in the hall. A stair leads down, a door leads out.")
   | Cellar: Say("You are in the cellar. The stair leads up.");
-    IF NOT hasKey THEN
-      Say("A key lies here.")
-    END
+      IF NOT hasKey THEN
+        Say("A key lies here.")
+      END
   | Garden: Say("You are in the garden. You have won.")
   END
 END Look;

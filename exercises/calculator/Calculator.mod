@@ -6,7 +6,7 @@ FROM InOut IMPORT WriteString, WriteInt, WriteLn;
 
 VAR
   left, right: INTEGER;
-  operator: ARRAY [0..1] OF CHAR;
+  operator: ARRAY [0 .. 1] OF CHAR;
 
 PROCEDURE WriteResult(left, right: INTEGER; operator: CHAR);
 BEGIN
@@ -15,11 +15,11 @@ BEGIN
   | "-": WriteInt(left - right, 0)
   | "*": WriteInt(left * right, 0)
   | "/":
-    IF right > 0 THEN
-      WriteInt(left DIV right, 0)
-    ELSE
-      WriteString("no divisor")
-    END
+      IF right > 0 THEN
+        WriteInt(left DIV right, 0)
+      ELSE
+        WriteString("no divisor")
+      END
   ELSE
     WriteString("no operator")
   END

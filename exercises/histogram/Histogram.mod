@@ -5,7 +5,7 @@ FROM Input IMPORT Read, Done;
 FROM InOut IMPORT Write, WriteString, WriteLn;
 
 VAR
-  counts: ARRAY ["A".."Z"] OF CARDINAL;
+  counts: ARRAY ["A" .. "Z"] OF CARDINAL;
   ch, letter: CHAR;
   star: CARDINAL;
 

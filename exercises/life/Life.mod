@@ -10,14 +10,14 @@ CONST
   Width = 32;
 
 TYPE
-  Board = ARRAY [0..Height+1] OF ARRAY [0..Width+1] OF BOOLEAN; (* with a border that is dead *)
+  Board = ARRAY [0 .. Height + 1] OF ARRAY [0 .. Width + 1] OF BOOLEAN; (* with a border that is dead *)
 
 VAR
   board: Board;
   turns: CARDINAL;
 
 PROCEDURE ReadBoard;
-VAR line: ARRAY [0..Width-1] OF CHAR; row, column: CARDINAL;
+VAR line: ARRAY [0 .. Width - 1] OF CHAR; row, column: CARDINAL;
 BEGIN
   FOR row := 1 TO Height DO
     ReadLine(line);

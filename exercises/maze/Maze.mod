@@ -10,12 +10,12 @@ CONST
   Wall = "#";
 
 TYPE
-  Line = ARRAY [0..Size-1] OF CHAR;
+  Line = ARRAY [0 .. Size - 1] OF CHAR;
 
 VAR
-  picture: ARRAY [0..Size-1] OF Line;
-  length: ARRAY [0..Size*Size-1] OF CARDINAL; (* of the way to a cell, from 1; 0 if none is known *)
-  queue: ARRAY [0..Size*Size-1] OF CARDINAL; (* cells to which a way is known *)
+  picture: ARRAY [0 .. Size - 1] OF Line;
+  length: ARRAY [0 .. Size * Size - 1] OF CARDINAL; (* of the way to a cell, from 1; 0 if none is known *)
+  queue: ARRAY [0 .. Size * Size - 1] OF CARDINAL; (* cells to which a way is known *)
   first, last: CARDINAL;
   line: Line;
   lines: CARDINAL;

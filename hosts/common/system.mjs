@@ -12,6 +12,8 @@ export const OPENS = { write: 1, readAndWrite: 2, make: 0o100, onlyNew: 0o200, e
 /** What `size` answers of what is no file. */
 export const IS_FOLDER = 1n << 62n;
 export const IS_STREAM = 1n << 61n;
+/** Of a stream at which a person sits. */
+export const IS_TERMINAL = IS_STREAM + 1n;
 
 const NO_SUCH_WORD = -1n;
 const NO_ROOM = -2n;

@@ -1,7 +1,8 @@
 // The real file system, for a module that runs on node: what hosts/SYSTEM.md says of files and streams.
 import { closeSync, constants, fstatSync, mkdirSync, openSync, readSync, readdirSync, rmdirSync, statSync, unlinkSync, writeSync } from "node:fs";
+import { isatty } from "node:tty";
 import { FolderNames } from "../common/folder_names.mjs";
-import { ERRORS, IS_FOLDER, IS_STREAM, OPENS, SystemError } from "../common/system.mjs";
+import { ERRORS, IS_FOLDER, IS_TERMINAL, IS_STREAM, OPENS, SystemError } from "../common/system.mjs";
 import { systemPath } from "./paths.mjs";
 
 const FLAGS = [
@@ -89,7 +90,7 @@ export const nodeFiles = {
   read: (file, to) => folders.get(file)?.read(to) ?? waitFor(() => readSync(file, to)),
   write: (file, from) => waitFor(() => writeSync(file, from)),
   close: (file) => answerOf(() => closeAny(file)),
-  sizeOf: (file) => (folders.has(file) ? IS_FOLDER : answerOf(() => sizeIn(fstatSync(file)))),
+  sizeOf: (file) => (folders.has(file) ? IS_FOLDER : answerOf(() => (isatty(file) ? IS_TERMINAL : sizeIn(fstatSync(file))))),
   sizeAt: (path) => answerOf(() => sizeIn(statSync(systemPath(path)))),
   unlink: (path) => answerOf(() => unlinkSync(systemPath(path))),
   makeFolder: (path) => answerOf(() => mkdirSync(systemPath(path), FOLDER_MODE)),

@@ -2,7 +2,8 @@
 // m2 on node, over the real file system: node hosts/node/m2.mjs run Hello.mod
 // It behaves as the program m2 does. It needs node 20 or later and the module: M2_WASM, else m2.wasm beside this file, else that of
 // build/web, else the snapshot in dist.
-import { readFileSync, writeSync } from "node:fs";
+import { existsSync, readFileSync, writeSync } from "node:fs";
+import { fileURLToPath } from "node:url";
 import { Worker, isMainThread, parentPort, workerData } from "node:worker_threads";
 import { Refused } from "../common/host.mjs";
 import { runOnce } from "../common/system.mjs";
@@ -18,6 +19,8 @@ const MEGABYTES_OF_STACK = 32;
 const WORDS_BEFORE = 2;
 /** The variable that names folders. */
 const FOLDERS = "M2_LIB";
+/** Where the library stands, from this file on: in a clone, and in an archive. */
+const LIBRARIES = ["../../lib", "../lib"];
 const REPLACED = "\ufffd";
 const EQUALS = 61;
 
@@ -46,10 +49,20 @@ function commandLine() {
   return [Buffer.from("m2"), ...bytes];
 }
 
+/** The library that came with this file, as m2 takes the folders of M2_LIB, or nothing where it is not there. */
+function ownLibrary() {
+  const folders = LIBRARIES.map((it) => fileURLToPath(new URL(it, import.meta.url)));
+  const found = folders.find((it) => existsSync(`${it}/InOut.def`));
+  return found === undefined ? undefined : Buffer.from(givenFolders(found));
+}
+
 /** The value of a variable as bytes, or nothing where there is none. */
 function variable(name) {
   const asText = Buffer.from(name).toString();
   const value = process.env[asText];
+  if (value === undefined && asText === FOLDERS) {
+    return ownLibrary();
+  }
   if (value === undefined || !value.includes(REPLACED)) {
     return value === undefined ? undefined : Buffer.from(asText === FOLDERS ? givenFolders(value) : value);
   }

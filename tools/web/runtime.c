@@ -173,6 +173,13 @@ int close(int file) { return (int)answered(host_close(file)); }
 int unlink(const u8 *path) { return (int)answered(host_unlink(path, length_of(path))); }
 
 int mkdir(const u8 *path, u32 mode) { return (int)answered(host_mkdir(path, length_of(path))); }
+/* A host has no paths but those that are given to it. */
+enum { NO_SUCH_CALL = 38 };
+u8 *realpath(const u8 *path, u8 *resolved) {
+  error = NO_SUCH_CALL;
+  return 0;
+}
+
 int rmdir(const u8 *path) { return (int)answered(host_rmdir(path, length_of(path))); }
 
 /* Folders. The host hands out the names in a folder as the bytes of a file: a 0 stands behind each, and a reading gives whole names. */
@@ -214,7 +221,7 @@ struct statx {
 };
 
 enum { MODE_OF_FILE = 0100644, MODE_OF_FOLDER = 0040755, MODE_OF_STREAM = 0010644, BASIC = 0x7ff };
-static const u64 IS_FOLDER = 1UL << 62, IS_STREAM = 1UL << 61;
+static const u64 IS_FOLDER = 1UL << 62, IS_STREAM = 1UL << 61, IS_TERMINAL = (1UL << 61) + 1;
 
 int statx(int file, const u8 *path, int flags, u32 mask, void *to) {
   i64 size = answered(host_size(path, length_of(path), file));
@@ -228,6 +235,8 @@ int statx(int file, const u8 *path, int flags, u32 mask, void *to) {
   told->size = is_file ? (u64)size : 0;
   return 0;
 }
+
+int isatty(int file) { return (u64)host_size(0, 0, file) == IS_TERMINAL; }
 
 /* The words of errors, as the C library of Linux has them. */
 static const struct {

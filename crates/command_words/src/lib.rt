@@ -85,7 +85,7 @@ pub fn command_line<R: Env + Eprint + AllocGlobal>(
         Err(error) => match first_that_is_no_text(rt) {
             None => Err(error.into()),
             Some(at) => {
-                let _ = eprintln!(rt; "{program}: word {at} of the command line is no UTF-8 text");
+                let _ = eprintln!(rt; "{program}: word {at} of the command line is not UTF-8");
                 Err(Exit::Reported(COMMAND_LINE))
             }
         },

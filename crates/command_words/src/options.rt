@@ -62,7 +62,7 @@ pub fn is_named(rt: &impl Eprint, program: &str, what: &str, name: &str) -> bool
     ensures { result ≡ has_letters name.now }
 {
     if name.is_empty() {
-        let _ = eprintln!(rt; "{program}: {what} is an empty name");
+        let _ = eprintln!(rt; "{program}: {what} is empty");
         return false;
     }
     true
@@ -103,7 +103,7 @@ pub fn steps_option<'a>(alloc: Global) -> Arg<'a> {
         .long(STEPS)
         .value_name("N")
         .default_value("1000000000")
-        .help("The most reductions that are made, from 1 to 1000000000000")
+        .help("The most reductions to make, from 1 to 1000000000000")
 }
 
 /// The most reductions that are asked for. A number that they cannot be is reported.

@@ -1,4 +1,4 @@
-//! The rules, the topics, and the words that the profile leaves out. tools/write_explanations writes this file: change the pages of docs/, and call it.
+//! The rules and the topics. tools/write_explanations writes this file: change the pages of docs/, and call it.
 
 pub mod arguments;
 pub mod bodies;
@@ -11,7 +11,6 @@ pub mod operands;
 pub mod summaries;
 pub mod texts;
 
-use crate::left_out::{Context, LeftOut};
 use crate::rule::Rule;
 
 /// All topics, each in a line with what it is about.
@@ -80,7 +79,7 @@ fault 8     storage
 fault 9     HALT
 profile     what this profile of Modula-2 leaves out
 input       how a program reads its input
-status 0    m2c: built; m2run: the program ended well; m2: well
+status 0    m2c: built; m2run: the program ended normally; m2: success
 status 1    m2c: refused; m2run: the program ended with a fault; m2: refused, or a fault
 status 2    m2c: wrong command line; m2run: wrong command line; m2: wrong command line
 status 3    m2c: failed; m2run: failed; m2: failed
@@ -301,207 +300,5 @@ pub static RULES: [Rule; 53] = [
     Rule {
         number: 93,
         sentence: "the folder did not take the modules",
-    },
-];
-
-/// The words that the profile leaves out.
-pub static LEFT_OUT: [LeftOut; 33] = [
-    LeftOut {
-        rule: 30,
-        word: "REAL",
-        context: Context::Anywhere,
-        instead: "Write `VAR x: INTEGER;`, in cents.",
-    },
-    LeftOut {
-        rule: 30,
-        word: "LONGREAL",
-        context: Context::Anywhere,
-        instead: "Write `VAR x: INTEGER;`, in cents.",
-    },
-    LeftOut {
-        rule: 10,
-        word: ".",
-        context: Context::BetweenDigits,
-        instead: "Write `i := 15`, in tenths.",
-    },
-    LeftOut {
-        rule: 30,
-        word: "FLOAT",
-        context: Context::Anywhere,
-        instead: "Write `i := i DIV 10`.",
-    },
-    LeftOut {
-        rule: 30,
-        word: "TRUNC",
-        context: Context::Anywhere,
-        instead: "Write `i := i DIV 10`.",
-    },
-    LeftOut {
-        rule: 30,
-        word: "LONGINT",
-        context: Context::Anywhere,
-        instead: "Write `VAR x: INTEGER;`.",
-    },
-    LeftOut {
-        rule: 30,
-        word: "LONGCARD",
-        context: Context::Anywhere,
-        instead: "Write `VAR x: INTEGER;`.",
-    },
-    LeftOut {
-        rule: 40,
-        word: "/",
-        context: Context::Anywhere,
-        instead: "Write `i := i DIV j`.",
-    },
-    LeftOut {
-        rule: 40,
-        word: "CARDINAL",
-        context: Context::BeforeBracket,
-        instead: "Write `c := VAL(CARDINAL, i)`.",
-    },
-    LeftOut {
-        rule: 40,
-        word: "INTEGER",
-        context: Context::BeforeBracket,
-        instead: "Write `c := VAL(INTEGER, i)`.",
-    },
-    LeftOut {
-        rule: 40,
-        word: "CHAR",
-        context: Context::BeforeBracket,
-        instead: "Write `c := VAL(CHAR, i)`.",
-    },
-    LeftOut {
-        rule: 40,
-        word: "BOOLEAN",
-        context: Context::BeforeBracket,
-        instead: "Write `c := VAL(BOOLEAN, i)`.",
-    },
-    LeftOut {
-        rule: 40,
-        word: "BITSET",
-        context: Context::BeforeBracket,
-        instead: "Write `c := VAL(BITSET, i)`.",
-    },
-    LeftOut {
-        rule: 13,
-        word: "POINTER",
-        context: Context::Anywhere,
-        instead: "Write `TYPE Link = [0..100];`, an index of an array, 0 for none.",
-    },
-    LeftOut {
-        rule: 2,
-        word: "^",
-        context: Context::Anywhere,
-        instead: "Write `node[p].value := 1`.",
-    },
-    LeftOut {
-        rule: 30,
-        word: "NIL",
-        context: Context::Anywhere,
-        instead: "Write `p := 0`.",
-    },
-    LeftOut {
-        rule: 30,
-        word: "NEW",
-        context: Context::Anywhere,
-        instead: "Write `INC(used); p := used`.",
-    },
-    LeftOut {
-        rule: 30,
-        word: "ALLOCATE",
-        context: Context::Anywhere,
-        instead: "Write `INC(used); p := used`.",
-    },
-    LeftOut {
-        rule: 30,
-        word: "DISPOSE",
-        context: Context::Anywhere,
-        instead: "Write `node[p].next := used; used := p`, a list of free nodes.",
-    },
-    LeftOut {
-        rule: 30,
-        word: "DEALLOCATE",
-        context: Context::Anywhere,
-        instead: "Write `node[p].next := used; used := p`, a list of free nodes.",
-    },
-    LeftOut {
-        rule: 20,
-        word: "Storage",
-        context: Context::Anywhere,
-        instead: "Write nothing.",
-    },
-    LeftOut {
-        rule: 13,
-        word: "SET",
-        context: Context::Anywhere,
-        instead: "Write `TYPE Letters = ARRAY CHAR OF BOOLEAN;`, or BITSET for 0 to 31.",
-    },
-    LeftOut {
-        rule: 30,
-        word: "PROC",
-        context: Context::Anywhere,
-        instead: "Write `VAR run: PROCEDURE;`.",
-    },
-    LeftOut {
-        rule: 30,
-        word: "SIZE",
-        context: Context::Anywhere,
-        instead: "Write `c := 4`.",
-    },
-    LeftOut {
-        rule: 30,
-        word: "TSIZE",
-        context: Context::Anywhere,
-        instead: "Write `c := 4`.",
-    },
-    LeftOut {
-        rule: 13,
-        word: "EXPORT",
-        context: Context::Anywhere,
-        instead: "Write nothing: everything in a definition is exported.",
-    },
-    LeftOut {
-        rule: 13,
-        word: "QUALIFIED",
-        context: Context::Anywhere,
-        instead: "Write nothing: everything in a definition is exported.",
-    },
-    LeftOut {
-        rule: 13,
-        word: "MODULE",
-        context: Context::Anywhere,
-        instead: "Write `PROCEDURE Inner; END Inner;`, or a module with its own files.",
-    },
-    LeftOut {
-        rule: 20,
-        word: "SYSTEM",
-        context: Context::Anywhere,
-        instead: "Write nothing.",
-    },
-    LeftOut {
-        rule: 32,
-        word: "ReadInt",
-        context: Context::Anywhere,
-        instead: "Write `MODULE M; FROM Input IMPORT ReadInt; END M.`: it stands in Input, see `m2 explain input`.",
-    },
-    LeftOut {
-        rule: 32,
-        word: "ReadCard",
-        context: Context::Anywhere,
-        instead: "Write `MODULE M; FROM Input IMPORT ReadCard; END M.`: it stands in Input, see `m2 explain input`.",
-    },
-    LeftOut {
-        rule: 32,
-        word: "ReadString",
-        context: Context::Anywhere,
-        instead: "Write `MODULE M; FROM Input IMPORT ReadString; END M.`: it stands in Input, see `m2 explain input`.",
-    },
-    LeftOut {
-        rule: 32,
-        word: "Read",
-        context: Context::Anywhere,
-        instead: "Write `MODULE M; FROM Input IMPORT Read; END M.`: it stands in Input, see `m2 explain input`.",
     },
 ];

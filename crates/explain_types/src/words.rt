@@ -47,7 +47,7 @@ fn advice(left: &str, right: &str) -> &'static str {
         "; VAL(INTEGER, x) takes x as an INTEGER"
     } else if left == CARDINAL && right == INTEGER {
         "; VAL(CARDINAL, x) takes x as a CARDINAL"
-    } else if left == right {
+    } else if left == right && !left.starts_with("a string") {
         "; a type that is written out twice is two types"
     } else {
         ""

@@ -7,7 +7,7 @@ use thiserror::Error;
 #[derive(Clone, Copy, Debug, PartialEq, Eq, Error)]
 pub enum InputFault {
     /// The text of its module would have more than `MAX_TEXT` bytes.
-    #[error("it is too long: the text of its module may have 1048576 bytes, which is enough for any 500000 bytes")]
+    #[error("it is too long: its module's text may have 1048576 bytes, which is enough for any 500000 bytes")]
     TooLong,
     /// A request for memory was refused.
     #[error("no memory left (90)")]

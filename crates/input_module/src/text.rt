@@ -1,7 +1,7 @@
 //! The text of the module.
 
 ghost use Rattle.std.specs.Prelude.{◌≡◌, ◌≢◌, ◌<◌, ◌≤◌, ◌*◌, ◌++◌, length, take, drop, decimal, Err, IfOk, IfErr};
-ghost use Rattle.input_module.specs.Text.{max_text, always_fits, part, arm, arms, parts_of, front, back, text_of};
+ghost use Rattle.input_module.specs.Text.{max_text, always_fits, part_bytes, part, arm, arms, parts_of, front, back, text_of};
 ghost use Rattle.input_module.specs.declared.fault.InputFault.TheVariants.{TooLong};
 
 use crate::fault::InputFault;
@@ -68,7 +68,7 @@ fn first_bytes(bytes: &[u8], most: usize) -> &[u8]
 
 /// The part of this number, if the input has so many bytes before it.
 fn part_of(bytes: &[u8], number: usize) -> &[u8]
-    requires { number * 4096 ≤ length bytes.now }
+    requires { number * part_bytes ≤ length bytes.now }
     ensures { result.now ≡ part bytes.now number }
 {
     first_bytes(behind(bytes, number * PART_BYTES), PART_BYTES)
@@ -76,7 +76,7 @@ fn part_of(bytes: &[u8], number: usize) -> &[u8]
 
 /// Appends the arm of a part.
 fn put_arm(text: &mut Vec<u8>, bytes: &[u8], number: usize) -> Result<(), AllocError>
-    requires { number * 4096 ≤ length bytes.now }
+    requires { number * part_bytes ≤ length bytes.now }
     ensures { IfOk result (λ _. text.new.items ≡ text.old.items ++ arm bytes.now number) }
 {
     text.extend_from_slice(b"  | ")?;

@@ -9,9 +9,6 @@ use std::rt::Files;
 /// How the file ends that makes a case.
 const OUTPUT: &str = ".out";
 
-/// The greatest number of an end.
-const MOST_END: u8 = 9;
-
 /// The names of the cases of a folder, in their order.
 fn case_names<R: Files + AllocGlobal + Clone + Drop>(rt: &R, folder: &str) -> Result<Vec<String>> {
     let mut names = Vec::new(rt.alloc());
@@ -43,7 +40,7 @@ fn bytes_of<R: Files + AllocGlobal>(rt: &R, path: &str) -> Result<Vec<u8>> {
 fn end_of(path: &str, text: &[u8]) -> Result<u8> {
     match text.trim_ascii() {
         [] => Ok(0),
-        [digit] if digit.is_ascii_digit() => Ok((*digit - b'0').min(MOST_END)),
+        [digit] if digit.is_ascii_digit() => Ok(*digit - b'0'),
         _ => {
             ensure!(false, "{path} is no number from 0 to 9");
             Ok(0)

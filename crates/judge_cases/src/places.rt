@@ -1,5 +1,7 @@
 //! Where two texts differ.
 
+ghost use Rattle.std.specs.Prelude.{◌≡◌, ◌↔◌, IsNone};
+
 /// The first place at which a text is another than the wanted one.
 #[derive(Clone, Copy, PartialEq, Eq)]
 pub struct Difference {
@@ -12,7 +14,7 @@ pub struct Difference {
 }
 
 /// The end of a line.
-const LINE_FEED: u8 = b'\n';
+pub const LINE_FEED: u8 = b'\n';
 
 /// How many bytes the texts have in common at the front.
 fn common(printed: &[u8], wanted: &[u8]) -> usize {
@@ -42,10 +44,12 @@ fn place_behind(front: &[u8]) -> Difference {
 }
 
 /// The first place at which the texts differ, if they do.
-pub fn first_difference(printed: &[u8], wanted: &[u8]) -> Option<Difference> {
-    let front = common(printed, wanted);
-    if front == printed.len() && front == wanted.len() {
+pub fn first_difference(printed: &[u8], wanted: &[u8]) -> Option<Difference>
+    ensures { IsNone result ↔ (printed.now ≡ wanted.now) }
+{
+    if printed == wanted {
         return None;
     }
+    let front = common(printed, wanted);
     Some(place_behind(printed.get(..front).unwrap_or(printed)))
 }

@@ -1,11 +1,12 @@
 //! Programs that are built in memory.
 
-use crate::finding::{Program, find_program};
+use crate::mending::say_mends;
 use crate::pages::say_pages;
 use crate::showing::show;
 use anyhow::Result;
 use command_words::{Exit, FAILED};
 use explain_types::type_words;
+use find_files::{Program, find_program};
 use m2_tree::Refusal;
 use m2c::{Open, Options, Outcome, SourceFile, build};
 use run_program::ProgramFault;
@@ -27,8 +28,8 @@ pub struct Modules {
 /// Says why the program of the file of this name was not built or not run.
 pub fn say_fault<R: Eprint>(rt: &R, path: &str, fault: ProgramFault) {
     let words = match fault {
-        ProgramFault::Workers => "the number of workers cannot be had (70)",
-        ProgramFault::Pages => "the number of pages cannot be had (73)",
+        ProgramFault::Workers => "the number of workers is out of range (70)",
+        ProgramFault::Pages => "the number of pages is out of range (73)",
         ProgramFault::NoMemory => "no memory left (90)",
         ProgramFault::Write => "standard output failed (91)",
     };
@@ -39,7 +40,7 @@ pub fn say_fault<R: Eprint>(rt: &R, path: &str, fault: ProgramFault) {
 const MOST_EXPLAINED: usize = 8;
 
 /// What stood at each of the first refused places, as far as it is known: which types met, or what a parameter is.
-fn details_of<R: AllocGlobal + Threads + Sync>(
+pub fn details_of<R: AllocGlobal + Threads + Sync>(
     rt: &R,
     files: &[SourceFile],
     options: Options,
@@ -69,7 +70,7 @@ fn say_details<R: Eprint>(rt: &R, refusals: &[Refusal], details: &[String]) {
 
 /// Shows the refusals of a program, and says what stands there, in their objects or below all lines, and what it lacks: types,
 /// modules, or pages. The status.
-pub fn show_refused<R>(
+pub fn show_rules<R>(
     rt: &R,
     setting: &Setting,
     program: &Program,
@@ -91,6 +92,24 @@ where
     Ok(status)
 }
 
+/// Shows the refusals of a program, and says how each can be mended. The status.
+pub fn show_refused<R>(
+    rt: &R,
+    setting: &Setting,
+    program: &Program,
+    refusals: &[Refusal],
+) -> Result<u8, Exit>
+where
+    R: Files + Print + Eprint + AllocGlobal + Threads + Sync,
+{
+    let status = show_rules(rt, setting, program, refusals)?;
+    if status != FAILED {
+        let path = program.files.first().map_or("", |it| it.name.as_str());
+        say_mends(rt, setting, path, program, refusals)?;
+    }
+    Ok(status)
+}
+
 /// Builds the program that was found for this file. What is refused, and what failed, is reported: the status.
 pub fn build_found<R>(
     rt: &R,
@@ -99,7 +118,7 @@ pub fn build_found<R>(
     program: Program,
 ) -> Result<Modules, Exit>
 where
-    R: Print + Eprint + AllocGlobal + Threads + Sync,
+    R: Files + Print + Eprint + AllocGlobal + Threads + Sync,
 {
     match build(rt, rt.alloc(), &program.files, setting.options, &Open) {
         Ok(Outcome::Refused(refusals)) => {

@@ -1,25 +1,17 @@
 //! `m2 input`: another input for a program that was built into a folder.
 
 use crate::building::{Modules, build_found};
-use crate::finding::{Program, program_of_text, text_of};
 use crate::giving::give_file;
 use crate::saving::save_modules;
 use anyhow::Result;
 use command_words::{Exit, FAILED};
+use find_files::{Program, program_of_text, text_of};
+use program_input::{INPUT_MODULE, READER_FILE, READER_TEXT, place_of_input};
 use relink_input::relink;
-use std::alloc::{AllocError, Global};
+use std::alloc::Global;
 use std::rt::Files;
 use std::thread::Threads;
 use tool_words::{PROGRAM, Setting};
-
-/// The module that holds an input.
-const INPUT_MODULE: &str = "InputBytes";
-
-/// A program that has this module, and nothing else.
-const READER_TEXT: &str = "MODULE Reader; IMPORT InputBytes; END Reader.";
-
-/// The name of the file of this program, which is nowhere.
-const READER_FILE: &str = "Reader.mod";
 
 /// A program of the module that holds an input.
 fn reader<R: Files + Eprint + AllocGlobal>(rt: &R, setting: &Setting) -> Result<Program, Exit> {
@@ -28,13 +20,15 @@ fn reader<R: Files + Eprint + AllocGlobal>(rt: &R, setting: &Setting) -> Result<
 }
 
 /// The module that holds the input, among these.
-fn input_of(alloc: Global, modules: &Modules) -> Result<Vec<u8>, AllocError> {
-    for module in &modules.others {
-        if module.0.as_str() == INPUT_MODULE {
-            return Vec::from_slice(alloc, &module.1);
+fn input_of(alloc: Global, modules: Modules) -> Vec<u8> {
+    let mut others = modules.others;
+    match place_of_input(&others) {
+        None => Vec::new(alloc),
+        Some(place) => {
+            let (_, bytes) = others.remove(place);
+            bytes
         }
     }
-    Ok(Vec::new(alloc))
 }
 
 /// The bytes of a module in a folder. That it cannot be read is reported.
@@ -79,6 +73,6 @@ where
     let mut program = reader(rt, setting)?;
     give_file(rt, input, &mut program)?;
     let built = build_found(rt, setting, READER_FILE, program)?;
-    let modules = exchanged(rt, folder, input_of(rt.alloc(), &built)?)?;
+    let modules = exchanged(rt, folder, input_of(rt.alloc(), built))?;
     Ok(save_modules(rt, &modules, folder))
 }

@@ -1,7 +1,7 @@
 //! What a program reads.
 
-use crate::finding::Program;
 use command_words::{Exit, FAILED};
+use find_files::Program;
 use program_input::{has_input, put_input, read_input};
 use std::rt::Files;
 use tool_words::PROGRAM;

@@ -1,4 +1,4 @@
-//! The one tool for people: `m2 run`, `m2 build`, `m2 check`, `m2 show`, `m2 explain` and `m2 new`.
+//! The one tool for people: `m2 run`, `m2 build`, `m2 check`, `m2 fmt`, `m2 doc`, `m2 show`, `m2 explain` and `m2 new`.
 //!
 //! The words of the command line are read first. Then the modules that a program imports are found in folders, and the whole
 //! is built in memory. `run` executes what was built, `build` writes it into a folder, and `check` does neither. What is
@@ -9,16 +9,17 @@
 
 mod building;
 mod checking;
-mod creating;
+mod documenting;
 mod exchanging;
-mod exercise;
 mod explaining;
-mod finding;
+mod formatting;
 mod giving;
+mod linking;
+mod mending;
 mod output;
 mod pages;
 mod passes;
-mod places;
+mod rewriting;
 mod running;
 mod saving;
 mod screen;
@@ -26,16 +27,21 @@ mod showing;
 mod testing;
 
 use crate::checking::check_all;
-use crate::creating::create;
+use crate::documenting::document_folder;
 use crate::exchanging::exchange_input;
 use crate::explaining::explain;
+use crate::formatting::format_all;
+use crate::linking::build_single;
 use crate::passes::show_pass;
 use crate::running::run_file;
 use crate::saving::build_into;
 use crate::testing::{test_class, test_program};
 use anyhow::Result;
 use command_words::{Exit, FAILED};
+use create_program::create;
+use document_modules::Kind;
 use judge_cases::Limits;
+use std::io::IsTerminal;
 use std::process::ExitCode;
 use std::rt::{Env, Files};
 use std::thread::Threads;
@@ -53,19 +59,31 @@ where
             input,
             setting,
             steps,
-        } => run_file(rt, setting, program.as_str(), input, *steps, out),
+            told,
+        } => run_file(rt, setting, program.as_str(), input, *steps, *told, out),
         Asked::Build {
             program,
             input,
             setting,
             out,
         } => build_into(rt, setting, program.as_str(), input, out.as_str()),
+        Asked::Single {
+            program,
+            input,
+            setting,
+            host,
+            out,
+        } => build_single(rt, setting, program.as_str(), input, *host, out.as_str()),
         Asked::Input {
             folder,
             input,
             setting,
         } => exchange_input(rt, setting, folder.as_str(), input.as_str()),
-        Asked::Check { programs, setting } => check_all(rt, setting, programs),
+        Asked::Check {
+            programs,
+            setting,
+            fix,
+        } => check_all(rt, setting, programs, *fix),
         Asked::Test {
             program,
             is_class,
@@ -82,7 +100,7 @@ where
             };
             let (program, cases) = (program.as_str(), cases.as_str());
             if *is_class {
-                test_class(rt, setting, program, cases, *is_compared, limits)
+                test_class(rt, setting, program, cases, *is_compared, *told, limits)
             } else {
                 test_program(rt, setting, program, cases, *told, limits)
             }
@@ -92,23 +110,37 @@ where
             program,
             setting,
         } => show_pass(rt, setting, *pass, program.as_str()),
+        Asked::Format {
+            files,
+            layout,
+            style,
+        } => format_all(rt, *style, files, *layout),
+        Asked::Document {
+            folder,
+            out,
+            is_html,
+            style,
+        } => {
+            let kind = if *is_html { Kind::Html } else { Kind::Markdown };
+            document_folder(rt, *style, folder.as_str(), out.as_str(), kind)
+        }
         Asked::Explain { topic } => Ok(explain(rt, topic.as_str())),
         Asked::New { name, is_class } => Ok(create(rt, name.as_str(), *is_class)?),
     }
 }
 
 /// Does what the words ask for, and answers the status.
-fn elaborate<R, P>(rt: &R, out: P) -> Result<u8, Exit>
+fn elaborate<R, P>(rt: &R, out: P, is_terminal: bool) -> Result<u8, Exit>
 where
     R: Files + Input + Env + Print + Eprint + AllocGlobal + Threads + Sync + Clone + Drop,
     P: Print + Drop,
 {
-    let asked = read_command_line(rt)?;
+    let asked = read_command_line(rt, is_terminal)?;
     answer(rt, &asked, out)
 }
 
 fn main(rt: HostRuntime) -> ExitCode {
-    match elaborate(&rt, rt.stdout()).or_else(Exit::status) {
+    match elaborate(&rt, rt.stdout(), rt.stderr().is_terminal()).or_else(Exit::status) {
         Ok(status) => ExitCode::from(status),
         Err(error) => {
             let _ = eprintln!(rt; "{PROGRAM}: {error}");

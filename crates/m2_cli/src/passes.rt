@@ -1,11 +1,11 @@
 //! `m2 show`: what a pass makes of a program.
 
 use crate::building::{Modules, build_program};
-use crate::finding::{alone, text_of};
 use crate::output::say_output_fault;
 use crate::showing::show;
 use anyhow::Result;
 use command_words::{Exit, FAILED};
+use find_files::{alone, text_of};
 use m2_tree::{Pos, Refusal};
 use m2c::{Open, Options, Outcome, SourceFile, build};
 use mark_statements::marked_text;
@@ -14,14 +14,14 @@ use show_types::show_types;
 use std::alloc::{AllocError, Global};
 use std::rt::Files;
 use std::thread::Threads;
-use tool_words::{Pass, Setting};
+use tool_words::{Pass, Setting, Style};
 use typed_program::typed_program;
 
 /// The status of what is shown.
 const SHOWN: u8 = 0;
 
 /// Writes what is shown. The status.
-fn write_page<R: Print + Eprint>(rt: &R, page: &[u8]) -> u8 {
+pub fn write_page<R: Print + Eprint>(rt: &R, page: &[u8]) -> u8 {
     match rt.write_all(page) {
         Ok(()) => SHOWN,
         Err(error) => {
@@ -32,9 +32,9 @@ fn write_page<R: Print + Eprint>(rt: &R, page: &[u8]) -> u8 {
 }
 
 /// Shows where a text is refused. The status.
-fn refuse<R: Print + Eprint + AllocGlobal>(
+pub fn refuse<R: Print + Eprint + AllocGlobal>(
     rt: &R,
-    setting: &Setting,
+    style: Style,
     path: &str,
     text: Vec<u8>,
     pos: Pos,
@@ -43,13 +43,7 @@ fn refuse<R: Print + Eprint + AllocGlobal>(
     let mut refusals = Vec::new(rt.alloc());
     let file = String::from_str(rt.alloc(), path)?;
     refusals.push(Refusal { file, pos, number })?;
-    show(
-        rt,
-        setting.style,
-        &alone(rt.alloc(), path, text)?,
-        &refusals,
-        &[],
-    )
+    show(rt, style, &alone(rt.alloc(), path, text)?, &refusals, &[])
 }
 
 /// Shows what a pass makes of this text, or where it is refused. The status.
@@ -62,7 +56,7 @@ fn show_text<R: Print + Eprint + AllocGlobal>(
 ) -> Result<u8> {
     match made {
         Shown::Made(page) => Ok(write_page(rt, &page)),
-        Shown::Refused(pos, number) => refuse(rt, setting, path, text, pos, number),
+        Shown::Refused(pos, number) => refuse(rt, setting.style, path, text, pos, number),
     }
 }
 

@@ -3,18 +3,19 @@
 ghost use Rattle.std.specs.Prelude.{◌≡◌, ◌<◌, ◌^◌, ◌+◌};
 
 use crate::building::{say_fault, show_refused};
-use crate::finding::{Program as FoundProgram, find_program};
 use crate::giving::give_input;
 use crate::output::say_output_fault;
 use crate::screen::Screen;
 use anyhow::Result;
 use command_words::{Exit, FAILED};
+use explain_runs::{explain_run, profile_run};
+use find_files::{Program as FoundProgram, find_program};
 use m2c::Open;
 use run_directory::end_word;
 use run_program::{End, Instances, Loaded, Program, load_program};
 use std::rt::Files;
 use std::thread::Threads;
-use tool_words::{PROGRAM, Setting};
+use tool_words::{Measured, PROGRAM, Setting, Style};
 use wasm_engine::RunFault;
 
 /// The status of a program that ended by itself or by HALT.
@@ -131,26 +132,86 @@ fn write_course<R: Eprint, P: Print>(rt: &R, course: Course, steps: u64, screen:
     }
 }
 
-/// Links a program and executes it. The status.
+/// Links a program and executes it, and says how it ended. The status, and where it came to.
 fn execute<R: Eprint + AllocGlobal, P: Print>(
     rt: &R,
     path: &str,
     program: &Program,
     steps: u64,
     screen: &mut Screen<P>,
-) -> u8
+) -> (u8, Option<End>)
     requires { screen.old.failures ≡ 0 }
 {
     match program.link(rt.alloc()) {
         Ok(mut instances) => {
             let course = run_slices(&mut instances, steps, screen);
-            write_course(rt, course, steps, screen)
+            let status = write_course(rt, course, steps, screen);
+            match course {
+                Course::At(end) => (status, Some(end)),
+                Course::Broken(_) | Course::Unwritten => (status, None),
+            }
         }
         Err(fault) => {
             say_fault(rt, path, fault);
-            FAILED
+            (FAILED, None)
         }
     }
+}
+
+/// Whether it is said where a run was that came to here.
+fn has_place(end: End) -> bool {
+    match end {
+        End::Done(number) => number != ENDED && number != HALTED,
+        End::StillRunning => true,
+        End::Trap => false,
+    }
+}
+
+/// Says where a run was that ended with a fault, or that had made all its reductions. If that cannot be known, the run has ended
+/// all the same.
+fn say_place<R>(rt: &R, setting: &Setting, found: &FoundProgram, end: End, steps: u64)
+where
+    R: Eprint + AllocGlobal + Threads + Sync,
+{
+    let is_coloured = setting.style == Style::Coloured;
+    let _ = match explain_run(rt, &found.files, setting.options, end, steps, is_coloured) {
+        Err(error) => eprintln!(rt; "{PROGRAM}: where the program was is not known: {error}"),
+        Ok(None) => eprintln!(rt; "{PROGRAM}: where the program was is not known"),
+        Ok(Some(report)) => {
+            if setting.style == Style::Json {
+                eprintln!(rt; "{}", report.object)
+            } else {
+                eprint!(rt; "{}", report.text)
+            }
+        }
+    };
+}
+
+/// Says what ran, if that is asked for. An error if memory ran out.
+fn say_measured<R>(
+    rt: &R,
+    setting: &Setting,
+    found: &FoundProgram,
+    steps: u64,
+    told: Measured,
+) -> Result<()>
+where
+    R: Eprint + AllocGlobal + Threads + Sync,
+{
+    if !told.is_profiled && !told.is_covered {
+        return Ok(());
+    }
+    let Some(profile) = profile_run(rt, &found.files, setting.options, steps)? else {
+        let _ = eprintln!(rt; "{PROGRAM}: what ran is not known");
+        return Ok(());
+    };
+    if told.is_profiled {
+        let _ = eprint!(rt; "{}", profile.table);
+    }
+    if told.is_covered {
+        let _ = eprint!(rt; "{}", profile.unrun);
+    }
+    Ok(())
 }
 
 /// Executes the program of the file of this name, if it is ready, and else shows what is refused of it. The status.
@@ -161,17 +222,24 @@ fn finish<R, P>(
     found: &FoundProgram,
     loaded: Loaded,
     steps: u64,
+    told: Measured,
     out: P,
-) -> Result<u8>
+) -> Result<u8, Exit>
 where
-    R: Print + Eprint + AllocGlobal + Threads + Sync,
+    R: Files + Print + Eprint + AllocGlobal + Threads + Sync,
     P: Print + Drop,
 {
     match loaded {
         Loaded::Refused(refusals) => show_refused(rt, setting, found, &refusals),
         Loaded::Ready(program) => {
             let mut screen = Screen::new(rt.alloc(), out)?;
-            Ok(execute(rt, path, &program, steps, &mut screen))
+            let (status, end) = execute(rt, path, &program, steps, &mut screen);
+            drop(program);
+            if let Some(end) = end.filter(|it| has_place(*it)) {
+                say_place(rt, setting, found, end, steps);
+            }
+            say_measured(rt, setting, found, steps, told)?;
+            Ok(status)
         }
     }
 }
@@ -184,6 +252,7 @@ pub fn run_file<R, P>(
     path: &str,
     input: &Option<String>,
     steps: u64,
+    told: Measured,
     out: P,
 ) -> Result<u8, Exit>
 where
@@ -193,7 +262,7 @@ where
     let mut found = find_program(rt, setting, path)?;
     give_input(rt, path, input, &mut found)?;
     match load_program(rt, rt.alloc(), &found.files, setting.options, &Open) {
-        Ok(loaded) => Ok(finish(rt, setting, path, &found, loaded, steps, out)?),
+        Ok(loaded) => finish(rt, setting, path, &found, loaded, steps, told, out),
         Err(fault) => {
             say_fault(rt, path, fault);
             Ok(FAILED)

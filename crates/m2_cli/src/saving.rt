@@ -1,9 +1,9 @@
 //! `m2 build`: the modules of a program, written into a folder.
 
 use crate::building::{Modules, build_found};
-use crate::finding::find_program;
 use crate::giving::give_input;
 use command_words::{Exit, FAILED};
+use find_files::find_program;
 use m2c::{SaveFault, save};
 use std::rt::Files;
 use std::thread::Threads;

@@ -1,10 +1,10 @@
 //! What people are told of a program that is refused.
 
-use crate::finding::Program;
 use crate::output::say_output_fault;
 use crate::screen::Screen;
 use anyhow::Result;
 use command_words::FAILED;
+use find_files::Program;
 use m2_tree::Refusal;
 use m2c::SourceFile;
 use show_refusals::{explanation, show_json};
@@ -69,7 +69,7 @@ fn say_folders<R: Eprint>(rt: &R, folders: &[String]) {
 /// Says which modules are in no folder.
 fn say_lacking<R: Eprint>(rt: &R, program: &Program) {
     for name in &program.lacking {
-        let _ = eprint!(rt; "{PROGRAM}: no definition of {name} was given; it was looked for in ");
+        let _ = eprint!(rt; "{PROGRAM}: no definition of {name} was found in ");
         say_folders(rt, &program.searched);
         let _ = eprintln!(rt; "");
     }

@@ -1,17 +1,17 @@
-//! `m2 test`: a program, judged by the cases of a folder.
+//! `m2 test`: a program, or each program of a class, judged by the cases of a folder.
 
-use crate::finding::find_program;
 use crate::output::say_output_fault;
 use anyhow::Result;
 use command_words::{Exit, FAILED};
+use find_files::{find_program, program_of_text};
 use judge_cases::{
-    Case, Compared, Form, Limits, Verdict, are_same, back, case_line, comparand, front, judge,
-    paths_of, read_cases,
+    Case, Compared, Form, Grades, Limits, are_same, back, case_lines, class_row, comparand, front,
+    grade, paths_of, read_cases, same_line,
 };
-use m2c::SourceFile;
-use std::fs;
+use program_input::read_input;
 use std::rt::Files;
 use std::thread::Threads;
+use system_streams::is_stream;
 use tool_words::{PROGRAM, Setting, Told};
 
 /// The status if all cases passed.
@@ -40,31 +40,6 @@ fn say<R: Print + Eprint>(rt: &R, text: &str) -> Result<(), Exit> {
     }
 }
 
-/// Judges each case and says what came of it. How many passed.
-fn judge_all<R>(
-    rt: &R,
-    setting: &Setting,
-    files: &mut [SourceFile],
-    cases: &[Case],
-    form: Form,
-    limits: Limits,
-) -> Result<usize, Exit>
-where
-    R: Print + Eprint + AllocGlobal + Threads + Sync,
-{
-    let mut passed = 0usize;
-    for (place, case) in cases.iter().enumerate() {
-        let (verdict, _) = judge(rt, rt.alloc(), files, setting.options, case, limits);
-        let number = place.saturating_add(1);
-        let line = case_line(rt.alloc(), form, number, case.name.as_str(), verdict)?;
-        say(rt, line.as_str())?;
-        if matches!(verdict, Verdict::Passed(_)) {
-            passed = passed.saturating_add(1);
-        }
-    }
-    Ok(passed)
-}
-
 /// The cases of a folder. That they cannot be read is reported.
 fn cases_of<R>(rt: &R, folder: &str) -> Result<Vec<Case>, Exit>
 where
@@ -91,97 +66,134 @@ pub fn test_program<R>(
 where
     R: Files + Print + Eprint + AllocGlobal + Threads + Sync + Clone + Drop,
 {
+    let (alloc, form) = (rt.alloc(), form_of(told));
     let cases = cases_of(rt, folder)?;
-    let mut program = find_program(rt, setting, path)?;
-    let form = form_of(told);
-    say(rt, front(rt.alloc(), form, cases.len())?.as_str())?;
-    let passed = judge_all(rt, setting, &mut program.files, &cases, form, limits)?;
+    let program = find_program(rt, setting, path)?;
+    say(rt, front(alloc, form, cases.len())?.as_str())?;
+    let grades = grade(rt, alloc, program.files, setting.options, &cases, limits)?;
+    say(
+        rt,
+        case_lines(alloc, form, 0, path, &cases, &grades)?.as_str(),
+    )?;
+    let passed = grades.passed();
     let failed = cases.len().saturating_sub(passed);
-    say(rt, back(rt.alloc(), form, passed, failed)?.as_str())?;
+    let words = format!(in alloc; "{passed} passed, {failed} failed")?;
+    say(rt, back(alloc, form, words.as_str())?.as_str())?;
     Ok(if failed == 0 { PASSED } else { NOT_PASSED })
 }
 
-/// Judges each case, and says on one line how many the program of this file passed and which it did not. Whether it passed all.
-fn judge_in_row<R>(
-    rt: &R,
-    setting: &Setting,
-    files: &mut [SourceFile],
-    cases: &[Case],
-    limits: Limits,
-    path: &str,
-) -> Result<bool, Exit>
+/// The text of a program of a class, or of as much as shows that it is too long. That it cannot be read is reported.
+fn text_in_class<R>(rt: &R, path: &str) -> Option<Vec<u8>>
 where
-    R: Print + Eprint + AllocGlobal + Threads + Sync,
+    R: Files + Input + Eprint + AllocGlobal,
 {
-    let mut failed = String::new(rt.alloc());
-    let mut passed = 0usize;
-    for case in cases {
-        let (verdict, _) = judge(rt, rt.alloc(), files, setting.options, case, limits);
-        if matches!(verdict, Verdict::Passed(_)) {
-            passed = passed.saturating_add(1);
-        } else {
-            failed.push_str(" ")?;
-            failed.push_str(case.name.as_str())?;
+    if is_stream(rt, path) {
+        let _ = eprintln!(rt; "{PROGRAM}: cannot read {path}: it is not a file");
+        return None;
+    }
+    match read_input(rt, path) {
+        Ok(text) => Some(text),
+        Err(error) => {
+            let _ = eprintln!(rt; "{PROGRAM}: cannot read {path}: {error}");
+            None
         }
     }
-    let all = cases.len();
-    let between = if failed.is_empty() { "" } else { ", not" };
-    let row = format!(in rt.alloc(); "{path}: {passed} of {all} passed{between}{failed}\n")?;
-    say(rt, row.as_str())?;
-    Ok(failed.is_empty())
 }
 
-/// Judges the program of this file, also if it cannot be found. Whether it passed all.
-fn judge_one<R>(
+/// The text of a program of a class, if it can be read.
+fn readable_text<R>(rt: &R, path: &str) -> Option<Vec<u8>>
+where
+    R: Files + Input + AllocGlobal,
+{
+    if is_stream(rt, path) {
+        return None;
+    }
+    read_input(rt, path).ok()
+}
+
+/// What comes of the program of this file, also if it cannot be read.
+fn grades_of<R>(
     rt: &R,
     setting: &Setting,
     path: &str,
     cases: &[Case],
     limits: Limits,
-) -> Result<bool, Exit>
+) -> Result<Grades, Exit>
 where
-    R: Files + Print + Eprint + AllocGlobal + Threads + Sync,
+    R: Files + Input + Print + Eprint + AllocGlobal + Threads + Sync,
 {
-    match find_program(rt, setting, path) {
-        Ok(mut program) => judge_in_row(rt, setting, &mut program.files, cases, limits, path),
-        Err(Exit::Reported(_)) => {
-            let all = cases.len();
-            let row = format!(in rt.alloc(); "{path}: 0 of {all} passed, no program\n")?;
-            say(rt, row.as_str())?;
-            Ok(false)
+    let Some(text) = text_in_class(rt, path) else {
+        return Ok(Grades::without_program());
+    };
+    match program_of_text(rt, setting, path, text) {
+        Ok(program) => {
+            let files = program.files;
+            Ok(grade(rt, rt.alloc(), files, setting.options, cases, limits)?)
         }
+        Err(Exit::Reported(_)) => Ok(Grades::without_program()),
         Err(exit) => Err(exit),
     }
+}
+
+/// Judges each program of a class, and says what came of it. How many passed all cases.
+fn grade_class<R>(
+    rt: &R,
+    setting: &Setting,
+    paths: &[String],
+    cases: &[Case],
+    form: Form,
+    limits: Limits,
+) -> Result<usize, Exit>
+where
+    R: Files + Input + Print + Eprint + AllocGlobal + Threads + Sync,
+{
+    let mut passed = 0usize;
+    for (place, path) in paths.iter().enumerate() {
+        let path = path.as_str();
+        let grades = grades_of(rt, setting, path, cases, limits)?;
+        let said = match form {
+            Form::Lines => class_row(rt.alloc(), path, cases, &grades)?,
+            _ => {
+                let before = place.saturating_mul(cases.len());
+                case_lines(rt.alloc(), form, before, path, cases, &grades)?
+            }
+        };
+        say(rt, said.as_str())?;
+        if grades.passed() == cases.len() {
+            passed = passed.saturating_add(1);
+        }
+    }
+    Ok(passed)
 }
 
 /// Says of which programs before it this one has the tokens.
 fn say_same_before<R: Print + Eprint + AllocGlobal>(
     rt: &R,
+    form: Form,
     before: &[(&str, Compared)],
     path: &str,
     one: &Compared,
 ) -> Result<(), Exit> {
     for other in before {
         if are_same(&other.1, one) {
-            let first = other.0;
-            let row = format!(in rt.alloc(); "{first} and {path} have the same tokens\n")?;
-            say(rt, row.as_str())?;
+            let line = same_line(rt.alloc(), form, other.0, path)?;
+            say(rt, line.as_str())?;
         }
     }
     Ok(())
 }
 
 /// Says which programs of these files have the same tokens.
-fn say_same<R>(rt: &R, paths: &[String]) -> Result<(), Exit>
+fn say_same<R>(rt: &R, form: Form, paths: &[String]) -> Result<(), Exit>
 where
-    R: Files + Print + Eprint + AllocGlobal,
+    R: Files + Input + Print + Eprint + AllocGlobal,
 {
     let mut before = Vec::new(rt.alloc());
     for path in paths {
         let path = path.as_str();
-        if let Ok(text) = fs::read(rt, path) {
+        if let Some(text) = readable_text(rt, path) {
             let one = comparand(rt.alloc(), &text)?;
-            say_same_before(rt, &before, path, &one)?;
+            say_same_before(rt, form, &before, path, &one)?;
             before.push((path, one))?;
         }
     }
@@ -195,34 +207,38 @@ where
 {
     let paths = paths_of(rt, pattern)?;
     if paths.is_empty() {
-        let _ = eprintln!(rt; "{PROGRAM}: no file is of {pattern}");
+        let _ = eprintln!(rt; "{PROGRAM}: no file matches {pattern}");
         return Err(Exit::Reported(FAILED));
     }
     Ok(paths)
 }
 
-/// Judges each program whose file is of this pattern by the cases of a folder, and says a line of each. The status.
+/// Judges each program whose file is of this pattern by the cases of a folder, and says what came of each. The status.
 pub fn test_class<R>(
     rt: &R,
     setting: &Setting,
     pattern: &str,
     folder: &str,
     is_compared: bool,
+    told: Told,
     limits: Limits,
 ) -> Result<u8, Exit>
 where
-    R: Files + Print + Eprint + AllocGlobal + Threads + Sync + Clone + Drop,
+    R: Files + Input + Print + Eprint + AllocGlobal + Threads + Sync + Clone + Drop,
 {
+    let (alloc, form) = (rt.alloc(), form_of(told));
     let cases = cases_of(rt, folder)?;
-    let mut status = PASSED;
     let paths = class_of(rt, pattern)?;
-    for path in &paths {
-        if !judge_one(rt, setting, path.as_str(), &cases, limits)? {
-            status = NOT_PASSED;
-        }
-    }
+    let all = paths.len();
+    say(
+        rt,
+        front(alloc, form, all.saturating_mul(cases.len()))?.as_str(),
+    )?;
+    let passed = grade_class(rt, setting, &paths, &cases, form, limits)?;
     if is_compared {
-        say_same(rt, &paths)?;
+        say_same(rt, form, &paths)?;
     }
-    Ok(status)
+    let words = format!(in alloc; "{passed} of {all} programs passed all cases")?;
+    say(rt, back(alloc, form, words.as_str())?.as_str())?;
+    Ok(if passed == all { PASSED } else { NOT_PASSED })
 }

@@ -8,6 +8,6 @@ mod marks;
 mod merge;
 mod statements;
 
-pub use marks::marked_text;
+pub use marks::{fully_marked_text, marked_text};
 pub use merge::with_statements;
-pub use statements::{Statement, Statements, statements_of};
+pub use statements::{Mark, MarkKind, Statement, Statements, statements_of};

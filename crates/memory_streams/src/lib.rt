@@ -1,4 +1,4 @@
-//! Folders and streams over memory, and what is executed there, for the crates of tests.
+//! Folders and streams over memory, and what is executed there.
 #![tactic(auto)]
 
 mod files;

@@ -15,10 +15,10 @@ use m2c::{Open, Options, Outcome, SourceFile, build};
 use plain_run::{Report, Stop, run as run_program};
 use run_directory::end_word;
 use std::fmt::Display;
-use std::fs;
 use std::process::ExitCode;
 use std::rt::{Env, Files};
 use std::thread::Threads;
+use system_streams::read_text;
 use typed_program::typed_program;
 
 /// The status of an end by itself or by HALT.
@@ -40,7 +40,7 @@ const MAX_NESTING: usize = 8000;
 fn read_all<R: Files + AllocGlobal>(rt: &R, names: &[String]) -> Result<Vec<SourceFile>> {
     let mut files = Vec::new(rt.alloc());
     for name in names {
-        let bytes = fs::read(rt, name).context(format_args!("cannot read {name}"))?;
+        let bytes = read_text(rt, name.as_str()).context(format_args!("cannot read {name}"))?;
         let name = name.clone()?;
         files.push(SourceFile { name, bytes })?;
     }

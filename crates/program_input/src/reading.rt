@@ -26,7 +26,8 @@ fn read_bytes<S: Read>(alloc: Global, stream: &mut S) -> io::Result<Vec<u8>> {
     Ok(bytes)
 }
 
-/// The bytes of the file at this path, or of standard input if this is `-`. No more are read than show that they are too many.
+/// The bytes of the file at this path, or of standard input if this is `-`. No more are read than show that they are
+/// too many.
 pub fn read_input<R: Files + Input + AllocGlobal>(rt: &R, path: &str) -> io::Result<Vec<u8>> {
     if path == STANDARD_INPUT {
         return read_bytes(rt.alloc(), &mut rt.reader());

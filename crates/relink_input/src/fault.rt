@@ -11,10 +11,10 @@ pub enum RelinkFault {
     #[error("the program reads no input")]
     ReadsNone,
     /// Bytes are no module of this compiler.
-    #[error("a module is none that this compiler wrote")]
+    #[error("a module was not written by this compiler")]
     NotOurs,
     /// The memory of the program has no room for the input.
-    #[error("the memory of the program has no room for this input: build it with more --memory")]
+    #[error("the program's memory has no room for this input: build it with a larger --memory")]
     NoRoom,
     /// A request for memory was refused.
     #[error("no memory left (90)")]

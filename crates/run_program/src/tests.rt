@@ -47,12 +47,35 @@ const OPTIONS: Options = Options {
     pages: 1,
 };
 
+/// So many variables of 524288 bytes take 2 to the 32 bytes.
+const ALL_BYTES: usize = 8192;
+
+/// The program of a module whose variable lies beyond 32 bits.
+const BEYOND: &str = "MODULE M; IMPORT C; BEGIN C.z := 'x' END M.";
+
+fn file(alloc: Global, name: &str, text: &str) -> Result<SourceFile, AllocError> {
+    Ok(SourceFile {
+        name: String::from_str(alloc, name)?,
+        bytes: Vec::from_slice(alloc, text.as_bytes())?,
+    })
+}
+
+/// A definition whose variable z has 2 to the 32 bytes of variables in front of it.
+fn vast_definition(alloc: Global) -> Result<String, AllocError> {
+    let mut text = String::from_str(
+        alloc,
+        "DEFINITION MODULE C; TYPE T = ARRAY [0..131071] OF CARDINAL; VAR v0",
+    )?;
+    for k in 1..ALL_BYTES {
+        text.push_str(format!(in alloc; ", v{k}")?.as_str())?;
+    }
+    text.push_str(": T; z: CHAR; END C.")?;
+    Ok(text)
+}
+
 fn files_of(alloc: Global, text: &str) -> Result<Vec<SourceFile>, AllocError> {
     let mut files = Vec::new(alloc);
-    files.push(SourceFile {
-        name: String::from_str(alloc, "m.mod")?,
-        bytes: Vec::from_slice(alloc, text.as_bytes())?,
-    })?;
+    files.push(file(alloc, "m.mod", text)?)?;
     Ok(files)
 }
 
@@ -100,6 +123,25 @@ fn a_refused_program_prints_nothing(rt: HostRuntime) {
         panic!(rt; "it is refused");
     };
     assert!(rt; refusals.len() == 1 && screen.bytes.is_empty());
+}
+
+#[test]
+fn a_place_beyond_32_bits_is_refused(rt: HostRuntime) -> Result<(), AllocError> {
+    let alloc = rt.alloc();
+    let mut files = files_of(alloc, BEYOND)?;
+    files.push(file(alloc, "c.def", vast_definition(alloc)?.as_str())?)?;
+    files.push(file(alloc, "c.mod", "IMPLEMENTATION MODULE C; END C.")?)?;
+    let mut screen = Screen::new(alloc);
+    let ended = run_program(&rt, alloc, &files, OPTIONS, &Open, STEPS, &mut screen);
+    let Ok(ProgramEnd::Refused(refusals)) = ended else {
+        panic!(rt; "it is refused");
+    };
+    let [refusal] = refusals.as_slice() else {
+        panic!(rt; "one rule is broken");
+    };
+    let line = format!(in alloc; "{refusal}")?;
+    assert!(rt; line.as_str() == "c.mod:1:23: refusal 60" && screen.bytes.is_empty());
+    Ok(())
 }
 
 #[test]

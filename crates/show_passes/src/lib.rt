@@ -12,7 +12,8 @@ mod tree_exprs;
 mod tree_stmts;
 mod tree_types;
 
-pub use program::{Built, File, show_program};
+pub use program::{Built, File, Parsed, Trees, show_program, trees_of};
 pub use texts::{Shown, show_text_tokens, show_text_tree, tree_of};
+pub use titles::Titles;
 pub use tokens::show_tokens;
 pub use tree::show_tree;

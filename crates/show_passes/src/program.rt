@@ -18,15 +18,16 @@ pub type Built = (String, Vec<u8>);
 
 /// The tree of a text, and its statements.
 #[derive(Drop)]
-struct Parsed {
-    tree: Module,
-    statements: Statements,
+pub struct Parsed {
+    pub tree: Module,
+    pub statements: Statements,
 }
 
 /// The trees of a program, by the names of their modules.
 #[derive(Drop)]
-struct Trees {
-    all: Vec<Parsed>,
+pub struct Trees {
+    /// Those of the files that have one, in the order of the files.
+    pub all: Vec<Parsed>,
     /// The numbers of the definitions' trees.
     definitions: Dictionary<usize>,
     /// The numbers of the bodies' trees.
@@ -75,20 +76,25 @@ impl Trees {
         self.all.get(*number?)
     }
 
+    /// The number of the body of the module of this name.
+    pub fn body_number(&self, name: &[u8]) -> Option<usize> {
+        self.bodies.find(name).map(|number| *number)
+    }
+
     /// The body of the module of this name.
     fn body(&self, name: &[u8]) -> Option<&Parsed> {
         self.at(self.bodies.find(name))
     }
 
-    /// What the functions of a module are.
-    fn titles(&self, alloc: Global, body: &Parsed, name: &[u8]) -> Result<Titles, AllocError> {
+    /// What the functions of the module of this name are, from its body.
+    pub fn titles(&self, alloc: Global, body: &Parsed, name: &[u8]) -> Result<Titles, AllocError> {
         let definition = self.at(self.definitions.find(name));
         titles_of(alloc, &body.tree, definition.map(|it| &it.tree))
     }
 }
 
-/// The trees of the texts of files.
-fn trees_of(alloc: Global, files: &[File<'_>]) -> Result<Trees, AllocError> {
+/// The trees of the texts of files, and their statements. The only error is that memory ran out.
+pub fn trees_of(alloc: Global, files: &[File<'_>]) -> Result<Trees, AllocError> {
     let mut trees = Trees::new(alloc);
     for file in files {
         trees.add_text(alloc, file.1)?;

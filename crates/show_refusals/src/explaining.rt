@@ -1,12 +1,11 @@
 //! What is said of a refusal on standard error.
 
-use crate::hints::push_hint;
 use crate::picture::{draw, part_around};
-use crate::profile::left_out_at;
 use crate::spot::{Spot, spot_at};
 use build_jobs::SourceFile;
 use explain_rules::sentence;
-use m2_tree::Refusal;
+use m2_tree::{Pos, Refusal};
+use propose_mends::{Source, known_way};
 use std::alloc::{AllocError, Global};
 use std::fmt::Write;
 
@@ -32,19 +31,32 @@ fn rule_line(alloc: Global, number: u32) -> Result<String, AllocError> {
     }
 }
 
-/// Writes what to do about a word that the profile leaves out, if the refusal is of one.
-fn push_left_out(text: &mut String, number: u32, spot: &Spot<'_>) -> Result<(), AllocError> {
-    match left_out_at(number, spot) {
-        Some(it) => write!(
-            text,
-            "  `{}` is not in this profile. {}\n",
-            it.word, it.instead
-        ),
-        None => Ok(()),
+/// What to do about what is refused, if that is known and no edit helps.
+pub fn way_of(
+    alloc: Global,
+    files: &[SourceFile],
+    refusal: &Refusal,
+) -> Result<Option<&'static str>, AllocError> {
+    match bytes_of(files, refusal.file.as_str()) {
+        Some(bytes) => {
+            let source = Source::of(alloc, bytes, refusal.pos)?;
+            Ok(known_way(&source, refusal.number, refusal.pos))
+        }
+        None => Ok(None),
     }
 }
 
-/// Writes the line of source, the mark under the token, and what to do if the profile leaves it out.
+/// The line of a text with its number, and below it a mark under the token at a place. The only error is that memory ran out.
+pub fn marked_line(
+    alloc: Global,
+    text: &[u8],
+    pos: Pos,
+    colour: bool,
+) -> Result<String, AllocError> {
+    draw(alloc, pos.line, &part_around(&spot_at(text, pos)), colour)
+}
+
+/// Writes the line of source, and the mark under the token.
 fn push_source(
     alloc: Global,
     text: &mut String,
@@ -53,11 +65,11 @@ fn push_source(
     colour: bool,
 ) -> Result<(), AllocError> {
     let lines = draw(alloc, refusal.pos.line, &part_around(spot), colour)?;
-    text.push_str(lines.as_str())?;
-    push_left_out(text, refusal.number, spot)
+    text.push_str(lines.as_str())
 }
 
-/// All that is said of a refusal: its rule, and if its file is there also the line of source with a mark.
+/// All that is said of a refusal: its rule, if its file is there also the line of source with a mark, and what to do
+/// if no edit helps.
 pub fn explanation(
     alloc: Global,
     files: &[SourceFile],
@@ -68,7 +80,9 @@ pub fn explanation(
     if let Some(bytes) = bytes_of(files, refusal.file.as_str()) {
         let spot = spot_at(bytes, refusal.pos);
         push_source(alloc, &mut text, refusal, &spot, colour)?;
-        push_hint(alloc, &mut text, bytes, refusal.number, refusal.pos)?;
+    }
+    if let Some(way) = way_of(alloc, files, refusal)? {
+        write!(text, "  {way}.\n")?;
     }
     Ok(text)
 }

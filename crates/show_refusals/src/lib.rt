@@ -5,21 +5,19 @@
 //! stands on standard error.
 #![tactic(auto)]
 
-mod before;
 mod explaining;
-mod hints;
 mod json;
 mod layout;
-mod letters;
 mod line;
+mod mended;
 mod picture;
-mod profile;
 mod showing;
 mod spot;
 #[cfg(test)]
 mod tests;
 mod token;
 
-pub use explaining::explanation;
+pub use explaining::{explanation, marked_line, way_of};
 pub use json::show_json;
+pub use mended::{Mended, object_of};
 pub use showing::show;

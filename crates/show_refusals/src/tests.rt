@@ -23,7 +23,7 @@ const ROWS: [Row; 15] = [
         line: 2,
         col: 8,
         number: 30,
-        said: "  a name that is not declared, or not yet (m2 explain 30)\n2 | VAR x: REAL;\n           ^^^^\n  `REAL` is not in this profile. Write `VAR x: INTEGER;`, in cents.\n",
+        said: "  a name that is not declared, or not yet (m2 explain 30)\n2 | VAR x: REAL;\n           ^^^^\n  real numbers are not in this profile, and nothing stands for them: count in whole parts, as cents for money.\n",
     },
     // a tab at the beginning is eight blanks
     Row {
@@ -39,7 +39,7 @@ const ROWS: [Row; 15] = [
         line: 1,
         col: 4,
         number: 10,
-        said: "  this word or sign does not fit here (m2 explain 10)\n1 | ab      c\n            ^\n  A `;` or an operator may be missing before it.\n",
+        said: "  this word or sign does not fit here (m2 explain 10)\n1 | ab      c\n            ^\n",
     },
     // a byte that is not printable takes four columns
     Row {
@@ -63,7 +63,7 @@ const ROWS: [Row; 15] = [
         line: 1,
         col: 9,
         number: 10,
-        said: "  this word or sign does not fit here (m2 explain 10)\n1 | MODULE M\n            ^\n  The text ends before its module does: an END may be missing.\n",
+        said: "  this word or sign does not fit here (m2 explain 10)\n1 | MODULE M\n            ^\n",
     },
     // the end of the text, behind its last line end
     Row {
@@ -71,7 +71,7 @@ const ROWS: [Row; 15] = [
         line: 2,
         col: 1,
         number: 10,
-        said: "  this word or sign does not fit here (m2 explain 10)\n2 | \n    ^\n  The text ends before its module does: an END may be missing.\n",
+        said: "  this word or sign does not fit here (m2 explain 10)\n2 | \n    ^\n",
     },
     // a place that no text has
     Row {
@@ -103,7 +103,7 @@ const ROWS: [Row; 15] = [
         line: 1,
         col: 8,
         number: 10,
-        said: "  this word or sign does not fit here (m2 explain 10)\n1 | i := 1 := 2\n           ^^\n  Constants are declared, and values compared, with `=`.\n",
+        said: "  this word or sign does not fit here (m2 explain 10)\n1 | i := 1 := 2\n           ^^\n",
     },
     Row {
         text: b"i := \"a b\";\n",
@@ -118,7 +118,7 @@ const ROWS: [Row; 15] = [
         line: 1,
         col: 7,
         number: 10,
-        said: "  this word or sign does not fit here (m2 explain 10)\n1 | i := 1.5\n          ^\n  `.` is not in this profile. Write `i := 15`, in tenths.\n",
+        said: "  this word or sign does not fit here (m2 explain 10)\n1 | i := 1.5\n          ^\n  real numbers are not in this profile, and nothing stands for them: count in whole parts, as cents for money.\n",
     },
     // a type that is called, and one that is not
     Row {
@@ -126,7 +126,7 @@ const ROWS: [Row; 15] = [
         line: 1,
         col: 6,
         number: 40,
-        said: "  the types of the operands do not fit the operator (m2 explain 40)\n1 | c := CARDINAL (i)\n         ^^^^^^^^\n  `CARDINAL` is not in this profile. Write `c := VAL(CARDINAL, i)`.\n",
+        said: "  the types of the operands do not fit the operator (m2 explain 40)\n1 | c := CARDINAL (i)\n         ^^^^^^^^\n  a type is no function: `VAL(INTEGER, x)` takes x as an INTEGER, and `ORD(x)` and `CHR(x)` change between characters and numbers.\n",
     },
     Row {
         text: b"c := CARDINAL\n",

@@ -3,6 +3,7 @@
 ghost use Rattle.std.specs.Prelude.{◌≡◌, []};
 
 use crate::notes::{Notes, nothing, with_failed_read, with_read};
+use crate::sources::read_text;
 use run_directory::InDir;
 use std::alloc::Global;
 use std::rt::Files;
@@ -49,7 +50,7 @@ impl<'a, R: Files + AllocGlobal> InFolder<'a, R> {
     /// The bytes of the file of this name.
     fn bytes_of(&self, alloc: Global, name: &str) -> io::Result<Vec<u8>> {
         match self.path {
-            None => fs::read(self.rt, name),
+            None => read_text(self.rt, name),
             Some(folder) => {
                 let path = format!(in alloc; "{folder}/{name}")?;
                 fs::read(self.rt, path.as_str())

@@ -8,7 +8,7 @@ CONST
   Most = 1000;
 
 VAR
-  numbers: ARRAY [0..Most-1] OF INTEGER;
+  numbers: ARRAY [0 .. Most - 1] OF INTEGER;
   count, i: CARDINAL;
   number: INTEGER;
 

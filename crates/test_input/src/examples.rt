@@ -1,7 +1,7 @@
 //! The examples that read, judged by their cases.
 
 use anyhow::{Context, Result, ensure};
-use judge_cases::{Case, Limits, Verdict, judge, read_cases, words_of};
+use judge_cases::{Case, Form, Limits, case_lines, grade, read_cases};
 use m2c::{Options, SourceFile};
 use std::fs;
 use std::rt::Files;
@@ -57,12 +57,12 @@ where
     R: Files + AllocGlobal + Threads + Sync + Clone + Drop,
 {
     let cases = read_cases(rt, ".")?;
-    for case in &cases {
-        let mut files = files_of(rt, case)?;
-        let (verdict, _) = judge(rt, rt.alloc(), &mut files, OPTIONS, case, LIMITS);
-        let words = words_of(rt.alloc(), verdict)?;
-        let name = case.name.as_str();
-        ensure!(matches!(verdict, Verdict::Passed(_)), "{name}: {words}");
+    for (place, case) in cases.iter().enumerate() {
+        let files = files_of(rt, case)?;
+        let one = &cases[place..=place];
+        let grades = grade(rt, rt.alloc(), files, OPTIONS, one, LIMITS)?;
+        let said = case_lines(rt.alloc(), Form::Lines, 0, "", one, &grades)?;
+        ensure!(grades.passed() == 1, "{said}");
     }
     Ok(cases.len())
 }

@@ -1,6 +1,7 @@
 //! A program with all that is known of it.
 
 use anyhow::Result;
+use link_single::{Host, single_module};
 use m2c::{Gate, Options, Outcome, SourceFile, build};
 use memory_streams::{Ran, bytes_of, execute_modules};
 use std::alloc::Global;
@@ -198,6 +199,22 @@ fn went_on(program: &Program, ran: &Ran) -> Option<&'static str> {
     None
 }
 
+/// What is wrong with the program as one module, if something is. Over our host it does the same.
+fn single_difference(
+    alloc: Global,
+    program: &Program,
+    link: &[u8],
+    modules: &[(String, Vec<u8>)],
+) -> Option<&'static str> {
+    if single_module(alloc, Host::Wasi, link, modules).is_err() {
+        return Some("it is no module over WASI");
+    }
+    match single_module(alloc, Host::Plain, link, modules) {
+        Ok(whole) => end_difference(program, &execute_modules(alloc, &whole, &[], STEPS)),
+        Err(_) => Some("it is no single module"),
+    }
+}
+
 /// What is wrong with what was built, and what it does, if something is.
 fn decided_built(
     alloc: Global,
@@ -213,7 +230,11 @@ fn decided_built(
         let ran = execute_modules(alloc, link, modules, program.goes_on);
         return went_on(program, &ran);
     }
-    end_difference(program, &execute_modules(alloc, link, modules, STEPS))
+    let wrong = end_difference(program, &execute_modules(alloc, link, modules, STEPS));
+    if wrong.is_some() {
+        return wrong;
+    }
+    single_difference(alloc, program, link, modules)
 }
 
 /// What is wrong with a program, if something is: it is built with this many workers, compared and executed.

@@ -1,6 +1,7 @@
 //! What the command line asks for.
 
 use build_jobs::Options;
+use link_single::Host;
 
 /// How refusals are shown.
 #[derive(Clone, Copy, PartialEq, Eq)]
@@ -39,6 +40,37 @@ pub enum Told {
     Junit,
 }
 
+/// What becomes of the mends that were found.
+#[derive(Clone, Copy, PartialEq, Eq)]
+pub enum Fix {
+    /// They are shown.
+    Show,
+    /// They are written if the person says so.
+    Ask,
+    /// They are written.
+    Write,
+}
+
+/// What is told of a run that is over.
+#[derive(Clone, Copy)]
+pub struct Measured {
+    /// How many reductions each procedure and each line took, and how often it ran.
+    pub is_profiled: bool,
+    /// The lines on which nothing ran.
+    pub is_covered: bool,
+}
+
+/// What is done with a text whose layout is another than the one that it is to have.
+#[derive(Clone, Copy, PartialEq, Eq)]
+pub enum Layout {
+    /// It is written anew.
+    Write,
+    /// Its name is printed.
+    Check,
+    /// The lines that differ are printed.
+    Diff,
+}
+
 /// How programs are found and built.
 #[derive(Drop)]
 pub struct Setting {
@@ -55,12 +87,14 @@ pub struct Setting {
 /// What the command line asks for.
 #[derive(Drop)]
 pub enum Asked {
-    /// To run the program of this file, for at most this many reductions. It reads this file, or nothing.
+    /// To run the program of this file, for at most this many reductions. It reads this file, or nothing. Behind the run it is
+    /// told what ran.
     Run {
         program: String,
         input: Option<String>,
         setting: Setting,
         steps: u64,
+        told: Measured,
     },
     /// To write the modules of the program of this file into a folder. It reads this file, or nothing.
     Build {
@@ -69,16 +103,25 @@ pub enum Asked {
         setting: Setting,
         out: String,
     },
+    /// To write the program of this file as one module over a host into the file `out`. It reads the file `input`, or nothing.
+    Single {
+        program: String,
+        input: Option<String>,
+        setting: Setting,
+        host: Host,
+        out: String,
+    },
     /// To give the program that was built into this folder another input, the bytes of this file.
     Input {
         folder: String,
         input: String,
         setting: Setting,
     },
-    /// To say what is refused of the programs of these files.
+    /// To say what is refused of the programs of these files, and maybe to mend them.
     Check {
         programs: Vec<String>,
         setting: Setting,
+        fix: Fix,
     },
     /// To judge the program of this file by the cases of a folder: each run makes at most so many reductions, and prints at most
     /// so many bytes. Or to judge each program of a class, whose files this is a pattern of.
@@ -97,6 +140,20 @@ pub enum Asked {
         pass: Pass,
         program: String,
         setting: Setting,
+    },
+    /// To lay out the texts of these files. `-` is standard input.
+    Format {
+        files: Vec<String>,
+        layout: Layout,
+        style: Style,
+    },
+    /// To write pages of the definitions of a folder into the folder `out`.
+    Document {
+        folder: String,
+        out: String,
+        /// Whether they are HTML, and not Markdown.
+        is_html: bool,
+        style: Style,
     },
     /// To print the page of a topic, or the list of all topics if this is empty.
     Explain {

@@ -1,6 +1,7 @@
-//! The folders of libraries: from the command line, and from the environment.
+//! The folders of libraries: from the command line, from the environment, and with the program.
 
 use crate::PROGRAM;
+use crate::own_library::own_library;
 use anyhow::Result;
 use command_words::{COMMAND_LINE, Exit, FAILED, are_named, strings_of};
 use std::env::VarError;
@@ -49,15 +50,24 @@ fn add_folders<R: AllocGlobal>(rt: &R, text: &str, folders: &mut Vec<String>) ->
     Ok(())
 }
 
-/// Adds the folders of the variable. A value that is no text is reported.
+/// Adds the library that came with the program, if it is there.
+fn add_own<R: Files + AllocGlobal>(rt: &R, folders: &mut Vec<String>) -> Result<()> {
+    if let Some(folder) = own_library(rt)? {
+        folders.push(folder)?;
+    }
+    Ok(())
+}
+
+/// Adds the folders of the variable, or of the program's own library if there is no variable. A value that is no
+/// text is reported.
 fn with_variable<R>(rt: &R, folders: Vec<String>) -> Result<Vec<String>, Exit>
 where
-    R: Env + Eprint + AllocGlobal,
+    R: Files + Env + Eprint + AllocGlobal,
 {
     let mut folders = folders;
     match env::var(rt, VARIABLE) {
         Ok(text) => add_folders(rt, text.as_str(), &mut folders)?,
-        Err(VarError::NotPresent) => {}
+        Err(VarError::NotPresent) => add_own(rt, &mut folders)?,
         Err(error) => {
             let _ = eprintln!(rt; "{PROGRAM}: the variable {VARIABLE}: {error}");
             return Err(Exit::Reported(FAILED));
@@ -67,8 +77,8 @@ where
 }
 
 /// The folders in which modules are looked for behind the folder of the program: those behind `--lib` as they are
-/// given, and then those in the variable `M2_LIB`. An empty name, and a folder behind `--lib` that is not there, are
-/// reported.
+/// given, and then those in the variable `M2_LIB`, or without the variable the library that came with the program. An
+/// empty name, and a folder behind `--lib` that is not there, are reported.
 pub fn libraries_of<R>(rt: &R, names: &[&str]) -> Result<Vec<String>, Exit>
 where
     R: Files + Env + Eprint + AllocGlobal,

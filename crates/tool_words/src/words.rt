@@ -1,7 +1,7 @@
 //! The words of the command line.
 
 use crate::PROGRAM;
-use crate::asked::{Asked, Pass, Setting, Style, Told};
+use crate::asked::{Asked, Fix, Layout, Measured, Pass, Setting, Style, Told};
 use crate::libraries::libraries_of;
 use anyhow::Result;
 use build_words::{memory_option, options_of, out_option, workers_option};
@@ -10,7 +10,9 @@ use command_words::{
     COMMAND_LINE, Exit, VERSION, are_named, command_line, is_named, matches_of, number_option,
     steps_of, steps_option, strings_of,
 };
+use link_single::Host;
 use std::alloc::Global;
+use std::env::FillError;
 use std::rt::{Env, Files};
 
 /// The name of the word for the program's file.
@@ -25,11 +27,25 @@ const INPUT_FILE: &str = "FILE";
 /// The name of the word for the folder of cases.
 const CASES: &str = "CASES";
 
+/// The name of the word for a text.
+const TEXT: &str = "TEXT";
+
+/// The names of the options of which files have another layout, and of what would change.
+const CHECK: &str = "check";
+
+const DIFF: &str = "diff";
+
 /// The name of the option for a class.
 const EACH: &str = "each";
 
 /// The name of the option for work that was handed in twice.
 const SAME: &str = "same";
+
+/// The name of the option that writes mends.
+const FIX: &str = "fix";
+
+/// The name of the option that writes them without asking.
+const YES: &str = "yes";
 
 /// The name of the option for an exercise.
 const CLASS: &str = "class";
@@ -40,8 +56,29 @@ const BYTES: &str = "bytes";
 /// The most bytes that a case may be allowed.
 const MOST_BYTES: u64 = 16777216;
 
+/// The name of the option for a profile.
+const PROFILE: &str = "profile";
+
+/// The name of the option for the lines that did not run.
+const COVERAGE: &str = "coverage";
+
 /// The name of the option for what the program reads.
 const INPUT: &str = "input";
+
+/// The name of the option for the folder of the modules.
+const OUT: &str = "out";
+
+/// The name of the option for pages in HTML.
+const HTML: &str = "html";
+
+/// The name of the option for one module.
+const SINGLE: &str = "single";
+
+/// The name of the option for the host of one module.
+const HOST: &str = "host";
+
+/// The variable of those who want no colours, whatever its value is.
+const NO_COLOUR: &str = "NO_COLOR";
 
 /// The options that say how a program is found and built.
 fn with_building<'a>(alloc: Global, command: Command<'a>) -> Result<Command<'a>> {
@@ -52,7 +89,7 @@ fn with_building<'a>(alloc: Global, command: Command<'a>) -> Result<Command<'a>>
                     .long("lib")
                     .value_name("DIR")
                     .action(ArgAction::Append)
-                    .help("A folder in which modules are looked for; M2_LIB names more of them"),
+                    .help("A folder to search for modules; M2_LIB names more"),
             )?
             .arg(memory_option(alloc))?
             .arg(workers_option(alloc))?
@@ -65,32 +102,37 @@ fn with_building<'a>(alloc: Global, command: Command<'a>) -> Result<Command<'a>>
     )
 }
 
-/// The options that say how a program is found and built, and how refusals are shown.
-fn with_setting<'a>(alloc: Global, command: Command<'a>) -> Result<Command<'a>> {
+/// The options that say how refusals are shown.
+fn with_style<'a>(alloc: Global, command: Command<'a>) -> Result<Command<'a>> {
     Ok(
-        with_building(alloc, command)?
+        command
             .arg(
                 Arg::new(alloc, "format")
                     .long("format")
                     .value_name("FORMAT")
                     .default_value("text")
-                    .help("How refusals are shown: text, or json for other programs"),
+                    .help("How refusals and faults are shown: text, or json for other programs"),
             )?
             .arg(
                 Arg::new(alloc, "color")
                     .long("color")
                     .value_name("WHEN")
-                    .default_value("never")
-                    .help("Whether the mark under a refusal is red: never or always"),
+                    .default_value("auto")
+                    .help("Whether the mark under a refusal is red: auto, never or always"),
             )?,
     )
 }
 
+/// The options that say how a program is found and built, and how refusals are shown.
+fn with_setting<'a>(alloc: Global, command: Command<'a>) -> Result<Command<'a>> {
+    with_style(alloc, with_building(alloc, command)?)
+}
+
 /// The word for the program's file.
 fn program_word<'a>(alloc: Global) -> Arg<'a> {
-    Arg::new(alloc, FILE)
-        .required(true)
-        .help("The file of the program module; what it imports is found")
+    Arg::new(alloc, FILE).required(true).help(
+        "The file of the program module; m2 finds the modules that it imports",
+    )
 }
 
 /// The option `--input`.
@@ -105,24 +147,44 @@ fn run_command<'a>(alloc: Global) -> Result<Command<'a>> {
         .about("Compiles a program in memory and runs it")
         .arg(program_word(alloc))?
         .arg(input_option(alloc))?
-        .arg(steps_option(alloc))?;
+        .arg(steps_option(alloc))?
+        .arg(
+            Arg::new(alloc, PROFILE)
+                .long(PROFILE)
+                .action(ArgAction::SetTrue)
+                .help("Says how often each procedure and line ran, and for how many reductions"),
+        )?
+        .arg(
+            Arg::new(alloc, COVERAGE)
+                .long(COVERAGE)
+                .action(ArgAction::SetTrue)
+                .help("Says on which lines nothing ran"),
+        )?;
     with_setting(alloc, command)
 }
 
 fn build_command<'a>(alloc: Global) -> Result<Command<'a>> {
     let command = Command::new(alloc, "build")
-        .about("Compiles a program to WebAssembly modules, link.wasm last")
+        .about("Compiles a program to WebAssembly modules, link.wasm last, or to one module")
         .arg(program_word(alloc))?
         .arg(input_option(alloc))?
-        .arg(out_option(alloc))?;
+        .arg(out_option(alloc).required(false))?
+        .arg(
+            Arg::new(alloc, SINGLE).long(SINGLE).value_name("FILE").help(
+                "The file into which the program is written as one module, in place of --out",
+            ),
+        )?
+        .arg(
+            Arg::new(alloc, HOST).long(HOST).value_name("HOST").help(
+                "What this module imports: wasi for WASI preview 1, or plain for put and stop",
+            ),
+        )?;
     with_setting(alloc, command)
 }
 
 fn input_command<'a>(alloc: Global) -> Result<Command<'a>> {
     let command = Command::new(alloc, "input")
-        .about(
-            "Gives a program that is built another input: InputBytes.wasm and link.wasm are written anew",
-        )
+        .about("Gives a built program another input: writes InputBytes.wasm and link.wasm anew")
         .arg(
             Arg::new(alloc, DIR)
                 .required(true)
@@ -138,8 +200,22 @@ fn input_command<'a>(alloc: Global) -> Result<Command<'a>> {
 
 fn check_command<'a>(alloc: Global) -> Result<Command<'a>> {
     let command = Command::new(alloc, "check")
-        .about("Says which rules a program breaks, and writes nothing")
-        .arg(program_word(alloc).action(ArgAction::Append).num_args(1..))?;
+        .about("Says which rules a program breaks, and how it can be mended")
+        .arg(program_word(alloc).action(ArgAction::Append).num_args(1..))?
+        .arg(
+            Arg::new(alloc, FIX)
+                .long(FIX)
+                .action(ArgAction::SetTrue)
+                .help(
+                    "Writes mends with which the program is accepted, after asking for each file",
+                ),
+        )?
+        .arg(
+            Arg::new(alloc, YES)
+                .long(YES)
+                .action(ArgAction::SetTrue)
+                .help("With --fix: writes them without asking"),
+        )?;
     with_setting(alloc, command)
 }
 
@@ -157,14 +233,14 @@ fn test_command<'a>(alloc: Global) -> Result<Command<'a>> {
                 .long(EACH)
                 .action(ArgAction::SetTrue)
                 .help(
-                    "PROGRAM is a pattern with stars, and each program of it is judged, a line each",
+                    "PROGRAM is a pattern with stars; each program that fits it is judged, one line each",
                 ),
         )?
         .arg(
             Arg::new(alloc, SAME)
                 .long(SAME)
                 .action(ArgAction::SetTrue)
-                .help("With --each: says which programs differ in spaces and comments alone"),
+                .help("With --each: says which programs differ only in spaces and comments"),
         )?
         .arg(steps_option(alloc))?
         .arg(
@@ -196,6 +272,57 @@ fn show_command<'a>(alloc: Global) -> Result<Command<'a>> {
     with_setting(alloc, command)
 }
 
+fn fmt_command<'a>(alloc: Global) -> Result<Command<'a>> {
+    let command = Command::new(alloc, "fmt")
+        .about("Lays out texts in one style: spaces, levels and lines of up to 100 columns")
+        .arg(
+            Arg::new(alloc, TEXT)
+                .required(true)
+                .action(ArgAction::Append)
+                .num_args(1..)
+                .help(
+                    "The files to lay out in place; - is standard input, laid out on standard output",
+                ),
+        )?
+        .arg(
+            Arg::new(alloc, CHECK)
+                .long(CHECK)
+                .action(ArgAction::SetTrue)
+                .help("Prints the names of the files that have another layout, and writes nothing"),
+        )?
+        .arg(
+            Arg::new(alloc, DIFF)
+                .long(DIFF)
+                .action(ArgAction::SetTrue)
+                .help("Prints what would change as a unified diff, and writes nothing"),
+        )?;
+    with_style(alloc, command)
+}
+
+fn doc_command<'a>(alloc: Global) -> Result<Command<'a>> {
+    let command = Command::new(alloc, "doc")
+        .about("Writes pages of what the definitions of a folder export, and an index")
+        .arg(
+            Arg::new(alloc, DIR)
+                .required(true)
+                .help("The folder of the definitions: all its files NAME.def"),
+        )?
+        .arg(
+            Arg::new(alloc, HTML)
+                .long(HTML)
+                .action(ArgAction::SetTrue)
+                .help("Writes HTML without scripts, in place of Markdown"),
+        )?
+        .arg(
+            Arg::new(alloc, OUT)
+                .long(OUT)
+                .value_name("DIR")
+                .default_value("doc")
+                .help("The folder of the pages, which is made if it is not there"),
+        )?;
+    with_style(alloc, command)
+}
+
 fn explain_command<'a>(alloc: Global) -> Result<Command<'a>> {
     Ok(
         Command::new(alloc, "explain")
@@ -204,7 +331,9 @@ fn explain_command<'a>(alloc: Global) -> Result<Command<'a>> {
                 Arg::new(alloc, "TOPIC")
                     .action(ArgAction::Append)
                     .num_args(1..)
-                    .help("A number of a refusal, as 40; or fault 2, status 3, profile"),
+                    .help(
+                        "The number of a refusal, such as 40; or fault 2, status 3, profile, input",
+                    ),
             )?,
     )
 }
@@ -231,7 +360,9 @@ fn command<'a>(alloc: Global) -> Result<Command<'a>> {
     Ok(
         Command::new(alloc, PROGRAM)
             .version(VERSION)
-            .about("Runs, builds, checks, shows and explains Modula-2 programs")
+            .about(
+                "Runs, builds, checks, lays out, documents, shows and explains Modula-2 programs",
+            )
             .subcommand_required(true)
             .subcommand(run_command(alloc)?)?
             .subcommand(build_command(alloc)?)?
@@ -239,6 +370,8 @@ fn command<'a>(alloc: Global) -> Result<Command<'a>> {
             .subcommand(check_command(alloc)?)?
             .subcommand(test_command(alloc)?)?
             .subcommand(show_command(alloc)?)?
+            .subcommand(fmt_command(alloc)?)?
+            .subcommand(doc_command(alloc)?)?
             .subcommand(explain_command(alloc)?)?
             .subcommand(new_command(alloc)?)?,
     )
@@ -260,10 +393,28 @@ fn choice_of<R: Eprint>(
     Some(word == other)
 }
 
+/// Whether nobody asks for a terminal without colours.
+fn may_be_coloured<R: Env>(rt: &R) -> bool {
+    matches!(rt.var(NO_COLOUR, &mut []), Err(FillError::NotPresent))
+}
+
+/// Whether marks are red, which they are on this terminal if nothing is said. An unknown word is reported.
+fn is_coloured<R: Eprint>(rt: &R, matches: &ArgMatches, usual: bool) -> Option<bool> {
+    match matches.get_str("color").unwrap_or("auto") {
+        "auto" => Some(usual),
+        "always" => Some(true),
+        "never" => Some(false),
+        word => {
+            let _ = eprintln!(rt; "{PROGRAM}: --color takes auto, never or always, not {word}");
+            None
+        }
+    }
+}
+
 /// How refusals are shown. What they cannot be is reported.
-fn style_of<R: Eprint>(rt: &R, matches: &ArgMatches) -> Option<Style> {
+fn style_of<R: Eprint>(rt: &R, matches: &ArgMatches, colours: bool) -> Option<Style> {
     let is_json = choice_of(rt, matches, "format", "text", "json")?;
-    let is_coloured = choice_of(rt, matches, "color", "never", "always")?;
+    let is_coloured = is_coloured(rt, matches, colours)?;
     if is_json {
         return Some(Style::Json);
     }
@@ -275,11 +426,11 @@ fn style_of<R: Eprint>(rt: &R, matches: &ArgMatches) -> Option<Style> {
 }
 
 /// How programs are found and built. What cannot be had is reported.
-fn setting_of<R>(rt: &R, matches: &ArgMatches) -> Result<Setting, Exit>
+fn setting_of<R>(rt: &R, matches: &ArgMatches, colours: bool) -> Result<Setting, Exit>
 where
     R: Files + Env + Eprint + AllocGlobal,
 {
-    let Some(style) = style_of(rt, matches) else {
+    let Some(style) = style_of(rt, matches, colours) else {
         return Err(Exit::Reported(COMMAND_LINE));
     };
     setting_in(rt, matches, style)
@@ -323,7 +474,7 @@ where
     Ok(Some(name_of(rt, matches, INPUT, "--input")?))
 }
 
-fn run_asked<R>(rt: &R, matches: &ArgMatches) -> Result<Asked, Exit>
+fn run_asked<R>(rt: &R, matches: &ArgMatches, colours: bool) -> Result<Asked, Exit>
 where
     R: Files + Env + Eprint + AllocGlobal,
 {
@@ -331,34 +482,90 @@ where
         steps: steps_of(rt, PROGRAM, matches)?,
         program: name_of(rt, matches, FILE, FILE)?,
         input: input_of(rt, matches)?,
-        setting: setting_of(rt, matches)?,
+        setting: setting_of(rt, matches, colours)?,
+        told: Measured {
+            is_profiled: matches.get_flag(PROFILE),
+            is_covered: matches.get_flag(COVERAGE),
+        },
     })
 }
 
-fn build_asked<R>(rt: &R, matches: &ArgMatches) -> Result<Asked, Exit>
+/// Reports that words of the command line do not go together.
+fn refuse<R: Eprint>(rt: &R, words: &str) -> Exit {
+    let _ = eprintln!(rt; "{PROGRAM}: {words}");
+    Exit::Reported(COMMAND_LINE)
+}
+
+/// The host of one module. Any other word is reported.
+fn host_of<R: Eprint>(rt: &R, matches: &ArgMatches) -> Result<Host, Exit> {
+    match choice_of(rt, matches, HOST, "wasi", "plain") {
+        None => Err(Exit::Reported(COMMAND_LINE)),
+        Some(false) => Ok(Host::Wasi),
+        Some(true) => Ok(Host::Plain),
+    }
+}
+
+fn single_asked<R>(rt: &R, matches: &ArgMatches, colours: bool) -> Result<Asked, Exit>
 where
     R: Files + Env + Eprint + AllocGlobal,
 {
-    Ok(Asked::Build {
-        out: name_of(rt, matches, "out", "--out")?,
+    if matches.get_str(OUT).is_some() {
+        return Err(refuse(rt, "build takes --out or --single, not both"));
+    }
+    Ok(Asked::Single {
+        host: host_of(rt, matches)?,
+        out: name_of(rt, matches, SINGLE, "--single")?,
         program: name_of(rt, matches, FILE, FILE)?,
         input: input_of(rt, matches)?,
-        setting: setting_of(rt, matches)?,
+        setting: setting_of(rt, matches, colours)?,
     })
 }
 
-fn input_asked<R>(rt: &R, matches: &ArgMatches) -> Result<Asked, Exit>
+/// Modules in a folder, or one module.
+fn build_asked<R>(rt: &R, matches: &ArgMatches, colours: bool) -> Result<Asked, Exit>
+where
+    R: Files + Env + Eprint + AllocGlobal,
+{
+    if matches.get_str(SINGLE).is_some() {
+        return single_asked(rt, matches, colours);
+    }
+    if matches.get_str(HOST).is_some() {
+        return Err(refuse(rt, "--host goes with --single"));
+    }
+    if matches.get_str(OUT).is_none() {
+        return Err(refuse(rt, "build needs --out DIR or --single FILE"));
+    }
+    Ok(Asked::Build {
+        out: name_of(rt, matches, OUT, "--out")?,
+        program: name_of(rt, matches, FILE, FILE)?,
+        input: input_of(rt, matches)?,
+        setting: setting_of(rt, matches, colours)?,
+    })
+}
+
+fn input_asked<R>(rt: &R, matches: &ArgMatches, colours: bool) -> Result<Asked, Exit>
 where
     R: Files + Env + Eprint + AllocGlobal,
 {
     Ok(Asked::Input {
         folder: name_of(rt, matches, DIR, DIR)?,
         input: name_of(rt, matches, INPUT_FILE, INPUT_FILE)?,
-        setting: setting_of(rt, matches)?,
+        setting: setting_of(rt, matches, colours)?,
     })
 }
 
-fn check_asked<R>(rt: &R, matches: &ArgMatches) -> Result<Asked, Exit>
+/// What becomes of mends.
+fn fix_of(matches: &ArgMatches) -> Fix {
+    if !matches.get_flag(FIX) {
+        Fix::Show
+    } else if matches.get_flag(YES) {
+        Fix::Write
+    } else {
+        Fix::Ask
+    }
+}
+
+fn check_asked<R>(rt: &R, matches: &ArgMatches, colours: bool) -> Result<Asked, Exit>
 where
     R: Files + Env + Eprint + AllocGlobal,
 {
@@ -368,7 +575,8 @@ where
     }
     Ok(Asked::Check {
         programs: strings_of(rt.alloc(), programs)?,
-        setting: setting_of(rt, matches)?,
+        setting: setting_of(rt, matches, colours)?,
+        fix: fix_of(matches),
     })
 }
 
@@ -425,7 +633,7 @@ fn pass_of<R: Eprint>(rt: &R, word: &str) -> Option<Pass> {
     }
 }
 
-fn show_asked<R>(rt: &R, matches: &ArgMatches) -> Result<Asked, Exit>
+fn show_asked<R>(rt: &R, matches: &ArgMatches, colours: bool) -> Result<Asked, Exit>
 where
     R: Files + Env + Eprint + AllocGlobal,
 {
@@ -435,7 +643,47 @@ where
     Ok(Asked::Show {
         pass,
         program: name_of(rt, matches, FILE, FILE)?,
-        setting: setting_of(rt, matches)?,
+        setting: setting_of(rt, matches, colours)?,
+    })
+}
+
+fn fmt_asked<R>(rt: &R, matches: &ArgMatches, colours: bool) -> Result<Asked, Exit>
+where
+    R: Eprint + AllocGlobal,
+{
+    let files = matches.get_strs(TEXT).unwrap_or(&[]);
+    let Some(style) = style_of(rt, matches, colours) else {
+        return Err(Exit::Reported(COMMAND_LINE));
+    };
+    if !are_named(rt, PROGRAM, TEXT, files) {
+        return Err(Exit::Reported(COMMAND_LINE));
+    }
+    let layout = if matches.get_flag(DIFF) {
+        Layout::Diff
+    } else if matches.get_flag(CHECK) {
+        Layout::Check
+    } else {
+        Layout::Write
+    };
+    Ok(Asked::Format {
+        files: strings_of(rt.alloc(), files)?,
+        layout,
+        style,
+    })
+}
+
+fn doc_asked<R>(rt: &R, matches: &ArgMatches, colours: bool) -> Result<Asked, Exit>
+where
+    R: Eprint + AllocGlobal,
+{
+    let Some(style) = style_of(rt, matches, colours) else {
+        return Err(Exit::Reported(COMMAND_LINE));
+    };
+    Ok(Asked::Document {
+        folder: name_of(rt, matches, DIR, DIR)?,
+        out: name_of(rt, matches, OUT, "--out")?,
+        is_html: matches.get_flag(HTML),
+        style,
     })
 }
 
@@ -469,29 +717,31 @@ where
 }
 
 /// What a subcommand asks for.
-fn request<R>(rt: &R, matches: &ArgMatches) -> Result<Asked, Exit>
+fn request<R>(rt: &R, matches: &ArgMatches, colours: bool) -> Result<Asked, Exit>
 where
     R: Files + Env + Eprint + AllocGlobal,
 {
     match matches.subcommand() {
-        Some(("run", inner)) => run_asked(rt, inner),
-        Some(("build", inner)) => build_asked(rt, inner),
-        Some(("input", inner)) => input_asked(rt, inner),
-        Some(("check", inner)) => check_asked(rt, inner),
+        Some(("run", inner)) => run_asked(rt, inner, colours),
+        Some(("build", inner)) => build_asked(rt, inner, colours),
+        Some(("input", inner)) => input_asked(rt, inner, colours),
+        Some(("check", inner)) => check_asked(rt, inner, colours),
         Some(("test", inner)) => test_asked(rt, inner),
-        Some(("show", inner)) => show_asked(rt, inner),
+        Some(("show", inner)) => show_asked(rt, inner, colours),
+        Some(("fmt", inner)) => fmt_asked(rt, inner, colours),
+        Some(("doc", inner)) => doc_asked(rt, inner, colours),
         Some(("explain", inner)) => explain_asked(rt.alloc(), inner),
         Some(("new", inner)) => new_asked(rt, inner),
         _ => Err(Exit::Reported(COMMAND_LINE)),
     }
 }
 
-/// What the command line asks for.
-pub fn read_command_line<R>(rt: &R) -> Result<Asked, Exit>
+/// What the command line asks for. Marks are red if standard error is a terminal and the command line says no more.
+pub fn read_command_line<R>(rt: &R, is_terminal: bool) -> Result<Asked, Exit>
 where
     R: Files + Env + Print + Eprint + AllocGlobal,
 {
     let words = command_line(rt, PROGRAM)?;
     let matches = matches_of(rt, command(rt.alloc())?, &words)?;
-    request(rt, &matches)
+    request(rt, &matches, is_terminal && may_be_coloured(rt))
 }

@@ -10,7 +10,7 @@ from .house import command
 from .painters import called
 
 COMPLETIONS = f"{TOP}/editors/completions"
-COMMANDS = "build check explain help input new run show test"
+COMMANDS = "build check explain fmt help input new run show test"
 SETTINGS = "--color --format --help --lib --memory --verbose --workers"
 FILES = ("Hello.mod", "HelloWords.def", "HelloWords.mod", "text.txt")
 FOLDERS = ("cases", "out")
@@ -19,9 +19,11 @@ LINES = [
     ("m2 ", COMMANDS),
     ("m2 ex", "explain"),
     ("m2 --", "--help --version"),
-    ("m2 help ", "build check explain input new run show test"),
+    ("m2 help ", "build check explain fmt input new run show test"),
     ("m2 run --", f"{SETTINGS} --input --steps"),
-    ("m2 build --", f"{SETTINGS} --input --out"),
+    ("m2 build --", f"{SETTINGS} --host --input --out --single"),
+    ("m2 fmt --", "--check --color --diff --format --help"),
+    ("m2 build --host ", "plain wasi"),
     ("m2 check --", SETTINGS),
     ("m2 input --", SETTINGS),
     ("m2 show --", SETTINGS),

@@ -143,7 +143,7 @@ Place: the name after the dot, or in the list of names after IMPORT.
 Instead: Look up the name in the definition, and add it if it is missing there. Import a name from
 the module that declares it, not from one that imports it. This project's InOut only writes: it has
 Write, WriteLn, WriteString, WriteInt and WriteCard, but no ReadInt. Read, ReadString, ReadInt and
-ReadCard stand in Input.
+ReadCard are in Input.
 
 ## Broken
 

@@ -100,8 +100,8 @@ The result of `+`, `-`, `*`, ABS, INC or DEC is outside its type. An INTEGER is 
 
 Why: Otherwise the program would go on with a wrong number, and nobody would notice.
 
-A fault comes without a line number: places of faults are no part of the compiled modules. To find
-the place, print something before and after the statements in question.
+`m2 run` says on which line that was, and what the result would have been. `m2run` prints only the
+fault, since compiled modules hold no places.
 
 Instead: Use INTEGER for numbers that may become negative. Compare before you subtract.
 

@@ -15,7 +15,8 @@ Why: The definition says what the module exports. Without it, no use of the modu
 
 Place: the module's name in the import.
 
-Instead: Add both files of the module to the command: `Stacks.def` and `Stacks.mod`, or
+Instead: `m2` looks for the module beside the program, in the folders of `--lib`, and in its own
+library: add the folder. Give `m2c` both files of the module: `Stacks.def` and `Stacks.mod`, or
 `lib/InOut.def` and `lib/InOut.mod`. If the name is misspelt, write it as in its definition. Program
 modules and SYSTEM cannot be imported. An implementation sees everything that its own definition
 declares, so it needs no import of itself.

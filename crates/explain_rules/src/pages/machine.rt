@@ -32,7 +32,7 @@ Instead: Compile the program again with `m2c`.
 `m2run` read a module with an instruction, a section or a type of values outside this project's
 profile of WebAssembly. It prints `M: refusal 81` and ends with status 3.
 
-Why: `m2run` executes only the part of WebAssembly that `m2c` needs, and this exactly as the
+Why: `m2run` executes only the part of WebAssembly that `m2c` needs, and executes it exactly as the
 standard says.
 
 Place: none. The line starts with the module's name.
@@ -173,15 +173,16 @@ Instead: Link the modules again, and start the run from the beginning.
         page: r#"# Refusal 93: the folder did not take the modules
 
 A file could not be written into the folder, or an old `link.wasm` could not be removed from it.
-`m2c` says this in words, with the reason of the system, and ends with status 3. Only programs that
-save modules by the library see the number.
+`m2c` says this in words, with the system's reason, and ends with status 3. Only programs that save
+modules through the library see the number.
 
 Why: A folder with old and new modules would be a program that nobody wrote. So nothing else is
 written after a failure, and there is no `link.wasm`.
 
 Place: none. The folder failed, not a line of the program.
 
-Instead: Check the folder. Does it exist? May you write into it? Is the disk full? Then compile again.
+Instead: Check the folder. Does it exist? May you write into it? Is the disk full? Then compile
+again.
 
 ## How it comes about
 

@@ -39,7 +39,7 @@ Numbers and characters:
   `b := (i < 0) OR (VAL(CARDINAL, i) < c)`.
 - ORD gives a CARDINAL: `i := i + ORD(ch)`, at `+`. Write `i := i + VAL(INTEGER, ORD(ch))`.
 - A minus sign before a CARDINAL: `i := -c`, at `-`. Write `i := -VAL(INTEGER, c)`.
-- `/` divides no numbers: `i := i / 2`, at `/`. Write `i := i DIV 2`.
+- `/` does not divide numbers: `i := i / 2`, at `/`. Write `i := i DIV 2`.
 - Arithmetic with characters: `ch := ch + 1`, at `+`. Write `ch := CHR(ORD(ch) + 1)`.
 - Arithmetic with an enumeration: `e := e + 1`, at `+`. Write `INC(e)`.
 - AND on the bits of numbers: `c := c AND 7`, at `AND`. Write `c := c MOD 8`, or use a BITSET.

@@ -48,7 +48,7 @@ VAR i, j: INTEGER; c: CARDINAL; p: CARDINAL; s: BITSET; ch: CHAR;
 - Opaque types in a definition: `TYPE Stack;`, refusal 10 at `;`. Write `TYPE Stack = [0..100];`,
   and keep the records in the implementation.
 - PROC: `VAR run: PROC;`, refusal 30 at `PROC`. Write `VAR run: PROCEDURE;`.
-- SIZE and TSIZE: `c := SIZE(c)`, refusal 30 at `SIZE`. Write `c := 4`.
+- SIZE and TSIZE: `c := SIZE(c)`, refusal 30 at `SIZE`. Write `c := 4`, by hand.
 - Arrays from 1 as open arrays: `WriteString(fromOne)`, refusal 43 at `fromOne`. Write
   `WriteString(name)`, with `ARRAY [0..19] OF CHAR`.
 
@@ -60,11 +60,11 @@ VAR i, j: INTEGER; c: CARDINAL; p: CARDINAL; s: BITSET; ch: CHAR;
   `PROCEDURE Inner; END Inner;`, or a module with its own files.
 - Priorities: `MODULE M[4]; END M.`, refusal 10 at `[`. Write `MODULE M; END M.`.
 - SYSTEM, with WORD, ADR and coroutines: `MODULE M; FROM SYSTEM IMPORT ADR; END M.`, refusal 20 at
-  `SYSTEM`. Write nothing.
+  `SYSTEM`. Write nothing: nothing takes its place, and a program cannot get addresses.
 
 ## Input and files
 - The keyboard: `MODULE M; FROM InOut IMPORT ReadInt; END M.`, refusal 32 at `ReadInt`. Write
-  `MODULE M; FROM Input IMPORT ReadInt; END M.`: it stands in Input, see `m2 explain input`.
+  `MODULE M; FROM Input IMPORT ReadInt; END M.`: it is in Input; see `m2 explain input`.
 - Files: a program cannot open any. Its output can be sent to a file.
 "#,
     },
@@ -72,9 +72,9 @@ VAR i, j: INTEGER; c: CARDINAL; p: CARDINAL; s: BITSET; ch: CHAR;
         name: "input",
         page: r#"# How a program reads
 
-The language has no input. What a program reads is a module of it: a program that imports Input is
-linked with a module InputBytes that holds the bytes of its input. So the program with its input is
-a program like any other, and it does the same at each run, on each engine.
+The language has no input. What a program reads is one of its modules: a program that imports Input
+is linked with a module InputBytes that holds the bytes of its input. So the program with its input
+is a program like any other, and it does the same in each run, on each engine.
 
 - `m2 run --input FILE P.mod` gives the program the bytes of a file, and `--input -` those of
   standard input, up to its end. `m2 build --input FILE` builds a program with its input.
@@ -92,15 +92,15 @@ a program like any other, and it does the same at each run, on each engine.
 - `ReadInt(number)`, `ReadCard(number)`: a number.
 - `Done`: whether the last of these found what it reads. `Cut`: whether the array had no room for
   all of it; the rest is read next, so nothing is lost.
-- `Peek()`: the next character, which is not read. `AtEnd()`: whether all is read.
-- `Skip`, `SkipLine`: up to the next character that is no blank, and up to the next line.
-- `Size()`: the number of bytes. `Restart`: begins with the first again.
+- `Peek()`: the next character, without reading it. `AtEnd()`: whether everything has been read.
+- `Skip`, `SkipLine`: up to the next character that is not a blank, and up to the next line.
+- `Size()`: the number of bytes. `Restart`: begins again with the first one.
 
 `lib/Input.def` says what each does with every byte, on overflow, and at the end.
 
 ## Dialogues
 
-Nobody can type while a program runs. Write the answers into a file, a line each, and let the
+Nobody can type while a program runs. Write the answers into a file, one to a line, and let the
 program print its questions: exercises/adventure is a game of this kind.
 "#,
     },
@@ -115,11 +115,12 @@ program print its questions: exercises/adventure is a game of this kind.
 
 ## m2run
 
-- **0: the program ended well**, by itself or by HALT: see docs/faults/0.md and docs/faults/9.md.
+- **0: the program ended normally**, by itself or by HALT: see docs/faults/0.md and
+  docs/faults/9.md.
 
 ## m2
 
-- **0: well.** The program ended by itself or by HALT, its modules are written, no program is
+- **0: success.** The program ended by itself or by HALT, its modules are written, no program is
   refused, the page is printed, or the files are written.
 "#,
     },
@@ -142,7 +143,7 @@ program print its questions: exercises/adventure is a game of this kind.
 ## m2
 
 - **1: refused, or a fault.** The program breaks a rule of the language, or it ended with a fault.
-  `m2 check` ends with the greatest status of its programs. `m2 test` ends so if a case did not
+  `m2 check` ends with the greatest status of its programs. `m2 test` ends with 1 if a case did not
   pass.
 "#,
     },
@@ -163,7 +164,7 @@ program print its questions: exercises/adventure is a game of this kind.
 ## m2
 
 - **2: wrong command line.** An option is unknown, a number is out of its range, a name is missing,
-  there is no page on a topic, or `m2 new` was given what is no name of a program.
+  there is no page on a topic, or `m2 new` was given a word that cannot be a program's name.
 "#,
     },
     Topic {
@@ -172,18 +173,19 @@ program print its questions: exercises/adventure is a game of this kind.
 
 ## m2c
 
-- **3: failed.** A file cannot be read or written, the folder does not exist, there is no memory
-  left (90), or standard output is full. Standard error says which. If writing failed halfway, `link.wasm` is missing, so that old and new modules do not mix.
+- **3: failed.** A file cannot be read or written, the folder does not exist, memory ran out (90),
+  or standard output is full. Standard error says which. If writing failed halfway, `link.wasm` is
+  missing, so that old and new modules do not mix.
 
 ## m2run
 
-- **3: failed.** A module cannot be read (`cannot read M.wasm`) or is not a good one
-  (`M: refusal 80`, up to 84). Or there is no memory left (90), or standard output failed (91).
+- **3: failed.** A module cannot be read (`cannot read M.wasm`) or is not valid (`M: refusal 80`, up
+  to 84). Or memory ran out (90), or standard output failed (91).
 
 ## m2
 
-- **3: failed.** A file or a folder cannot be read or written, there is no memory left, or standard
-  output failed. `m2 new` ends so if a file is there already, and writes nothing.
+- **3: failed.** A file or a folder cannot be read or written, memory ran out, or standard output
+  failed. `m2 new` ends with 3 if a file already exists, and writes nothing.
 "#,
     },
     Topic {
@@ -224,21 +226,23 @@ last command.
   each number.
 - **2: wrong command line.** An option is unknown, a number is out of its range, or a name is
   missing. Standard error says which. No file was read.
-- **3: failed.** A file cannot be read or written, the folder does not exist, there is no memory
-  left (90), or standard output is full. Standard error says which. If writing failed halfway, `link.wasm` is missing, so that old and new modules do not mix.
+- **3: failed.** A file cannot be read or written, the folder does not exist, memory ran out (90),
+  or standard output is full. Standard error says which. If writing failed halfway, `link.wasm` is
+  missing, so that old and new modules do not mix.
 
 `m2c` has no status 4.
 
 ## m2run
 
-- **0: the program ended well**, by itself or by HALT: see docs/faults/0.md and docs/faults/9.md.
+- **0: the program ended normally**, by itself or by HALT: see docs/faults/0.md and
+  docs/faults/9.md.
 - **1: the program ended with a fault.** Standard error has a line such as `fault 2: overflow`.
   docs/faults explains each fault. A module that `m2c` did not write can also end with `trap`, or
   with `fault 42: unknown`.
 - **2: wrong command line.** The folder is missing, an option is unknown, or the number after
   `--steps` is not from 1 to 1000000000000.
-- **3: failed.** A module cannot be read (`cannot read M.wasm`) or is not a good one
-  (`M: refusal 80`, up to 84). Or there is no memory left (90), or standard output failed (91).
+- **3: failed.** A module cannot be read (`cannot read M.wasm`) or is not valid (`M: refusal 80`, up
+  to 84). Or memory ran out (90), or standard output failed (91).
 - **4: the program was still running.** It was stopped after as many steps as `--steps` allows, or
   after 1000000000 without this option. Nothing is printed about it. What the program printed stays
   printed.
@@ -248,15 +252,15 @@ a loop without end.
 
 ## m2
 
-- **0: well.** The program ended by itself or by HALT, its modules are written, no program is
+- **0: success.** The program ended by itself or by HALT, its modules are written, no program is
   refused, the page is printed, or the files are written.
 - **1: refused, or a fault.** The program breaks a rule of the language, or it ended with a fault.
-  `m2 check` ends with the greatest status of its programs. `m2 test` ends so if a case did not
+  `m2 check` ends with the greatest status of its programs. `m2 test` ends with 1 if a case did not
   pass.
 - **2: wrong command line.** An option is unknown, a number is out of its range, a name is missing,
-  there is no page on a topic, or `m2 new` was given what is no name of a program.
-- **3: failed.** A file or a folder cannot be read or written, there is no memory left, or standard
-  output failed. `m2 new` ends so if a file is there already, and writes nothing.
+  there is no page on a topic, or `m2 new` was given a word that cannot be a program's name.
+- **3: failed.** A file or a folder cannot be read or written, memory ran out, or standard output
+  failed. `m2 new` ends with 3 if a file already exists, and writes nothing.
 - **4: the program was still running** after as many steps as `--steps` allows.
 
 ## What goes where

@@ -1,0 +1,18 @@
+//! Where a run was when it ended with a fault, or when it had made all reductions that it may make: the statement with its line,
+//! the values that a check refused, and the calls that lead there. The compiled modules know no places, and a run pays nothing for
+//! them: it is made once more, of modules that say where they are (`watch_code`).
+#![tactic(auto)]
+
+mod calls;
+mod functions;
+mod parts;
+mod place;
+mod profile;
+mod report;
+#[cfg(test)]
+mod tests;
+mod watching;
+mod words;
+
+pub use profile::{Profile, profile_run};
+pub use report::{Report, explain_run};

@@ -1,0 +1,7 @@
+//! The files of a program, in the folders of the system: its own, and those of the modules that it imports.
+#![tactic(auto)]
+
+mod finding;
+mod places;
+
+pub use finding::{Program, Spare, alone, find_program, program_of_text, spare_files, text_of};

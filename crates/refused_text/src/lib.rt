@@ -1,0 +1,15 @@
+//! Texts that are refused: their tokens with where each stands, also of texts that do not divide into tokens, what they name and export, how
+//! alike words are, and what is said of a refusal where no edit helps.
+#![tactic(auto)]
+
+mod export;
+mod known;
+mod likeness;
+mod named;
+mod source;
+
+pub use export::{Export, exports_of};
+pub use known::known_way;
+pub use likeness::{MOST_UNLIKE, are_alike, capitals, unlikeness};
+pub use named::importing_program;
+pub use source::{Source, word_width};

@@ -1,0 +1,266 @@
+//! Mends where a text breaks a rule of tokens.
+
+use crate::list::{Mends, words_of};
+use m2_tree::Pos;
+use refused_text::word_width;
+use std::alloc::AllocError;
+use text_tokens::{offset_of, part, rest};
+
+/// The rule of a byte that begins nothing.
+const BYTE: u32 = 2;
+
+/// The rule of a comment that is not closed.
+const COMMENT: u32 = 3;
+
+/// The rule of a string that is not closed.
+const STRING: u32 = 4;
+
+/// The rule of what is no number.
+const NUMBER: u32 = 5;
+
+/// The most lines at whose ends a comment may end.
+const MOST_LINES: usize = 12;
+
+/// What is written elsewhere for a sign, and what here.
+struct Spelled {
+    there: &'static [u8],
+    here: &'static [u8],
+}
+
+/// Signs that begin with a byte that no token has.
+const SIGNS: [Spelled; 11] = [
+    Spelled {
+        there: b"!=",
+        here: b"#",
+    },
+    Spelled {
+        there: b"!",
+        here: b"NOT ",
+    },
+    Spelled {
+        there: b"%",
+        here: b" MOD ",
+    },
+    Spelled {
+        there: b"\\",
+        here: b" DIV ",
+    },
+    Spelled {
+        there: b"\xef\xbb\xbf",
+        here: b"",
+    },
+    Spelled {
+        there: b"\xe2\x80\x9c",
+        here: b"\"",
+    },
+    Spelled {
+        there: b"\xe2\x80\x9d",
+        here: b"\"",
+    },
+    Spelled {
+        there: b"\xe2\x80\x98",
+        here: b"'",
+    },
+    Spelled {
+        there: b"\xe2\x80\x99",
+        here: b"'",
+    },
+    Spelled {
+        there: b"\xe2\x80\x93",
+        here: b"-",
+    },
+    Spelled {
+        there: b"\xc2\xa0",
+        here: b" ",
+    },
+];
+
+/// Endings of a line in front of which a string may end.
+const BEHIND_STRINGS: [&[u8]; 12] = [
+    b");", b")", b";", b" THEN", b" DO", b" OF", b", 1)", b",", b" END", b"]", b" AND", b" ELSE",
+];
+
+/// Writes a sign that no text may have.
+fn propose_sign(mends: &mut Mends<'_>, begin: usize) -> Result<(), AllocError> {
+    for sign in &SIGNS {
+        if rest(mends.source.bytes, begin).starts_with(sign.there) {
+            let there = words_of(mends.alloc, sign.there)?;
+            let here = words_of(mends.alloc, sign.here)?;
+            let words = if here.is_empty() {
+                String::from_str(
+                    mends.alloc,
+                    "the text begins with a byte order mark: save the file without it",
+                )?
+            } else {
+                format!(in mends.alloc; "write `{}` in place of `{there}`", here.trim())?
+            };
+            mends.put(
+                begin,
+                begin.saturating_add(sign.there.len()),
+                sign.here,
+                words,
+            )?;
+        }
+    }
+    let words = format!(in mends.alloc; "take this character out")?;
+    mends.put(begin, begin.saturating_add(1), b"", words)
+}
+
+/// Whether a byte belongs to a name elsewhere.
+fn is_of_name(byte: u8) -> bool {
+    byte.is_ascii_alphanumeric() || byte == b'_'
+}
+
+/// Takes each `_` of names out, from a place on, and writes the letter behind it as a capital one.
+fn propose_names(mends: &mut Mends<'_>, begin: usize) -> Result<(), AllocError> {
+    let mut text = Vec::new(mends.alloc);
+    let mut is_behind = false;
+    let mut is_name = true;
+    let mut quote = 0u8;
+    for byte in rest(mends.source.bytes, begin) {
+        if quote != 0 {
+            quote = if *byte == quote || *byte == b'\n' {
+                0
+            } else {
+                quote
+            };
+            text.push(*byte)?;
+        } else if *byte == b'_' && is_name {
+            is_behind = true;
+        } else {
+            text.push(if is_behind {
+                byte.to_ascii_uppercase()
+            } else {
+                *byte
+            })?;
+            is_behind = false;
+            is_name = is_of_name(*byte);
+            quote = if *byte == b'"' || *byte == b'\'' {
+                *byte
+            } else {
+                0
+            };
+        }
+    }
+    let words = String::from_str(
+        mends.alloc,
+        "names have letters and digits alone: write them without `_`",
+    )?;
+    mends.put(begin, mends.source.bytes.len(), &text, words)
+}
+
+/// Ends a comment at the end of a line.
+fn propose_comment_end(mends: &mut Mends<'_>, begin: usize) -> Result<(), AllocError> {
+    let mut count: usize = 0;
+    for (at, byte) in mends.source.bytes.iter().enumerate() {
+        if *byte == b'\n' && at >= begin && count < MOST_LINES {
+            count = count.saturating_add(1);
+            let words = String::from_str(mends.alloc, "a comment is not closed: end it with `*)`")?;
+            mends.put(at, at, b" *)", words)?;
+        }
+    }
+    let end = begin.saturating_add(2);
+    let words = String::from_str(
+        mends.alloc,
+        "`(*` begins a comment: put a blank between `(` and `*`",
+    )?;
+    mends.put(begin, end, b"( *", words)
+}
+
+/// The bytes up to the end of the line.
+fn line_behind(text: &[u8], begin: usize) -> usize {
+    rest(text, begin)
+        .iter()
+        .take_while(|byte| **byte != b'\n' && **byte != b'\r')
+        .count()
+}
+
+/// Ends a string at a place.
+fn put_quote(mends: &mut Mends<'_>, place: usize, quote: &[u8]) -> Result<(), AllocError> {
+    let words = String::from_str(
+        mends.alloc,
+        "a string is not closed: each begins and ends with a quote",
+    )?;
+    mends.put(place, place, quote, words)
+}
+
+/// Ends a string in front of what its line ends with, at its end, or in front of what may follow on one, anywhere in the line.
+fn propose_quote(mends: &mut Mends<'_>, begin: usize) -> Result<(), AllocError> {
+    let bytes = mends.source.bytes;
+    let end = begin.saturating_add(line_behind(bytes, begin));
+    let line = part(bytes, begin, end);
+    let quote = part(line, 0, 1);
+    for ending in &BEHIND_STRINGS {
+        if let Some(back) = find_last(line, ending) {
+            put_quote(mends, begin.saturating_add(back), quote)?;
+        }
+    }
+    put_quote(mends, end, quote)?;
+    let first = begin.saturating_sub(begin_width(bytes, begin));
+    for (at, byte) in part(bytes, first, end).iter().enumerate() {
+        if matches!(*byte, b',' | b')' | b']' | b':' | b';' | b'(' | b' ' | b'=') {
+            put_quote(mends, first.saturating_add(at), quote)?;
+            if matches!(*byte, b' ' | b'(') {
+                put_quote(mends, first.saturating_add(at).saturating_add(1), quote)?;
+            }
+        }
+    }
+    Ok(())
+}
+
+/// The bytes between the begin of a line and a place in it.
+fn begin_width(text: &[u8], place: usize) -> usize {
+    part(text, 0, place)
+        .iter()
+        .rev()
+        .take_while(|byte| **byte != b'\n')
+        .count()
+}
+
+/// Where a text stands last in a line.
+fn find_last(line: &[u8], text: &[u8]) -> Option<usize> {
+    let mut found = None;
+    for at in 1..line.len() {
+        if rest(line, at).starts_with(text) {
+            found = Some(at);
+        }
+    }
+    found
+}
+
+/// Writes digits as a number of the language.
+fn propose_number(mends: &mut Mends<'_>, begin: usize) -> Result<(), AllocError> {
+    let bytes = mends.source.bytes;
+    let width = word_width(rest(bytes, begin));
+    let end = begin.saturating_add(width);
+    let number = part(bytes, begin, end);
+    if let [b'0', b'x' | b'X', digits @ ..] = number {
+        let digits = words_of(mends.alloc, digits)?.to_ascii_uppercase(mends.alloc)?;
+        let text = format!(in mends.alloc; "0{digits}H")?;
+        let words = format!(in mends.alloc; "a hexadecimal number ends with H: write `{text}`")?;
+        mends.put(begin, end, text.as_bytes(), words)?;
+    }
+    let digits = number.iter().take_while(|it| it.is_ascii_digit()).count();
+    let place = begin.saturating_add(digits);
+    let words = String::from_str(mends.alloc, "put a blank behind the number")?;
+    mends.put(place, place, b" ", words)?;
+    let words = String::from_str(mends.alloc, "a hexadecimal number ends with H")?;
+    mends.put(end, end, b"H", words)
+}
+
+/// Mends where a rule of tokens is broken at a place.
+pub fn propose_bytes(mends: &mut Mends<'_>, rule: u32, pos: Pos) -> Result<(), AllocError> {
+    let begin = offset_of(mends.source.bytes, pos);
+    match rule {
+        BYTE => {
+            if rest(mends.source.bytes, begin).starts_with(b"_") {
+                return propose_names(mends, begin);
+            }
+            propose_sign(mends, begin)
+        }
+        COMMENT => propose_comment_end(mends, begin),
+        STRING => propose_quote(mends, begin),
+        NUMBER => propose_number(mends, begin),
+        _ => Ok(()),
+    }
+}

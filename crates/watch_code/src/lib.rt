@@ -1,0 +1,15 @@
+//! Code that says where it is. To the code of a module whose statements are marked (`mark_statements`) calls are added that print
+//! signals: a function begins or is left, a mark is come to, a byte of the program follows. Nothing else of the code changes, so a
+//! run of the modules with signals does what the program does, and who reads the signals knows at each time which functions run
+//! and where they are. How many reductions the signals take is known too.
+#![tactic(auto)]
+
+mod function;
+mod helpers;
+mod module;
+mod reader;
+mod rewriting;
+mod signals;
+
+pub use module::{Chosen, Watched, watch_module};
+pub use reader::{Activation, Checked, Reader};
