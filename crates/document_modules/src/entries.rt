@@ -1,9 +1,7 @@
 //! The modules of a library and what they export, by their names.
 
-use crate::names::{enumerated, own_names};
-use crate::outline::Outline;
-use crate::units::Unit;
 use indexmap::IndexMap;
+use outline_modules::{Outline, Unit, enumerated, own_names};
 use std::alloc::{AllocError, Global};
 
 /// What stands between the name of a module and a name that it exports.

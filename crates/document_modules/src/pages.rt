@@ -2,11 +2,9 @@
 
 use crate::comments::{first_sentence, write_comment};
 use crate::entries::{Entries, Entry, key_of, small_letters};
-use crate::names::own_names;
-use crate::outline::Outline;
 use crate::sheet::{Kind, Sheet};
-use crate::units::{Sort, Unit};
 use crate::uses::{Imports, Reference, Users, references_in};
+use outline_modules::{Outline, Sort, Unit, own_names};
 use std::alloc::{AllocError, Global};
 use text_tokens::{part, rest};
 

@@ -1,11 +1,9 @@
 //! What a definition module takes from others.
 
 use crate::entries::{Entries, key_of};
-use crate::outline::Outline;
-use crate::pieces::What;
-use crate::units::{Sort, Unit};
 use indexmap::{IndexMap, IndexSet};
 use m2_tree::Symbol;
+use outline_modules::{Outline, Sort, Unit, What};
 use std::alloc::{AllocError, Global};
 
 /// What an imported name is.

@@ -6,13 +6,14 @@
 mod calls;
 mod functions;
 mod parts;
+mod paths;
 mod place;
 mod profile;
 mod report;
-#[cfg(test)]
-mod tests;
 mod watching;
 mod words;
 
-pub use profile::{Profile, profile_run};
+pub use paths::{CallCount, Path};
+pub use profile::{Counted, FunctionCount, Spot, Tally, profile_run};
 pub use report::{Report, explain_run};
+pub use watch_code::Activation;

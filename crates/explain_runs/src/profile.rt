@@ -1,16 +1,14 @@
-//! How often each statement ran, and how many reductions it took.
+//! How often each statement ran, how many reductions it took, and by which calls the run came there.
 
 use crate::functions::Function;
+use crate::paths::{CallCount, Path, Paths};
 use crate::place::Names;
 use crate::watching::{Marked, marked_program, watch_each};
 use anyhow::Result;
-use indexmap::IndexMap;
 use m2c::{Options, SourceFile};
 use mark_statements::MarkKind;
 use std::alloc::{AllocError, Global};
-use std::fmt::Write;
 use std::thread::Threads;
-use text_tokens::{part, shorten};
 use watch_code::Activation;
 
 /// How often something ran, and how many reductions it took without what it called.
@@ -21,7 +19,7 @@ pub struct Tally {
 }
 
 /// Nothing ran yet.
-const NONE: Tally = Tally {
+pub const NONE: Tally = Tally {
     times: 0,
     reductions: 0,
 };
@@ -37,6 +35,7 @@ struct FunctionTallies {
 #[derive(Drop)]
 pub struct Tallies {
     all: Vec<FunctionTallies>,
+    paths: Paths,
 }
 
 fn tallies_of(alloc: Global, function: &Function) -> Result<FunctionTallies, AllocError> {
@@ -54,7 +53,10 @@ impl Tallies {
         for function in functions {
             all.push(tallies_of(alloc, function)?)?;
         }
-        Ok(Tallies { all })
+        Ok(Tallies {
+            all,
+            paths: Paths::new(alloc),
+        })
     }
 
     /// The tally of a place.
@@ -75,227 +77,142 @@ impl Tallies {
 
     /// So many reductions are made at a place, and so many of them are of signals.
     pub fn take(&mut self, place: Activation, made: u64, signals: u64) {
+        self.paths.take(made, signals);
         if let Some(tally) = self.at(place) {
             let sum = tally.reductions.saturating_add(made);
             tally.reductions = sum.saturating_sub(signals);
         }
     }
+
+    /// So many functions ran in front of a reduction. These run behind it.
+    pub fn follow(&mut self, before: usize, now: &[Activation]) -> Result<(), AllocError> {
+        match now {
+            [others @ .., entered] if now.len() > before => {
+                self.paths
+                    .enter(others.last().map(|it| *it), entered.function)
+            }
+            _ => {
+                self.paths.leave(before.saturating_sub(now.len()));
+                Ok(())
+            }
+        }
+    }
 }
 
-/// A line of a file with what ran on it.
+/// A function with what ran of it.
+#[derive(Drop)]
+pub struct FunctionCount {
+    /// `Module.Procedure`, or the body of a module.
+    pub name: String,
+    /// The number of its file among those of the program, and the line of its name.
+    pub file: usize,
+    pub line: u32,
+    /// How often it was called, and what it took in front of its first statement.
+    pub begin: Tally,
+}
+
+/// A place at which something can run.
 #[derive(Clone, Copy)]
-struct Line {
-    file: usize,
-    line: u32,
-    /// The byte at which its first statement begins.
-    offset: usize,
-    tally: Tally,
+pub struct Spot {
+    /// The number of its function.
+    pub function: usize,
+    pub file: usize,
+    pub line: u32,
+    /// The byte of the text at which it begins.
+    pub offset: usize,
+    pub tally: Tally,
+    /// Whether a statement or a condition begins there, and not a further turn of a loop.
+    pub is_begun: bool,
 }
 
-/// The lines of a program on which something can run, by their files and numbers.
+/// What ran of a program.
 #[derive(Drop)]
-struct Lines {
-    all: IndexMap<u64, Line>,
+pub struct Counted {
+    /// The functions, in the order in which the modules have them.
+    pub functions: Vec<FunctionCount>,
+    /// The places of each function, in this order.
+    pub spots: Vec<Spot>,
+    /// By which calls the run came to its functions. Callers stand in front of what they called.
+    pub paths: Vec<Path>,
+    /// The calls by their places.
+    pub calls: Vec<CallCount>,
 }
 
-/// A line of a file as one number.
-fn key_of(file: usize, line: u32) -> u64 {
-    ((file as u64) << 32) | u64::from(line)
-}
-
-impl Lines {
-    /// Adds what ran at a place of a file. It counts as begun there if a statement or a condition begins.
-    fn add(&mut self, line: Line, is_begun: bool) -> Result<(), AllocError> {
-        let key = key_of(line.file, line.line);
-        let unrun = Line {
-            tally: NONE,
-            ..line
-        };
-        let first = self.all.get(&key).map_or(unrun, |it| *it);
-        let before = first.tally;
-        let reductions = before.reductions.saturating_add(line.tally.reductions);
-        let times = if is_begun {
-            before.times.max(line.tally.times)
-        } else {
-            before.times
-        };
-        let tally = Tally { times, reductions };
-        self.all.insert(key, Line { tally, ..first })?;
-        Ok(())
-    }
-
-    /// Adds what ran in a function.
-    fn add_function(
-        &mut self,
-        function: &Function,
-        tallies: &FunctionTallies,
-    ) -> Result<(), AllocError> {
-        for (mark, tally) in function.marks.iter().zip(&tallies.marks) {
-            let line = Line {
-                file: function.file,
-                line: mark.pos.line,
-                offset: mark.offset,
-                tally: *tally,
-            };
-            self.add(line, mark.kind != MarkKind::Turn)?;
-        }
-        Ok(())
-    }
-}
-
-/// A row of a table.
-#[derive(Drop)]
-struct Row {
-    tally: Tally,
-    name: String,
-}
-
-/// What a run did, for people.
-#[derive(Drop)]
-pub struct Profile {
-    /// The reductions and the times of each procedure, most reductions first, and of each line.
-    pub table: String,
-    /// The lines on which nothing ran, and how many ran.
-    pub unrun: String,
-}
-
-/// What is told of a course.
-#[derive(Drop)]
-struct Told<'a> {
+/// The functions of a program with their tallies.
+fn function_counts(
     alloc: Global,
-    names: Names<'a>,
-    tallies: &'a Tallies,
-}
-
-/// How often a function was called, and all reductions that it took.
-fn sum_of(tallies: &FunctionTallies) -> Tally {
-    let mut sum = tallies.begin;
-    for tally in &tallies.marks {
-        sum.reductions = sum.reductions.saturating_add(tally.reductions);
-    }
-    sum
-}
-
-/// The text of the line at a byte, without the blanks at its ends.
-fn text_at(alloc: Global, text: &[u8], offset: usize) -> Result<String, AllocError> {
-    let behind = part(text, offset, text.len());
-    let end = match behind.iter().position(|byte| *byte == b'\n') {
-        Some(count) => offset.saturating_add(count),
-        None => text.len(),
-    };
-    String::from_utf8_lossy(alloc, &shorten(alloc, part(text, offset, end))?)
-}
-
-/// Writes a row.
-fn push_row(text: &mut String, tally: Tally, name: &str) -> Result<(), AllocError> {
-    let Tally { times, reductions } = tally;
-    write!(text, "{reductions:>14} {times:>12}  {name}\n")
-}
-
-impl Told<'_> {
-    /// The rows of the procedures, most reductions first.
-    fn procedures(&self) -> Result<Vec<Row>, AllocError> {
-        let mut rows = Vec::new(self.alloc);
-        for (number, tallies) in self.tallies.all.iter().enumerate() {
-            let tally = sum_of(tallies);
-            let function = u32::try_from(number).unwrap_or(u32::MAX);
-            let place = self.names.place_of(Activation {
-                function,
-                mark: None,
-            });
-            if let Some(place) = place {
-                let name = place.function(self.alloc)?;
-                rows.push(Row { tally, name })?;
-            }
-        }
-        rows.sort_unstable_by_key(|row| u64::MAX - row.tally.reductions);
-        Ok(rows)
-    }
-
-    /// The lines on which something can run, in order.
-    fn lines(&self) -> Result<Vec<Line>, AllocError> {
-        let mut lines = Lines {
-            all: IndexMap::new(self.alloc),
+    names: Names<'_>,
+    tallies: &Tallies,
+) -> Result<Vec<FunctionCount>, AllocError> {
+    let mut all = Vec::new(alloc);
+    for (number, (function, tallies)) in names.functions.iter().zip(&tallies.all).enumerate() {
+        let place = names.place_of(Activation {
+            function: u32::try_from(number).unwrap_or(u32::MAX),
+            mark: None,
+        });
+        let name = match place {
+            Some(place) => place.function(alloc)?,
+            None => String::new(alloc),
         };
-        for (function, tallies) in self.names.functions.iter().zip(&self.tallies.all) {
-            lines.add_function(function, tallies)?;
-        }
-        let mut all = Vec::new(self.alloc);
-        for line in lines.all.values() {
-            all.push(*line)?;
-        }
-        all.sort_unstable_by_key(|line| key_of(line.file, line.line));
-        Ok(all)
+        all.push(FunctionCount {
+            name,
+            file: function.file,
+            line: function.pos.line,
+            begin: tallies.begin,
+        })?;
     }
-
-    /// The place and the text of a line.
-    fn name_of(&self, line: Line) -> Result<String, AllocError> {
-        let Some(file) = self.names.files.get(line.file) else {
-            return Ok(String::new(self.alloc));
-        };
-        let text = text_at(self.alloc, &file.bytes, line.offset)?;
-        let (name, number) = (&file.name, line.line);
-        format!(in self.alloc; "{name}:{number}  {text}")
-    }
-
-    /// The table of procedures and lines.
-    fn table(&self, lines: &[Line]) -> Result<String, AllocError> {
-        let mut text = String::from_str(self.alloc, "    reductions        times  procedure\n")?;
-        for row in &self.procedures()? {
-            if row.tally.times > 0 {
-                push_row(&mut text, row.tally, row.name.as_str())?;
-            }
-        }
-        text.push_str("    reductions        times  line\n")?;
-        for line in lines {
-            push_row(&mut text, line.tally, self.name_of(*line)?.as_str())?;
-        }
-        Ok(text)
-    }
-
-    /// The lines on which nothing ran.
-    fn unrun(&self, lines: &[Line]) -> Result<String, AllocError> {
-        let mut text = String::new(self.alloc);
-        let mut count: usize = 0;
-        for line in lines {
-            if line.tally.times == 0 {
-                let name = self.name_of(*line)?;
-                write!(text, "never ran: {name}\n")?;
-                count = count.saturating_add(1);
-            }
-        }
-        let all = lines.len();
-        let ran = all.saturating_sub(count);
-        write!(text, "{ran} of {all} lines ran\n")?;
-        Ok(text)
-    }
+    Ok(all)
 }
 
-fn told_of(
+/// Adds the places of the function of this number.
+fn put_spots(
+    spots: &mut Vec<Spot>,
+    number: usize,
+    function: &Function,
+    tallies: &FunctionTallies,
+) -> Result<(), AllocError> {
+    for (mark, tally) in function.marks.iter().zip(&tallies.marks) {
+        spots.push(Spot {
+            function: number,
+            file: function.file,
+            line: mark.pos.line,
+            offset: mark.offset,
+            tally: *tally,
+            is_begun: mark.kind != MarkKind::Turn,
+        })?;
+    }
+    Ok(())
+}
+
+fn counted_of(
     alloc: Global,
     files: &[SourceFile],
     program: &Marked,
-    tallies: &Tallies,
-) -> Result<Profile, AllocError> {
+    tallies: Tallies,
+) -> Result<Counted, AllocError> {
+    let functions = program.functions.all.as_slice();
     let names = Names {
         files,
         modules: &program.modules,
-        functions: &program.functions.all,
+        functions,
     };
-    let told = Told {
-        alloc,
-        names,
-        tallies,
-    };
-    let lines = told.lines()?;
-    Ok(Profile {
-        table: told.table(&lines)?,
-        unrun: told.unrun(&lines)?,
+    let mut spots = Vec::new(alloc);
+    for (number, (function, own)) in functions.iter().zip(&tallies.all).enumerate() {
+        put_spots(&mut spots, number, function, own)?;
+    }
+    let functions = function_counts(alloc, names, &tallies)?;
+    let Tallies { all: _, paths } = tallies;
+    let (paths, calls) = paths.finish();
+    Ok(Counted {
+        functions,
+        spots,
+        paths,
+        calls,
     })
 }
 
-/// How often each statement of the program of these files ran, and how many reductions it took, in a run of at most so many
-/// reductions. The run is made once more, reduction by reduction. Nothing if the program cannot be built with its marks.
+/// What ran of the program of these files in a run of at most so many reductions. The run is made once more, reduction by
+/// reduction. Nothing if the program cannot be built with its marks.
 ///
 /// An error if memory ran out.
 pub fn profile_run<R>(
@@ -303,7 +220,7 @@ pub fn profile_run<R>(
     files: &[SourceFile],
     options: Options,
     steps: u64,
-) -> Result<Option<Profile>>
+) -> Result<Option<Counted>>
 where
     R: AllocGlobal + Threads + Sync,
 {
@@ -315,5 +232,5 @@ where
     if !watch_each(alloc, &program, steps, &mut tallies)? {
         return Ok(None);
     }
-    Ok(Some(told_of(alloc, files, &program, &tallies)?))
+    Ok(Some(counted_of(alloc, files, &program, tallies)?))
 }

@@ -170,11 +170,16 @@ fn run_watched(instances: &mut Instances<'_>, steps: u64, ear: &mut Ear) -> Opti
 }
 
 /// Makes one reduction, and adds it to the tallies. False if the run is over.
-fn run_one(instances: &mut Instances<'_>, ear: &mut Ear, tallies: &mut Tallies) -> bool {
+fn run_one(
+    instances: &mut Instances<'_>,
+    ear: &mut Ear,
+    tallies: &mut Tallies,
+) -> Result<bool, AllocError> {
     if ear.failures > 0 {
-        return false;
+        return Ok(false);
     }
     let place = ear.reader.innermost();
+    let running = ear.reader.activations.len();
     let (arrivals, signals) = (ear.reader.arrivals, ear.reader.reductions);
     let is_on = matches!(instances.run(1, ear), Ok(End::StillRunning));
     if let Some(place) = place {
@@ -187,7 +192,8 @@ fn run_one(instances: &mut Instances<'_>, ear: &mut Ear, tallies: &mut Tallies) 
     {
         tallies.count(place);
     }
-    is_on
+    tallies.follow(running, &ear.reader.activations)?;
+    Ok(is_on)
 }
 
 /// Runs a program with signals reduction by reduction, for at most so many of its own, and adds them to the tallies. False if
@@ -208,7 +214,7 @@ pub fn watch_each(
     };
     for made in 0..u64::MAX {
         let own = made.saturating_sub(ear.reader.reductions);
-        if own >= steps || !run_one(&mut instances, &mut ear, tallies) {
+        if own >= steps || !run_one(&mut instances, &mut ear, tallies)? {
             break;
         }
     }

@@ -4,9 +4,10 @@ use crate::places::Places;
 use anyhow::Result;
 use command_words::{Exit, FAILED};
 use find_modules::{FindFault, FoundModule, Part, Sources, find};
-use m2_tree::Name;
+use m2_tree::{Lexeme, Name, Symbol};
 use m2c::SourceFile;
 use propose_mends::importing_program;
+use scan_tokens::{ScanError, scan};
 use std::alloc::{AllocError, Global};
 use std::rt::Files;
 use system_streams::read_text;
@@ -278,5 +279,71 @@ pub fn find_program<R: Files + Eprint + AllocGlobal>(
     path: &str,
 ) -> Result<Program, Exit> {
     let (path, text) = text_of_program(rt, path)?;
+    program_of_text(rt, setting, path.as_str(), text)
+}
+
+/// The name of the program that imports a module which is checked alone, and how it is told.
+const CHECKING: &str = "ProgramOfOneModule";
+
+const CHECKING_FILE: &str = "(a program that imports the module)";
+
+/// The module of which a text is the definition or the implementation. Nothing of a program, or of a text that begins in another
+/// way or does not divide into tokens.
+fn module_of(alloc: Global, text: &[u8]) -> Result<Option<String>, AllocError> {
+    let tokens = match scan(alloc, text) {
+        Ok(tokens) => tokens,
+        Err(ScanError::Refused(_)) => return Ok(None),
+        Err(ScanError::NoMemory) => return Err(AllocError),
+    };
+    let lexemes = (tokens.get(0), tokens.get(1), tokens.get(2));
+    let (Some(first), Some(second), Some(third)) = lexemes else {
+        return Ok(None);
+    };
+    let is_part = matches!(
+        first.lexeme,
+        Lexeme::Symbol(Symbol::Definition | Symbol::Implementation)
+    );
+    match (&second.lexeme, &third.lexeme) {
+        (Lexeme::Symbol(Symbol::Module), Lexeme::Name(name)) if is_part => {
+            Ok(Some(String::from_utf8_lossy(alloc, name.as_bytes())?))
+        }
+        _ => Ok(None),
+    }
+}
+
+/// A program that imports this module, found in the folder of this file and in those behind it.
+fn importer_of<R: Files + Eprint + AllocGlobal>(
+    rt: &R,
+    setting: &Setting,
+    path: &str,
+    module: &str,
+) -> Result<Program, Exit> {
+    let text = format!(in rt.alloc(); "MODULE {CHECKING}; IMPORT {module}; END {CHECKING}.")?;
+    let text = Vec::from_slice(rt.alloc(), text.as_bytes())?;
+    let mut program = program_of_text(rt, setting, path, text)?;
+    if let Some(file) = program.files.first_mut() {
+        file.name = String::from_str(rt.alloc(), CHECKING_FILE)?;
+    }
+    Ok(program)
+}
+
+/// What is checked if this file is named: the program of it, or a program that imports the module of which it is a part. If this file
+/// is none that belongs to its module by its name, it is checked as a program. A file that cannot be read is reported.
+pub fn find_checked<R: Files + Eprint + AllocGlobal>(
+    rt: &R,
+    setting: &Setting,
+    path: &str,
+) -> Result<Program, Exit> {
+    let (path, text) = text_of_program(rt, path)?;
+    if let Some(module) = module_of(rt.alloc(), &text)? {
+        let program = importer_of(rt, setting, path.as_str(), module.as_str())?;
+        let is_found = program
+            .files
+            .iter()
+            .any(|it| it.name.as_str() == path.as_str());
+        if is_found {
+            return Ok(program);
+        }
+    }
     program_of_text(rt, setting, path.as_str(), text)
 }

@@ -4,4 +4,6 @@
 mod finding;
 mod places;
 
-pub use finding::{Program, Spare, alone, find_program, program_of_text, spare_files, text_of};
+pub use finding::{
+    Program, Spare, alone, find_checked, find_program, program_of_text, spare_files, text_of,
+};

@@ -7,8 +7,6 @@ mod folders;
 mod found;
 mod imports;
 mod search;
-#[cfg(test)]
-mod tests;
 
 pub use folders::{FindFault, ModuleFolders, Part};
 pub use found::{FoundModule, Sources};

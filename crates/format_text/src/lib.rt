@@ -11,8 +11,6 @@ mod nest;
 mod pieces;
 mod same;
 mod spacing;
-#[cfg(test)]
-mod tests;
 mod writing;
 
 pub use changes::unified_diff;

@@ -2,7 +2,7 @@
 
 use m2_tree::{Lexeme, Symbol, Token};
 use std::alloc::{AllocError, Global};
-use text_tokens::{part, rest, symbol_of};
+use text_tokens::{comment_length, part, rest, symbol_of, token_length};
 
 /// What stands in front of a comment.
 const COMMENT: &[u8] = b"(*";
@@ -70,46 +70,6 @@ fn gap_at(text: &[u8], from: usize) -> Gap {
         }
     }
     gap
-}
-
-/// How long the comment in front is. Comments stand in comments.
-fn comment_length(text: &[u8]) -> usize {
-    let mut depth = 0usize;
-    let mut before = b' ';
-    for (at, byte) in text.iter().enumerate() {
-        let pair = (before, *byte);
-        before = *byte;
-        if pair == (b'(', b'*') {
-            depth = depth.saturating_add(1);
-            before = b' ';
-        } else if pair == (b'*', b')') {
-            depth = depth.saturating_sub(1);
-            before = b' ';
-            if depth == 0 {
-                return at + 1;
-            }
-        }
-    }
-    text.len()
-}
-
-/// How long the token in front is.
-fn token_length(rest: &[u8]) -> usize {
-    match rest {
-        [] => 0,
-        [quote @ (b'"' | b'\''), others @ ..] => {
-            match others.iter().position(|byte| byte == quote) {
-                Some(last) => last.saturating_add(2),
-                None => rest.len(),
-            }
-        }
-        [b':' | b'<' | b'>', b'=', ..] | [b'<', b'>', ..] | [b'.', b'.', ..] => 2,
-        [first, ..] if !first.is_ascii_alphanumeric() => 1,
-        [_, ..] => rest
-            .iter()
-            .take_while(|byte| byte.is_ascii_alphanumeric())
-            .count(),
-    }
 }
 
 /// Puts the comments from this place on, up to the next token, whose symbol this is. What stands in front of the token.

@@ -13,8 +13,6 @@ mod pattern;
 mod places;
 mod report;
 mod same;
-#[cfg(test)]
-mod tests;
 mod verdict;
 
 pub use case::{Case, Limits};

@@ -7,35 +7,6 @@
 //! The statuses are the statuses of `m2c` for what is refused, and of `m2run` for runs: see docs/statuses.md.
 #![tactic(auto)]
 
-mod building;
-mod checking;
-mod documenting;
-mod exchanging;
-mod explaining;
-mod formatting;
-mod giving;
-mod linking;
-mod mending;
-mod output;
-mod pages;
-mod passes;
-mod rewriting;
-mod running;
-mod saving;
-mod screen;
-mod showing;
-mod testing;
-
-use crate::checking::check_all;
-use crate::documenting::document_folder;
-use crate::exchanging::exchange_input;
-use crate::explaining::explain;
-use crate::formatting::format_all;
-use crate::linking::build_single;
-use crate::passes::show_pass;
-use crate::running::run_file;
-use crate::saving::build_into;
-use crate::testing::{test_class, test_program};
 use anyhow::Result;
 use command_words::{Exit, FAILED};
 use create_program::create;
@@ -45,6 +16,10 @@ use std::io::IsTerminal;
 use std::process::ExitCode;
 use std::rt::{Env, Files};
 use std::thread::Threads;
+use tool_builds::{build_into, build_single, check_all, exchange_input};
+use tool_runs::run_file;
+use tool_tests::{test_class, test_program};
+use tool_texts::{document_folder, explain, format_all, show_pass};
 use tool_words::{Asked, PROGRAM, read_command_line};
 
 /// Does what was asked for, and answers the status. An error if memory or a stream failed.
@@ -60,7 +35,7 @@ where
             setting,
             steps,
             told,
-        } => run_file(rt, setting, program.as_str(), input, *steps, *told, out),
+        } => run_file(rt, setting, program.as_str(), input, *steps, told, out),
         Asked::Build {
             program,
             input,

@@ -6,8 +6,6 @@ mod laws;
 mod loading;
 mod program;
 mod reading;
-#[cfg(test)]
-mod tests;
 mod whole;
 
 pub use fault::ProgramFault;

@@ -13,8 +13,6 @@ mod mended;
 mod picture;
 mod showing;
 mod spot;
-#[cfg(test)]
-mod tests;
 mod token;
 
 pub use explaining::{explanation, marked_line, way_of};

@@ -208,6 +208,48 @@ fn propose_quote(mends: &mut Mends<'_>, begin: usize) -> Result<(), AllocError> 
     Ok(())
 }
 
+/// The quote that a string with this one inside is written with.
+fn other_quote(quote: u8) -> u8 {
+    if quote == b'"' { b'\'' } else { b'"' }
+}
+
+/// Writes the other quote around what stands between two places with quotes.
+fn put_other_quote(
+    mends: &mut Mends<'_>,
+    first: usize,
+    last: usize,
+    quote: u8,
+) -> Result<(), AllocError> {
+    let other = other_quote(quote);
+    let mut text = Vec::new(mends.alloc);
+    text.push(other)?;
+    for byte in part(mends.source.bytes, first.saturating_add(1), last) {
+        text.push(*byte)?;
+    }
+    text.push(other)?;
+    let words = String::from_str(
+        mends.alloc,
+        "a string is not closed: with its own quote inside it stands between quotes of the other kind",
+    )?;
+    mends.put(first, last.saturating_add(1), &text, words)
+}
+
+/// Writes the other quote around a string that has its own inside, of which the last is the refused one.
+fn propose_other_quote(mends: &mut Mends<'_>, last: usize) -> Result<(), AllocError> {
+    let bytes = mends.source.bytes;
+    let first = last.saturating_sub(begin_width(bytes, last));
+    let quote = match rest(bytes, last) {
+        [quote, ..] => *quote,
+        [] => return Ok(()),
+    };
+    for (at, byte) in part(bytes, first, last).iter().enumerate() {
+        if *byte == quote {
+            put_other_quote(mends, first.saturating_add(at), last, quote)?;
+        }
+    }
+    Ok(())
+}
+
 /// The bytes between the begin of a line and a place in it.
 fn begin_width(text: &[u8], place: usize) -> usize {
     part(text, 0, place)
@@ -259,7 +301,10 @@ pub fn propose_bytes(mends: &mut Mends<'_>, rule: u32, pos: Pos) -> Result<(), A
             propose_sign(mends, begin)
         }
         COMMENT => propose_comment_end(mends, begin),
-        STRING => propose_quote(mends, begin),
+        STRING => {
+            propose_quote(mends, begin)?;
+            propose_other_quote(mends, begin)
+        }
         NUMBER => propose_number(mends, begin),
         _ => Ok(()),
     }

@@ -51,13 +51,21 @@ pub enum Fix {
     Write,
 }
 
-/// What is told of a run that is over.
-#[derive(Clone, Copy)]
+/// What is told of a run that is over: on standard error, or in files of these names.
+#[derive(Drop)]
 pub struct Measured {
     /// How many reductions each procedure and each line took, and how often it ran.
     pub is_profiled: bool,
     /// The lines on which nothing ran.
     pub is_covered: bool,
+    /// The source with what ran in front of each line.
+    pub listing: Option<String>,
+    /// A picture of the calls.
+    pub flame: Option<String>,
+    /// The profile in the format of callgrind.
+    pub callgrind: Option<String>,
+    /// The lines that ran in the format of lcov.
+    pub lcov: Option<String>,
 }
 
 /// What is done with a text whose layout is another than the one that it is to have.

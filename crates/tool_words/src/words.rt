@@ -62,6 +62,15 @@ const PROFILE: &str = "profile";
 /// The name of the option for the lines that did not run.
 const COVERAGE: &str = "coverage";
 
+/// The names of the options for files into which it is written what ran.
+const LISTING: &str = "listing";
+
+const FLAME: &str = "flame";
+
+const CALLGRIND: &str = "callgrind";
+
+const LCOV: &str = "lcov";
+
 /// The name of the option for what the program reads.
 const INPUT: &str = "input";
 
@@ -142,6 +151,36 @@ fn input_option<'a>(alloc: Global) -> Arg<'a> {
     )
 }
 
+/// An option that names a file that is written.
+fn written_option<'a>(alloc: Global, name: &'static str, help: &'static str) -> Arg<'a> {
+    Arg::new(alloc, name)
+        .long(name)
+        .value_name("FILE")
+        .help(help)
+}
+
+/// The options of `m2 run` that say what ran.
+fn with_measures<'a>(alloc: Global, command: Command<'a>) -> Result<Command<'a>> {
+    let command = command
+        .arg(written_option(
+            alloc,
+            LISTING,
+            "Writes the source with what each line took, and how often it ran, in front of it",
+        ))?
+        .arg(written_option(
+            alloc,
+            FLAME,
+            "Writes a picture (SVG) of the calls: the wider, the more reductions",
+        ))?
+        .arg(written_option(
+            alloc,
+            CALLGRIND,
+            "Writes the profile as callgrind does, for KCachegrind",
+        ))?
+        .arg(written_option(alloc, LCOV, "Writes which lines ran how often, for lcov"))?;
+    Ok(command)
+}
+
 fn run_command<'a>(alloc: Global) -> Result<Command<'a>> {
     let command = Command::new(alloc, "run")
         .about("Compiles a program in memory and runs it")
@@ -160,7 +199,7 @@ fn run_command<'a>(alloc: Global) -> Result<Command<'a>> {
                 .action(ArgAction::SetTrue)
                 .help("Says on which lines nothing ran"),
         )?;
-    with_setting(alloc, command)
+    with_setting(alloc, with_measures(alloc, command)?)
 }
 
 fn build_command<'a>(alloc: Global) -> Result<Command<'a>> {
@@ -463,15 +502,38 @@ where
     Ok(String::from_str(rt.alloc(), name)?)
 }
 
+/// The name of the file that an option names, if it is there. An empty name is reported.
+fn file_of<R>(rt: &R, matches: &ArgMatches, id: &str, said: &str) -> Result<Option<String>, Exit>
+where
+    R: Eprint + AllocGlobal,
+{
+    if matches.get_str(id).is_none() {
+        return Ok(None);
+    }
+    Ok(Some(name_of(rt, matches, id, said)?))
+}
+
 /// The name of the file that the program reads, if one is named. An empty name is reported.
 fn input_of<R>(rt: &R, matches: &ArgMatches) -> Result<Option<String>, Exit>
 where
     R: Eprint + AllocGlobal,
 {
-    if matches.get_str(INPUT).is_none() {
-        return Ok(None);
-    }
-    Ok(Some(name_of(rt, matches, INPUT, "--input")?))
+    file_of(rt, matches, INPUT, "--input")
+}
+
+/// What is told of a run that is over.
+fn measured_of<R>(rt: &R, matches: &ArgMatches) -> Result<Measured, Exit>
+where
+    R: Eprint + AllocGlobal,
+{
+    Ok(Measured {
+        is_profiled: matches.get_flag(PROFILE),
+        is_covered: matches.get_flag(COVERAGE),
+        listing: file_of(rt, matches, LISTING, "--listing")?,
+        flame: file_of(rt, matches, FLAME, "--flame")?,
+        callgrind: file_of(rt, matches, CALLGRIND, "--callgrind")?,
+        lcov: file_of(rt, matches, LCOV, "--lcov")?,
+    })
 }
 
 fn run_asked<R>(rt: &R, matches: &ArgMatches, colours: bool) -> Result<Asked, Exit>
@@ -483,10 +545,7 @@ where
         program: name_of(rt, matches, FILE, FILE)?,
         input: input_of(rt, matches)?,
         setting: setting_of(rt, matches, colours)?,
-        told: Measured {
-            is_profiled: matches.get_flag(PROFILE),
-            is_covered: matches.get_flag(COVERAGE),
-        },
+        told: measured_of(rt, matches)?,
     })
 }
 

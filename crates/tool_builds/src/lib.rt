@@ -1,0 +1,19 @@
+//! `m2 build`, `m2 input` and `m2 check`: programs that are built in memory, saved, linked into one module, given another input, or
+//! mended.
+#![tactic(auto)]
+
+mod building;
+mod checking;
+mod exchanging;
+mod giving;
+mod linking;
+mod mending;
+mod pages;
+mod saving;
+
+pub use building::{Modules, build_program, say_fault, show_refused};
+pub use checking::check_all;
+pub use exchanging::exchange_input;
+pub use giving::give_input;
+pub use linking::build_single;
+pub use saving::build_into;
