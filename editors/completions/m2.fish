@@ -8,7 +8,7 @@ function __m2_at --description 'Whether the word of this command at this place i
     for word in $words[2..]
         if test $is_value = 1
             set is_value 0
-        else if contains -- $word --input --steps --format --color --lib --memory --workers --out --single --host --bytes
+        else if contains -- $word --input --steps --format --color --lib --memory --workers --listing --flame --callgrind --lcov --out --single --host --bytes
             set is_value 1
         else if string match -q -- '-*' $word
             continue
@@ -45,6 +45,10 @@ complete -c m2 -n '__fish_seen_subcommand_from run' -l lib -x -a '(__fish_comple
 complete -c m2 -n '__fish_seen_subcommand_from run' -l memory -x -d 'The pages of 65536 bytes of the program'\''s memory, from 1 to 1024'
 complete -c m2 -n '__fish_seen_subcommand_from run' -l workers -x -d 'How many threads compile, from 1 to 64'
 complete -c m2 -n '__fish_seen_subcommand_from run' -l verbose -d 'Says which files are found'
+complete -c m2 -n '__fish_seen_subcommand_from run' -l listing -x -a '(__fish_complete_path (commandline -ct))' -d 'Writes the source with what each line took, and how often it ran, in front of it'
+complete -c m2 -n '__fish_seen_subcommand_from run' -l flame -x -a '(__fish_complete_path (commandline -ct))' -d 'Writes a picture (SVG) of the calls: the wider, the more reductions'
+complete -c m2 -n '__fish_seen_subcommand_from run' -l callgrind -x -a '(__fish_complete_path (commandline -ct))' -d 'Writes the profile as callgrind does, for KCachegrind'
+complete -c m2 -n '__fish_seen_subcommand_from run' -l lcov -x -a '(__fish_complete_path (commandline -ct))' -d 'Writes which lines ran how often, for lcov'
 complete -c m2 -n '__fish_seen_subcommand_from run' -s h -l help -d 'Prints the options'
 complete -c m2 -n '__m2_at run 0' -a '(__m2_programs)'
 complete -c m2 -n __fish_use_subcommand -a build -d 'Compiles a program to WebAssembly modules, link.wasm last, or to one module'
@@ -118,13 +122,20 @@ complete -c m2 -n '__fish_seen_subcommand_from doc' -l format -x -a 'text json' 
 complete -c m2 -n '__fish_seen_subcommand_from doc' -l color -x -a 'auto never always' -d 'Whether the mark under a refusal is red: auto, never or always'
 complete -c m2 -n '__fish_seen_subcommand_from doc' -s h -l help -d 'Prints the options'
 complete -c m2 -n '__m2_at doc 0' -a '(__fish_complete_directories)'
+complete -c m2 -n __fish_use_subcommand -a lsp -d 'Serves editors by the Language Server Protocol over its standard streams'
+complete -c m2 -n '__fish_seen_subcommand_from lsp' -l stdio -d 'The streams are standard input and output, as without this'
+complete -c m2 -n '__fish_seen_subcommand_from lsp' -l lib -x -a '(__fish_complete_directories)' -d 'A folder to search for modules; M2_LIB names more'
+complete -c m2 -n '__fish_seen_subcommand_from lsp' -l memory -x -d 'The pages of 65536 bytes of the program'\''s memory, from 1 to 1024'
+complete -c m2 -n '__fish_seen_subcommand_from lsp' -l workers -x -d 'How many threads compile, from 1 to 64'
+complete -c m2 -n '__fish_seen_subcommand_from lsp' -l verbose -d 'Says which files are found'
+complete -c m2 -n '__fish_seen_subcommand_from lsp' -s h -l help -d 'Prints the options'
 complete -c m2 -n __fish_use_subcommand -a explain -d 'Says what a refusal, a fault or a status means; without a topic, lists all'
 complete -c m2 -n '__fish_seen_subcommand_from explain' -s h -l help -d 'Prints the options'
 complete -c m2 -n __fish_use_subcommand -a new -d 'Writes a program that runs, and a module for it'
 complete -c m2 -n '__fish_seen_subcommand_from new' -l class -d 'Writes an exercise: a solution, and a folder of cases for m2 test'
 complete -c m2 -n '__fish_seen_subcommand_from new' -s h -l help -d 'Prints the options'
 complete -c m2 -n __fish_use_subcommand -a help -d 'Prints the help of a command'
-complete -c m2 -n '__m2_at help 0' -a 'run build input check test show fmt doc explain new'
+complete -c m2 -n '__m2_at help 0' -a 'run build input check test show fmt doc lsp explain new'
 complete -c m2 -n '__m2_at explain 0' -a '1 2 3 4 5 6 7 10 11 12 13 20 21 22 23 24 25 30 31 32 33 34 35 36 37 38 40 41 42 43 44 45 46 47 48 49 50 51 52 53 60 61 70 73 80 81 82 83 84 90 91 92 93 profile input statuses fault status'
 complete -c m2 -n '__m2_at explain 1; and __m2_behind fault' -a '0 1 2 3 4 5 6 7 8 9'
 complete -c m2 -n '__m2_at explain 1; and __m2_behind status' -a '0 1 2 3 4'

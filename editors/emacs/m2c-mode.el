@@ -290,6 +290,15 @@
              '(m2 "^\\(?:m2: \\)?\\([^:\n]+\\):\\([0-9]+\\):\\([0-9]+\\): refusal [0-9]+$" 1 2 3))
 (add-to-list 'compilation-error-regexp-alist 'm2)
 
+;; M-x eglot starts the language server.
+(defun m2c--server (&rest _)
+  "The words that start the language server."
+  (append m2c-program (list "lsp") m2c-options))
+
+(with-eval-after-load 'eglot
+  (defvar eglot-server-programs)
+  (add-to-list 'eglot-server-programs '(m2c-mode . m2c--server)))
+
 ;;;###autoload
 (define-derived-mode m2c-mode prog-mode "Modula-2"
   "A mode for Modula-2, as m2 reads it."

@@ -34,29 +34,33 @@ fn push_names(all: &mut String, names: &[String]) -> Result<(), AllocError> {
     Ok(())
 }
 
+/// The file that a definition or an implementation lacks beside it, if it is refused for that, in a sentence. Nothing else.
+pub fn partner_words(alloc: Global, refusal: &Refusal) -> Result<String, AllocError> {
+    let file = refusal.file.as_str();
+    let (name, ending) = match (file.strip_suffix(".def"), file.strip_suffix(".mod")) {
+        (Some(name), _) => (name, "mod"),
+        (None, Some(name)) => (name, "def"),
+        (None, None) => return Ok(String::new(alloc)),
+    };
+    if refusal.number != Rule::LonelyModule.number() {
+        return Ok(String::new(alloc));
+    }
+    format!(in alloc; "the file {name}.{ending} is wanted beside it")
+}
+
 /// Which modules or which file a program lacks, if it is refused for that.
 fn lacking_words(
     alloc: Global,
     given: &Given<'_>,
     refusal: &Refusal,
 ) -> Result<String, AllocError> {
-    let mut all = String::new(alloc);
+    let mut all = partner_words(alloc, refusal)?;
     if refusal.number == Rule::MissingModule.number() && !given.lacking.is_empty() {
         all.push_str("no definition of ")?;
         push_names(&mut all, given.lacking)?;
         all.push_str(" was found in ")?;
         push_names(&mut all, given.searched)?;
         all.push_str("; --lib and M2_LIB name more folders")?;
-    }
-    if refusal.number == Rule::LonelyModule.number() {
-        let file = refusal.file.as_str();
-        let (name, ending) = match (file.strip_suffix(".def"), file.strip_suffix(".mod")) {
-            (Some(name), _) => (name, "mod"),
-            (None, Some(name)) => (name, "def"),
-            (None, None) => return Ok(all),
-        };
-        let words = format!(in alloc; "the file {name}.{ending} is wanted beside it")?;
-        all.push_str(words.as_str())?;
     }
     Ok(all)
 }

@@ -7,6 +7,7 @@ use command_words::FAILED;
 use find_files::Program;
 use m2_tree::Refusal;
 use m2c::SourceFile;
+use show_mends::partner_words;
 use show_refusals::{explanation, show_json};
 use std::io;
 use tool_words::{PROGRAM, Style};
@@ -71,12 +72,25 @@ fn say_lacking<R: Eprint>(rt: &R, program: &Program) {
     for name in &program.lacking {
         let _ = eprint!(rt; "{PROGRAM}: no definition of {name} was found in ");
         say_folders(rt, &program.searched);
-        let _ = eprintln!(rt; "");
+        let _ = eprintln!(rt; "; --lib and M2_LIB name more folders");
     }
 }
 
-/// Shows the refusals of a program, as objects with their details, and says which modules it lacks. The status. The error is
-/// want of memory.
+/// Says which files are wanted beside definitions and implementations.
+fn say_partners<R: Eprint + AllocGlobal>(rt: &R, refusals: &[Refusal]) -> Result<()> {
+    for refusal in refusals {
+        let words = partner_words(rt.alloc(), refusal)?;
+        if !words.is_empty() {
+            let (file, pos) = (&refusal.file, refusal.pos);
+            let (line, col) = (pos.line, pos.col);
+            let _ = eprintln!(rt; "{PROGRAM}: {file}:{line}:{col}: {words}");
+        }
+    }
+    Ok(())
+}
+
+/// Shows the refusals of a program, as objects with their details, and says which modules and files it lacks. The status. The error
+/// is want of memory.
 pub fn show<R: Print + Eprint + AllocGlobal>(
     rt: &R,
     style: Style,
@@ -86,6 +100,9 @@ pub fn show<R: Print + Eprint + AllocGlobal>(
 ) -> Result<u8> {
     match print_all(rt, style, &program.files, refusals, details)? {
         Ok(()) => {
+            if style != Style::Json {
+                say_partners(rt, refusals)?;
+            }
             say_lacking(rt, program);
             Ok(REFUSED)
         }

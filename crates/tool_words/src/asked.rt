@@ -163,6 +163,10 @@ pub enum Asked {
         is_html: bool,
         style: Style,
     },
+    /// To serve an editor over the standard streams.
+    Serve {
+        setting: Setting,
+    },
     /// To print the page of a topic, or the list of all topics if this is empty.
     Explain {
         topic: String,

@@ -71,6 +71,9 @@ const CALLGRIND: &str = "callgrind";
 
 const LCOV: &str = "lcov";
 
+/// The name of the option for standard streams.
+const STDIO: &str = "stdio";
+
 /// The name of the option for what the program reads.
 const INPUT: &str = "input";
 
@@ -151,33 +154,34 @@ fn input_option<'a>(alloc: Global) -> Arg<'a> {
     )
 }
 
-/// An option that names a file that is written.
-fn written_option<'a>(alloc: Global, name: &'static str, help: &'static str) -> Arg<'a> {
-    Arg::new(alloc, name)
-        .long(name)
-        .value_name("FILE")
-        .help(help)
-}
-
-/// The options of `m2 run` that say what ran.
+/// The options of `m2 run` that write what ran into files.
 fn with_measures<'a>(alloc: Global, command: Command<'a>) -> Result<Command<'a>> {
     let command = command
-        .arg(written_option(
-            alloc,
-            LISTING,
-            "Writes the source with what each line took, and how often it ran, in front of it",
-        ))?
-        .arg(written_option(
-            alloc,
-            FLAME,
-            "Writes a picture (SVG) of the calls: the wider, the more reductions",
-        ))?
-        .arg(written_option(
-            alloc,
-            CALLGRIND,
-            "Writes the profile as callgrind does, for KCachegrind",
-        ))?
-        .arg(written_option(alloc, LCOV, "Writes which lines ran how often, for lcov"))?;
+        .arg(
+            Arg::new(alloc, LISTING)
+                .long(LISTING)
+                .value_name("FILE")
+                .help(
+                    "Writes the source with what each line took, and how often it ran, in front of it",
+                ),
+        )?
+        .arg(
+            Arg::new(alloc, FLAME).long(FLAME).value_name("FILE").help(
+                "Writes a picture (SVG) of the calls: the wider, the more reductions",
+            ),
+        )?
+        .arg(
+            Arg::new(alloc, CALLGRIND)
+                .long(CALLGRIND)
+                .value_name("FILE")
+                .help("Writes the profile as callgrind does, for KCachegrind"),
+        )?
+        .arg(
+            Arg::new(alloc, LCOV)
+                .long(LCOV)
+                .value_name("FILE")
+                .help("Writes which lines ran how often, for lcov"),
+        )?;
     Ok(command)
 }
 
@@ -395,6 +399,18 @@ fn new_command<'a>(alloc: Global) -> Result<Command<'a>> {
     )
 }
 
+fn lsp_command<'a>(alloc: Global) -> Result<Command<'a>> {
+    let command = Command::new(alloc, "lsp")
+        .about("Serves editors by the Language Server Protocol over its standard streams")
+        .arg(
+            Arg::new(alloc, STDIO)
+                .long(STDIO)
+                .action(ArgAction::SetTrue)
+                .help("The streams are standard input and output, as without this"),
+        )?;
+    with_building(alloc, command)
+}
+
 fn command<'a>(alloc: Global) -> Result<Command<'a>> {
     Ok(
         Command::new(alloc, PROGRAM)
@@ -411,6 +427,7 @@ fn command<'a>(alloc: Global) -> Result<Command<'a>> {
             .subcommand(show_command(alloc)?)?
             .subcommand(fmt_command(alloc)?)?
             .subcommand(doc_command(alloc)?)?
+            .subcommand(lsp_command(alloc)?)?
             .subcommand(explain_command(alloc)?)?
             .subcommand(new_command(alloc)?)?,
     )
@@ -746,6 +763,15 @@ where
     })
 }
 
+fn lsp_asked<R>(rt: &R, matches: &ArgMatches) -> Result<Asked, Exit>
+where
+    R: Files + Env + Eprint + AllocGlobal,
+{
+    Ok(Asked::Serve {
+        setting: setting_in(rt, matches, Style::Json)?,
+    })
+}
+
 /// The words of a topic, with a blank between two.
 fn topic_of(alloc: Global, words: &[&str]) -> Result<String> {
     let mut topic = String::new(alloc);
@@ -789,6 +815,7 @@ where
         Some(("show", inner)) => show_asked(rt, inner, colours),
         Some(("fmt", inner)) => fmt_asked(rt, inner, colours),
         Some(("doc", inner)) => doc_asked(rt, inner, colours),
+        Some(("lsp", inner)) => lsp_asked(rt, inner),
         Some(("explain", inner)) => explain_asked(rt.alloc(), inner),
         Some(("new", inner)) => new_asked(rt, inner),
         _ => Err(Exit::Reported(COMMAND_LINE)),

@@ -13,8 +13,11 @@ let b:match_words = '\<\%(CASE\|FOR\|IF\|LOOP\|RECORD\|WHILE\|WITH\)\>:\<\%(ELSI
 " tools/write_editors: end
 compiler m2
 
-" Neovim shows refusals at their places when a file is opened and when it is written. g:m2_diagnostics = 0 leaves that out.
-if has("nvim") && get(g:, "m2_diagnostics", 1)
+" Neovim attaches the language server: refusals while you type, K on a name, gd, grr, grn and so on. g:m2_server = 0 leaves it out; then
+" refusals are shown when a file is opened and when it is written, unless g:m2_diagnostics is 0.
+if has("nvim") && get(g:, "m2_server", 1)
+  lua require("m2").attach(vim.api.nvim_get_current_buf())
+elseif has("nvim") && get(g:, "m2_diagnostics", 1)
   lua require("m2").show_refusals(vim.api.nvim_get_current_buf())
 endif
 

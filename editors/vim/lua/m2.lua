@@ -1,4 +1,4 @@
--- Refusals of `m2 check --format json` as diagnostics of Neovim.
+-- The language server `m2 lsp` in Neovim; or, without it, refusals of `m2 check --format json` as diagnostics.
 local m2 = {}
 local place = vim.api.nvim_create_namespace("m2")
 
@@ -68,6 +68,42 @@ function m2.show_refusals(buffer)
     end,
   })
   check(buffer)
+end
+
+-- The servers that run, by the folders of their programs.
+local servers = {}
+
+local function server_words()
+  local words = (vim.g.m2_program or "m2") .. " lsp " .. (vim.g.m2_options or "")
+  return vim.split(words, "%s+", { trimempty = true })
+end
+
+-- What later versions of Neovim set by themselves, and the keys.
+local function set_up(_, buffer)
+  vim.bo[buffer].omnifunc = "v:lua.vim.lsp.omnifunc"
+  vim.bo[buffer].tagfunc = "v:lua.vim.lsp.tagfunc"
+  local calls = {
+    K = vim.lsp.buf.hover,
+    gd = vim.lsp.buf.definition,
+    gri = vim.lsp.buf.implementation,
+    grr = vim.lsp.buf.references,
+    grn = vim.lsp.buf.rename,
+    gra = vim.lsp.buf.code_action,
+  }
+  for keys, call in pairs(calls) do
+    vim.keymap.set("n", keys, call, { buffer = buffer })
+  end
+end
+
+-- Attaches a buffer to the server of its folder, and starts one if there is none.
+function m2.attach(buffer)
+  local folder = vim.fn.fnamemodify(vim.api.nvim_buf_get_name(buffer), ":p:h")
+  if not servers[folder] or vim.lsp.client_is_stopped(servers[folder]) then
+    servers[folder] = vim.lsp.start_client({ name = "m2", cmd = server_words(), root_dir = folder, on_attach = set_up })
+  end
+  if servers[folder] then
+    vim.lsp.buf_attach_client(buffer, servers[folder])
+  end
 end
 
 return m2

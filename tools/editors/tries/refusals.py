@@ -28,6 +28,7 @@ MAKE_IN_VIM = [
     "call writefile([json_encode(found)], 'found.json')",
 ]
 DIAGNOSTICS_IN_NEOVIM = [
+    "let g:m2_server = 0",
     "let g:m2_diagnostics = 1",
     "edit Wrong.mod",
     "call wait(20000, {-> len(luaeval('vim.diagnostic.get(0)')) > 0})",
@@ -115,9 +116,9 @@ def compiling(place):
 
 
 def in_vs_code(place):
-    found = json.loads(called(["node", f"{HERE}/vscode.mjs", f"{place}/Wrong.mod", f"{place}/Parts.mod"], cwd=place))
-    rows = [[file, line - 1, in_characters(file, column) - 1, in_characters(file, end) - 1, f"{words}\n{detail}".strip(), rule] for file, line, column, end, rule, words, detail in REFUSED]
-    return found, {"diagnostics": rows, "errors": 0, "ran": ["m2", "run", f"{place}/Wrong.mod"]}
+    found = json.loads(called(["node", f"{HERE}/vscode.mjs", *(f"{place}/{row[0]}" for row in REFUSED)], cwd=place))
+    rows = [[file, line - 1, in_characters(file, column) - 1, in_characters(file, end) - 1, rule] for file, line, column, end, rule, _, _ in REFUSED]
+    return found, {"diagnostics": rows, "errors": 0, "ran": ["m2", "run", f"{place}/Open.mod"], "definition": []}
 
 
 READERS = [

@@ -1,23 +1,39 @@
-// Calls the client of VS Code with a stand-in for VS Code: opens the files that are named, and runs the first. Prints what it shows.
+// Calls the client of VS Code with a stand-in for VS Code: opens the files that are named, asks about a name, and runs the first program.
+// Prints what it shows.
 import { createRequire } from "node:module";
 import Module from "node:module";
+import fs from "node:fs";
 import path from "node:path";
+import { setTimeout as pause } from "node:timers/promises";
+import { pathToFileURL } from "node:url";
 
 const FIRST_FILE = 2;
+const MOST_PAUSES = 200;
 const files = process.argv.slice(FIRST_FILE);
 const shown = new Map();
 const commands = new Map();
+const providers = new Map();
 const ran = [];
 let errors = 0;
 
+class Position {
+  constructor(line, character) {
+    Object.assign(this, { line, character });
+  }
+}
 class Range {
-  constructor(...places) {
-    this.places = places;
+  constructor(start, end) {
+    Object.assign(this, { start, end });
   }
 }
 class Diagnostic {
   constructor(range, message, severity) {
     Object.assign(this, { range, message, severity });
+  }
+}
+class Holder {
+  constructor(...parts) {
+    this.parts = parts;
   }
 }
 class ProcessExecution {
@@ -31,28 +47,26 @@ class Task {
   }
 }
 
-const uriOf = (file) => ({ fsPath: file, scheme: "file" });
-const documents = files.map((file) => ({ languageId: "modula2", uri: uriOf(file), save: () => Promise.resolve(true) }));
+const uriOf = (file) => ({ fsPath: file, scheme: "file", toString: () => pathToFileURL(file).href });
+const documents = files.map((file) => ({
+  languageId: "modula2", version: 1, uri: uriOf(file), getText: () => fs.readFileSync(file, "utf8"), save: () => Promise.resolve(true),
+}));
 const disposable = { dispose() {} };
+const languages = new Proxy({ createDiagnosticCollection: () => ({ set: (uri, found) => shown.set(uri.fsPath, found), delete: (uri) => shown.delete(uri.fsPath) }) }, {
+  get: (known, name) => known[name] ?? ((_, provider) => providers.set(name, provider) && disposable),
+});
 const stand_in = {
-  Diagnostic,
-  ProcessExecution,
-  Range,
-  Task,
-  DiagnosticSeverity: { Error: 0 },
+  Position, Range, Diagnostic, ProcessExecution, Task, languages,
+  Hover: Holder, MarkdownString: Holder, Location: Holder, CompletionItem: Holder, TextEdit: { replace: (...parts) => new Holder(...parts) },
   TaskScope: { Workspace: 2 },
-  Uri: { file: uriOf },
+  Uri: { file: uriOf, parse: (uri) => uriOf(decodeURIComponent(new URL(uri).pathname)) },
   commands: { registerCommand: (name, action) => commands.set(name, action) && disposable },
-  languages: {
-    createDiagnosticCollection: () => ({ set: (uri, found) => shown.set(uri.fsPath, found), delete: (uri) => shown.delete(uri.fsPath) }),
-  },
   tasks: { executeTask: (task) => ran.push(...task.execution.words) },
   window: { activeTextEditor: { document: documents[0] }, showErrorMessage: () => (errors += 1) },
   workspace: {
     getConfiguration: () => ({ get: (_, usual) => usual }),
-    onDidOpenTextDocument: () => disposable,
-    onDidSaveTextDocument: () => disposable,
-    textDocuments: documents.slice(0, 1),
+    onDidOpenTextDocument: () => disposable, onDidChangeTextDocument: () => disposable, onDidCloseTextDocument: () => disposable,
+    textDocuments: documents,
   },
 };
 
@@ -60,10 +74,12 @@ const load = Module._load;
 Module._load = (name, ...more) => (name === "vscode" ? stand_in : load(name, ...more));
 const client = createRequire(import.meta.url)("../../../editors/vscode/extension.js");
 await client.activate({ subscriptions: [] });
-stand_in.window.activeTextEditor.document = documents[1];
-await commands.get("m2.check")();
-stand_in.window.activeTextEditor.document = documents[0];
+for (let waits = 0; waits < MOST_PAUSES && files.some((it) => !shown.has(it)); waits += 1) {
+  await pause(100);
+}
+const found = await providers.get("registerDefinitionProvider").provideDefinition(documents[0], new Position(0, 7));
 await commands.get("m2.run")();
-const rows = [...shown].flatMap(([file, found]) =>
-  found.map((it) => [path.basename(file), it.range.places[0], it.range.places[1], it.range.places[3], it.message, it.code]));
-process.stdout.write(JSON.stringify({ diagnostics: rows.sort(), errors, ran }));
+const rows = [...shown].flatMap(([file, several]) =>
+  several.map((it) => [path.basename(file), it.range.start.line, it.range.start.character, it.range.end.character, Number(it.code)]));
+await client.deactivate();
+process.stdout.write(JSON.stringify({ diagnostics: rows.sort(), errors, ran, definition: found.map(({ parts }) => [path.basename(parts[0].fsPath), parts[1].start.line]) }));
