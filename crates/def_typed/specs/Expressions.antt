@@ -100,8 +100,9 @@ module _ (types : Types) (names : Ident → Standing) (exports : ℕ → Ident �
 
     -- what computes the value of an expression that is no constant
     pub data Computes : Expr-F Expr Selector Designator Item → TypedExpr → Type 0 where
+      -- a variable that is no array and no record
       loaded : {d : Designator} {t : TypeNo} {place : Place} → Names d (Variable t place)
-          → Computes (layer.Use d None) (expr.Load t place)
+          → (content types t ≡ Whole t → ⊥) → Computes (layer.Use d None) (expr.Load t place)
       a_procedure : {d : Designator} {p : ModuleProcedure} → Names d (Procedure p)
           → Computes (layer.Use d None) (expr.Procedure p)
       a_function : {d : Designator} {args : List Expr} {s : Signature} {t : TypeNo} {c : Call}

@@ -1,5 +1,5 @@
 -- The typed trees of statements.
-use Rattle.std.specs.Prelude.{◌≡◌, ℕ, ℤ, pos, List, [], ◌∷◌, ◌+◌, Option, Some, None, slice_get}
+use Rattle.std.specs.Prelude.{◌≡◌, ℕ, ℤ, pos, true, List, [], ◌∷◌, ◌+◌, Option, Some, None, slice_get}
 use Rattle.m2_tree.specs.declared.pos.Pos.{Pos}
 use Rattle.m2_tree.specs.declared.name.Ident.{Ident}
 use Rattle.m2_tree.specs.declared.expr.Expr.{Expr, Expr-F, out-Expr}
@@ -172,10 +172,12 @@ module _ (types : Types) (exports : ℕ → Ident → Standing) where
     changes_by_one : {p : Standard} {v : Expr} {t : TypeNo} {place : Place} {o : Change}
         → IsStandard w d p → Changes p o
         → Designates types w.spot.names exports w.senses v (Variable t place)
+        → (content types t ≡ Whole t → ⊥)
         → Acts w d (v ∷ []) (step.Change o place t (expr.Constant cardinal (pos 1)))
     changes : {p : Standard} {v e : Expr} {t u : TypeNo} {place : Place} {o : Change}
         {x : TypedExpr} → IsStandard w d p → Changes p o
-        → Designates types w.spot.names exports w.senses v (Variable t place) → Measures w e u x
+        → Designates types w.spot.names exports w.senses v (Variable t place)
+        → (content types t ≡ Whole t → ⊥) → Measures w e u x
         → Acts w d (v ∷ e ∷ []) (step.Change o place t x)
     sets : {p : Standard} {v e : Expr} {t u : TypeNo} {place : Place} {o : Membership}
         {x : TypedExpr} → IsStandard w d p → Sets p o
@@ -219,7 +221,8 @@ module _ (types : Types) (exports : ℕ → Ident → Standing) where
           → MeansForm w (layer.Repeat body c) (step.Repeat xs x)
       bare_loop : {w : Site} {body : List Stmt} {xs : List TypedStmt} → AllMean (in_loop w) body xs
           → MeansForm w (layer.Loop body) (step.Loop xs)
-      exit : {w : Site} {at : Pos} → MeansForm w (layer.Exit at) step.Exit
+      exit : {w : Site} {at : Pos} → w.spot.in_loop ≡ true
+          → MeansForm w (layer.Exit at) step.Exit
       return : {w : Site} {at : Pos} → w.spot.gives ≡ Nothing
           → MeansForm w (layer.Return at None) step.Return
       give : {w : Site} {at : Pos} {e : Expr} {t : TypeNo} {x : TypedExpr}

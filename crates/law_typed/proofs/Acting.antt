@@ -40,7 +40,8 @@ use Rattle.check_call.specs.Effects.{change_target, change_target_as, change_by,
 use Rattle.check_expr.specs.Meanings.{meanings_of, head, value_of, actuals, formals_of, breaches_in_all}
 use Rattle.check_expr.specs.Effects.{call_done, routine_done, change_target_in, change_statement, set_in, member_by, halt_statement, put_by, standard_done, callee_statement, call_statement}
 use Rattle.def_typing.specs.Shapes.{IsMade}
-use Rattle.def_typing.specs.Things.{Thing, AStandard, Standing}
+use Rattle.def_typing.specs.Operators.{Whole}
+use Rattle.def_typing.specs.Things.{Thing, AStandard, Standing, content}
 use Rattle.def_typing.specs.Expressions.{Denotes}
 use Rattle.law_typing.specs.Judging.{Judges}
 use Rattle.law_typing.specs.Exact.{Knows}
@@ -52,6 +53,7 @@ use Rattle.def_typed.specs.Statements as rules
 use Rattle.def_typed.specs.Statements.{Site, Measures, Changes, Sets, Acts}
 use Rattle.law_typed.specs.Typed.{IsOne, IsNamed, Grasps}
 use Rattle.law_typed.proofs.Meant.{IfMeant, meant, not_meant, if_then, if_both, if_sorted}
+use Rattle.law_typed.proofs.Contents.{not_whole}
 use Rattle.law_typed.proofs.Arguments.{actuals_so}
 use Rattle.law_typed.proofs.Calls.{IsHead, head_is, IsCallee, module_callee, nested_callee, variable_callee, IsStandard, standard_is, length_is, map_length}
 use Rattle.law_typed.proofs.Expressions.{expression_typed, designator_named}
@@ -127,8 +129,8 @@ module _ (g : Gathers) (j : Judges g) (lawful : Lawful g j) (exports : ℕ → I
 
   acted_as : {d : Designator} {args : List Expr} {y : TypedStmt} → Ac d args y → ActedAs d args y
   acted_as (rules.calls {s = q} {c = k} a b) = as_procedure q k a b
-  acted_as (rules.changes_by_one {p = f} a b c) = as_standard f a
-  acted_as (rules.changes {p = f} a b c m) = as_standard f a
+  acted_as (rules.changes_by_one {p = f} a b c l) = as_standard f a
+  acted_as (rules.changes {p = f} a b c l m) = as_standard f a
   acted_as (rules.sets {p = f} a b c m) = as_standard f a
   acted_as (rules.halts a) = as_standard Halt a
   acted_as (rules.puts a y) = as_standard Put a
@@ -173,14 +175,18 @@ module _ (g : Gathers) (j : Judges g) (lawful : Lawful g j) (exports : ℕ → I
   abbrev IsTarget : Expr → TypeNo × Place → Type 0
   IsTarget e q = IsNamed (D e) (designated.Variable q.0 q.1)
 
-  change_so : {e : Expr} (at : Pos) (x : Designated) → IsNamed (D e) x → IfMeant (IsTarget e) (change_target g s.types at x)
-  change_so {e = e} at (designated.Variable t p) n = by (class_at s.types t)
+  -- a target that is no array and no record
+  abbrev IsChanged : Expr → TypeNo × Place → Type 0
+  IsChanged e q = IsTarget e q × (content s.types q.0 ≡ Whole q.0 → ⊥)
+
+  change_so : {e : Expr} (at : Pos) (x : Designated) → IsNamed (D e) x → IfMeant (IsChanged e) (change_target g s.types at x)
+  change_so {e = e} at (designated.Variable t p) n = by (class_at s.types t) refl
     where
-      by : (c : Class) → IfMeant (IsTarget e) (change_target_as g at t p c)
-      by (class.Scalar r) = meant _ n
-      by class.Set = not_meant _
-      by class.Procedure = not_meant _
-      by class.Whole = not_meant _
+      by : (c : Class) → class_at s.types t ≡ c → IfMeant (IsChanged e) (change_target_as g at t p c)
+      by (class.Scalar r) h = meant _ (n, not_whole s.types t h (λ e. absurd cc))
+      by class.Set h = not_meant _
+      by class.Procedure h = not_meant _
+      by class.Whole h = not_meant _
   change_so at (designated.Value v) n = not_meant _
   change_so at (designated.Open t u) n = not_meant _
   change_so at (designated.Type t) n = not_meant _
@@ -189,27 +195,27 @@ module _ (g : Gathers) (j : Judges g) (lawful : Lawful g j) (exports : ℕ → I
   change_so at (designated.Standard f) n = not_meant _
   change_so at (designated.Module k) n = not_meant _
 
-  change_there : (e : Expr) → IfMeant (IsTarget e) (change_target_in g s (meanings_of g e))
+  change_there : (e : Expr) → IfMeant (IsChanged e) (change_target_in g s (meanings_of g e))
   change_there e = if_then (if_sorted g _ rule.NoVariable (named_as e)) (λ x n. change_so _ x n)
 
   by_one_alone : {d : Designator} {v : Expr} {f : Standard} {o : Change} {t : TypeNo} {p : Place} {y : TypedStmt} → Changes f o → St d f → IsTarget v (t, p) → Ac d (v ∷ []) y → y ≡ step.Change o p t (expr.Constant cardinal (pos 1))
   by_one_alone c i n (rules.calls a b) = absurd (i.no_procedure _ _ _ a)
-  by_one_alone c i n (rules.changes_by_one {p = h} {t = u} {place = q} a k m) = cc (one_change c k (i.only h a), n.alone (Variable u q) m)
+  by_one_alone c i n (rules.changes_by_one {p = h} {t = u} {place = q} a k m f) = cc (one_change c k (i.only h a), n.alone (Variable u q) m)
   by_one_alone c i n (rules.puts a x) = absurd (no_put c (i.only Put a))
 
   by_alone : {d : Designator} {v e : Expr} {f : Standard} {o : Change} {t u : TypeNo} {p : Place} {x : TypedExpr} {y : TypedStmt} → Changes f o → St d f → IsTarget v (t, p) → IsMeasured g j lawful exports w s knows grasps e (u, x) → Ac d (v ∷ e ∷ []) y → y ≡ step.Change o p t x
   by_alone c i n m (rules.calls a b) = absurd (i.no_procedure _ _ _ a)
-  by_alone c i n m (rules.changes {p = h} {t = z} {u = b} {place = q} {x = x} a k l r) = cc (one_change c k (i.only h a), n.alone (Variable z q) l, (m.alone b x r).1)
+  by_alone c i n m (rules.changes {p = h} {t = z} {u = b} {place = q} {x = x} a k l f r) = cc (one_change c k (i.only h a), n.alone (Variable z q) l, (m.alone b x r).1)
   by_alone c i n m (rules.sets {p = h} a k l r) = absurd (no_change c k (i.only h a))
 
   change_act : {d : Designator} {f : Standard} {o : Change} (at : Pos) (args : List Expr) → Changes f o → St d f → So d args (change_statement g s at o (map (meanings_of g) args))
   change_act at [] c i = beside_refused at rule.ArgumentCount (breaches_in_all g s [])
   change_act {d = d} {o = o} at (v ∷ []) c i = by (change_there v)
     where
-      by : {r : Result (TypeNo × Place) g.Reported} → IfMeant (IsTarget v) r → So d (v ∷ []) (change_by g o r (Ok (expr.Constant cardinal (pos 1))))
-      by (meant q n) = meant _ (record { holds = rules.changes_by_one i.denotes c (n.holds (Variable q.0 q.1) refl); alone = λ y a. by_one_alone c i n a })
+      by : {r : Result (TypeNo × Place) g.Reported} → IfMeant (IsChanged v) r → So d (v ∷ []) (change_by g o r (Ok (expr.Constant cardinal (pos 1))))
+      by (meant q n) = meant _ (record { holds = rules.changes_by_one i.denotes c (n.0.holds (Variable q.0 q.1) refl) n.1; alone = λ y a. by_one_alone c i n.0 a })
       by (not_meant r) = not_meant r
-  change_act at (v ∷ e ∷ []) c i = if_then (if_both g (change_there v) (if_then (value_so g j lawful exports w s knows grasps e) (λ x k. amount_measured g j lawful exports w s knows grasps _ x k))) (λ p q. meant _ (record { holds = rules.changes i.denotes c (q.0.holds (Variable p.0.0 p.0.1) refl) q.1.1.holds; alone = λ y a. by_alone c i q.0 q.1.1 a }))
+  change_act at (v ∷ e ∷ []) c i = if_then (if_both g (change_there v) (if_then (value_so g j lawful exports w s knows grasps e) (λ x k. amount_measured g j lawful exports w s knows grasps _ x k))) (λ p q. meant _ (record { holds = rules.changes i.denotes c (q.0.0.holds (Variable p.0.0 p.0.1) refl) q.0.1 q.1.1.holds; alone = λ y a. by_alone c i q.0.0 q.1.1 a }))
   change_act at (v ∷ e ∷ x ∷ xs) c i = beside_refused at rule.ArgumentCount (breaches_in_all g s (map (meanings_of g) (v ∷ e ∷ x ∷ xs)))
 
   -- ---- INCL and EXCL
@@ -238,7 +244,7 @@ module _ (g : Gathers) (j : Judges g) (lawful : Lawful g j) (exports : ℕ → I
 
   set_alone : {d : Designator} {v e : Expr} {f : Standard} {o : Membership} {t u : TypeNo} {p : Place} {x : TypedExpr} {y : TypedStmt} → Sets f o → St d f → IsTarget v (t, p) → IsMeasured g j lawful exports w s knows grasps e (u, x) → Ac d (v ∷ e ∷ []) y → y ≡ step.Membership o p x
   set_alone c i n m (rules.calls a b) = absurd (i.no_procedure _ _ _ a)
-  set_alone c i n m (rules.changes {p = h} a k l r) = absurd (no_change k c (sym (i.only h a)))
+  set_alone c i n m (rules.changes {p = h} a k l f r) = absurd (no_change k c (sym (i.only h a)))
   set_alone c i n m (rules.sets {p = h} {t = z} {u = b} {place = q} {x = x} a k l r) = cc (one_setting c k (i.only h a), n.alone (Variable z q) l, (m.alone b x r).1)
 
   set_act : {d : Designator} {f : Standard} {o : Membership} (at : Pos) (args : List Expr) → Sets f o → St d f → So d args (member_by g s at o (map (meanings_of g) args))
@@ -266,7 +272,7 @@ module _ (g : Gathers) (j : Judges g) (lawful : Lawful g j) (exports : ℕ → I
         where
           alone : {y : TypedStmt} → Ac d (e ∷ []) y → y ≡ step.Put x
           alone (rules.calls a b) = absurd (i.no_procedure _ _ _ a)
-          alone (rules.changes_by_one {p = h} a k m) = absurd (no_put k (sym (i.only h a)))
+          alone (rules.changes_by_one {p = h} a k m f) = absurd (no_put k (sym (i.only h a)))
           alone (rules.puts {x = z} a m) = cc (o.alone z m)
 
       by_value : (r : Result Computed g.Reported) → IfMeant (IsOne (Gives s.types w.spot.names exports w.senses char e)) (r ▷ value_suited g rule.WrongArgument s.types char (meanings_of g e).fixed.at) → So d (e ∷ []) (r ▷ put g s.types (meanings_of g e).fixed.at)

@@ -36,6 +36,7 @@ use Rattle.def_typed.specs.Expressions as rules
 use Rattle.def_typed.specs.Expressions.{Names, Designates, Computes}
 use Rattle.law_typed.specs.Typed.{IsNamed, named_of, Grasps}
 use Rattle.law_typed.proofs.Meant.{IfMeant, meant, not_meant, if_as, if_also}
+use Rattle.law_typed.proofs.Contents.{not_whole}
 use Rattle.law_typed.proofs.Operators.{Coded, coded_as}
 use Rattle.law_typed.proofs.Values.{IsCoded, coded_by, relation_coded, term_coded, sum_coded, signed_sum_coded, not_coded, brackets_coded}
 use Rattle.law_typed.proofs.Designators.{is_constant, AreIndexed, IsCodeless, names_so, head_codeless}
@@ -97,24 +98,24 @@ module _ (g : Gathers) (j : Judges g) (lawful : Lawful g j) (names : Ident → S
   -- ---- names
 
   name_value : {d : Designator} (at : Pos) (x : Designated) → IsNamed (N d) x → IsCodeless g j lawful names exports senses s knows grasps x → IfMeant (Coded (C (layer.Use d None))) (value_at_place g s.types at x)
-  name_value {d = d} at (designated.Variable t p) n c = by_class (class_at s.types t)
+  name_value {d = d} at (designated.Variable t p) n c = by_class (class_at s.types t) refl
     where
       alone : (y : TypedExpr) → C (layer.Use d None) y → y ≡ expr.Load t p
-      alone _ (rules.loaded {t = u} {place = q} r) = cc (n.alone (Variable u q) r)
+      alone _ (rules.loaded {t = u} {place = q} r f) = cc (n.alone (Variable u q) r)
       alone _ (rules.a_procedure {p = q} r) = absurd cc (n.alone (Procedure q) r)
 
-      load : C (layer.Use d None) (expr.Load t p)
-      load = rules.loaded (n.holds (Variable t p) refl)
+      load : {c : Class} → class_at s.types t ≡ c → (c ≡ class.Whole → ⊥) → C (layer.Use d None) (expr.Load t p)
+      load h f = rules.loaded (n.holds (Variable t p) refl) (not_whole s.types t h f)
 
-      by_class : (c : Class) → IfMeant {R = g.Reported} (Coded (C (layer.Use d None))) (Ok (loaded_as t p c))
-      by_class (class.Scalar r) = coded_as _ _ refl load alone
-      by_class class.Set = coded_as _ _ refl load alone
-      by_class class.Procedure = coded_as _ _ refl load alone
-      by_class class.Whole = meant _ (λ z q. absurd cc)
+      by_class : (c : Class) → class_at s.types t ≡ c → IfMeant {R = g.Reported} (Coded (C (layer.Use d None))) (Ok (loaded_as t p c))
+      by_class (class.Scalar r) h = coded_as _ _ refl (load h (λ e. absurd cc)) alone
+      by_class class.Set h = coded_as _ _ refl (load h (λ e. absurd cc)) alone
+      by_class class.Procedure h = coded_as _ _ refl (load h (λ e. absurd cc)) alone
+      by_class class.Whole h = meant _ (λ z q. absurd cc)
   name_value {d = d} at (designated.Procedure p) n c = coded_as _ (expr.Procedure p) refl (rules.a_procedure (n.holds (Procedure p) refl)) alone
     where
       alone : (y : TypedExpr) → C (layer.Use d None) y → y ≡ expr.Procedure p
-      alone _ (rules.loaded {t = u} {place = q} r) = absurd cc (n.alone (Variable u q) r)
+      alone _ (rules.loaded {t = u} {place = q} r f) = absurd cc (n.alone (Variable u q) r)
       alone _ (rules.a_procedure {p = q} r) = cc (n.alone (Procedure q) r)
   name_value at (designated.Value _) n (is_constant v) = meant _ (λ z q. absurd cc)
   name_value at (designated.Open t u) n c = meant _ (λ z q. absurd cc)

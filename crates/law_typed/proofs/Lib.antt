@@ -1,4 +1,5 @@
 pub mod Meant
+pub mod Contents
 pub mod Operators
 pub mod Values
 pub mod Designators

@@ -1,6 +1,7 @@
 -- The induction over statements: what is answered is the one typed tree that the rules give.
 use Rattle.std.proofs.Common.{◌≡◌, ℕ, not, List, [], ◌∷◌, ◌++◌, ◌+◌, Option, Some, None, Result, Ok, Err, refl, sym, ap, subst, ◌∙◌, append-nil, append_assoc, length-append}
-use Rattle.std.specs.Prelude.{map}
+use Rattle.std.proofs.lemmas.Bool.{not-false}
+use Rattle.std.specs.Prelude.{map, true}
 use Rattle.std.specs.List.{fold}
 use Rattle.std.specs.Option.{is_some}
 use Rattle.m2_rule.specs.declared.rule.Rule.TheVariants as rule
@@ -189,11 +190,11 @@ module _ (g : Gathers) (j : Judges g) (lawful : Lawful g j) (exports : ℕ → I
         alone : {z : TypedStmt} → R (layer.Call d args) z → z ≡ x
         alone {z = z} (rules.call m) = o.alone z m
 
-    exit_one : {at : Pos} → IsOne (R (layer.Exit at)) step.Exit
-    exit_one {at = at} = record { holds = rules.exit; alone = λ z m. alone m }
+    exit_one : {at : Pos} → w.spot.in_loop ≡ true → IsOne (R (layer.Exit at)) step.Exit
+    exit_one {at = at} h = record { holds = rules.exit h; alone = λ z m. alone m }
       where
         alone : {z : TypedStmt} → R (layer.Exit at) z → z ≡ step.Exit
-        alone rules.exit = refl
+        alone (rules.exit e) = refl
 
     -- ---- what a CASE is made of
 
@@ -409,7 +410,7 @@ module _ (g : Gathers) (j : Judges g) (lawful : Lawful g j) (exports : ℕ → I
         (if_then (if_both g (list_so w s a body (each_so b w s a k)) (condition_so w s a k c)) (λ p o. meant _ (repeat_one w s a o.0 o.1)))
     stmt_so (tree_loop {body = body} h b) w s a k = by_layer w s a (layer.Loop body) h
         (if_then (list_so (rules.in_loop w) s (in_loop a) body (each_so b (rules.in_loop w) s (in_loop a) (looping k))) (λ xs o. meant _ (loop_one s o)))
-    stmt_so (tree_exit {at = at} h) w s a k = by_layer w s a (layer.Exit at) h (if_where g (not a.in_loop) at rule.LonelyExit (λ q. meant _ (exit_one w s a)))
+    stmt_so (tree_exit {at = at} h) w s a k = by_layer w s a (layer.Exit at) h (if_where g (not a.in_loop) at rule.LonelyExit (λ q. meant _ (exit_one w s a (k.of_spot.of_loop ∙ not-false a.in_loop q))))
     stmt_so (tree_return {at = at} {e = e} h) w s a k = by_layer w s a (layer.Return at e) h (return_so w s a k at e)
     stmt_so (tree_for {name = name} {start = start} {limit = limit} {by = by} {body = body} h b) w s a k = by_layer w s a (layer.For name start limit by body) h
         (if_then (if_both g (course_so g j lawful exports w s k.of_spot.of_names k.of_senses k.of_spot.of_own name start limit by) (list_so w s a body (each_so b w s a k))) (λ p o. meant _ (for_one w s a k name start limit by o.0 o.1)))

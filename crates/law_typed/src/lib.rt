@@ -5,7 +5,8 @@
 //! a typed tree by the rules, and that there is no other.
 //!
 //! - `specs/Typed` says what is known of names at a place of a body, and what is proved.
-//! - `proofs/Meant` has a lemma for each form that elaborations are made of.
+//! - `proofs/Meant` has a lemma for each form that elaborations are made of, and `proofs/Contents` one on types that are no arrays
+//!   and no records.
 //! - `proofs/Operators` and `proofs/Values` have operators, signs and the code of values, `proofs/Designators` names with
 //!   components and values at places that ask for a type, `proofs/Arguments` arguments, `proofs/Calls` calls in expressions,
 //!   and `proofs/Expressions` the induction over expressions.
