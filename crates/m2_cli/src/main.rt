@@ -18,6 +18,7 @@ use std::rt::{Env, Files};
 use std::thread::Threads;
 use tool_builds::{build_into, build_single, check_all, exchange_input};
 use tool_runs::run_file;
+use tool_server::serve_editor;
 use tool_tests::{test_class, test_program};
 use tool_texts::{document_folder, explain, format_all, show_pass};
 use tool_words::{Asked, PROGRAM, read_command_line};
@@ -25,7 +26,7 @@ use tool_words::{Asked, PROGRAM, read_command_line};
 /// Does what was asked for, and answers the status. An error if memory or a stream failed.
 fn answer<R, P>(rt: &R, asked: &Asked, out: P) -> Result<u8, Exit>
 where
-    R: Files + Input + Print + Eprint + AllocGlobal + Threads + Sync + Clone + Drop,
+    R: Files + Input + Env + Print + Eprint + AllocGlobal + Threads + Sync + Clone + Drop,
     P: Print + Drop,
 {
     match asked {
@@ -99,6 +100,7 @@ where
             let kind = if *is_html { Kind::Html } else { Kind::Markdown };
             document_folder(rt, *style, folder.as_str(), out.as_str(), kind)
         }
+        Asked::Serve { setting } => serve_editor(rt, setting, out),
         Asked::Explain { topic } => Ok(explain(rt, topic.as_str())),
         Asked::New { name, is_class } => Ok(create(rt, name.as_str(), *is_class)?),
     }
