@@ -64,7 +64,7 @@ def spread(runs):
 def vim_words(program, script, files, room):
     """A call of Vim or Neovim that reads editors/vim, nothing of the user's, and then a script."""
     front = [program, "-es"] if program == "vim" else [program, "--headless"]
-    settings = [f"set nocompatible runtimepath^={EDITORS}/vim", "let g:m2_diagnostics = 0", "filetype plugin indent on", "syntax on"]
+    settings = [f"set nocompatible runtimepath^={EDITORS}/vim", "let g:m2_server = 0", "let g:m2_diagnostics = 0", "filetype plugin indent on", "syntax on"]
     for name, lines in (("settings", settings), ("script", [*script, "qall!"])):
         with open(f"{room}/{name}.vim", "w", encoding="utf-8") as file:
             file.write("\n".join(lines) + "\n")
