@@ -1,0 +1,7 @@
+//! Tests of the server: framing, texts, and whole sessions.
+#![tactic(auto)]
+
+#[cfg(test)]
+mod framing;
+#[cfg(test)]
+mod texts;
