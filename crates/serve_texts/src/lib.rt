@@ -12,6 +12,6 @@ mod uris;
 
 pub use letters::Encoding;
 pub use shift::Shift;
-pub use text::{Position, Text};
+pub use text::{Known, Position, Text};
 pub use texts::{Change, OpenText, Texts};
 pub use uris::{path_of, uri_of};

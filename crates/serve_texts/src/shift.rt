@@ -4,10 +4,10 @@
 #[derive(Clone, Copy, Debug, PartialEq, Eq)]
 pub struct Shift {
     /// How many bytes in front are the same.
-    front: usize,
+    pub front: usize,
     /// Where the bytes begin that are the same up to the end, in either text.
-    old_end: usize,
-    new_end: usize,
+    pub old_end: usize,
+    pub new_end: usize,
 }
 
 /// How many bytes in front are the same in both.

@@ -11,6 +11,24 @@ pub struct Position {
     pub character: u32,
 }
 
+/// A place of the protocol, and how many bytes stand in front of it.
+#[derive(Clone, Copy, Debug, PartialEq, Eq)]
+pub struct Known {
+    pub offset: usize,
+    pub position: Position,
+}
+
+impl Known {
+    /// The begin of a text.
+    pub const BEGIN: Known = Known {
+        offset: 0,
+        position: Position {
+            line: 0,
+            character: 0,
+        },
+    };
+}
+
 /// A text with the begins of its lines.
 #[derive(Drop)]
 pub struct Text {
@@ -151,6 +169,19 @@ impl Text {
         Position {
             line: narrow(line),
             character: encoding.units_of(before),
+        }
+    }
+
+    /// The place of the protocol behind so many bytes, counted on from a place in front of it that is known.
+    pub fn position_behind(&self, known: Known, offset: usize, encoding: Encoding) -> Position {
+        let offset = offset.min(self.bytes.len());
+        if offset < known.offset || line_with(&self.rows, offset) != wide(known.position.line) {
+            return self.position_of(offset, encoding);
+        }
+        let between = encoding.units_of(cut(&self.bytes, known.offset, offset));
+        Position {
+            line: known.position.line,
+            character: known.position.character.saturating_add(between),
         }
     }
 

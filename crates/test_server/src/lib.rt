@@ -4,4 +4,6 @@
 #[cfg(test)]
 mod framing;
 #[cfg(test)]
+mod programs;
+#[cfg(test)]
 mod texts;
