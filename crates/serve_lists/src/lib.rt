@@ -5,9 +5,9 @@
 #![tactic(auto)]
 
 mod ask;
-mod completion;
+mod completing;
 mod folding;
-mod hover;
+mod hovering;
 mod places;
 mod semantic;
 mod signature;
@@ -15,11 +15,11 @@ mod symbols;
 mod values;
 
 pub use ask::Ask;
-pub use completion::completion;
+pub use completing::completion;
 pub use folding::folding_ranges;
-pub use hover::hover;
+pub use hovering::hover;
 pub use places::{
-    References, definition, highlights, implementation, prepare_rename, references, type_definition,
+    Extent, definition, highlights, implementation, prepare_rename, references, type_definition,
 };
 pub use semantic::{TOKEN_MODIFIERS, TOKEN_TYPES, semantic_tokens};
 pub use signature::signature_help;

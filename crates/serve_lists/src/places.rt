@@ -7,7 +7,7 @@ use std::alloc::AllocError;
 
 /// Which places of a name are asked for.
 #[derive(Clone, Copy, Debug, PartialEq, Eq)]
-pub enum References {
+pub enum Extent {
     /// Those at which it is used.
     Uses,
     /// Also those at which it is declared.
@@ -64,10 +64,10 @@ fn is_mention(role: Role) -> bool {
 }
 
 /// The places of the thing at a place.
-pub fn references(ask: &Ask<'_>, wanted: References) -> Result<Value, AllocError> {
+pub fn references(ask: &Ask<'_>, wanted: Extent) -> Result<Value, AllocError> {
     let mut all = Vec::new(ask.alloc);
     for found in &uses_here(ask)? {
-        if wanted == References::All || is_mention(found.role) {
+        if wanted == Extent::All || is_mention(found.role) {
             if let Some(mark) = ask.view.mark_of(found.place) {
                 all.push(ask.location_of(mark)?)?;
             }

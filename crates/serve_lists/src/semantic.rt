@@ -28,34 +28,34 @@ pub const TOKEN_TYPES: [&str; 10] = [
 pub const TOKEN_MODIFIERS: [&str; 3] = ["declaration", "readonly", "defaultLibrary"];
 
 /// The numbers of types.
-const NAMESPACE: u32 = 0;
+const OF_NAMESPACE: u32 = 0;
 
-const TYPE: u32 = 1;
+const OF_TYPE: u32 = 1;
 
-const ENUM_MEMBER: u32 = 2;
+const OF_ENUM_MEMBER: u32 = 2;
 
-const VARIABLE: u32 = 3;
+const OF_VARIABLE: u32 = 3;
 
-const PARAMETER: u32 = 4;
+const OF_PARAMETER: u32 = 4;
 
-const PROPERTY: u32 = 5;
+const OF_PROPERTY: u32 = 5;
 
-const FUNCTION: u32 = 6;
+const OF_FUNCTION: u32 = 6;
 
-const KEYWORD: u32 = 7;
+const OF_KEYWORD: u32 = 7;
 
-const NUMBER: u32 = 8;
+const OF_NUMBER: u32 = 8;
 
-const STRING: u32 = 9;
+const OF_STRING: u32 = 9;
 
 /// The bits of what more is said.
-const PLAIN: u32 = 0;
+const IS_PLAIN: u32 = 0;
 
-const DECLARATION: u32 = 1;
+const IS_DECLARED: u32 = 1;
 
-const READONLY: u32 = 2;
+const IS_READONLY: u32 = 2;
 
-const BUILT_IN: u32 = 4;
+const IS_BUILT_IN: u32 = 4;
 
 /// What a token is.
 #[derive(Clone, Copy, PartialEq, Eq)]
@@ -67,19 +67,19 @@ struct Paint {
 /// What a declared thing is.
 fn paint_of_declared(declaration: &Declaration, role: Role) -> Paint {
     let more = if matches!(role, Role::Declaration | Role::Implementation) {
-        DECLARATION
+        IS_DECLARED
     } else {
-        PLAIN
+        IS_PLAIN
     };
     let (of, modifiers) = match declaration.kind {
-        Kind::Module => (NAMESPACE, PLAIN),
-        Kind::Constant => (VARIABLE, READONLY),
-        Kind::Type => (TYPE, PLAIN),
-        Kind::Variable => (VARIABLE, PLAIN),
-        Kind::Formal => (PARAMETER, PLAIN),
-        Kind::Field => (PROPERTY, PLAIN),
-        Kind::Procedure => (FUNCTION, PLAIN),
-        Kind::EnumerationConstant => (ENUM_MEMBER, READONLY),
+        Kind::Module => (OF_NAMESPACE, IS_PLAIN),
+        Kind::Constant => (OF_VARIABLE, IS_READONLY),
+        Kind::Type => (OF_TYPE, IS_PLAIN),
+        Kind::Variable => (OF_VARIABLE, IS_PLAIN),
+        Kind::Formal => (OF_PARAMETER, IS_PLAIN),
+        Kind::Field => (OF_PROPERTY, IS_PLAIN),
+        Kind::Procedure => (OF_FUNCTION, IS_PLAIN),
+        Kind::EnumerationConstant => (OF_ENUM_MEMBER, IS_READONLY),
     };
     Paint {
         of,
@@ -90,10 +90,11 @@ fn paint_of_declared(declaration: &Declaration, role: Role) -> Paint {
 /// What a word of the language is.
 fn paint_of_word(spelling: &[u8]) -> Option<Paint> {
     let (of, modifiers) = match explanation(spelling)?.sort {
-        Sort::Type => (TYPE, BUILT_IN),
-        Sort::Constant => (VARIABLE, READONLY | BUILT_IN),
-        Sort::Procedure => (FUNCTION, BUILT_IN),
-        Sort::Word => (KEYWORD, PLAIN),
+        Sort::Type => (OF_TYPE, IS_BUILT_IN),
+        Sort::Constant => (OF_VARIABLE, IS_READONLY | IS_BUILT_IN),
+        Sort::Procedure => (OF_FUNCTION, IS_BUILT_IN),
+        Sort::Console => (OF_NAMESPACE, IS_BUILT_IN),
+        Sort::Reserved => (OF_KEYWORD, IS_PLAIN),
     };
     Some(Paint { of, modifiers })
 }
@@ -125,15 +126,15 @@ fn paint_of_name(ask: &Ask<'_>, begin: usize, spelling: &[u8]) -> Option<Paint> 
 fn paint_at(ask: &Ask<'_>, source: &Source<'_>, at: usize) -> Option<Paint> {
     let plain = |of: u32| Some(Paint {
         of,
-        modifiers: PLAIN,
+        modifiers: IS_PLAIN,
     });
     let spelling = source.spelling(at);
-    match source.tokens.get(at)?.lexeme {
+    match &source.tokens.get(at)?.lexeme {
         Lexeme::Name(_) => paint_of_name(ask, source.begin(at), spelling),
-        Lexeme::Number(_) => plain(NUMBER),
-        Lexeme::Char(_) | Lexeme::Text(_) => plain(STRING),
+        Lexeme::Number(_) => plain(OF_NUMBER),
+        Lexeme::Char(_) | Lexeme::Text(_) => plain(OF_STRING),
         Lexeme::Symbol(_) if spelling.first().is_some_and(|it| it.is_ascii_alphabetic()) => {
-            plain(KEYWORD)
+            plain(OF_KEYWORD)
         }
         Lexeme::Symbol(_) | Lexeme::End => None,
     }

@@ -49,29 +49,47 @@ fn standing_here(ask: &Ask<'_>, declaration: &Declaration) -> Option<Standing> {
     standing_of(ask, place, declaration.implementation_range?)
 }
 
-/// The declarations inside of one, each with those inside of it, as deep as levels are left.
-fn symbols_inside(ask: &Ask<'_>, number: usize, levels: &[u8]) -> Result<Vec<Value>, AllocError> {
+/// The numbers of the declarations inside of each declaration.
+fn numbers_inside(ask: &Ask<'_>) -> Result<Vec<Vec<usize>>, AllocError> {
+    let declarations = ask.view.index.declarations();
     let mut all = Vec::new(ask.alloc);
-    let [_, deeper @ ..] = levels else {
-        return Ok(all);
-    };
-    for child in ask.view.index.children_of(ask.alloc, number)? {
-        if let Some(symbol) = symbol_of(ask, child, deeper)? {
-            all.push(symbol)?;
+    for _declaration in declarations {
+        all.push(Vec::new(ask.alloc))?;
+    }
+    for (number, declaration) in declarations.iter().enumerate() {
+        if let Some(parent) = declaration.parent {
+            if let Some(inside) = all.get_mut(parent) {
+                inside.push(number)?;
+            }
         }
     }
     Ok(all)
 }
 
-/// A declaration in the file, with those inside of it.
-fn symbol_of(ask: &Ask<'_>, number: usize, levels: &[u8]) -> Result<Option<Value>, AllocError> {
+/// A declaration in the file, with those inside of it, as deep as levels are left.
+fn symbol_of(
+    ask: &Ask<'_>,
+    numbers: &[Vec<usize>],
+    number: usize,
+    levels: &[u8],
+) -> Result<Option<Value>, AllocError> {
+    let [_, deeper @ ..] = levels else {
+        return Ok(None);
+    };
     let Some(declaration) = ask.view.index.declaration(number) else {
         return Ok(None);
     };
     let Some(standing) = standing_here(ask, declaration) else {
         return Ok(None);
     };
-    let inside = symbols_inside(ask, number, levels)?;
+    let mut inside = Vec::new(ask.alloc);
+    if let Some(children) = numbers.get(number) {
+        for child in children {
+            if let Some(symbol) = symbol_of(ask, numbers, *child, deeper)? {
+                inside.push(symbol)?;
+            }
+        }
+    }
     Ok(Some(symbol_value(ask, declaration, standing, inside)?))
 }
 
@@ -99,10 +117,11 @@ fn symbol_value(
 
 /// The declarations of the file, each with those inside of it.
 pub fn document_symbols(ask: &Ask<'_>) -> Result<Value, AllocError> {
+    let numbers = numbers_inside(ask)?;
     let mut all = Vec::new(ask.alloc);
     for (number, declaration) in ask.view.index.declarations().iter().enumerate() {
         if declaration.parent.is_none() {
-            if let Some(symbol) = symbol_of(ask, number, &LEVELS)? {
+            if let Some(symbol) = symbol_of(ask, &numbers, number, &LEVELS)? {
                 all.push(symbol)?;
             }
         }

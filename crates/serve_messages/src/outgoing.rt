@@ -1,5 +1,8 @@
 //! What is answered.
 
+ghost use Rattle.std.specs.Prelude.{◌≡◌, ◌++◌, ◌∷◌, [], codes, length, IfOk};
+ghost use Rattle.std.specs.Fmt.{decimal};
+
 use serde_json::{Value, json};
 use std::alloc::{AllocError, Global};
 
@@ -68,7 +71,11 @@ pub fn notice_body(alloc: Global, method: &str, params: Value) -> Result<Vec<u8>
 }
 
 /// A message with its header in front. The only error is want of memory.
-pub fn framed(alloc: Global, body: &[u8]) -> Result<Vec<u8>, AllocError> {
+pub fn framed(alloc: Global, body: &[u8]) -> Result<Vec<u8>, AllocError>
+    // Behind the digits stand two ends of lines, each the bytes 13 and 10.
+    ensures { IfOk result (λ all. all.items
+        ≡ codes "Content-Length: " ++ decimal (length body.now) ++ 13 ∷ 10 ∷ 13 ∷ 10 ∷ [] ++ body.now) }
+{
     let length = body.len();
     let header = format!(in alloc; "Content-Length: {length}\r\n\r\n")?;
     let mut all = Vec::from_slice(alloc, header.as_bytes())?;

@@ -6,6 +6,7 @@
 
 mod folder;
 mod heads;
+mod importers;
 mod places;
 mod program;
 mod refused;
@@ -16,6 +17,6 @@ pub use folder::{Folder, Setting};
 pub use heads::{Head, head_of, source_of};
 pub use places::{Places, file_ending, folder_of, read_text};
 pub use program::{Program, file_of, program_of, spare_of};
-pub use refused::{Shown, length_at, refusals_of, shown_of};
+pub use refused::{Severity, Shown, length_at, refusals_of, shown_of};
 pub use roots::{all_shown, programs_around, programs_with, roots_of};
 pub use view::{FileView, Mark, View, view_of};

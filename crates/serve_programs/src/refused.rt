@@ -1,6 +1,7 @@
 //! What is refused of a program.
 
 use crate::folder::Setting;
+use crate::importers::add_importers;
 use crate::program::{Program, file_of};
 use explain_rules::sentence;
 use explain_types::type_words;
@@ -14,6 +15,15 @@ use std::thread::Threads;
 /// The most refusals of a program of which it is said what stood there. For each the program is compiled several times.
 const MOST_EXPLAINED: usize = 8;
 
+/// How bad it is.
+#[derive(Clone, Copy, Debug, PartialEq, Eq)]
+pub enum Severity {
+    /// It is refused.
+    Error,
+    /// What it names is refused.
+    Information,
+}
+
 /// What is refused of a file, as an editor shows it.
 #[derive(Drop)]
 pub struct Shown {
@@ -24,6 +34,7 @@ pub struct Shown {
     pub length: usize,
     /// The number of the rule.
     pub number: u32,
+    pub severity: Severity,
     /// The rule in a sentence, and behind a semicolon what stood there.
     pub words: String,
 }
@@ -122,7 +133,7 @@ fn shown_at<R: AllocGlobal + Threads + Sync>(
     refusal: &Refusal,
     is_explained: bool,
 ) -> Result<Shown, AllocError> {
-    let text = match file_of(files, refusal.file.as_str()) {
+    let text: &[u8] = match file_of(files, refusal.file.as_str()) {
         Some(file) => file.bytes.as_slice(),
         None => b"",
     };
@@ -131,6 +142,7 @@ fn shown_at<R: AllocGlobal + Threads + Sync>(
         pos: refusal.pos,
         length: length_at(rt.alloc(), text, refusal.pos)?,
         number: refusal.number,
+        severity: Severity::Error,
         words: words_of(rt, setting, files, refusal, is_explained)?,
     })
 }
@@ -143,7 +155,8 @@ fn is_shown(program: &Program, refusal: &Refusal) -> bool {
     }
 }
 
-/// What is refused of a program, as an editor shows it. The only error is want of memory.
+/// What is refused of a program, as an editor shows it, and where a refused definition is imported. The only error is want of
+/// memory.
 pub fn shown_of<R: AllocGlobal + Threads + Sync>(
     rt: &R,
     setting: &Setting,
@@ -158,5 +171,6 @@ pub fn shown_of<R: AllocGlobal + Threads + Sync>(
             all.push(shown_at(rt, setting, files, refusal, is_explained)?)?;
         }
     }
+    add_importers(rt.alloc(), program, &mut all)?;
     Ok(all)
 }

@@ -20,20 +20,23 @@ enum Sort {
     Parts,
 }
 
+/// Which sort of text begins so.
+fn sort_of(head: &Head) -> Sort {
+    match head {
+        Head::Program | Head::Unknown => Sort::Programs,
+        Head::Definition(_) | Head::Implementation(_) => Sort::Parts,
+    }
+}
+
 /// The open texts of a sort, by their paths.
 fn paths_of(alloc: Global, texts: &Texts, sort: Sort) -> Result<Vec<String>, AllocError> {
-    let mut paths = texts.paths(alloc)?;
     let mut all = Vec::new(alloc);
-    for path in paths.drain(..) {
-        let text = match texts.get(path.as_str()) {
+    for path in texts.paths(alloc)? {
+        let text: &[u8] = match texts.get(path.as_str()) {
             Some(open) => open.text.bytes(),
             None => b"",
         };
-        let is_part = matches!(
-            head_of(alloc, text)?,
-            Head::Definition(_) | Head::Implementation(_)
-        );
-        if is_part == (sort == Sort::Parts) {
+        if sort_of(&head_of(alloc, text)?) == sort {
             all.push(path)?;
         }
     }

@@ -4,13 +4,18 @@ use crate::server::Server;
 use serde_json::{Value, json};
 use serve_lists::range_value;
 use serve_messages::{Method, notice_body};
-use serve_programs::{Folder, Shown, all_shown, read_text};
+use serve_programs::{Folder, Severity, Shown, all_shown, read_text};
 use serve_texts::{Text, uri_of};
 use std::alloc::{AllocError, Global};
 use std::thread::Threads;
 
-/// How bad what is refused is: an error.
-const ERROR: u32 = 1;
+/// The number that the protocol has for how bad it is.
+fn severity_number(severity: Severity) -> u32 {
+    match severity {
+        Severity::Error => 1,
+        Severity::Information => 3,
+    }
+}
 
 /// Who says so.
 const SOURCE: &str = "m2";
@@ -117,11 +122,12 @@ impl Server {
         let end = begin.saturating_add(one.length);
         let range = range_value(alloc, text, self.encoding, begin, end)?;
         let (number, words) = (one.number, one.words.as_str());
+        let severity = severity_number(one.severity);
         json!(in alloc; {
             "code": number,
             "message": words,
             "range": range,
-            "severity": ERROR,
+            "severity": severity,
             "source": SOURCE
         })
     }

@@ -5,9 +5,9 @@ use crate::params::{position_of, text_at};
 use crate::server::{Held, Reach, Reply, Server};
 use serde_json::Value;
 use serve_lists::{
-    Ask, References, add_workspace_symbols, completion, definition, document_symbols,
-    folding_ranges, highlights, hover, implementation, prepare_rename, references, semantic_tokens,
-    signature_help, type_definition,
+    Ask, Extent, add_workspace_symbols, completion, definition, document_symbols, folding_ranges,
+    highlights, hover, implementation, prepare_rename, references, semantic_tokens, signature_help,
+    type_definition,
 };
 use serve_messages::{Call, ErrorCode, Method};
 use serve_programs::{
@@ -71,16 +71,12 @@ fn answer_of(ask: &Ask<'_>, method: Method, params: &Value) -> Result<Value, All
 }
 
 /// Which places of a name are wanted.
-fn references_in(params: &Value) -> References {
+fn references_in(params: &Value) -> Extent {
     let is_all = params
         .pointer("/context/includeDeclaration")
         .and_then(Value::as_bool)
         .unwrap_or(false);
-    if is_all {
-        References::All
-    } else {
-        References::Uses
-    }
+    if is_all { Extent::All } else { Extent::Uses }
 }
 
 /// Adds the names of the modules whose definitions stand in a folder.
@@ -114,7 +110,7 @@ impl Server {
             method if is_of_place(method) || is_of_text(method) => {
                 self.text_request(alloc, folder, call)
             }
-            _ => Reply::error(
+            _ => Reply::failed(
                 alloc,
                 ErrorCode::MethodNotFound,
                 "the server does not know this request",

@@ -162,6 +162,42 @@ fn all_edits(ask: &Ask<'_>, marks: &[Mark], new: &[u8]) -> Result<Value, AllocEr
     json!(in alloc; { "changes": changes })
 }
 
+/// Whether all files of a program have trees as they stand.
+fn is_whole(view: &View, program: &Program) -> bool {
+    for file in &program.files {
+        let found = match view.file_number(file.name.as_str()) {
+            Some(number) => view.files.get(number),
+            None => None,
+        };
+        if !found.is_some_and(is_sound) {
+            return false;
+        }
+    }
+    true
+}
+
+/// Whether a file is one of the programs', and not one that they could import.
+fn is_of_program(held: &Held, file: usize) -> bool {
+    match held.view.files.get(file) {
+        Some(file) => held
+            .programs
+            .iter()
+            .any(|it| file_of(&it.files, file.path.as_str()).is_some()),
+        None => false,
+    }
+}
+
+/// Why a thing with these places cannot be renamed, whatever its new name, if it cannot.
+fn hindrance_of(held: &Held, marks: &[Mark]) -> Option<&'static str> {
+    if !held.programs.iter().all(|it| is_whole(&held.view, it)) {
+        return Some("a text of the program breaks the grammar, so its names are not known");
+    }
+    if !marks.iter().all(|mark| is_of_program(held, mark.file)) {
+        return Some("this name is declared outside of the program");
+    }
+    None
+}
+
 impl Server {
     /// Whether a program breaks no rule with the new name that it did not break before.
     fn is_kept<R: AllocGlobal + Threads + Sync>(
@@ -204,34 +240,6 @@ impl Server {
         }
     }
 
-    /// Why a thing cannot be renamed, whatever its new name, if it cannot.
-    fn hindrance_of(&self, held: &Held, marks: &[Mark]) -> Option<&'static str> {
-        let is_own = |mark: &Mark| {
-            held.view.files.get(mark.file).is_some_and(|file| {
-                held.programs
-                    .iter()
-                    .any(|it| file_of(&it.files, file.path.as_str()).is_some())
-            })
-        };
-        let is_whole = held
-            .programs
-            .iter()
-            .flat_map(|program| program.files.iter())
-            .all(|file| {
-                held.view
-                    .file_number(file.name.as_str())
-                    .and_then(|number| held.view.files.get(number))
-                    .is_some_and(is_sound)
-            });
-        if !is_whole {
-            Some("a text of the program breaks the grammar, so its names are not known")
-        } else if !marks.iter().all(is_own) {
-            Some("this name is declared outside of the program")
-        } else {
-            None
-        }
-    }
-
     /// Edits that give the thing at a place another name, or why there are none.
     pub(crate) fn rename<R: AllocGlobal + Threads + Sync, F: Folder>(
         &mut self,
@@ -250,7 +258,7 @@ impl Server {
         };
         if !is_name(alloc, new.as_bytes())? {
             let words = "this is no name of the language";
-            return Reply::error(alloc, ErrorCode::RequestFailed, words);
+            return Reply::failed(alloc, ErrorCode::RequestFailed, words);
         }
         self.hold(alloc, folder, path.as_str(), Reach::Folder)?;
         self.renamed_to(rt, place, new.as_bytes())
@@ -272,15 +280,14 @@ impl Server {
         };
         let Some(marks) = marks_of(&ask)? else {
             let words = "no name that is declared in the program stands here";
-            return Reply::error(alloc, ErrorCode::RequestFailed, words);
+            return Reply::failed(alloc, ErrorCode::RequestFailed, words);
         };
-        let hindrance = self.hindrance_of(held, &marks);
-        let found = match hindrance {
+        let found = match hindrance_of(held, &marks) {
             Some(words) => Some(words),
             None => self.clash_of(rt, held, &marks, new)?,
         };
         match found {
-            Some(words) => Reply::error(alloc, ErrorCode::RequestFailed, words),
+            Some(words) => Reply::failed(alloc, ErrorCode::RequestFailed, words),
             None => Ok(Reply::Result(all_edits(&ask, &marks, new)?)),
         }
     }

@@ -77,13 +77,13 @@ pub(crate) enum Reply {
 
 impl Reply {
     /// An error with a sentence.
-    pub(crate) fn error(alloc: Global, code: ErrorCode, words: &str) -> Result<Reply, AllocError> {
+    pub(crate) fn failed(alloc: Global, code: ErrorCode, words: &str) -> Result<Reply, AllocError> {
         Ok(Reply::Error(code, String::from_str(alloc, words)?))
     }
 
     /// That a request lacks what it is asked of.
     pub(crate) fn no_params(alloc: Global) -> Result<Reply, AllocError> {
-        Reply::error(
+        Reply::failed(
             alloc,
             ErrorCode::InvalidParams,
             "the params of this request lack what it is asked of",
@@ -179,17 +179,17 @@ impl Server {
                 self.encoding = encoding_of(&call.params);
                 Ok(Reply::Result(capabilities(alloc, self.encoding)?))
             }
-            (Stage::Fresh, _) => Reply::error(
+            (Stage::Fresh, _) => Reply::failed(
                 alloc,
                 ErrorCode::ServerNotInitialized,
                 "the server waits for initialize",
             ),
-            (Stage::Stopped, _) => Reply::error(
+            (Stage::Stopped, _) => Reply::failed(
                 alloc,
                 ErrorCode::InvalidRequest,
                 "the server is shut down",
             ),
-            (Stage::Running, Method::Initialize) => Reply::error(
+            (Stage::Running, Method::Initialize) => Reply::failed(
                 alloc,
                 ErrorCode::InvalidRequest,
                 "the server is initialized already",

@@ -1,5 +1,7 @@
 //! Letters in the units of an encoding.
 
+ghost use Rattle.std.specs.Prelude.{◌≤◌, length};
+
 /// The units in which a client counts the letters of a line.
 #[derive(Clone, Copy, Debug, PartialEq, Eq)]
 pub enum Encoding {
@@ -41,7 +43,9 @@ impl Encoding {
     }
 
     /// How many bytes stand in front of the letter behind so many units: all, if there are fewer units.
-    pub fn bytes_before(self, bytes: &[u8], wanted: u32) -> usize {
+    pub fn bytes_before(self, bytes: &[u8], wanted: u32) -> usize
+        ensures { result ≤ length bytes.now }
+    {
         let mut units: u32 = 0;
         for (at, byte) in bytes.iter().enumerate() {
             let here = self.units_at(*byte);

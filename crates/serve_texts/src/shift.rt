@@ -1,5 +1,7 @@
 //! Where the bytes of a text stand in another one that was made of it.
 
+ghost use Rattle.std.specs.Prelude.{◌≤◌, length};
+
 /// What two texts have in common: the bytes in front, and those at the end.
 #[derive(Clone, Copy, Debug, PartialEq, Eq)]
 pub struct Shift {
@@ -11,7 +13,10 @@ pub struct Shift {
 }
 
 /// How many bytes in front are the same in both.
-fn common_front(one: &[u8], other: &[u8]) -> usize {
+fn common_front(one: &[u8], other: &[u8]) -> usize
+    ensures one { result ≤ length one.now }
+    ensures other { result ≤ length other.now }
+{
     one.iter()
         .zip(other.iter())
         .take_while(|pair| *pair.0 == *pair.1)
@@ -29,7 +34,12 @@ fn common_end(one: &[u8], other: &[u8]) -> usize {
 
 impl Shift {
     /// What two texts have in common.
-    pub fn between(old: &[u8], new: &[u8]) -> Shift {
+    pub fn between(old: &[u8], new: &[u8]) -> Shift
+        ensures old_order { result.front ≤ result.old_end }
+        ensures old_inside { result.old_end ≤ length old.now }
+        ensures new_order { result.front ≤ result.new_end }
+        ensures new_inside { result.new_end ≤ length new.now }
+    {
         let front = common_front(old, new);
         let most = old.len().min(new.len()).saturating_sub(front);
         let behind = common_end(old, new).min(most);

@@ -6,7 +6,7 @@ use m2_tree::{Symbol, Token};
 use scan_tokens::{ScanError, scan};
 use serde_json::{Value, json};
 use serve_names::{Kind, Offer, words_of};
-use serve_words::{Sort, Word, all_words, explanation};
+use serve_words::{Sort, Word, explanation, reserved_words};
 use std::alloc::{AllocError, Global};
 use text_tokens::{name_at, part, symbol_at};
 
@@ -26,6 +26,9 @@ const MEMBER: u32 = 20;
 const CONSTANT: u32 = 21;
 
 const TYPE: u32 = 22;
+
+/// The bytes of the longest text whose declarations are shown beside their names.
+const MOST_BYTES: usize = 65_536;
 
 /// What is wanted at a place.
 #[derive(Clone, Copy)]
@@ -66,10 +69,11 @@ fn count_before_word(tokens: &[Token], front: &[u8]) -> usize {
 
 /// The number of the IMPORT or FROM in whose list the token of this number would stand.
 fn import_before(tokens: &[Token], count: usize) -> Option<(usize, Symbol)> {
-    for (number, _token) in tokens.iter().enumerate().take(count).rev() {
+    for number in (0..count).rev() {
         match symbol_at(tokens, number) {
             Some(Symbol::Comma) | None => {}
-            Some(symbol @ (Symbol::Import | Symbol::From)) => return Some((number, symbol)),
+            Some(Symbol::Import) => return Some((number, Symbol::Import)),
+            Some(Symbol::From) => return Some((number, Symbol::From)),
             Some(_other) => return None,
         }
     }
@@ -118,7 +122,8 @@ fn sort_number(sort: Sort) -> u32 {
         Sort::Type => TYPE,
         Sort::Constant => CONSTANT,
         Sort::Procedure => FUNCTION,
-        Sort::Word => KEYWORD,
+        Sort::Console => MODULE,
+        Sort::Reserved => KEYWORD,
     }
 }
 
@@ -143,7 +148,11 @@ fn add_declared(ask: &Ask<'_>, number: usize, all: &mut Vec<Value>) -> Result<()
         return Ok(());
     };
     let text = ask.known_bytes(declaration.place.file);
-    let words = words_of(ask.alloc, text, declaration)?;
+    let words = if text.len() > MOST_BYTES {
+        Vec::new(ask.alloc)
+    } else {
+        words_of(ask.alloc, text, declaration)?
+    };
     let kind = kind_number(declaration.kind);
     all.push(item_value(ask.alloc, &declaration.name, kind, &words)?)?;
     Ok(())
@@ -171,10 +180,8 @@ fn add_offers(ask: &Ask<'_>, offers: &[Offer], all: &mut Vec<Value>) -> Result<(
 
 /// Adds the reserved words.
 fn add_reserved(alloc: Global, all: &mut Vec<Value>) -> Result<(), AllocError> {
-    for word in all_words() {
-        if matches!(word.sort, Sort::Word) {
-            add_word(alloc, word, all)?;
-        }
+    for word in reserved_words() {
+        add_word(alloc, word, all)?;
     }
     Ok(())
 }
