@@ -13,7 +13,7 @@ type Row = (&'static str, &'static str);
 const ON_DISK: [(&str, &str); 4] = [
     (
         "/p/Stacks.def",
-        "DEFINITION MODULE Stacks;\n(* Puts a number on the stack. *)\nPROCEDURE Push(x: INTEGER);\nEND Stacks.\n",
+        "DEFINITION MODULE Stacks;\n\n(* Puts a number on the stack. *)\nPROCEDURE Push(x: INTEGER);\nEND Stacks.\n",
     ),
     (
         "/p/Stacks.mod",
@@ -66,7 +66,7 @@ const ABOUT_NAMES: [Row; 21] = [
     ),
     (
         r#"{"jsonrpc":"2.0","id":2,"method":"textDocument/definition","params":{"textDocument":{"uri":"file:///p/M.mod"},"position":{"line":11,"character":3}}}"#,
-        r#"{"id":2,"jsonrpc":"2.0","result":{"range":{"end":{"character":14,"line":2},"start":{"character":10,"line":2}},"uri":"file:///p/Stacks.def"}}"#,
+        r#"{"id":2,"jsonrpc":"2.0","result":{"range":{"end":{"character":14,"line":3},"start":{"character":10,"line":3}},"uri":"file:///p/Stacks.def"}}"#,
     ),
     (
         r#"{"jsonrpc":"2.0","id":2,"method":"textDocument/declaration","params":{"textDocument":{"uri":"file:///p/M.mod"},"position":{"line":10,"character":4}}}"#,
@@ -157,7 +157,7 @@ const CHANGES: [Row; 14] = [
     ),
     // A text with no tree: what is known of the one before stays.
     (
-        r#"{"jsonrpc":"2.0","method":"textDocument/didChange","params":{"textDocument":{"uri":"file:///p/M.mod","version":4},"contentChanges":[{"range":{"start":{"line":9,"character":0},"end":{"line":9,"character":0}},"text":"  r.\n"}]}}"#,
+        r#"{"jsonrpc":"2.0","method":"textDocument/didChange","params":{"textDocument":{"uri":"file:///p/M.mod","version":4},"contentChanges":[{"range":{"start":{"line":9,"character":0},"end":{"line":9,"character":0}},"text":"  r.;\n"}]}}"#,
         r#""severity":1"#,
     ),
     (
