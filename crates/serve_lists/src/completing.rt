@@ -194,18 +194,27 @@ fn add_modules(alloc: Global, modules: &[String], all: &mut Vec<Value>) -> Resul
     Ok(())
 }
 
-/// Adds what the module of this name exports.
-fn add_exports(ask: &Ask<'_>, name: &[u8], all: &mut Vec<Value>) -> Result<(), AllocError> {
+/// The number of the module of this name.
+fn module_named(ask: &Ask<'_>, name: &[u8]) -> Result<Option<usize>, AllocError> {
     let index = &ask.view.index;
     for module in index.modules(ask.alloc)? {
         let is_this = index
             .declaration(module)
             .is_some_and(|it| it.name.as_slice() == name);
         if is_this {
-            for number in index.exports_of(ask.alloc, module)? {
-                add_declared(ask, number, all)?;
-            }
+            return Ok(Some(module));
         }
+    }
+    Ok(None)
+}
+
+/// Adds what the module of this name exports.
+fn add_exports(ask: &Ask<'_>, name: &[u8], all: &mut Vec<Value>) -> Result<(), AllocError> {
+    let Some(module) = module_named(ask, name)? else {
+        return Ok(());
+    };
+    for number in ask.view.index.exports_of(ask.alloc, module)? {
+        add_declared(ask, number, all)?;
     }
     Ok(())
 }
@@ -238,9 +247,8 @@ fn add_wanted(
     }
 }
 
-/// What may be written at a place: behind a point the fields of the record or what the module exports, in an import modules, of
-/// which these stand in folders, or what a module exports, and else the names in scope and the words of the language. Nothing in a
-/// comment or in a string.
+/// What may be written at a place: behind a point the fields of the record or what the module exports, in an import these modules
+/// or what one exports, and else the names in scope and the words of the language. Nothing in a comment or in a string.
 pub fn completion(ask: &Ask<'_>, modules: &[String]) -> Result<Value, AllocError> {
     let mut all = Vec::new(ask.alloc);
     let front = part(ask.bytes(), 0, ask.offset);

@@ -166,7 +166,8 @@ fn add_token(
     add_number(data, paint.modifiers)
 }
 
-/// What each token of the file is, as far as the text divides into tokens: names by what they stand for, words, numbers and strings.
+/// What each token of the file is, as far as the text divides into tokens: names by what they stand for, words, numbers and
+/// strings.
 pub fn semantic_tokens(ask: &Ask<'_>) -> Result<Value, AllocError> {
     let alloc = ask.alloc;
     let mut data = Vec::new(alloc);

@@ -5,7 +5,7 @@ use crate::values::text_value;
 use serde_json::{Value, json};
 use serve_names::{Declaration, Kind, Place, Range};
 use serve_programs::Mark;
-use std::alloc::AllocError;
+use std::alloc::{AllocError, Global};
 
 /// How deep declarations are shown inside of one another.
 const LEVELS: [u8; 12] = [0; 12];
@@ -49,13 +49,19 @@ fn standing_here(ask: &Ask<'_>, declaration: &Declaration) -> Option<Standing> {
     standing_of(ask, place, declaration.implementation_range?)
 }
 
+/// So many empty lists.
+fn empty_lists(alloc: Global, count: usize) -> Result<Vec<Vec<usize>>, AllocError> {
+    let mut all = Vec::new(alloc);
+    for _number in 0..count {
+        all.push(Vec::new(alloc))?;
+    }
+    Ok(all)
+}
+
 /// The numbers of the declarations inside of each declaration.
 fn numbers_inside(ask: &Ask<'_>) -> Result<Vec<Vec<usize>>, AllocError> {
     let declarations = ask.view.index.declarations();
-    let mut all = Vec::new(ask.alloc);
-    for _declaration in declarations {
-        all.push(Vec::new(ask.alloc))?;
-    }
+    let mut all = empty_lists(ask.alloc, declarations.len())?;
     for (number, declaration) in declarations.iter().enumerate() {
         if let Some(parent) = declaration.parent {
             if let Some(inside) = all.get_mut(parent) {

@@ -9,6 +9,9 @@ pub const MAX_MESSAGE: usize = 67_108_864;
 /// The most bytes of a line of a header.
 const MAX_LINE: usize = 4096;
 
+/// How many digits there are.
+const BASE: usize = 10;
+
 /// The name of the line that says how many bytes a message has.
 const LENGTH_NAME: &[u8] = b"content-length";
 
@@ -77,7 +80,7 @@ fn number_of(digits: &[u8]) -> Option<usize> {
             return None;
         }
         let value = usize::from(digit.saturating_sub(b'0'));
-        number = number.checked_mul(10)?.checked_add(value)?;
+        number = number.checked_mul(BASE)?.checked_add(value)?;
     }
     if digits.is_empty() {
         None

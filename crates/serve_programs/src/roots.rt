@@ -50,6 +50,22 @@ fn is_covered(programs: &[Program], path: &str) -> bool {
         .any(|program| file_of(&program.files, path).is_some())
 }
 
+/// Adds the programs that are made for the open parts that no program has.
+fn add_parts<F: Folder>(
+    alloc: Global,
+    texts: &Texts,
+    folder: &F,
+    setting: &Setting,
+    programs: &mut Vec<Program>,
+) -> Result<(), AllocError> {
+    for path in paths_of(alloc, texts, Sort::Parts)? {
+        if !is_covered(programs, path.as_str()) {
+            programs.push(program_of(alloc, texts, folder, setting, path.as_str())?)?;
+        }
+    }
+    Ok(())
+}
+
 /// The programs of all open texts: those that begin one, and those that are made for parts that no other has.
 pub fn roots_of<F: Folder>(
     alloc: Global,
@@ -61,11 +77,7 @@ pub fn roots_of<F: Folder>(
     for path in paths_of(alloc, texts, Sort::Programs)? {
         programs.push(program_of(alloc, texts, folder, setting, path.as_str())?)?;
     }
-    for path in paths_of(alloc, texts, Sort::Parts)? {
-        if !is_covered(&programs, path.as_str()) {
-            programs.push(program_of(alloc, texts, folder, setting, path.as_str())?)?;
-        }
-    }
+    add_parts(alloc, texts, folder, setting, &mut programs)?;
     Ok(programs)
 }
 
@@ -88,28 +100,35 @@ pub fn programs_with<F: Folder>(
 /// The most files of a folder that are looked at.
 const MOST_FILES: usize = 64;
 
-/// Adds the program that this file of a folder begins, if it has the file of this path, and is not there yet.
+/// Whether a program has a file that one of these programs has too.
+fn shares_file(programs: &[Program], program: &Program) -> bool {
+    program
+        .files
+        .iter()
+        .any(|file| is_covered(programs, file.name.as_str()))
+}
+
+/// Adds the program that this file of a folder begins, if it shares a file with others, and is not there yet.
 fn add_neighbour<F: Folder>(
     alloc: Global,
     texts: &Texts,
     folder: &F,
     setting: &Setting,
     neighbour: &str,
-    path: &str,
     programs: &mut Vec<Program>,
 ) -> Result<(), AllocError> {
     if is_covered(programs, neighbour) {
         return Ok(());
     }
     let program = program_of(alloc, texts, folder, setting, neighbour)?;
-    if !program.is_made && file_of(&program.files, path).is_some() {
+    if !program.is_made && shares_file(programs, &program) {
         programs.push(program)?;
     }
     Ok(())
 }
 
-/// The programs of open texts that have the file of this path, and those that files of its folder begin, at most 64 of which are
-/// looked at.
+/// The programs of open texts that have the file of this path, and those that files of its folder begin, if they share a file. At
+/// most 64 files of the folder are looked at.
 pub fn programs_around<F: Folder>(
     alloc: Global,
     texts: &Texts,
@@ -129,7 +148,6 @@ pub fn programs_around<F: Folder>(
                 folder,
                 setting,
                 neighbour.as_str(),
-                path,
                 &mut programs,
             )?;
         }
@@ -159,6 +177,22 @@ fn is_unchecked(shown: &[Shown]) -> bool {
     shown.iter().any(|it| it.number <= LAST_OF_READING)
 }
 
+/// Adds what is refused of each open part by itself.
+fn add_parts_shown<R: AllocGlobal + Threads + Sync, F: Folder>(
+    rt: &R,
+    texts: &Texts,
+    folder: &F,
+    setting: &Setting,
+    all: &mut Vec<Shown>,
+) -> Result<(), AllocError> {
+    let alloc = rt.alloc();
+    for path in paths_of(alloc, texts, Sort::Parts)? {
+        let program = program_of(alloc, texts, folder, setting, path.as_str())?;
+        add_new(all, shown_of(rt, setting, &program)?)?;
+    }
+    Ok(())
+}
+
 /// What is refused of the programs of all open texts. A part whose program is refused before modules are checked is also looked
 /// at by itself.
 pub fn all_shown<R: AllocGlobal + Threads + Sync, F: Folder>(
@@ -176,10 +210,7 @@ pub fn all_shown<R: AllocGlobal + Threads + Sync, F: Folder>(
         add_new(&mut all, shown)?;
     }
     if !is_whole {
-        for path in paths_of(alloc, texts, Sort::Parts)? {
-            let program = program_of(alloc, texts, folder, setting, path.as_str())?;
-            add_new(&mut all, shown_of(rt, setting, &program)?)?;
-        }
+        add_parts_shown(rt, texts, folder, setting, &mut all)?;
     }
     Ok(all)
 }

@@ -54,7 +54,7 @@ impl Server {
         Ok(bodies)
     }
 
-    /// The files of which something is said: those of which something is refused, those of which something was, and the open ones.
+    /// The files of which something is said: the open ones, and those of which something is refused or was before.
     fn told_paths(&self, alloc: Global, paths: &[String]) -> Result<Vec<String>, AllocError> {
         let mut told = self.texts.paths(alloc)?;
         for path in paths.iter().chain(self.shown.iter()) {

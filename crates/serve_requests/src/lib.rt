@@ -1,7 +1,7 @@
 //! A language server: what is answered to each message of an editor.
 //!
-//! A `Server` takes messages one after another, in the order in which they come, and each is answered at once. It reads files that
-//! are not open through a `Folder`, and writes none: what is to be changed goes to the editor.
+//! A `Server` takes messages one after another, in the order in which they come, and each is answered at once. It reads files
+//! that are not open through a `Folder`, and writes none: what is to be changed goes to the editor.
 //!
 //! - A message is answered with bodies of messages: the answer to a request, and diagnostics behind a change.
 //! - Diagnostics come of the compiler, over the programs of all open texts. Names come of the trees of the same programs.

@@ -12,6 +12,7 @@ use serve_messages::ErrorCode;
 use serve_names::Index;
 use serve_programs::{FileView, Folder, Mark, Program, View, file_of, refusals_of, view_of};
 use std::alloc::{AllocError, Global};
+use std::slice;
 use std::thread::Threads;
 
 /// Whether tokens are this name alone.
@@ -176,29 +177,63 @@ fn is_whole(view: &View, program: &Program) -> bool {
     true
 }
 
-/// Whether a file is one of the programs', and not one that they could import.
-fn is_of_program(held: &Held, file: usize) -> bool {
-    match held.view.files.get(file) {
-        Some(file) => held
-            .programs
-            .iter()
-            .any(|it| file_of(&it.files, file.path.as_str()).is_some()),
+/// Whether a program has the file of a mark.
+fn has_file(view: &View, program: &Program, mark: &Mark) -> bool {
+    match view.files.get(mark.file) {
+        Some(file) => file_of(&program.files, file.path.as_str()).is_some(),
         None => false,
     }
 }
 
-/// Why a thing with these places cannot be renamed, whatever its new name, if it cannot.
-fn hindrance_of(held: &Held, marks: &[Mark]) -> Option<&'static str> {
-    if !held.programs.iter().all(|it| is_whole(&held.view, it)) {
-        return Some("a text of the program breaks the grammar, so its names are not known");
+/// Whether a name of a program has one of these places.
+fn is_concerned(view: &View, program: &Program, marks: &[Mark]) -> bool {
+    marks.iter().any(|mark| has_file(view, program, mark))
+}
+
+/// Whether a path begins with that of a folder.
+fn is_below(path: &str, folder: &str) -> bool {
+    match path.strip_prefix(folder) {
+        Some(rest) => folder.ends_with('/') || rest.starts_with('/'),
+        None => false,
     }
-    if !marks.iter().all(|mark| is_of_program(held, mark.file)) {
-        return Some("this name is declared outside of the program");
-    }
-    None
 }
 
 impl Server {
+    /// Whether the file of this path may be edited: not one of a library, unless it is open.
+    fn is_editable(&self, path: &str) -> bool {
+        self.texts.get(path).is_some()
+            || !self
+                .setting
+                .libraries
+                .iter()
+                .any(|it| is_below(path, it.as_str()))
+    }
+
+    /// Whether each file with one of these places may be edited.
+    fn are_editable(&self, view: &View, marks: &[Mark]) -> bool {
+        for mark in marks {
+            let path = view.files.get(mark.file).map_or("", |it| it.path.as_str());
+            if !self.is_editable(path) {
+                return false;
+            }
+        }
+        true
+    }
+
+    /// Why a thing with these places cannot be renamed, whatever its new name, if it cannot.
+    fn hindrance_of(&self, held: &Held, marks: &[Mark]) -> Option<&'static str> {
+        for program in &held.programs {
+            if is_concerned(&held.view, program, marks) && !is_whole(&held.view, program) {
+                return Some("a text of the program breaks the grammar, so its names are not known");
+            }
+        }
+        if self.are_editable(&held.view, marks) {
+            None
+        } else {
+            Some("this name is declared in a library that is not open")
+        }
+    }
+
     /// Whether a program breaks no rule with the new name that it did not break before.
     fn is_kept<R: AllocGlobal + Threads + Sync>(
         &self,
@@ -214,6 +249,29 @@ impl Server {
         Ok(broken.iter().all(|it| !is_new(&known, it)))
     }
 
+    /// Why this program cannot have this name at these places, if it cannot.
+    fn clash_in<R: AllocGlobal + Threads + Sync>(
+        &self,
+        rt: &R,
+        view: &View,
+        program: &Program,
+        marks: &[Mark],
+        new: &[u8],
+    ) -> Result<Option<&'static str>, AllocError> {
+        let alloc = rt.alloc();
+        let renamed = renamed_program(alloc, view, program, marks, new)?;
+        if !self.is_kept(rt, program, &renamed)? {
+            return Ok(Some("the program would be refused with this name"));
+        }
+        let before = view_of(alloc, &self.texts, slice::from_ref(program))?;
+        let after = view_of(alloc, &self.texts, slice::from_ref(&renamed))?;
+        if are_alike(&before.index, &after.index) {
+            Ok(None)
+        } else {
+            Ok(Some("this name would stand for something else where it is used"))
+        }
+    }
+
     /// Why the thing with these places cannot have this name, if it cannot.
     fn clash_of<R: AllocGlobal + Threads + Sync>(
         &self,
@@ -222,22 +280,15 @@ impl Server {
         marks: &[Mark],
         new: &[u8],
     ) -> Result<Option<&'static str>, AllocError> {
-        let alloc = rt.alloc();
-        let mut programs = Vec::new(alloc);
         for program in &held.programs {
-            let after = renamed_program(alloc, &held.view, program, marks, new)?;
-            if !self.is_kept(rt, program, &after)? {
-                return Ok(Some("the program would be refused with this name"));
+            if is_concerned(&held.view, program, marks) {
+                let clash = self.clash_in(rt, &held.view, program, marks, new)?;
+                if clash.is_some() {
+                    return Ok(clash);
+                }
             }
-            programs.push(after)?;
         }
-        let before = view_of(alloc, &self.texts, &held.programs)?;
-        let after = view_of(alloc, &self.texts, &programs)?;
-        if are_alike(&before.index, &after.index) {
-            Ok(None)
-        } else {
-            Ok(Some("this name stands for something else where it is used"))
-        }
+        Ok(None)
     }
 
     /// Edits that give the thing at a place another name, or why there are none.
@@ -282,7 +333,7 @@ impl Server {
             let words = "no name that is declared in the program stands here";
             return Reply::failed(alloc, ErrorCode::RequestFailed, words);
         };
-        let found = match hindrance_of(held, &marks) {
+        let found = match self.hindrance_of(held, &marks) {
             Some(words) => Some(words),
             None => self.clash_of(rt, held, &marks, new)?,
         };

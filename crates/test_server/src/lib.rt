@@ -6,6 +6,8 @@ mod cuts;
 #[cfg(test)]
 mod framing;
 #[cfg(test)]
+mod letters;
+#[cfg(test)]
 mod memory;
 #[cfg(test)]
 mod programs;

@@ -7,7 +7,7 @@ use std::test::Fail;
 use std::thread::Threads;
 
 /// A message, and a part of what goes back for it: nothing, if the part is empty.
-type Row = (&'static str, &'static str);
+pub type Row = (&'static str, &'static str);
 
 /// The files that are not open.
 const ON_DISK: [(&str, &str); 4] = [
@@ -265,7 +265,7 @@ const END: [Row; 3] = [
 ];
 
 /// A server for these tests.
-fn begun(alloc: Global) -> Result<Server, AllocError> {
+pub fn begun(alloc: Global) -> Result<Server, AllocError> {
     let mut libraries = Vec::new(alloc);
     libraries.push(String::from_str(alloc, "/l")?)?;
     let setting = Setting {
@@ -291,12 +291,13 @@ fn lines_of<R: AllocGlobal + Threads + Sync>(
     Ok(all)
 }
 
-/// The first row to which something else goes back, and what.
-fn first_wrong<R: AllocGlobal + Threads + Sync>(
+/// The rows to which something else goes back, and what.
+pub fn all_wrong<R: AllocGlobal + Threads + Sync>(
     rt: &R,
     server: &mut Server,
     rows: &[Row],
 ) -> Result<String, AllocError> {
+    let mut wrong = String::new(rt.alloc());
     for row in rows {
         let lines = lines_of(rt, server, row.0)?;
         let is_right = if row.1.is_empty() {
@@ -305,18 +306,19 @@ fn first_wrong<R: AllocGlobal + Threads + Sync>(
             lines.contains(row.1)
         };
         if !is_right {
-            return format!(in rt.alloc(); "{} gives {lines}", row.0);
+            let words = format!(in rt.alloc(); "{} gives {lines}", row.0)?;
+            wrong.push_str(words.as_str())?;
         }
     }
-    Ok(String::new(rt.alloc()))
+    Ok(wrong)
 }
 
 #[test]
 fn names(rt: HostRuntime) -> Result<(), Fail> {
     let mut server = begun(rt.alloc())?;
-    let wrong = first_wrong(&rt, &mut server, &BEGIN)?;
+    let wrong = all_wrong(&rt, &mut server, &BEGIN)?;
     assert_eq!(rt; wrong.as_str(), "");
-    let wrong = first_wrong(&rt, &mut server, &ABOUT_NAMES)?;
+    let wrong = all_wrong(&rt, &mut server, &ABOUT_NAMES)?;
     assert_eq!(rt; wrong.as_str(), "");
     Ok(())
 }
@@ -324,9 +326,9 @@ fn names(rt: HostRuntime) -> Result<(), Fail> {
 #[test]
 fn others(rt: HostRuntime) -> Result<(), Fail> {
     let mut server = begun(rt.alloc())?;
-    let wrong = first_wrong(&rt, &mut server, &BEGIN)?;
+    let wrong = all_wrong(&rt, &mut server, &BEGIN)?;
     assert_eq!(rt; wrong.as_str(), "");
-    let wrong = first_wrong(&rt, &mut server, &CHANGES)?;
+    let wrong = all_wrong(&rt, &mut server, &CHANGES)?;
     assert_eq!(rt; wrong.as_str(), "");
     Ok(())
 }
@@ -340,9 +342,9 @@ fn wrong_messages(rt: HostRuntime) -> Result<(), Fail> {
         r#"{"jsonrpc":"2.0","id":1,"method":"shutdown"}"#,
     )?;
     assert!(rt; early.contains(r#""code":-32002"#));
-    let wrong = first_wrong(&rt, &mut server, &BEGIN)?;
+    let wrong = all_wrong(&rt, &mut server, &BEGIN)?;
     assert_eq!(rt; wrong.as_str(), "");
-    let wrong = first_wrong(&rt, &mut server, &WRONG)?;
+    let wrong = all_wrong(&rt, &mut server, &WRONG)?;
     assert_eq!(rt; wrong.as_str(), "");
     Ok(())
 }
@@ -354,10 +356,10 @@ fn ends(rt: HostRuntime) -> Result<(), Fail> {
     let answer = early.answer(&rt, &Files(&ON_DISK), exit.as_bytes())?;
     assert_eq!(rt; answer.end, Some(1));
     let mut server = begun(rt.alloc())?;
-    let wrong = first_wrong(&rt, &mut server, &BEGIN)?;
+    let wrong = all_wrong(&rt, &mut server, &BEGIN)?;
     assert_eq!(rt; wrong.as_str(), "");
     assert_eq!(rt; server.status_at_end(), 1);
-    let wrong = first_wrong(&rt, &mut server, &END)?;
+    let wrong = all_wrong(&rt, &mut server, &END)?;
     assert_eq!(rt; wrong.as_str(), "");
     let answer = server.answer(&rt, &Files(&ON_DISK), exit.as_bytes())?;
     assert_eq!(rt; answer.end, Some(0));
