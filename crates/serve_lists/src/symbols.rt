@@ -6,9 +6,7 @@ use serde_json::{Value, json};
 use serve_names::{Declaration, Kind, Place, Range};
 use serve_programs::Mark;
 use std::alloc::{AllocError, Global};
-
-/// How deep declarations are shown inside of one another.
-const LEVELS: [u8; 12] = [0; 12];
+use std::mem;
 
 /// The most names that are found in all files.
 const MOST_SYMBOLS: usize = 512;
@@ -49,54 +47,48 @@ fn standing_here(ask: &Ask<'_>, declaration: &Declaration) -> Option<Standing> {
     standing_of(ask, place, declaration.implementation_range?)
 }
 
-/// So many empty lists.
-fn empty_lists(alloc: Global, count: usize) -> Result<Vec<Vec<usize>>, AllocError> {
-    let mut all = Vec::new(alloc);
-    for _number in 0..count {
-        all.push(Vec::new(alloc))?;
-    }
-    Ok(all)
+/// The objects of declarations: those inside of each one, and those that stand in none, the last first.
+#[derive(Drop)]
+struct Nest {
+    alloc: Global,
+    inside: Vec<Vec<Value>>,
+    outside: Vec<Value>,
 }
 
-/// The numbers of the declarations inside of each declaration.
-fn numbers_inside(ask: &Ask<'_>) -> Result<Vec<Vec<usize>>, AllocError> {
-    let declarations = ask.view.index.declarations();
-    let mut all = empty_lists(ask.alloc, declarations.len())?;
-    for (number, declaration) in declarations.iter().enumerate() {
-        if let Some(parent) = declaration.parent {
-            if let Some(inside) = all.get_mut(parent) {
-                inside.push(number)?;
-            }
+impl Nest {
+    /// No object yet, of so many declarations.
+    fn of(alloc: Global, count: usize) -> Result<Nest, AllocError> {
+        let mut inside = Vec::new(alloc);
+        for _number in 0..count {
+            inside.push(Vec::new(alloc))?;
         }
+        Ok(Nest {
+            alloc,
+            inside,
+            outside: Vec::new(alloc),
+        })
     }
-    Ok(all)
-}
 
-/// A declaration in the file, with those inside of it, as deep as levels are left.
-fn symbol_of(
-    ask: &Ask<'_>,
-    numbers: &[Vec<usize>],
-    number: usize,
-    levels: &[u8],
-) -> Result<Option<Value>, AllocError> {
-    let [_, deeper @ ..] = levels else {
-        return Ok(None);
-    };
-    let Some(declaration) = ask.view.index.declaration(number) else {
-        return Ok(None);
-    };
-    let Some(standing) = standing_here(ask, declaration) else {
-        return Ok(None);
-    };
-    let mut inside = Vec::new(ask.alloc);
-    if let Some(children) = numbers.get(number) {
-        for child in children {
-            if let Some(symbol) = symbol_of(ask, numbers, *child, deeper)? {
-                inside.push(symbol)?;
-            }
-        }
+    /// Takes out the objects inside of a declaration, in order.
+    fn taken(&mut self, number: usize) -> Vec<Value> {
+        let mut all = match self.inside.get_mut(number) {
+            Some(list) => mem::replace(list, Vec::new(self.alloc)),
+            None => Vec::new(self.alloc),
+        };
+        all.reverse();
+        all
     }
-    Ok(Some(symbol_value(ask, declaration, standing, inside)?))
+
+    /// Puts an object into the declaration in which it stands.
+    fn put(&mut self, parent: Option<usize>, object: Value) -> Result<(), AllocError> {
+        let number = parent.unwrap_or(self.inside.len());
+        let list = match self.inside.get_mut(number) {
+            Some(list) => list,
+            None => &mut self.outside,
+        };
+        list.push(object)?;
+        Ok(())
+    }
 }
 
 /// The object of a declaration.
@@ -121,18 +113,19 @@ fn symbol_value(
     })
 }
 
-/// The declarations of the file, each with those inside of it.
+/// The declarations of the file, each with those inside of it. Each is numbered behind the one in which it stands.
 pub fn document_symbols(ask: &Ask<'_>) -> Result<Value, AllocError> {
-    let numbers = numbers_inside(ask)?;
-    let mut all = Vec::new(ask.alloc);
-    for (number, declaration) in ask.view.index.declarations().iter().enumerate() {
-        if declaration.parent.is_none() {
-            if let Some(symbol) = symbol_of(ask, &numbers, number, &LEVELS)? {
-                all.push(symbol)?;
-            }
+    let declarations = ask.view.index.declarations();
+    let mut nest = Nest::of(ask.alloc, declarations.len())?;
+    for (number, declaration) in declarations.iter().enumerate().rev() {
+        if let Some(standing) = standing_here(ask, declaration) {
+            let inside = nest.taken(number);
+            let object = symbol_value(ask, declaration, standing, inside)?;
+            nest.put(declaration.parent, object)?;
         }
     }
-    Ok(Value::Array(all))
+    nest.outside.reverse();
+    Ok(Value::Array(nest.outside))
 }
 
 /// Whether a name has these letters in it, small or capital.
