@@ -1,26 +1,21 @@
-//! Tries the index of names on programs.
+//! Holds the index of names against rows:
+//!
+//! - `data/rows.txt`: small programs, whole and broken, with questions and the answers that were counted out by hand;
+//! - `data/accepted.txt`: programs that the compiler takes, so that each of their names stands for something.
 #![tactic(auto)]
 
+mod accepted;
+mod answers;
+mod question;
+mod rows;
+mod texts;
+
 use anyhow::Result;
-use serve_names::{Index, read};
 
 fn main(rt: HostRuntime) -> Result<()> {
-    let alloc = rt.alloc();
-    let parsed = read(
-        alloc,
-        b"MODULE M; VAR x: INTEGER; BEGIN x := y END M.".as_slice(),
-    )?;
-    let mut files = Vec::new(alloc);
-    files.push(parsed.as_ref())?;
-    let index = Index::of(alloc, &files)?;
-    for it in index.uses() {
-        println!(rt;
-            "{}:{} {} {:?}",
-            it.place.pos.line, it.place.pos.col, it.declaration, it.role
-        )?;
-    }
-    for it in index.unresolved() {
-        println!(rt; "unresolved {}:{}", it.pos.line, it.pos.col)?;
-    }
+    let answers = rows::check_all(&rt, "rows.txt")?;
+    println!(rt; "{answers} answers as expected")?;
+    let names = accepted::check_all(&rt, "accepted.txt")?;
+    println!(rt; "each name of {names} programs stands for something")?;
     Ok(())
 }
