@@ -84,6 +84,14 @@ fn put(shown: &mut Vec<u8>, byte: u8, is_apart: bool) -> Result<(), AllocError> 
     Ok(())
 }
 
+/// Takes back the bracket of a comment, with the blank in front of it.
+fn take_bracket(shown: &mut Vec<u8>) {
+    let _ = shown.pop();
+    if shown.last().is_some_and(|byte| *byte == b' ') {
+        let _ = shown.pop();
+    }
+}
+
 /// A piece of a text without its comments, with one blank for the spaces between two tokens, and none around it. Strings stay as
 /// they are. The only error is that memory ran out.
 pub fn tidy(alloc: Global, piece: &[u8]) -> Result<Vec<u8>, AllocError> {
@@ -103,7 +111,7 @@ pub fn tidy(alloc: Global, piece: &[u8]) -> Result<Vec<u8>, AllocError> {
             }
             Part::Opening => {
                 if is_outside {
-                    let _ = shown.pop();
+                    take_bracket(&mut shown);
                 }
                 is_apart = true;
             }
