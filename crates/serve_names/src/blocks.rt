@@ -1,12 +1,10 @@
 //! The names in declarations and in the bodies of procedures and modules.
 
-use crate::exprs::expr;
-use crate::names::{decls_names, list_names};
-use crate::stmts::stmts;
-use crate::types::{formal_type, named_type, set_types, type_of};
-use crate::walk::Walk;
 use m2_tree::{Block, Constant, Decl, Def, Heading, Qualified, Section, TypeDecl, Variables};
 use serve_scopes::{Kind, Range, Role};
+use serve_walks::{
+    Walk, decls_names, expr, formal_type, list_names, named_type, set_types, stmts, type_of,
+};
 use std::alloc::AllocError;
 
 fn constants(walk: &mut Walk, rows: &[Constant]) -> Result<(), AllocError> {

@@ -1,8 +1,8 @@
 //! The names that a module imports.
 
-use crate::walk::Walk;
 use m2_tree::{Ident, Import, is_console};
 use serve_scopes::{Kind, PUT, Role, Standing};
+use serve_walks::Walk;
 use std::alloc::AllocError;
 
 /// The declaration of an imported module, which has a definition.

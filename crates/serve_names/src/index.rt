@@ -2,9 +2,9 @@
 
 use crate::parsed::Parsed;
 use crate::units::{all_bodies, all_definitions, all_names};
-use crate::walk::Walk;
 use m2_tree::Pos;
 use serve_scopes::{Declaration, Place, Program, Shape, Standing, Use};
+use serve_walks::Walk;
 use std::alloc::{AllocError, Global};
 
 /// What every name of a program stands for. Declarations are known by their numbers, files by their places among those that were given.

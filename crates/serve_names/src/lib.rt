@@ -4,17 +4,12 @@
 #![tactic(auto)]
 
 mod blocks;
-mod exprs;
 mod imports;
 mod index;
-mod names;
 mod offers;
 mod parsed;
 mod paths;
-mod stmts;
-mod types;
 mod units;
-mod walk;
 mod words;
 
 pub use index::Index;

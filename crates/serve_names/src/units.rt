@@ -2,11 +2,10 @@
 
 use crate::blocks::{block, defs};
 use crate::imports::imports;
-use crate::names::{defs_names, facts_of};
 use crate::parsed::Parsed;
-use crate::walk::Walk;
 use m2_tree::{Block, Contents, Def, Ident, Module};
 use serve_scopes::{Kind, Marks, Range, Role};
+use serve_walks::{Walk, defs_names, facts_of};
 use std::alloc::AllocError;
 
 /// Begins a file.
