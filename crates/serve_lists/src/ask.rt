@@ -1,0 +1,99 @@
+//! What is asked about.
+
+use crate::values::range_value;
+use serde_json::{Value, json};
+use serve_names::{Declaration, Place, Use};
+use serve_programs::{FileView, Mark, View};
+use serve_texts::{Encoding, Texts, uri_of};
+use std::alloc::{AllocError, Global};
+
+/// A byte of a file of a view.
+#[derive(Clone, Copy)]
+pub struct Ask<'a> {
+    pub alloc: Global,
+    /// The programs.
+    pub view: &'a View,
+    /// The open texts, whose names the editor chose.
+    pub texts: &'a Texts,
+    /// The number of the file.
+    pub file: usize,
+    /// How many bytes of its text, as it stands, are in front.
+    pub offset: usize,
+    /// The units in which the editor counts.
+    pub encoding: Encoding,
+}
+
+impl<'a> Ask<'a> {
+    /// The file.
+    pub fn here(&self) -> Option<&'a FileView> {
+        self.view.files.get(self.file)
+    }
+
+    /// The bytes of the file's text as it stands.
+    pub fn bytes(&self) -> &'a [u8] {
+        match self.here() {
+            Some(file) => file.now.bytes(),
+            None => b"",
+        }
+    }
+
+    /// The bytes of the known text of a file.
+    pub fn known_bytes(&self, file: usize) -> &'a [u8] {
+        match self.view.files.get(file) {
+            Some(it) => it.known.bytes(),
+            None => b"",
+        }
+    }
+
+    /// The name at the place, with where it stands now.
+    pub fn name_here(&self) -> Option<(Use, Mark)> {
+        let pos = self.here()?.known_pos(self.offset);
+        let found = self.view.index.use_at(self.file, pos)?;
+        let mark = self.view.mark_of(found.place)?;
+        if mark.begin <= self.offset && self.offset <= mark.end {
+            Some((found, mark))
+        } else {
+            None
+        }
+    }
+
+    /// The declaration of the name at the place, and its number.
+    pub fn declaration_here(&self) -> Option<(usize, &'a Declaration)> {
+        let (found, _mark) = self.name_here()?;
+        let declaration = self.view.index.declaration(found.declaration)?;
+        Some((found.declaration, declaration))
+    }
+
+    /// The range of a mark.
+    pub fn range_of(&self, mark: Mark) -> Result<Value, AllocError> {
+        match self.view.files.get(mark.file) {
+            Some(file) => range_value(self.alloc, &file.now, self.encoding, mark.begin, mark.end),
+            None => Ok(Value::Null),
+        }
+    }
+
+    /// The name of a file for the editor.
+    pub fn uri_of(&self, file: usize) -> Result<String, AllocError> {
+        let path = self.view.files.get(file).map_or("", |it| it.path.as_str());
+        match self.texts.get(path) {
+            Some(open) => String::from_str(self.alloc, open.uri.as_str()),
+            None => uri_of(self.alloc, path),
+        }
+    }
+
+    /// The file and the range of a mark.
+    pub fn location_of(&self, mark: Mark) -> Result<Value, AllocError> {
+        let alloc = self.alloc;
+        let range = self.range_of(mark)?;
+        let uri = self.uri_of(mark.file)?;
+        json!(in alloc; { "range": range, "uri": uri })
+    }
+
+    /// The file and the range of a name, or null if it stands nowhere now.
+    pub fn location_at(&self, place: Place) -> Result<Value, AllocError> {
+        match self.view.mark_of(place) {
+            Some(mark) => self.location_of(mark),
+            None => Ok(Value::Null),
+        }
+    }
+}

@@ -1,0 +1,172 @@
+//! What the names of programs stand for.
+
+use crate::program::Program;
+use m2_tree::Pos;
+use m2c::SourceFile;
+use serve_names::{Index, Parsed, Place, Range, read};
+use serve_texts::{Shift, Text, Texts};
+use std::alloc::{AllocError, Global};
+
+/// A file of a view.
+#[derive(Drop)]
+pub struct FileView {
+    /// Its path.
+    pub path: String,
+    /// The text as it stands.
+    pub now: Text,
+    /// The text whose names are known: the last that had a tree.
+    pub known: Text,
+    /// From the known text to that which stands.
+    pub shift: Shift,
+    /// The tokens and the tree of the known text, if it has a tree.
+    pub parsed: Option<Parsed>,
+    /// Whether the file was made, so that it is never shown.
+    pub is_made: bool,
+}
+
+/// Bytes of the text of a file as it stands.
+#[derive(Clone, Copy, PartialEq, Eq, PartialOrd, Ord)]
+pub struct Mark {
+    /// The number of the file.
+    pub file: usize,
+    /// The first byte.
+    pub begin: usize,
+    /// The byte behind the last.
+    pub end: usize,
+}
+
+/// The files of one or more programs, and what their names stand for.
+#[derive(Drop)]
+pub struct View {
+    pub files: Vec<FileView>,
+    pub index: Index,
+}
+
+/// The text with a tree that an editor had before this one.
+fn sound_before(alloc: Global, texts: &Texts, path: &str) -> Result<Option<Text>, AllocError> {
+    match texts.get(path).and_then(|open| open.sound.as_ref()) {
+        Some(sound) => {
+            let bytes = Vec::from_slice(alloc, sound.bytes())?;
+            Ok(Some(Text::of(alloc, bytes)?))
+        }
+        None => Ok(None),
+    }
+}
+
+/// A file whose names are those of a text.
+fn file_known(
+    alloc: Global,
+    path: String,
+    now: Text,
+    known: Text,
+    is_made: bool,
+) -> Result<FileView, AllocError> {
+    let shift = Shift::between(known.bytes(), now.bytes());
+    let parsed = read(alloc, known.bytes())?;
+    Ok(FileView {
+        path,
+        now,
+        known,
+        shift,
+        parsed,
+        is_made,
+    })
+}
+
+/// A file with its names.
+fn file_view(
+    alloc: Global,
+    texts: &Texts,
+    file: &SourceFile,
+    is_made: bool,
+) -> Result<FileView, AllocError> {
+    let path = String::from_str(alloc, file.name.as_str())?;
+    let now = Text::of(alloc, Vec::from_slice(alloc, &file.bytes)?)?;
+    let known = match sound_before(alloc, texts, file.name.as_str())? {
+        Some(sound) => sound,
+        None => Text::of(alloc, Vec::from_slice(alloc, &file.bytes)?)?,
+    };
+    file_known(alloc, path, now, known, is_made)
+}
+
+/// Adds the files of a program that are not there yet.
+fn add_files(
+    alloc: Global,
+    texts: &Texts,
+    program: &Program,
+    files: &mut Vec<FileView>,
+) -> Result<(), AllocError> {
+    for (at, file) in program.files.iter().enumerate() {
+        let is_new = files
+            .iter()
+            .all(|it| it.path.as_str() != file.name.as_str());
+        if is_new {
+            let is_made = program.is_made && at == 0;
+            files.push(file_view(alloc, texts, file, is_made)?)?;
+        }
+    }
+    Ok(())
+}
+
+/// The names of files.
+fn index_of(alloc: Global, files: &[FileView]) -> Result<Index, AllocError> {
+    let mut parsed = Vec::new(alloc);
+    for file in files {
+        parsed.push(file.parsed.as_ref())?;
+    }
+    Index::of(alloc, &parsed)
+}
+
+/// The files of these programs, each once, and what their names stand for. The only error is want of memory.
+pub fn view_of(alloc: Global, texts: &Texts, programs: &[Program]) -> Result<View, AllocError> {
+    let mut files = Vec::new(alloc);
+    for program in programs {
+        add_files(alloc, texts, program, &mut files)?;
+    }
+    let index = index_of(alloc, &files)?;
+    Ok(View { files, index })
+}
+
+impl FileView {
+    /// The place in the known text of a byte of the text that stands.
+    pub fn known_pos(&self, offset: usize) -> Pos {
+        self.known.pos_of_offset(self.shift.to_old(offset))
+    }
+
+    /// The byte of the text that stands for a place of the known text, unless it was changed.
+    pub fn now_offset(&self, pos: Pos) -> Option<usize> {
+        self.shift.to_new(self.known.offset_of_pos(pos))
+    }
+}
+
+impl View {
+    /// The number of the file of this path.
+    pub fn file_number(&self, path: &str) -> Option<usize> {
+        self.files.iter().position(|it| it.path.as_str() == path)
+    }
+
+    /// The file that is shown under a number.
+    fn shown_file(&self, number: usize) -> Option<&FileView> {
+        self.files.get(number).filter(|it| !it.is_made)
+    }
+
+    /// Where a name stands now, unless it was changed.
+    pub fn mark_of(&self, place: Place) -> Option<Mark> {
+        let begin = self.shown_file(place.file)?.now_offset(place.pos)?;
+        Some(Mark {
+            file: place.file,
+            begin,
+            end: begin.saturating_add(place.length),
+        })
+    }
+
+    /// Where a range of the file of this number stands now, unless its ends were changed.
+    pub fn mark_of_range(&self, number: usize, range: Range) -> Option<Mark> {
+        let file = self.shown_file(number)?;
+        Some(Mark {
+            file: number,
+            begin: file.now_offset(range.begin)?,
+            end: file.now_offset(range.end)?,
+        })
+    }
+}

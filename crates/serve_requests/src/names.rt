@@ -1,0 +1,293 @@
+//! Requests about texts and their names.
+
+use crate::changes::path_in;
+use crate::params::{position_of, text_at};
+use crate::server::{Held, Reach, Reply, Server};
+use serde_json::Value;
+use serve_lists::{
+    Ask, Extent, add_workspace_symbols, completion, definition, document_symbols, folding_ranges,
+    highlights, hover, implementation, prepare_rename, references, semantic_tokens, signature_help,
+    type_definition,
+};
+use serve_messages::{Call, ErrorCode, Method};
+use serve_programs::{
+    Folder, Program, folder_of, programs_around, programs_with, roots_of, spare_of, view_of,
+};
+use std::alloc::{AllocError, Global};
+use std::thread::Threads;
+
+/// The ending of the name of a definition's file.
+const DEFINITION_ENDING: &str = ".def";
+
+/// Which programs a request looks at.
+fn reach_of(method: Method) -> Reach {
+    match method {
+        Method::References | Method::Rename => Reach::Folder,
+        _ => Reach::Open,
+    }
+}
+
+/// Whether a request is about a place, and is answered by the names of programs alone.
+fn is_of_place(method: Method) -> bool {
+    matches!(
+        method,
+        Method::Hover
+            | Method::Definition
+            | Method::Declaration
+            | Method::Implementation
+            | Method::TypeDefinition
+            | Method::References
+            | Method::DocumentHighlight
+            | Method::PrepareRename
+            | Method::SignatureHelp
+            | Method::Completion
+    )
+}
+
+/// Whether a request is about a whole text, and is answered by the names of programs alone.
+fn is_of_text(method: Method) -> bool {
+    matches!(
+        method,
+        Method::DocumentSymbol | Method::SemanticTokens | Method::FoldingRange
+    )
+}
+
+/// What is answered about a place or a text.
+fn answer_of(ask: &Ask<'_>, method: Method, params: &Value) -> Result<Value, AllocError> {
+    match method {
+        Method::Hover => hover(ask),
+        Method::Definition | Method::Declaration => definition(ask),
+        Method::Implementation => implementation(ask),
+        Method::TypeDefinition => type_definition(ask),
+        Method::References => references(ask, references_in(params)),
+        Method::DocumentHighlight => highlights(ask),
+        Method::PrepareRename => prepare_rename(ask),
+        Method::SignatureHelp => signature_help(ask),
+        Method::DocumentSymbol => document_symbols(ask),
+        Method::SemanticTokens => semantic_tokens(ask),
+        Method::FoldingRange => folding_ranges(ask),
+        _ => Ok(Value::Null),
+    }
+}
+
+/// Which places of a name are wanted.
+fn references_in(params: &Value) -> Extent {
+    let is_all = params
+        .pointer("/context/includeDeclaration")
+        .and_then(Value::as_bool)
+        .unwrap_or(false);
+    if is_all { Extent::All } else { Extent::Uses }
+}
+
+/// Adds the names of the modules whose definitions stand in a folder.
+fn add_modules(
+    alloc: Global,
+    files: &[String],
+    modules: &mut Vec<String>,
+) -> Result<(), AllocError> {
+    for file in files {
+        if let Some(name) = file.strip_suffix(DEFINITION_ENDING) {
+            modules.push(String::from_str(alloc, name)?)?;
+        }
+    }
+    Ok(())
+}
+
+impl Server {
+    /// What is answered to a request, but for those of a session.
+    pub(crate) fn request<R: AllocGlobal + Threads + Sync, F: Folder>(
+        &mut self,
+        rt: &R,
+        folder: &F,
+        call: &Call,
+    ) -> Result<Reply, AllocError> {
+        let alloc = rt.alloc();
+        match call.method {
+            Method::WorkspaceSymbol => self.workspace_symbols(alloc, folder, &call.params),
+            Method::Rename => self.rename(rt, folder, &call.params),
+            Method::CodeAction => self.code_actions(rt, folder, &call.params),
+            Method::Formatting => self.formatting(alloc, folder, &call.params),
+            method if is_of_place(method) || is_of_text(method) => {
+                self.text_request(alloc, folder, call)
+            }
+            _ => Reply::failed(
+                alloc,
+                ErrorCode::MethodNotFound,
+                "the server does not know this request",
+            ),
+        }
+    }
+
+    /// The programs of a file, and the files that they may import besides.
+    fn programs_of<F: Folder>(
+        &self,
+        alloc: Global,
+        folder: &F,
+        path: &str,
+        reach: Reach,
+    ) -> Result<Vec<Program>, AllocError> {
+        let (texts, setting) = (&self.texts, &self.setting);
+        match reach {
+            Reach::Open => programs_with(alloc, texts, folder, setting, path),
+            Reach::Folder => programs_around(alloc, texts, folder, setting, path),
+        }
+    }
+
+    /// The files that programs may import besides their own, as a program of which nothing is built.
+    fn spare_program<F: Folder>(
+        &self,
+        alloc: Global,
+        folder: &F,
+        path: &str,
+        programs: &[Program],
+    ) -> Result<Program, AllocError> {
+        let files = match programs.first() {
+            Some(program) => spare_of(
+                alloc,
+                &self.texts,
+                folder,
+                &self.setting,
+                path,
+                &program.files,
+            )?,
+            None => Vec::new(alloc),
+        };
+        Ok(Program {
+            files,
+            is_made: false,
+        })
+    }
+
+    /// Looks at the names of the programs of a file, unless they are known.
+    pub(crate) fn hold<F: Folder>(
+        &mut self,
+        alloc: Global,
+        folder: &F,
+        path: &str,
+        reach: Reach,
+    ) -> Result<(), AllocError> {
+        let is_held = match &self.held {
+            Some(held) => held.path.as_str() == path && held.reach >= reach,
+            None => false,
+        };
+        if is_held {
+            return Ok(());
+        }
+        let mut programs = self.programs_of(alloc, folder, path, reach)?;
+        let spare = self.spare_program(alloc, folder, path, &programs)?;
+        programs.push(spare)?;
+        let view = view_of(alloc, &self.texts, &programs)?;
+        let _ = programs.pop();
+        self.held = Some(Held {
+            path: String::from_str(alloc, path)?,
+            reach,
+            programs,
+            view,
+        });
+        Ok(())
+    }
+
+    /// What is asked about: a byte of a file of the programs that are held.
+    pub(crate) fn ask_of<'a>(
+        &'a self,
+        alloc: Global,
+        held: &'a Held,
+        place: Option<&Value>,
+    ) -> Option<Ask<'a>> {
+        let file = held.view.file_number(held.path.as_str())?;
+        let offset = match place {
+            Some(object) => {
+                let position = position_of(object)?;
+                held.view
+                    .files
+                    .get(file)?
+                    .now
+                    .offset_of(position, self.encoding)
+            }
+            None => 0,
+        };
+        Some(Ask {
+            alloc,
+            view: &held.view,
+            texts: &self.texts,
+            file,
+            offset,
+            encoding: self.encoding,
+        })
+    }
+
+    /// The names of the modules that a file may import.
+    fn modules_for<F: Folder>(
+        &self,
+        alloc: Global,
+        folder: &F,
+        path: &str,
+    ) -> Result<Vec<String>, AllocError> {
+        let mut modules = Vec::new(alloc);
+        add_modules(alloc, &folder.list(alloc, folder_of(path))?, &mut modules)?;
+        for library in &self.setting.libraries {
+            let mut front = String::from_str(alloc, library.as_str())?;
+            if !front.ends_with('/') {
+                front.push('/')?;
+            }
+            add_modules(alloc, &folder.list(alloc, front.as_str())?, &mut modules)?;
+        }
+        modules.sort()?;
+        modules.dedup();
+        Ok(modules)
+    }
+
+    /// What is answered about a text, or about a place of one.
+    fn text_request<F: Folder>(
+        &mut self,
+        alloc: Global,
+        folder: &F,
+        call: &Call,
+    ) -> Result<Reply, AllocError> {
+        let Some(path) = path_in(alloc, &call.params)? else {
+            return Reply::no_params(alloc);
+        };
+        let place = call.params.get("position");
+        if is_of_place(call.method) && place.and_then(position_of).is_none() {
+            return Reply::no_params(alloc);
+        }
+        self.hold(alloc, folder, path.as_str(), reach_of(call.method))?;
+        let Some(held) = &self.held else {
+            return Ok(Reply::Result(Value::Null));
+        };
+        let place = place.filter(|_| is_of_place(call.method));
+        let Some(ask) = self.ask_of(alloc, held, place) else {
+            return Ok(Reply::Result(Value::Null));
+        };
+        if call.method == Method::Completion {
+            let modules = self.modules_for(alloc, folder, path.as_str())?;
+            return Ok(Reply::Result(completion(&ask, &modules)?));
+        }
+        Ok(Reply::Result(answer_of(&ask, call.method, &call.params)?))
+    }
+
+    /// The declarations of all open programs whose names have some letters in them.
+    fn workspace_symbols<F: Folder>(
+        &self,
+        alloc: Global,
+        folder: &F,
+        params: &Value,
+    ) -> Result<Reply, AllocError> {
+        let Some(query) = text_at(params, "/query") else {
+            return Reply::no_params(alloc);
+        };
+        let programs = roots_of(alloc, &self.texts, folder, &self.setting)?;
+        let view = view_of(alloc, &self.texts, &programs)?;
+        let ask = Ask {
+            alloc,
+            view: &view,
+            texts: &self.texts,
+            file: 0,
+            offset: 0,
+            encoding: self.encoding,
+        };
+        let mut all = Vec::new(alloc);
+        add_workspace_symbols(&ask, query.as_bytes(), &mut all)?;
+        Ok(Reply::Result(Value::Array(all)))
+    }
+}

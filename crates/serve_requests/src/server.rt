@@ -1,0 +1,232 @@
+//! The server, and how it takes messages.
+
+use crate::changes::{change_text, close_text, open_text};
+use crate::starting::{capabilities, encoding_of};
+use serde_json::Value;
+use serve_messages::{
+    Call, ErrorCode, FrameFault, Incoming, Invalid, Method, error_body, read_message, result_body,
+};
+use serve_programs::{Folder, Program, Setting, View};
+use serve_texts::{Encoding, Texts};
+use std::alloc::{AllocError, Global};
+use std::thread::Threads;
+
+/// How far a session is.
+#[derive(Clone, Copy, Debug, PartialEq, Eq)]
+enum Stage {
+    /// It waits for `initialize`.
+    Fresh,
+    /// It answers.
+    Running,
+    /// It waits for `exit`.
+    Stopped,
+}
+
+/// The status of a server that was shut down before it ended, and of one that was not.
+const WAS_SHUT_DOWN: u8 = 0;
+
+const WAS_CUT_OFF: u8 = 1;
+
+/// The programs of a file, and what their names stand for.
+#[derive(Drop)]
+pub(crate) struct Held {
+    /// The path of the file.
+    pub(crate) path: String,
+    pub(crate) reach: Reach,
+    pub(crate) programs: Vec<Program>,
+    pub(crate) view: View,
+}
+
+/// Which programs of a file are looked at.
+#[derive(Clone, Copy, Debug, PartialEq, Eq, PartialOrd, Ord)]
+pub(crate) enum Reach {
+    /// Those of open texts.
+    Open,
+    /// Also those of the files in the same folder.
+    Folder,
+}
+
+/// A language server.
+#[derive(Drop)]
+pub struct Server {
+    pub(crate) setting: Setting,
+    pub(crate) encoding: Encoding,
+    pub(crate) texts: Texts,
+    /// The files of which something is shown as refused.
+    pub(crate) shown: Vec<String>,
+    /// The programs that were asked about last, until a text changes.
+    pub(crate) held: Option<Held>,
+    stage: Stage,
+}
+
+/// What goes back to the editor.
+#[derive(Drop)]
+pub struct Answer {
+    /// The bodies of messages, in order, each without a header.
+    pub bodies: Vec<Vec<u8>>,
+    /// The status with which the server ends now, if it does.
+    pub end: Option<u8>,
+}
+
+/// What is answered to a request.
+#[derive(Drop)]
+pub(crate) enum Reply {
+    Result(Value),
+    Error(ErrorCode, String),
+}
+
+impl Reply {
+    /// An error with a sentence.
+    pub(crate) fn failed(alloc: Global, code: ErrorCode, words: &str) -> Result<Reply, AllocError> {
+        Ok(Reply::Error(code, String::from_str(alloc, words)?))
+    }
+
+    /// That a request lacks what it is asked of.
+    pub(crate) fn no_params(alloc: Global) -> Result<Reply, AllocError> {
+        Reply::failed(
+            alloc,
+            ErrorCode::InvalidParams,
+            "the params of this request lack what it is asked of",
+        )
+    }
+}
+
+/// The body of a reply.
+fn body_of(alloc: Global, id: &Value, reply: Reply) -> Result<Vec<u8>, AllocError> {
+    match reply {
+        Reply::Result(value) => result_body(alloc, id, value),
+        Reply::Error(code, words) => error_body(alloc, id, code, words.as_str()),
+    }
+}
+
+impl Answer {
+    /// Nothing goes back.
+    fn nothing(alloc: Global) -> Answer {
+        Answer {
+            bodies: Vec::new(alloc),
+            end: None,
+        }
+    }
+
+    /// A body goes back.
+    fn of(alloc: Global, body: Vec<u8>) -> Result<Answer, AllocError> {
+        let mut answer = Answer::nothing(alloc);
+        answer.bodies.push(body)?;
+        Ok(answer)
+    }
+}
+
+impl Server {
+    /// A server that waits for `initialize`.
+    pub fn new(alloc: Global, setting: Setting) -> Server {
+        Server {
+            setting,
+            encoding: Encoding::Utf16,
+            texts: Texts::new(alloc),
+            shown: Vec::new(alloc),
+            held: None,
+            stage: Stage::Fresh,
+        }
+    }
+
+    /// What is answered to bytes of a stream that are no message.
+    pub fn answer_broken(&self, alloc: Global, fault: FrameFault) -> Result<Answer, AllocError> {
+        let body = error_body(alloc, &Value::Null, ErrorCode::ParseError, fault.words())?;
+        Answer::of(alloc, body)
+    }
+
+    /// The status with which a server ends if no more messages come.
+    pub fn status_at_end(&self) -> u8 {
+        if self.stage == Stage::Stopped {
+            WAS_SHUT_DOWN
+        } else {
+            WAS_CUT_OFF
+        }
+    }
+
+    /// What goes back for the body of a message. The only error is want of memory.
+    pub fn answer<R: AllocGlobal + Threads + Sync, F: Folder>(
+        &mut self,
+        rt: &R,
+        folder: &F,
+        message: &[u8],
+    ) -> Result<Answer, AllocError> {
+        let alloc = rt.alloc();
+        match read_message(alloc, message)? {
+            Incoming::Request(call) => {
+                let reply = self.reply(rt, folder, &call)?;
+                Answer::of(alloc, body_of(alloc, &call.id, reply)?)
+            }
+            Incoming::Notification(call) => self.note(rt, folder, &call),
+            Incoming::Response => Ok(Answer::nothing(alloc)),
+            Incoming::Invalid(Invalid { id, code, words }) => {
+                Answer::of(alloc, error_body(alloc, &id, code, words)?)
+            }
+        }
+    }
+
+    /// What is answered to a request, as far as the session is.
+    fn reply<R: AllocGlobal + Threads + Sync, F: Folder>(
+        &mut self,
+        rt: &R,
+        folder: &F,
+        call: &Call,
+    ) -> Result<Reply, AllocError> {
+        let alloc = rt.alloc();
+        match (self.stage, call.method) {
+            (Stage::Fresh, Method::Initialize) => {
+                self.stage = Stage::Running;
+                self.encoding = encoding_of(&call.params);
+                Ok(Reply::Result(capabilities(alloc, self.encoding)?))
+            }
+            (Stage::Fresh, _) => Reply::failed(
+                alloc,
+                ErrorCode::ServerNotInitialized,
+                "the server waits for initialize",
+            ),
+            (Stage::Stopped, _) => Reply::failed(
+                alloc,
+                ErrorCode::InvalidRequest,
+                "the server is shut down",
+            ),
+            (Stage::Running, Method::Initialize) => Reply::failed(
+                alloc,
+                ErrorCode::InvalidRequest,
+                "the server is initialized already",
+            ),
+            (Stage::Running, Method::Shutdown) => {
+                self.stage = Stage::Stopped;
+                Ok(Reply::Result(Value::Null))
+            }
+            (Stage::Running, _) => self.request(rt, folder, call),
+        }
+    }
+
+    /// Takes a notification.
+    fn note<R: AllocGlobal + Threads + Sync, F: Folder>(
+        &mut self,
+        rt: &R,
+        folder: &F,
+        call: &Call,
+    ) -> Result<Answer, AllocError> {
+        let mut answer = Answer::nothing(rt.alloc());
+        if call.method == Method::Exit {
+            answer.end = Some(self.status_at_end());
+        } else if self.stage == Stage::Running && self.take_change(rt.alloc(), call)? {
+            self.held = None;
+            answer.bodies = self.diagnose(rt, folder)?;
+        }
+        Ok(answer)
+    }
+
+    /// Takes what a notification says of texts. Whether what is refused may be other then.
+    fn take_change(&mut self, alloc: Global, call: &Call) -> Result<bool, AllocError> {
+        match call.method {
+            Method::DidOpen => open_text(alloc, &mut self.texts, &call.params),
+            Method::DidChange => change_text(alloc, &mut self.texts, &call.params, self.encoding),
+            Method::DidClose => close_text(alloc, &mut self.texts, &call.params),
+            Method::DidSave | Method::DidChangeWatchedFiles => Ok(true),
+            _ => Ok(false),
+        }
+    }
+}

@@ -1,0 +1,99 @@
+//! What a server and an editor agree on.
+
+use serde_json::{Value, json};
+use serve_lists::{TOKEN_MODIFIERS, TOKEN_TYPES, add_member};
+use serve_texts::Encoding;
+use std::alloc::{AllocError, Global};
+
+/// The names of encodings.
+const UTF_8: &str = "utf-8";
+
+const UTF_16: &str = "utf-16";
+
+const UTF_32: &str = "utf-32";
+
+/// The name of the server, and its version.
+const NAME: &str = "m2";
+
+/// That changes come as edits.
+const INCREMENTAL: u32 = 2;
+
+/// The encoding of places: bytes, if the editor can count in them, and else the units that each editor knows.
+pub fn encoding_of(params: &Value) -> Encoding {
+    let known = params.pointer("/capabilities/general/positionEncodings");
+    let is_known = known
+        .and_then(Value::as_array)
+        .is_some_and(|all| all.iter().any(|it| it.as_str() == Some(UTF_8)));
+    if is_known {
+        Encoding::Utf8
+    } else {
+        Encoding::Utf16
+    }
+}
+
+/// The name of an encoding.
+fn name_of(encoding: Encoding) -> &'static str {
+    match encoding {
+        Encoding::Utf8 => UTF_8,
+        Encoding::Utf16 => UTF_16,
+        Encoding::Utf32 => UTF_32,
+    }
+}
+
+/// Texts as an array.
+fn texts_value(alloc: Global, texts: &[&str]) -> Result<Value, AllocError> {
+    let mut all = Vec::new(alloc);
+    for text in texts {
+        all.push(Value::String(String::from_str(alloc, *text)?))?;
+    }
+    Ok(Value::Array(all))
+}
+
+/// How the tokens of a text are told.
+fn semantic_value(alloc: Global) -> Result<Value, AllocError> {
+    let types = texts_value(alloc, &TOKEN_TYPES)?;
+    let modifiers = texts_value(alloc, &TOKEN_MODIFIERS)?;
+    json!(in alloc; {
+        "full": true,
+        "legend": { "tokenModifiers": modifiers, "tokenTypes": types }
+    })
+}
+
+/// What the server can do with names.
+fn name_capabilities(alloc: Global) -> Result<Value, AllocError> {
+    let semantic = semantic_value(alloc)?;
+    json!(in alloc; {
+        "completionProvider": { "triggerCharacters": ["."] },
+        "declarationProvider": true,
+        "definitionProvider": true,
+        "documentHighlightProvider": true,
+        "documentSymbolProvider": true,
+        "foldingRangeProvider": true,
+        "hoverProvider": true,
+        "implementationProvider": true,
+        "referencesProvider": true,
+        "renameProvider": { "prepareProvider": true },
+        "semanticTokensProvider": semantic,
+        "signatureHelpProvider": { "triggerCharacters": ["(", ","] },
+        "typeDefinitionProvider": true,
+        "workspaceSymbolProvider": true
+    })
+}
+
+/// What the server can do, and what it is.
+pub fn capabilities(alloc: Global, encoding: Encoding) -> Result<Value, AllocError> {
+    let mut all = name_capabilities(alloc)?;
+    let sync = json!(in alloc; { "change": INCREMENTAL, "openClose": true, "save": true })?;
+    let actions = json!(in alloc; { "codeActionKinds": ["quickfix"] })?;
+    let encoding = String::from_str(alloc, name_of(encoding))?;
+    add_member(alloc, &mut all, "textDocumentSync", sync)?;
+    add_member(alloc, &mut all, "codeActionProvider", actions)?;
+    add_member(
+        alloc,
+        &mut all,
+        "documentFormattingProvider",
+        Value::Bool(true),
+    )?;
+    add_member(alloc, &mut all, "positionEncoding", Value::String(encoding))?;
+    json!(in alloc; { "capabilities": all, "serverInfo": { "name": NAME } })
+}

@@ -1,0 +1,367 @@
+//! Sessions: messages in, and what comes out.
+
+use crate::memory::Files;
+use serve_requests::{Server, Setting};
+use std::alloc::{AllocError, Global};
+use std::test::Fail;
+use std::thread::Threads;
+
+/// A message, and a part of what goes back for it: nothing, if the part is empty.
+pub type Row = (&'static str, &'static str);
+
+/// The files that are not open.
+const ON_DISK: [(&str, &str); 4] = [
+    (
+        "/p/Stacks.def",
+        "DEFINITION MODULE Stacks;\n\n(* Puts a number on the stack. *)\nPROCEDURE Push(x: INTEGER);\nEND Stacks.\n",
+    ),
+    (
+        "/p/Stacks.mod",
+        "IMPLEMENTATION MODULE Stacks;\nPROCEDURE Push(x: INTEGER);\nBEGIN\nEND Push;\nEND Stacks.\n",
+    ),
+    (
+        "/p/N.mod",
+        "MODULE N;\nFROM Stacks IMPORT Push;\nBEGIN\n  Push(2)\nEND N.\n",
+    ),
+    ("/l/Lib.def", "DEFINITION MODULE Lib;\nEND Lib.\n"),
+];
+
+/// The messages with which each session begins, and what goes back.
+const BEGIN: [Row; 3] = [
+    (
+        r#"{"jsonrpc":"2.0","id":0,"method":"initialize","params":{"processId":null,"rootUri":null,"capabilities":{}}}"#,
+        r#""positionEncoding":"utf-16""#,
+    ),
+    (
+        r#"{"jsonrpc":"2.0","method":"initialized","params":{}}"#,
+        "",
+    ),
+    (
+        r#"{"jsonrpc":"2.0","method":"textDocument/didOpen","params":{"textDocument":{"uri":"file:///p/M.mod","languageId":"modula2","version":1,"text":"MODULE M;\nFROM Stacks IMPORT Push;\nTYPE R = RECORD a, b: INTEGER END;\nVAR r: R; n: INTEGER;\nPROCEDURE P(x: INTEGER; VAR y: INTEGER): INTEGER;\nBEGIN\n  RETURN x + y\nEND P;\nBEGIN\n  n := P(1, n);\n  r.a := n;\n  Push(n)\nEND M.\n"}}}"#,
+        r#"{"jsonrpc":"2.0","method":"textDocument/publishDiagnostics","params":{"diagnostics":[],"uri":"file:///p/M.mod","version":1}}"#,
+    ),
+];
+
+/// Requests about names, each about the text of `BEGIN`.
+const ABOUT_NAMES: [Row; 21] = [
+    // The call of P.
+    (
+        r#"{"jsonrpc":"2.0","id":1,"method":"textDocument/hover","params":{"textDocument":{"uri":"file:///p/M.mod"},"position":{"line":9,"character":7}}}"#,
+        r#"PROCEDURE P(x: INTEGER; VAR y: INTEGER): INTEGER"#,
+    ),
+    // The call of Push, which has a comment.
+    (
+        r#"{"jsonrpc":"2.0","id":1,"method":"textDocument/hover","params":{"textDocument":{"uri":"file:///p/M.mod"},"position":{"line":11,"character":3}}}"#,
+        r#"Puts a number on the stack."#,
+    ),
+    // A word of the language.
+    (
+        r#"{"jsonrpc":"2.0","id":1,"method":"textDocument/hover","params":{"textDocument":{"uri":"file:///p/M.mod"},"position":{"line":6,"character":3}}}"#,
+        r#"RETURN"#,
+    ),
+    // Nothing.
+    (
+        r#"{"jsonrpc":"2.0","id":1,"method":"textDocument/hover","params":{"textDocument":{"uri":"file:///p/M.mod"},"position":{"line":99,"character":3}}}"#,
+        r#"{"id":1,"jsonrpc":"2.0","result":null}"#,
+    ),
+    (
+        r#"{"jsonrpc":"2.0","id":2,"method":"textDocument/definition","params":{"textDocument":{"uri":"file:///p/M.mod"},"position":{"line":11,"character":3}}}"#,
+        r#"{"id":2,"jsonrpc":"2.0","result":{"range":{"end":{"character":14,"line":3},"start":{"character":10,"line":3}},"uri":"file:///p/Stacks.def"}}"#,
+    ),
+    (
+        r#"{"jsonrpc":"2.0","id":2,"method":"textDocument/declaration","params":{"textDocument":{"uri":"file:///p/M.mod"},"position":{"line":10,"character":4}}}"#,
+        r#""start":{"character":16,"line":2}},"uri":"file:///p/M.mod""#,
+    ),
+    (
+        r#"{"jsonrpc":"2.0","id":3,"method":"textDocument/implementation","params":{"textDocument":{"uri":"file:///p/M.mod"},"position":{"line":11,"character":3}}}"#,
+        r#""start":{"character":10,"line":1}},"uri":"file:///p/Stacks.mod""#,
+    ),
+    (
+        r#"{"jsonrpc":"2.0","id":4,"method":"textDocument/typeDefinition","params":{"textDocument":{"uri":"file:///p/M.mod"},"position":{"line":10,"character":2}}}"#,
+        r#""start":{"character":5,"line":2}},"uri":"file:///p/M.mod""#,
+    ),
+    // N.mod stands in the same folder.
+    (
+        r#"{"jsonrpc":"2.0","id":5,"method":"textDocument/references","params":{"textDocument":{"uri":"file:///p/M.mod"},"position":{"line":11,"character":3},"context":{"includeDeclaration":true}}}"#,
+        r#""start":{"character":2,"line":3}},"uri":"file:///p/N.mod""#,
+    ),
+    (
+        r#"{"jsonrpc":"2.0","id":6,"method":"textDocument/documentHighlight","params":{"textDocument":{"uri":"file:///p/M.mod"},"position":{"line":9,"character":2}}}"#,
+        r#""start":{"character":12,"line":9}"#,
+    ),
+    (
+        r#"{"jsonrpc":"2.0","id":7,"method":"textDocument/prepareRename","params":{"textDocument":{"uri":"file:///p/M.mod"},"position":{"line":9,"character":2}}}"#,
+        r#""placeholder":"n""#,
+    ),
+    (
+        r#"{"jsonrpc":"2.0","id":8,"method":"textDocument/rename","params":{"textDocument":{"uri":"file:///p/M.mod"},"position":{"line":9,"character":2},"newName":"count"}}"#,
+        r#"{"newText":"count","range":{"end":{"character":11,"line":3},"start":{"character":10,"line":3}}}"#,
+    ),
+    // A clash, a word of the language, and no name.
+    (
+        r#"{"jsonrpc":"2.0","id":9,"method":"textDocument/rename","params":{"textDocument":{"uri":"file:///p/M.mod"},"position":{"line":9,"character":2},"newName":"r"}}"#,
+        r#""code":-32803"#,
+    ),
+    (
+        r#"{"jsonrpc":"2.0","id":9,"method":"textDocument/rename","params":{"textDocument":{"uri":"file:///p/M.mod"},"position":{"line":9,"character":2},"newName":"BEGIN"}}"#,
+        r#""this is no name of the language""#,
+    ),
+    (
+        r#"{"jsonrpc":"2.0","id":9,"method":"textDocument/rename","params":{"textDocument":{"uri":"file:///p/M.mod"},"position":{"line":9,"character":2},"newName":"a b"}}"#,
+        r#""code":-32803"#,
+    ),
+    (
+        r#"{"jsonrpc":"2.0","id":10,"method":"textDocument/documentSymbol","params":{"textDocument":{"uri":"file:///p/M.mod"}}}"#,
+        r#""kind":12,"name":"P""#,
+    ),
+    (
+        r#"{"jsonrpc":"2.0","id":11,"method":"workspace/symbol","params":{"query":"pus"}}"#,
+        r#""name":"Push""#,
+    ),
+    (
+        r#"{"jsonrpc":"2.0","id":12,"method":"textDocument/completion","params":{"textDocument":{"uri":"file:///p/M.mod"},"position":{"line":10,"character":4}}}"#,
+        r#""label":"b""#,
+    ),
+    (
+        r#"{"jsonrpc":"2.0","id":13,"method":"textDocument/signatureHelp","params":{"textDocument":{"uri":"file:///p/M.mod"},"position":{"line":9,"character":12}}}"#,
+        r#""activeParameter":1"#,
+    ),
+    (
+        r#"{"jsonrpc":"2.0","id":14,"method":"textDocument/semanticTokens/full","params":{"textDocument":{"uri":"file:///p/M.mod"}}}"#,
+        r#"{"id":14,"jsonrpc":"2.0","result":{"data":[0,0,6,7,0,0,7,1,0,1,1,0,4,7,0,0,5,6,0,0,"#,
+    ),
+    (
+        r#"{"jsonrpc":"2.0","id":15,"method":"textDocument/foldingRange","params":{"textDocument":{"uri":"file:///p/M.mod"}}}"#,
+        r#"[{"endLine":7,"startLine":4}]"#,
+    ),
+];
+
+/// Other requests, and what changes.
+const CHANGES: [Row; 14] = [
+    // An edit by which a name is not declared, and its mend.
+    (
+        r#"{"jsonrpc":"2.0","method":"textDocument/didChange","params":{"textDocument":{"uri":"file:///p/M.mod","version":2},"contentChanges":[{"range":{"start":{"line":11,"character":7},"end":{"line":11,"character":8}},"text":"nn"}]}}"#,
+        r#""code":30"#,
+    ),
+    (
+        r#"{"jsonrpc":"2.0","id":20,"method":"textDocument/codeAction","params":{"textDocument":{"uri":"file:///p/M.mod"},"range":{"start":{"line":11,"character":7},"end":{"line":11,"character":7}},"context":{"diagnostics":[]}}}"#,
+        r#""kind":"quickfix""#,
+    ),
+    (
+        r#"{"jsonrpc":"2.0","id":21,"method":"textDocument/codeAction","params":{"textDocument":{"uri":"file:///p/M.mod"},"range":{"start":{"line":0,"character":0},"end":{"line":0,"character":0}},"context":{"diagnostics":[]}}}"#,
+        r#"{"id":21,"jsonrpc":"2.0","result":[]}"#,
+    ),
+    (
+        r#"{"jsonrpc":"2.0","method":"textDocument/didChange","params":{"textDocument":{"uri":"file:///p/M.mod","version":3},"contentChanges":[{"range":{"start":{"line":11,"character":7},"end":{"line":11,"character":9}},"text":"n"}]}}"#,
+        r#""diagnostics":[],"uri":"file:///p/M.mod","version":3"#,
+    ),
+    // A text with no tree: what is known of the one before stays.
+    (
+        r#"{"jsonrpc":"2.0","method":"textDocument/didChange","params":{"textDocument":{"uri":"file:///p/M.mod","version":4},"contentChanges":[{"range":{"start":{"line":9,"character":0},"end":{"line":9,"character":0}},"text":"  r.;\n"}]}}"#,
+        r#""severity":1"#,
+    ),
+    (
+        r#"{"jsonrpc":"2.0","id":22,"method":"textDocument/completion","params":{"textDocument":{"uri":"file:///p/M.mod"},"position":{"line":9,"character":4}}}"#,
+        r#""label":"a""#,
+    ),
+    (
+        r#"{"jsonrpc":"2.0","id":23,"method":"textDocument/definition","params":{"textDocument":{"uri":"file:///p/M.mod"},"position":{"line":12,"character":3}}}"#,
+        r#""uri":"file:///p/Stacks.def""#,
+    ),
+    (
+        r#"{"jsonrpc":"2.0","id":24,"method":"textDocument/rename","params":{"textDocument":{"uri":"file:///p/M.mod"},"position":{"line":12,"character":3},"newName":"Put"}}"#,
+        r#""code":-32803"#,
+    ),
+    (
+        r#"{"jsonrpc":"2.0","id":25,"method":"textDocument/formatting","params":{"textDocument":{"uri":"file:///p/M.mod"},"options":{"tabSize":2,"insertSpaces":true}}}"#,
+        r#"{"id":25,"jsonrpc":"2.0","result":null}"#,
+    ),
+    (
+        r#"{"jsonrpc":"2.0","method":"textDocument/didChange","params":{"textDocument":{"uri":"file:///p/M.mod","version":5},"contentChanges":[{"text":"MODULE M;\nIMPORT ;BEGIN END M."}]}}"#,
+        r#""version":5"#,
+    ),
+    (
+        r#"{"jsonrpc":"2.0","id":26,"method":"textDocument/completion","params":{"textDocument":{"uri":"file:///p/M.mod"},"position":{"line":1,"character":7}}}"#,
+        r#""label":"Stacks""#,
+    ),
+    (
+        r#"{"jsonrpc":"2.0","method":"textDocument/didChange","params":{"textDocument":{"uri":"file:///p/M.mod","version":6},"contentChanges":[{"text":"MODULE M;\nBEGIN    END M."}]}}"#,
+        r#""diagnostics":[]"#,
+    ),
+    (
+        r#"{"jsonrpc":"2.0","id":27,"method":"textDocument/formatting","params":{"textDocument":{"uri":"file:///p/M.mod"},"options":{"tabSize":2,"insertSpaces":true}}}"#,
+        r#""newText""#,
+    ),
+    (
+        r#"{"jsonrpc":"2.0","method":"textDocument/didClose","params":{"textDocument":{"uri":"file:///p/M.mod"}}}"#,
+        "",
+    ),
+];
+
+/// Messages that are wrong, and what a server that lives on answers.
+const WRONG: [Row; 16] = [
+    ("", r#""code":-32700"#),
+    ("{", r#""code":-32700"#),
+    ("[]", r#""code":-32600"#),
+    ("5", r#""code":-32600"#),
+    (
+        r#"{"jsonrpc":"1.0","id":1,"method":"shutdown"}"#,
+        r#""code":-32600"#,
+    ),
+    (r#"{"jsonrpc":"2.0","id":1}"#, r#""code":-32600"#),
+    (
+        r#"{"jsonrpc":"2.0","id":[],"method":"shutdown"}"#,
+        r#""code":-32600"#,
+    ),
+    (
+        r#"{"jsonrpc":"2.0","id":1,"method":"shutdown","params":5}"#,
+        r#""code":-32600"#,
+    ),
+    (r#"{"jsonrpc":"2.0","id":1,"result":null}"#, ""),
+    (
+        r#"{"jsonrpc":"2.0","id":"x","method":"textDocument/unknown"}"#,
+        r#"{"error":{"code":-32601,"#,
+    ),
+    (
+        r#"{"jsonrpc":"2.0","id":"x","method":"$/unknown"}"#,
+        r#""id":"x""#,
+    ),
+    (
+        r#"{"jsonrpc":"2.0","method":"$/cancelRequest","params":{"id":1}}"#,
+        "",
+    ),
+    (
+        r#"{"jsonrpc":"2.0","method":"$/setTrace","params":{"value":"off"}}"#,
+        "",
+    ),
+    (
+        r#"{"jsonrpc":"2.0","id":1,"method":"textDocument/hover"}"#,
+        r#""code":-32602"#,
+    ),
+    (
+        r#"{"jsonrpc":"2.0","id":1,"method":"textDocument/hover","params":{"textDocument":{"uri":"untitled:x"},"position":{"line":-1,"character":0}}}"#,
+        r#""code":-32602"#,
+    ),
+    (
+        r#"{"jsonrpc":"2.0","id":1,"method":"textDocument/hover","params":{"textDocument":{"uri":"untitled:x"},"position":{"line":0,"character":0}}}"#,
+        r#""result":null"#,
+    ),
+];
+
+/// How a session ends.
+const END: [Row; 3] = [
+    (
+        r#"{"jsonrpc":"2.0","id":1,"method":"initialize","params":{}}"#,
+        r#""code":-32600"#,
+    ),
+    (
+        r#"{"jsonrpc":"2.0","id":2,"method":"shutdown"}"#,
+        r#"{"id":2,"jsonrpc":"2.0","result":null}"#,
+    ),
+    (
+        r#"{"jsonrpc":"2.0","id":3,"method":"textDocument/hover","params":{}}"#,
+        r#""code":-32600"#,
+    ),
+];
+
+/// A server for these tests.
+pub fn begun(alloc: Global) -> Result<Server, AllocError> {
+    let mut libraries = Vec::new(alloc);
+    libraries.push(String::from_str(alloc, "/l")?)?;
+    let setting = Setting {
+        libraries,
+        workers: 1,
+        pages: 16,
+    };
+    Ok(Server::new(alloc, setting))
+}
+
+/// What goes back for a message, each body in a line.
+fn lines_of<R: AllocGlobal + Threads + Sync>(
+    rt: &R,
+    server: &mut Server,
+    message: &str,
+) -> Result<String, AllocError> {
+    let answer = server.answer(rt, &Files(&ON_DISK), message.as_bytes())?;
+    let mut all = String::new(rt.alloc());
+    for body in &answer.bodies {
+        all.push_str(String::from_utf8_lossy(rt.alloc(), body)?.as_str())?;
+        all.push('\n')?;
+    }
+    Ok(all)
+}
+
+/// The rows to which something else goes back, and what.
+pub fn all_wrong<R: AllocGlobal + Threads + Sync>(
+    rt: &R,
+    server: &mut Server,
+    rows: &[Row],
+) -> Result<String, AllocError> {
+    let mut wrong = String::new(rt.alloc());
+    for row in rows {
+        let lines = lines_of(rt, server, row.0)?;
+        let is_right = if row.1.is_empty() {
+            lines.is_empty()
+        } else {
+            lines.contains(row.1)
+        };
+        if !is_right {
+            let words = format!(in rt.alloc(); "{} gives {lines}", row.0)?;
+            wrong.push_str(words.as_str())?;
+        }
+    }
+    Ok(wrong)
+}
+
+#[test]
+fn names(rt: HostRuntime) -> Result<(), Fail> {
+    let mut server = begun(rt.alloc())?;
+    let wrong = all_wrong(&rt, &mut server, &BEGIN)?;
+    assert_eq!(rt; wrong.as_str(), "");
+    let wrong = all_wrong(&rt, &mut server, &ABOUT_NAMES)?;
+    assert_eq!(rt; wrong.as_str(), "");
+    Ok(())
+}
+
+#[test]
+fn others(rt: HostRuntime) -> Result<(), Fail> {
+    let mut server = begun(rt.alloc())?;
+    let wrong = all_wrong(&rt, &mut server, &BEGIN)?;
+    assert_eq!(rt; wrong.as_str(), "");
+    let wrong = all_wrong(&rt, &mut server, &CHANGES)?;
+    assert_eq!(rt; wrong.as_str(), "");
+    Ok(())
+}
+
+#[test]
+fn wrong_messages(rt: HostRuntime) -> Result<(), Fail> {
+    let mut server = begun(rt.alloc())?;
+    let early = lines_of(
+        &rt,
+        &mut server,
+        r#"{"jsonrpc":"2.0","id":1,"method":"shutdown"}"#,
+    )?;
+    assert!(rt; early.contains(r#""code":-32002"#));
+    let wrong = all_wrong(&rt, &mut server, &BEGIN)?;
+    assert_eq!(rt; wrong.as_str(), "");
+    let wrong = all_wrong(&rt, &mut server, &WRONG)?;
+    assert_eq!(rt; wrong.as_str(), "");
+    Ok(())
+}
+
+#[test]
+fn ends(rt: HostRuntime) -> Result<(), Fail> {
+    let exit = r#"{"jsonrpc":"2.0","method":"exit"}"#;
+    let mut early = begun(rt.alloc())?;
+    let answer = early.answer(&rt, &Files(&ON_DISK), exit.as_bytes())?;
+    assert_eq!(rt; answer.end, Some(1));
+    let mut server = begun(rt.alloc())?;
+    let wrong = all_wrong(&rt, &mut server, &BEGIN)?;
+    assert_eq!(rt; wrong.as_str(), "");
+    assert_eq!(rt; server.status_at_end(), 1);
+    let wrong = all_wrong(&rt, &mut server, &END)?;
+    assert_eq!(rt; wrong.as_str(), "");
+    let answer = server.answer(&rt, &Files(&ON_DISK), exit.as_bytes())?;
+    assert_eq!(rt; answer.end, Some(0));
+    Ok(())
+}
