@@ -113,23 +113,24 @@ fn message_of(object: &mut Value) -> Incoming {
     }
 }
 
-/// What the bytes of a message say. The only error is want of memory.
-pub fn read_message(alloc: Global, bytes: &[u8]) -> Result<Incoming, AllocError> {
-    let mut message = match Value::from_slice(alloc, bytes) {
-        Ok(message) => message,
-        Err(error) => {
-            if error.is_memory() {
-                return Err(AllocError);
-            }
-            return Ok(refuse(Value::Null, ErrorCode::ParseError, "the message is no JSON"));
-        }
-    };
+/// What a value of a message says.
+fn value_says(message: Value) -> Incoming {
+    let mut message = message;
     if message.is_object() {
-        return Ok(message_of(&mut message));
+        return message_of(&mut message);
     }
-    Ok(refuse(
+    refuse(
         Value::Null,
         ErrorCode::InvalidRequest,
         "the message is no object",
-    ))
+    )
+}
+
+/// What the bytes of a message say. The only error is want of memory.
+pub fn read_message(alloc: Global, bytes: &[u8]) -> Result<Incoming, AllocError> {
+    match Value::from_slice(alloc, bytes) {
+        Ok(message) => Ok(value_says(message)),
+        Err(error) if error.is_memory() => Err(AllocError),
+        Err(_) => Ok(refuse(Value::Null, ErrorCode::ParseError, "the message is no JSON")),
+    }
 }

@@ -73,8 +73,10 @@ pub fn notice_body(alloc: Global, method: &str, params: Value) -> Result<Vec<u8>
 /// A message with its header in front. The only error is want of memory.
 pub fn framed(alloc: Global, body: &[u8]) -> Result<Vec<u8>, AllocError>
     // Behind the digits stand two ends of lines, each the bytes 13 and 10.
-    ensures { IfOk result (λ all. all.items
-        ≡ codes "Content-Length: " ++ decimal (length body.now) ++ 13 ∷ 10 ∷ 13 ∷ 10 ∷ [] ++ body.now) }
+    ensures { IfOk result (λ all.
+        all.items
+        ≡ codes "Content-Length: " ++ decimal (length body.now) ++ 13 ∷ 10 ∷ 13 ∷ 10 ∷ []
+        ++ body.now) }
 {
     let length = body.len();
     let header = format!(in alloc; "Content-Length: {length}\r\n\r\n")?;
