@@ -82,11 +82,10 @@ impl Nest {
     /// Puts an object into the declaration in which it stands.
     fn put(&mut self, parent: Option<usize>, object: Value) -> Result<(), AllocError> {
         let number = parent.unwrap_or(self.inside.len());
-        let list = match self.inside.get_mut(number) {
-            Some(list) => list,
-            None => &mut self.outside,
-        };
-        list.push(object)?;
+        match self.inside.get_mut(number) {
+            Some(list) => list.push(object)?,
+            None => self.outside.push(object)?,
+        }
         Ok(())
     }
 }
