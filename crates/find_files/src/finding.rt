@@ -2,10 +2,11 @@
 
 use crate::places::Places;
 use anyhow::Result;
+use build_jobs::SourceFile;
 use command_words::{Exit, FAILED};
 use find_modules::{FindFault, FoundModule, Part, Sources, find};
-use m2_tree::{Lexeme, Name, Symbol};
-use m2c::SourceFile;
+use m2_rule::Rule;
+use m2_tree::{Lexeme, Name, Refusal, Symbol};
 use propose_mends::importing_program;
 use scan_tokens::{ScanError, scan};
 use std::alloc::{AllocError, Global};
@@ -346,4 +347,18 @@ pub fn find_checked<R: Files + Eprint + AllocGlobal>(
         }
     }
     program_of_text(rt, setting, path.as_str(), text)
+}
+
+/// The file that a definition or an implementation lacks beside it, if it is refused for that, in a sentence. Nothing else.
+pub fn partner_words(alloc: Global, refusal: &Refusal) -> Result<String, AllocError> {
+    let file = refusal.file.as_str();
+    let (name, ending) = match (file.strip_suffix(".def"), file.strip_suffix(".mod")) {
+        (Some(name), _) => (name, "mod"),
+        (None, Some(name)) => (name, "def"),
+        (None, None) => return Ok(String::new(alloc)),
+    };
+    if refusal.number != Rule::LonelyModule.number() {
+        return Ok(String::new(alloc));
+    }
+    format!(in alloc; "the file {name}.{ending} is wanted beside it")
 }

@@ -5,5 +5,6 @@ mod finding;
 mod places;
 
 pub use finding::{
-    Program, Spare, alone, find_checked, find_program, program_of_text, spare_files, text_of,
+    Program, Spare, alone, find_checked, find_program, partner_words, program_of_text, spare_files,
+    text_of,
 };

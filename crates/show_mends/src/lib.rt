@@ -6,5 +6,5 @@ mod objects;
 mod words;
 
 pub use fixing::write_chains;
-pub use objects::{Given, partner_words, print_steps};
+pub use objects::{Given, print_steps};
 pub use words::say_chains;

@@ -2,6 +2,7 @@
 
 use crate::words::mend_words;
 use build_jobs::SourceFile;
+use find_files::partner_words;
 use m2_rule::Rule;
 use m2_tree::Refusal;
 use show_refusals::{Mended, object_of, way_of};
@@ -32,20 +33,6 @@ fn push_names(all: &mut String, names: &[String]) -> Result<(), AllocError> {
         all.push_str(name.as_str())?;
     }
     Ok(())
-}
-
-/// The file that a definition or an implementation lacks beside it, if it is refused for that, in a sentence. Nothing else.
-pub fn partner_words(alloc: Global, refusal: &Refusal) -> Result<String, AllocError> {
-    let file = refusal.file.as_str();
-    let (name, ending) = match (file.strip_suffix(".def"), file.strip_suffix(".mod")) {
-        (Some(name), _) => (name, "mod"),
-        (None, Some(name)) => (name, "def"),
-        (None, None) => return Ok(String::new(alloc)),
-    };
-    if refusal.number != Rule::LonelyModule.number() {
-        return Ok(String::new(alloc));
-    }
-    format!(in alloc; "the file {name}.{ending} is wanted beside it")
 }
 
 /// Which modules or which file a program lacks, if it is refused for that.

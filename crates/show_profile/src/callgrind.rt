@@ -1,7 +1,7 @@
 //! What ran, in the format of callgrind.
 
+use build_jobs::SourceFile;
 use explain_runs::{Activation, CallCount, Counted, FunctionCount, Spot, Tally};
-use m2c::SourceFile;
 use std::alloc::{AllocError, Global};
 use std::fmt::Write;
 

@@ -1,8 +1,8 @@
 //! What ran, in the format of lcov.
 
 use crate::lines::{Line, lines_of};
+use build_jobs::SourceFile;
 use explain_runs::{Counted, FunctionCount};
-use m2c::SourceFile;
 use std::alloc::{AllocError, Global};
 use std::fmt::Write;
 

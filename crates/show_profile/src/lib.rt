@@ -9,8 +9,8 @@ mod lines;
 mod source;
 mod tables;
 
+use build_jobs::SourceFile;
 use explain_runs::Counted;
-use m2c::SourceFile;
 use std::alloc::{AllocError, Global};
 pub use tables::{coverage_table, profile_table};
 

@@ -1,8 +1,8 @@
 //! The source, with what ran in front of each line.
 
 use crate::lines::{Line, lines_of};
+use build_jobs::SourceFile;
 use explain_runs::{Counted, Tally};
-use m2c::SourceFile;
 use std::alloc::{AllocError, Global};
 use std::fmt::Write;
 

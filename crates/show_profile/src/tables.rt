@@ -1,8 +1,8 @@
 //! What ran, as tables.
 
 use crate::lines::{Line, lines_of, procedures_of};
+use build_jobs::SourceFile;
 use explain_runs::{Counted, Tally};
-use m2c::SourceFile;
 use std::alloc::{AllocError, Global};
 use std::fmt::Write;
 use text_tokens::{part, shorten};

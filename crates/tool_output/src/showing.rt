@@ -3,11 +3,10 @@
 use crate::output::say_output_fault;
 use crate::screen::Screen;
 use anyhow::Result;
+use build_jobs::SourceFile;
 use command_words::FAILED;
-use find_files::Program;
+use find_files::{Program, partner_words};
 use m2_tree::Refusal;
-use m2c::SourceFile;
-use show_mends::partner_words;
 use show_refusals::{explanation, show_json};
 use std::io;
 use tool_words::{PROGRAM, Style};

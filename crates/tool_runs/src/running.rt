@@ -6,7 +6,7 @@ use crate::measuring::say_measured;
 use command_words::{Exit, FAILED};
 use explain_runs::explain_run;
 use find_files::{Program as FoundProgram, find_program};
-use m2c::Open;
+use pool_board::Open;
 use run_directory::end_word;
 use run_program::{End, Instances, Loaded, Program, load_program};
 use std::rt::Files;
