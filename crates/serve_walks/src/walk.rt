@@ -114,7 +114,8 @@ impl Walk {
 
     /// Notes a name that stands for a declaration.
     pub fn mention(&mut self, name: &Ident, number: usize, role: Role) -> Result<(), AllocError> {
-        self.program.add_use(self.place(name), number, role)
+        let place = self.place(name);
+        self.program.add_use(place, number, role)
     }
 
     /// Notes a name that stands for nothing.
