@@ -212,10 +212,34 @@ impl Paths {
         }
     }
 
-    /// The ways and the calls of a run that is over.
-    pub fn finish(mut self) -> (Vec<Path>, Vec<CallCount>) {
-        self.leave(self.entered.len());
-        let Paths { all, calls, .. } = self;
+    /// The run is over: all functions are left.
+    fn leave_all(&mut self) {
+        let count = self.entered.len();
+        self.leave(count);
+    }
+
+    /// The ways and the calls.
+    fn into_parts(self) -> (Vec<Path>, Vec<CallCount>) {
+        let Paths {
+            all,
+            numbers,
+            calls,
+            places,
+            call_numbers,
+            entered,
+            made: _,
+        } = self;
+        drop(numbers);
+        drop(places);
+        drop(call_numbers);
+        drop(entered);
         (all, calls)
+    }
+
+    /// The ways and the calls of a run that is over.
+    pub fn finish(self) -> (Vec<Path>, Vec<CallCount>) {
+        let mut paths = self;
+        paths.leave_all();
+        paths.into_parts()
     }
 }
