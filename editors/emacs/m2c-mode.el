@@ -262,8 +262,9 @@
          (format "%s (refusal %d)%s" .words .rule (if (string= .detail "") "" (concat "\n" .detail))))))))
 
 (defun m2c--refusals (text)
-  "The refusals that m2 printed as TEXT, an object a line."
-  (delq nil (mapcar (lambda (line) (ignore-errors (json-read-from-string line))) (split-string text "\n" t))))
+  "The refusals that m2 printed as TEXT, an object a line, without those that come next, behind a mend."
+  (seq-remove (lambda (it) (eq (alist-get 'then it) t))
+              (delq nil (mapcar (lambda (line) (ignore-errors (json-read-from-string line))) (split-string text "\n" t)))))
 
 (defvar-local m2c--process nil "The check that runs.")
 

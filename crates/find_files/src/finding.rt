@@ -1,6 +1,6 @@
 //! The files of a program.
 
-use crate::places::Places;
+use crate::places::{Places, folder_of};
 use anyhow::Result;
 use build_jobs::SourceFile;
 use command_words::{Exit, FAILED};
@@ -312,7 +312,8 @@ fn module_of(alloc: Global, text: &[u8]) -> Result<Option<String>, AllocError> {
     }
 }
 
-/// A program that imports this module, found in the folder of this file and in those behind it.
+/// A program that imports this module, found in the folder of this file and in those behind it. It has a name of its own there: the
+/// file of a program is none of a module's.
 fn importer_of<R: Files + Eprint + AllocGlobal>(
     rt: &R,
     setting: &Setting,
@@ -321,11 +322,9 @@ fn importer_of<R: Files + Eprint + AllocGlobal>(
 ) -> Result<Program, Exit> {
     let text = format!(in rt.alloc(); "MODULE {CHECKING}; IMPORT {module}; END {CHECKING}.")?;
     let text = Vec::from_slice(rt.alloc(), text.as_bytes())?;
-    let mut program = program_of_text(rt, setting, path, text)?;
-    if let Some(file) = program.files.first_mut() {
-        file.name = String::from_str(rt.alloc(), CHECKING_FILE)?;
-    }
-    Ok(program)
+    let folder = folder_of(path);
+    let name = format!(in rt.alloc(); "{folder}{CHECKING_FILE}")?;
+    program_of_text(rt, setting, name.as_str(), text)
 }
 
 /// What is checked if this file is named: the program of it, or a program that imports the module of which it is a part. If this file

@@ -26,7 +26,7 @@ fn front_of(alloc: Global, folder: &str) -> Result<String, AllocError> {
 }
 
 /// The folder of a file, with the slash behind it.
-fn folder_of(path: &str) -> &str {
+pub fn folder_of(path: &str) -> &str {
     match path.rfind('/') {
         None => "",
         Some(at) => path.get(..=at).unwrap_or(""),

@@ -34,5 +34,5 @@ function! s:Words() abort
 endfunction
 
 let &l:makeprg = s:Words()
-" a refusal with its sentence, the line of source, and the mark below it; then what is said of the types
-CompilerSet errorformat=%E%f:%l:%c:\ refusal\ %n,%C\ \ %m\ (m2\ explain\ %*\\d),%-C%*\\d\ \|%.%#,%-Z\ %#^%\\+%.%#,%Im2:\ %f:%l:%c:\ %m,%-G%.%#
+" What is refused next, behind the word then, is left out. A refusal with its sentence, the line of source, and the mark below it; then what is said of the types
+CompilerSet errorformat=%-Gthen\ %.%#,%E%f:%l:%c:\ refusal\ %n,%C\ \ %m\ (m2\ explain\ %*\\d),%-C%*\\d\ \|%.%#,%-Z\ %#^%\\+%.%#,%Im2:\ %f:%l:%c:\ %m,%-G%.%#

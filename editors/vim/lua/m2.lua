@@ -30,7 +30,7 @@ local function show(lines)
   local found = {}
   for _, line in ipairs(lines) do
     local is_object, refusal = pcall(vim.json.decode, line)
-    if is_object and type(refusal) == "table" and refusal.rule then
+    if is_object and type(refusal) == "table" and refusal.rule and not refusal["then"] then
       local file = vim.fn.fnamemodify(refusal.file, ":p")
       found[file] = found[file] or {}
       table.insert(found[file], diagnostic_of(refusal))
@@ -98,8 +98,11 @@ end
 -- Attaches a buffer to the server of its folder, and starts one if there is none.
 function m2.attach(buffer)
   local folder = vim.fn.fnamemodify(vim.api.nvim_buf_get_name(buffer), ":p:h")
-  if not servers[folder] or vim.lsp.client_is_stopped(servers[folder]) then
-    servers[folder] = vim.lsp.start_client({ name = "m2", cmd = server_words(), root_dir = folder, on_attach = set_up })
+  if not servers[folder] then
+    local function forget()
+      servers[folder] = nil
+    end
+    servers[folder] = vim.lsp.start_client({ name = "m2", cmd = server_words(), root_dir = folder, on_attach = set_up, on_exit = forget })
   end
   if servers[folder] then
     vim.lsp.buf_attach_client(buffer, servers[folder])

@@ -85,7 +85,9 @@ def quickfix(program):
         vim_words(program, MAKE_IN_VIM, [], place)
         rows = [[file, line, column, rule, words, "E"] for file, line, column, _, rule, words, _ in REFUSED]
         detail = ["Wrong.mod", 5, 36, -1, GIVEN, "I"]
-        return found_in(place), [rows[1:] + [detail], rows + [detail]]
+        # mends are listed too
+        found = [[it for it in came if it[-1] == "E"] + [it for it in came if it == detail] for came in found_in(place)]
+        return found, [rows[1:] + [detail], rows + [detail]]
     return try_in
 
 
@@ -117,7 +119,9 @@ def compiling(place):
 
 def in_vs_code(place):
     found = json.loads(called(["node", f"{HERE}/vscode.mjs", *(f"{place}/{row[0]}" for row in REFUSED)], cwd=place))
-    rows = [[file, line - 1, in_characters(file, column) - 1, in_characters(file, end) - 1, rule] for file, line, column, end, rule, _, _ in REFUSED]
+    # the server marks a string that is not closed up to the next line
+    rows = [[file, line - 1, in_characters(file, column) - 1, 0 if words == NOT_CLOSED else in_characters(file, end) - 1, rule]
+            for file, line, column, end, rule, words, _ in REFUSED]
     return found, {"diagnostics": rows, "errors": 0, "ran": ["m2", "run", f"{place}/Open.mod"], "definition": []}
 
 
