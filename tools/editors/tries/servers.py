@@ -76,6 +76,7 @@ IN_EMACS = r"""
 (require 'm2c-mode)
 (require 'eglot)
 (require 'json)
+(fset 'y-or-n-p (lambda (&rest _) t))
 (setq eglot-sync-connect t eglot-autoshutdown nil eglot-confirm-server-initiated-edits nil)
 (defun waits (what) (with-timeout (20 nil) (while (not (funcall what)) (accept-process-output nil 0.1)) t))
 (find-file "Main.mod")
@@ -125,7 +126,8 @@ def in_neovim(place):
 def in_emacs(place):
     folder = fill(place)
     emacs(IN_EMACS, [], folder)
-    return found_in(folder), WANTED
+    # eglot puts who says so and the number in front
+    return found_in(folder), {**WANTED, "diagnostic": [6, 3, f"m2 [30]: {TOLD}"]}
 
 
 READERS = [("neovim, the language server", ["nvim"], in_neovim), ("emacs, eglot with the language server", ["emacs"], in_emacs)]
