@@ -1,9 +1,5 @@
 //! What is known of the names of a program, and what is asked of it.
 
-ghost use Rattle.std.specs.Prelude.{◌≡◌, IfOk};
-ghost use Rattle.std.specs.List.{filter_map};
-ghost use Rattle.serve_names.specs.Uses.{use_of};
-
 use crate::parsed::Parsed;
 use crate::units::{all_bodies, all_definitions, all_names};
 use m2_tree::Pos;
@@ -26,17 +22,6 @@ fn between(uses: &[Use], from: usize, to: usize) -> &[Use] {
 /// How many uses stand in files before this one.
 fn count_before(uses: &[Use], file: usize) -> usize {
     uses.partition_point(|it| it.place.file < file)
-}
-
-/// A use, if it is one of a declaration.
-fn use_of(it: &Use, declaration: usize) -> Option<Use>
-    ensures { result ≡ use_of declaration it.now }
-{
-    if it.declaration == declaration {
-        Some(*it)
-    } else {
-        None
-    }
 }
 
 impl Index {
@@ -64,9 +49,7 @@ impl Index {
     }
 
     /// All places at which a name stands for a declaration, in the order of files and places.
-    pub fn uses(&self) -> &[Use]
-        ensures { result.now ≡ self.now.program.uses.items }
-    {
+    pub fn uses(&self) -> &[Use] {
         &self.program.uses
     }
 
@@ -101,14 +84,14 @@ impl Index {
 
     /// All places of a declaration, in order: where it is declared, implemented, closed, imported and used. The only error is that
     /// memory ran out.
-    pub fn uses_of(&self, alloc: Global, declaration: usize) -> Result<Vec<Use>, AllocError>
-        ensures { IfOk result (λ found.
-            found.items ≡ filter_map (use_of declaration) self.now.program.uses.items) }
-    {
-        self.uses()
-            .iter()
-            .filter_map(|it| use_of(it, declaration))
-            .collect(alloc)
+    pub fn uses_of(&self, alloc: Global, declaration: usize) -> Result<Vec<Use>, AllocError> {
+        let mut found = Vec::new(alloc);
+        for it in self.uses() {
+            if it.declaration == declaration {
+                found.push(*it)?;
+            }
+        }
+        Ok(found)
     }
 
     /// What the definition of a module exports, in the order of the text. The only error is that memory ran out.
