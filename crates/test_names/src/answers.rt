@@ -1,6 +1,7 @@
 //! What the index answers.
 
 use crate::question::Question;
+use crate::texts::text_at;
 use anyhow::Result;
 use m2_tree::Token;
 use scan_tokens::scan;
@@ -67,7 +68,7 @@ fn range_word(alloc: Global, range: Range) -> Result<String> {
     Ok(format!(in alloc; "{}:{}-{}:{}", begin.line, begin.col, end.line, end.col)?)
 }
 
-impl Known<'_> {
+impl<'a> Known<'a> {
     /// The names of these declarations.
     fn names_of(&self, numbers: &[usize]) -> Result<String> {
         let mut words = String::new(self.alloc);
@@ -113,10 +114,7 @@ impl Known<'_> {
 
     /// What is answered of a declaration.
     fn of_declaration(&self, word: &str, number: usize, it: &Declaration) -> Result<String> {
-        let text = self
-            .texts
-            .get(it.place.file)
-            .map_or(b"".as_slice(), |text| text.as_slice());
+        let text = text_at(self.texts, it.place.file);
         match word {
             "at" => self.declared(it),
             "uses" => self.uses_of(number),
@@ -159,13 +157,16 @@ impl Known<'_> {
     }
 
     /// The text of a file as it is now.
-    fn text_now(&self, file: usize) -> &[u8] {
-        match (file, self.now) {
-            (0, Some(now)) => now,
-            _ => self
-                .texts
-                .get(file)
-                .map_or(b"".as_slice(), |text| text.as_slice()),
+    fn text_now(&self, file: usize) -> &'a [u8] {
+        match self.now {
+            Some(now) => {
+                if file == 0 {
+                    now
+                } else {
+                    text_at(self.texts, file)
+                }
+            }
+            None => text_at(self.texts, file),
         }
     }
 

@@ -35,10 +35,15 @@ impl Texts {
 
     /// The text of this number.
     pub fn text(&self, number: usize) -> &[u8] {
-        match self.all.get(number) {
-            Some(text) => text.as_slice(),
-            None => b"",
-        }
+        text_at(&self.all, number)
+    }
+}
+
+/// The text of this number, or an empty one.
+pub fn text_at(texts: &[Vec<u8>], number: usize) -> &[u8] {
+    match texts.get(number) {
+        Some(text) => text.as_slice(),
+        None => b"",
     }
 }
 
