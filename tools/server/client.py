@@ -104,7 +104,7 @@ class Client:
         return self.published[uri]["diagnostics"]
 
     def begin(self, encodings=("utf-16",), **more):
-        capabilities = {"general": {"positionEncodings": list(encodings)}} if encodings else {}
+        capabilities = {**({"general": {"positionEncodings": list(encodings)}} if encodings else {}), **more.pop("capabilities", {})}
         result = self.result("initialize", {"processId": None, "rootUri": "file://" + self.folder, "capabilities": capabilities, **more})
         self.notify("initialized", {})
         return result

@@ -1,8 +1,9 @@
 //! What may be written at a place.
 
 use crate::ask::Ask;
+use crate::snippets::{Formals, Lead, add_call, add_lacking};
 use crate::values::text_value;
-use m2_tree::{Symbol, Token};
+use m2_tree::{Pos, Symbol, Token};
 use scan_tokens::{ScanError, scan};
 use serde_json::{Value, json};
 use serve_names::{Kind, Offer, words_of};
@@ -28,11 +29,24 @@ const CONSTANT: u32 = 21;
 const TYPE: u32 = 22;
 
 /// The bytes of the longest text whose declarations are shown beside their names.
-const MOST_BYTES: usize = 65_536;
+pub(crate) const MOST_BYTES: usize = 65_536;
+
+/// What may be chosen from at a place.
+#[derive(Clone, Copy)]
+pub struct Choice<'a> {
+    /// The modules that may be imported: they stand in folders.
+    pub modules: &'a [String],
+    /// Whether the editor takes texts with places to fill.
+    pub has_snippets: bool,
+}
 
 /// What is wanted at a place.
 #[derive(Clone, Copy)]
 enum Wanted<'a> {
+    /// The name of a procedure that is declared.
+    Heading,
+    /// A declaration, or what `Name` says.
+    Declaration,
     /// A component or an export, behind the point that is the token of this number.
     Member(usize),
     /// The name of a module.
@@ -93,12 +107,13 @@ fn wanted_of_import(tokens: &[Token], number: usize) -> Wanted<'_> {
 /// What is wanted behind so many tokens.
 fn wanted_behind(tokens: &[Token], count: usize) -> Wanted<'_> {
     let last = count.saturating_sub(1);
-    if count > 0 && symbol_at(tokens, last) == Some(Symbol::Dot) {
-        return Wanted::Member(last);
-    }
-    match import_before(tokens, count) {
-        Some((number, Symbol::Import)) => wanted_of_import(tokens, number),
-        Some((number, _from)) if number == last => Wanted::Module,
+    let before = symbol_at(tokens, last).filter(|_| count > 0);
+    match (before, import_before(tokens, count)) {
+        (Some(Symbol::Dot), _) => Wanted::Member(last),
+        (Some(Symbol::Procedure), _) => Wanted::Heading,
+        (_, Some((number, Symbol::Import))) => wanted_of_import(tokens, number),
+        (_, Some((number, _from))) if number == last => Wanted::Module,
+        (Some(Symbol::Semicolon), _) => Wanted::Declaration,
         _ => Wanted::Name,
     }
 }
@@ -142,10 +157,18 @@ fn add_word(alloc: Global, word: &Word, all: &mut Vec<Value>) -> Result<(), Allo
     Ok(())
 }
 
-/// Adds a declared thing.
+/// Adds a declared thing by its name alone.
 fn add_declared(ask: &Ask<'_>, number: usize, all: &mut Vec<Value>) -> Result<(), AllocError> {
+    if let Some(item) = declared_value(ask, number)? {
+        all.push(item)?;
+    }
+    Ok(())
+}
+
+/// The object of a declared thing.
+fn declared_value(ask: &Ask<'_>, number: usize) -> Result<Option<Value>, AllocError> {
     let Some(declaration) = ask.view.index.declaration(number) else {
-        return Ok(());
+        return Ok(None);
     };
     let text = ask.known_bytes(declaration.place.file);
     let words = if text.len() > MOST_BYTES {
@@ -154,14 +177,35 @@ fn add_declared(ask: &Ask<'_>, number: usize, all: &mut Vec<Value>) -> Result<()
         words_of(ask.alloc, text, declaration)?
     };
     let kind = kind_number(declaration.kind);
-    all.push(item_value(ask.alloc, &declaration.name, kind, &words)?)?;
+    Ok(Some(item_value(ask.alloc, &declaration.name, kind, &words)?))
+}
+
+/// Adds a declared thing: a procedure with places for what is given to it, if the editor takes them.
+fn add_named(
+    ask: &Ask<'_>,
+    number: usize,
+    formals: Option<&Formals>,
+    all: &mut Vec<Value>,
+) -> Result<(), AllocError> {
+    if let Some(item) = declared_value(ask, number)? {
+        let mut item = item;
+        if let Some(formals) = formals {
+            add_call(ask, number, formals, &mut item)?;
+        }
+        all.push(item)?;
+    }
     Ok(())
 }
 
 /// Adds what is offered.
-fn add_offer(ask: &Ask<'_>, offer: &Offer, all: &mut Vec<Value>) -> Result<(), AllocError> {
+fn add_offer(
+    ask: &Ask<'_>,
+    offer: &Offer,
+    formals: Option<&Formals>,
+    all: &mut Vec<Value>,
+) -> Result<(), AllocError> {
     match (offer.declaration, explanation(&offer.name)) {
-        (Some(number), _) => add_declared(ask, number, all),
+        (Some(number), _) => add_named(ask, number, formals, all),
         (None, Some(word)) => add_word(ask.alloc, &word, all),
         (None, None) => {
             all.push(item_value(ask.alloc, &offer.name, MODULE, b"")?)?;
@@ -170,12 +214,39 @@ fn add_offer(ask: &Ask<'_>, offer: &Offer, all: &mut Vec<Value>) -> Result<(), A
     }
 }
 
+/// The formals of all procedures, if the editor takes texts with places to fill.
+fn formals_for(ask: &Ask<'_>, choice: &Choice<'_>) -> Result<Option<Formals>, AllocError> {
+    if choice.has_snippets {
+        Ok(Some(Formals::of(ask)?))
+    } else {
+        Ok(None)
+    }
+}
+
 /// Adds all that is offered.
-fn add_offers(ask: &Ask<'_>, offers: &[Offer], all: &mut Vec<Value>) -> Result<(), AllocError> {
+fn add_offers(
+    ask: &Ask<'_>,
+    choice: &Choice<'_>,
+    offers: &[Offer],
+    all: &mut Vec<Value>,
+) -> Result<(), AllocError> {
+    let formals = formals_for(ask, choice)?;
     for offer in offers {
-        add_offer(ask, offer, all)?;
+        add_offer(ask, offer, formals.as_ref(), all)?;
     }
     Ok(())
+}
+
+/// Adds the names in scope at a place, and the reserved words.
+fn add_scope(
+    ask: &Ask<'_>,
+    choice: &Choice<'_>,
+    pos: Pos,
+    all: &mut Vec<Value>,
+) -> Result<(), AllocError> {
+    let offers = ask.view.index.in_scope(ask.alloc, ask.file, pos)?;
+    add_offers(ask, choice, &offers, all)?;
+    add_reserved(ask.alloc, all)
 }
 
 /// Adds the reserved words.
@@ -224,7 +295,7 @@ fn add_wanted(
     ask: &Ask<'_>,
     tokens: &[Token],
     wanted: Wanted<'_>,
-    modules: &[String],
+    choice: &Choice<'_>,
     all: &mut Vec<Value>,
 ) -> Result<(), AllocError> {
     let alloc = ask.alloc;
@@ -234,28 +305,31 @@ fn add_wanted(
     let pos = file.known_pos(ask.offset);
     let index = &ask.view.index;
     match wanted {
-        Wanted::Module => add_modules(alloc, modules, all),
+        Wanted::Module => add_modules(alloc, choice.modules, all),
         Wanted::Export(name) => add_exports(ask, name, all),
         Wanted::Member(point) => {
             let offers = index.members_of(alloc, ask.file, pos, tokens, point)?;
-            add_offers(ask, &offers, all)
+            add_offers(ask, choice, &offers, all)
         }
-        Wanted::Name => {
-            add_offers(ask, &index.in_scope(alloc, ask.file, pos)?, all)?;
-            add_reserved(alloc, all)
+        Wanted::Heading => add_lacking(ask, choice, Lead::Written, pos, all),
+        Wanted::Declaration => {
+            add_lacking(ask, choice, Lead::Missing, pos, all)?;
+            add_scope(ask, choice, pos, all)
         }
+        Wanted::Name => add_scope(ask, choice, pos, all),
     }
 }
 
 /// What may be written at a place: behind a point the fields of the record or what the module exports, in an import these modules
-/// or what one exports, and else the names in scope and the words of the language. Nothing in a comment or in a string.
-pub fn completion(ask: &Ask<'_>, modules: &[String]) -> Result<Value, AllocError> {
+/// or what one exports, behind PROCEDURE what the definition declares and the implementation lacks, and else the names in scope and
+/// the words of the language, where a declaration may stand what the implementation lacks too. Nothing in a comment or in a string.
+pub fn completion(ask: &Ask<'_>, choice: &Choice<'_>) -> Result<Value, AllocError> {
     let mut all = Vec::new(ask.alloc);
     let front = part(ask.bytes(), 0, ask.offset);
     if let Some(tokens) = tokens_before(ask.alloc, front)? {
         let count = count_before_word(&tokens, front);
         let wanted = wanted_behind(&tokens, count);
-        add_wanted(ask, &tokens, wanted, modules, &mut all)?;
+        add_wanted(ask, &tokens, wanted, choice, &mut all)?;
     }
     Ok(Value::Array(all))
 }

@@ -11,11 +11,12 @@ mod hovering;
 mod places;
 mod semantic;
 mod signature;
+mod snippets;
 mod symbols;
 mod values;
 
 pub use ask::Ask;
-pub use completing::completion;
+pub use completing::{Choice, completion};
 pub use folding::folding_ranges;
 pub use hovering::hover;
 pub use places::{

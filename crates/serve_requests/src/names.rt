@@ -5,9 +5,9 @@ use crate::params::{position_of, text_at};
 use crate::server::{Held, Reach, Reply, Server};
 use serde_json::Value;
 use serve_lists::{
-    Ask, Extent, add_workspace_symbols, completion, definition, document_symbols, folding_ranges,
-    highlights, hover, implementation, prepare_rename, references, semantic_tokens, signature_help,
-    type_definition,
+    Ask, Choice, Extent, add_workspace_symbols, completion, definition, document_symbols,
+    folding_ranges, highlights, hover, implementation, prepare_rename, references, semantic_tokens,
+    signature_help, type_definition,
 };
 use serve_messages::{Call, ErrorCode, Method};
 use serve_programs::{
@@ -261,7 +261,11 @@ impl Server {
         };
         if call.method == Method::Completion {
             let modules = self.modules_for(alloc, folder, path.as_str())?;
-            return Ok(Reply::Result(completion(&ask, &modules)?));
+            let choice = Choice {
+                modules: &modules,
+                has_snippets: self.has_snippets,
+            };
+            return Ok(Reply::Result(completion(&ask, &choice)?));
         }
         Ok(Reply::Result(answer_of(&ask, call.method, &call.params)?))
     }

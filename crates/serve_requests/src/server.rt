@@ -1,7 +1,7 @@
 //! The server, and how it takes messages.
 
-use crate::changes::{change_text, close_text, open_text};
-use crate::starting::{capabilities, encoding_of};
+use crate::changes::{change_text, close_text, open_text, path_in};
+use crate::starting::{capabilities, encoding_of, has_snippets};
 use serde_json::Value;
 use serve_messages::{
     Call, ErrorCode, FrameFault, Incoming, Invalid, Method, error_body, read_message, result_body,
@@ -56,6 +56,14 @@ pub struct Server {
     pub(crate) shown: Vec<String>,
     /// The programs that were asked about last, until a text changes.
     pub(crate) held: Option<Held>,
+    /// Whether a text changed since it was last said what is refused.
+    pub(crate) is_due: bool,
+    /// The text that changed last, until its names are looked at.
+    pub(crate) latest: Option<String>,
+    /// The requests that are not wanted any more.
+    pub(crate) cancelled: Vec<Value>,
+    /// Whether the editor takes texts with places to fill.
+    pub(crate) has_snippets: bool,
     stage: Stage,
 }
 
@@ -125,6 +133,10 @@ impl Server {
             texts: Texts::new(alloc),
             shown: Vec::new(alloc),
             held: None,
+            is_due: false,
+            latest: None,
+            cancelled: Vec::new(alloc),
+            has_snippets: false,
             stage: Stage::Fresh,
         }
     }
@@ -144,7 +156,8 @@ impl Server {
         }
     }
 
-    /// What goes back for the body of a message. The only error is want of memory.
+    /// What goes back for the body of a message. What is refused then is said by `settle`, or before the session is shut down. The
+    /// only error is want of memory.
     pub fn answer<R: AllocGlobal + Threads + Sync, F: Folder>(
         &mut self,
         rt: &R,
@@ -153,16 +166,30 @@ impl Server {
     ) -> Result<Answer, AllocError> {
         let alloc = rt.alloc();
         match read_message(alloc, message)? {
-            Incoming::Request(call) => {
-                let reply = self.reply(rt, folder, &call)?;
-                Answer::of(alloc, body_of(alloc, &call.id, reply)?)
-            }
+            Incoming::Request(call) => self.answer_request(rt, folder, &call),
             Incoming::Notification(call) => self.note(rt, folder, &call),
             Incoming::Response => Ok(Answer::nothing(alloc)),
             Incoming::Invalid(Invalid { id, code, words }) => {
                 Answer::of(alloc, error_body(alloc, &id, code, words)?)
             }
         }
+    }
+
+    /// What goes back for a request.
+    fn answer_request<R: AllocGlobal + Threads + Sync, F: Folder>(
+        &mut self,
+        rt: &R,
+        folder: &F,
+        call: &Call,
+    ) -> Result<Answer, AllocError> {
+        let alloc = rt.alloc();
+        let mut answer = Answer::nothing(alloc);
+        if call.method == Method::Shutdown {
+            answer.bodies = self.settle(rt, folder)?;
+        }
+        let reply = self.reply(rt, folder, call)?;
+        answer.bodies.push(body_of(alloc, &call.id, reply)?)?;
+        Ok(answer)
     }
 
     /// What is answered to a request, as far as the session is.
@@ -177,6 +204,7 @@ impl Server {
             (Stage::Fresh, Method::Initialize) => {
                 self.stage = Stage::Running;
                 self.encoding = encoding_of(&call.params);
+                self.has_snippets = has_snippets(&call.params);
                 Ok(Reply::Result(capabilities(alloc, self.encoding)?))
             }
             (Stage::Fresh, _) => Reply::failed(
@@ -198,6 +226,11 @@ impl Server {
                 self.stage = Stage::Stopped;
                 Ok(Reply::Result(Value::Null))
             }
+            (Stage::Running, _) if self.cancelled.contains(&call.id) => Reply::failed(
+                alloc,
+                ErrorCode::RequestCancelled,
+                "the request was cancelled",
+            ),
             (Stage::Running, _) => self.request(rt, folder, call),
         }
     }
@@ -211,10 +244,12 @@ impl Server {
     ) -> Result<Answer, AllocError> {
         let mut answer = Answer::nothing(rt.alloc());
         if call.method == Method::Exit {
+            answer.bodies = self.settle(rt, folder)?;
             answer.end = Some(self.status_at_end());
         } else if self.stage == Stage::Running && self.take_change(rt.alloc(), call)? {
             self.held = None;
-            answer.bodies = self.diagnose(rt, folder)?;
+            self.is_due = true;
+            self.latest = path_in(rt.alloc(), &call.params)?;
         }
         Ok(answer)
     }

@@ -1,6 +1,6 @@
 //! The comments that belong to a piece of a text.
 
-use text_tokens::{part, rest};
+use text_tokens::{comment_length, part, rest};
 
 /// The end of a line.
 const LINE_FEED: u8 = b'\n';
@@ -17,27 +17,6 @@ const SECTIONS: [&str; 3] = ["CONST", "TYPE", "VAR"];
 /// What a comment says, without its brackets.
 fn inside(comment: &[u8]) -> &[u8] {
     part(comment, BRACKET, comment.len().saturating_sub(BRACKET)).trim_ascii()
-}
-
-/// How long the comment is that begins here. Comments stand in comments.
-fn comment_length(text: &[u8]) -> usize {
-    let mut depth = 0usize;
-    let mut before = b' ';
-    for (at, byte) in text.iter().enumerate() {
-        let pair = (before, *byte);
-        before = *byte;
-        if pair == (b'(', b'*') {
-            depth = depth.saturating_add(1);
-            before = b' ';
-        } else if pair == (b'*', b')') {
-            depth = depth.saturating_sub(1);
-            before = b' ';
-            if depth == 0 {
-                return at.saturating_add(1);
-            }
-        }
-    }
-    text.len()
 }
 
 /// How long the comment is that ends here, read from its end.

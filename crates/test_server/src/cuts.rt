@@ -55,8 +55,9 @@ fn count_unanswered<R: AllocGlobal + Threads + Sync>(
     text: &str,
 ) -> Result<usize, AllocError> {
     let alloc = rt.alloc();
-    let opened = server.answer(rt, &Files(&[]), opening(alloc, text)?.as_bytes())?;
-    let mut unanswered: usize = if opened.bodies.is_empty() { 1 } else { 0 };
+    let _ = server.answer(rt, &Files(&[]), opening(alloc, text)?.as_bytes())?;
+    let settled = server.settle(rt, &Files(&[]))?;
+    let mut unanswered: usize = if settled.is_empty() { 1 } else { 0 };
     for (number, method) in METHODS.iter().enumerate() {
         let line = u32::try_from(number).unwrap_or(0) % LINES;
         let message = request(alloc, *method, line)?;

@@ -276,7 +276,16 @@ pub fn begun(alloc: Global) -> Result<Server, AllocError> {
     Ok(Server::new(alloc, setting))
 }
 
-/// What goes back for a message, each body in a line.
+/// Adds bodies, each in a line.
+fn add_bodies(alloc: Global, bodies: &[Vec<u8>], all: &mut String) -> Result<(), AllocError> {
+    for body in bodies {
+        all.push_str(String::from_utf8_lossy(alloc, body)?.as_str())?;
+        all.push('\n')?;
+    }
+    Ok(())
+}
+
+/// What goes back for a message, and then for the change that it makes, each body in a line.
 fn lines_of<R: AllocGlobal + Threads + Sync>(
     rt: &R,
     server: &mut Server,
@@ -284,10 +293,8 @@ fn lines_of<R: AllocGlobal + Threads + Sync>(
 ) -> Result<String, AllocError> {
     let answer = server.answer(rt, &Files(&ON_DISK), message.as_bytes())?;
     let mut all = String::new(rt.alloc());
-    for body in &answer.bodies {
-        all.push_str(String::from_utf8_lossy(rt.alloc(), body)?.as_str())?;
-        all.push('\n')?;
-    }
+    add_bodies(rt.alloc(), &answer.bodies, &mut all)?;
+    add_bodies(rt.alloc(), &server.settle(rt, &Files(&ON_DISK))?, &mut all)?;
     Ok(all)
 }
 

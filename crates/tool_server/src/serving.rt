@@ -4,8 +4,8 @@ use crate::disk::{Disk, all_from_root};
 use anyhow::Result;
 use command_words::{Exit, FAILED};
 use serve_messages::{Frame, Framer, framed};
-use serve_requests::{Answer, Server, Setting as Served};
-use std::io;
+use serve_requests::{Server, Setting as Served};
+use std::alloc::Global;
 use std::io::Read;
 use std::rt::{Env, Files};
 use std::thread::Threads;
@@ -14,22 +14,57 @@ use tool_words::{PROGRAM, Setting};
 /// How many bytes are asked for at once.
 const CHUNK: usize = 65536;
 
-/// Writes the messages of an answer. Why writing failed, if it did.
-fn write_answer<R: AllocGlobal, P: Print>(
+/// Writes messages with these bodies. The status, if that fails.
+fn write_bodies<R: Eprint + AllocGlobal, P: Print>(
     rt: &R,
-    answer: &Answer,
+    bodies: &[Vec<u8>],
     out: &mut P,
-) -> Result<io::Result<()>> {
-    for body in &answer.bodies {
+) -> Result<Option<u8>> {
+    for body in bodies {
         let message = framed(rt.alloc(), body)?;
         if let Err(error) = out.write_all(&message) {
-            return Ok(Err(error));
+            let _ = eprintln!(rt; "{PROGRAM}: standard output: {error}");
+            return Ok(Some(FAILED));
         }
     }
-    Ok(Ok(()))
+    Ok(None)
 }
 
-/// Answers the messages that these bytes end. The status, if the server ends by one of them.
+/// Looks for requests that are not wanted any more.
+fn look_ahead(alloc: Global, server: &mut Server, frames: &[Frame]) -> Result<()> {
+    for frame in frames {
+        if let Frame::Message(body) = frame {
+            server.look_ahead(alloc, body)?;
+        }
+    }
+    Ok(())
+}
+
+/// Answers messages. The status, if the server ends by one of them.
+fn answer_frames<R, P>(
+    rt: &R,
+    server: &mut Server,
+    frames: &[Frame],
+    out: &mut P,
+) -> Result<Option<u8>>
+where
+    R: Files + Eprint + AllocGlobal + Threads + Sync + Clone + Drop,
+    P: Print,
+{
+    for frame in frames {
+        let answer = match frame {
+            Frame::Message(body) => server.answer(rt, &Disk { rt }, body)?,
+            Frame::Broken(fault) => server.answer_broken(rt.alloc(), *fault)?,
+        };
+        let failed = write_bodies(rt, &answer.bodies, out)?;
+        if failed.is_some() || answer.end.is_some() {
+            return Ok(failed.or(answer.end));
+        }
+    }
+    Ok(None)
+}
+
+/// Answers the messages that these bytes end, and then says what is refused. The status, if the server ends.
 fn answer_bytes<R, P>(
     rt: &R,
     framer: &mut Framer,
@@ -43,20 +78,15 @@ where
 {
     let mut frames = Vec::new(rt.alloc());
     framer.feed(bytes, &mut frames)?;
-    for frame in &frames {
-        let answer = match frame {
-            Frame::Message(body) => server.answer(rt, &Disk { rt }, body)?,
-            Frame::Broken(fault) => server.answer_broken(rt.alloc(), *fault)?,
-        };
-        if let Err(error) = write_answer(rt, &answer, out)? {
-            let _ = eprintln!(rt; "{PROGRAM}: standard output: {error}");
-            return Ok(Some(FAILED));
-        }
-        if answer.end.is_some() {
-            return Ok(answer.end);
-        }
+    look_ahead(rt.alloc(), server, &frames)?;
+    let end = answer_frames(rt, server, &frames, out)?;
+    if end.is_some() {
+        return Ok(end);
     }
-    Ok(None)
+    let bodies = server.settle(rt, &Disk { rt })?;
+    let failed = write_bodies(rt, &bodies, out)?;
+    server.prepare(rt.alloc(), &Disk { rt })?;
+    Ok(failed)
 }
 
 /// What is asked of the programs that are served.
