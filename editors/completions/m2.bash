@@ -20,7 +20,7 @@ _m2() {
     for ((at = 1; at < COMP_CWORD; at++)); do
         word="${COMP_WORDS[at]}"
         case "$word" in
-            --input | --steps | --format | --color | --lib | --memory | --workers | --listing | --flame | --callgrind | --lcov | --out | --single | --host | --bytes) ((at++)) ;;
+            --input | --listing | --flame | --callgrind | --lcov | --steps | --lib | --memory | --workers | --format | --color | --out | --single | --host | --bytes) ((at++)) ;;
             -*) ;;
             *) if [ -z "$command" ]; then command="$word"; else ((place++)); last="$word"; fi ;;
         esac
@@ -49,15 +49,15 @@ _m2() {
     fi
     if [[ "$current" == -* ]]; then
         case "$command" in
-            run) _m2_words "--input --steps --profile --coverage --format --color --lib --memory --workers --verbose --listing --flame --callgrind --lcov --help" ;;
-            build) _m2_words "--input --out --single --host --format --color --lib --memory --workers --verbose --help" ;;
-            input) _m2_words "--format --color --lib --memory --workers --verbose --help" ;;
-            check) _m2_words "--fix --yes --format --color --lib --memory --workers --verbose --help" ;;
-            test) _m2_words "--each --same --steps --bytes --format --lib --memory --workers --verbose --help" ;;
-            show) _m2_words "--format --color --lib --memory --workers --verbose --help" ;;
+            run) _m2_words "--input --profile --coverage --listing --flame --callgrind --lcov --steps --lib --verbose --memory --workers --format --color --help" ;;
+            build) _m2_words "--input --out --single --host --lib --verbose --memory --workers --format --color --help" ;;
+            input) _m2_words "--lib --verbose --memory --workers --format --color --help" ;;
+            check) _m2_words "--fix --yes --lib --verbose --memory --workers --format --color --help" ;;
+            test) _m2_words "--each --same --bytes --format --steps --lib --verbose --memory --workers --help" ;;
+            show) _m2_words "--lib --verbose --memory --workers --format --color --help" ;;
             fmt) _m2_words "--check --diff --format --color --help" ;;
             doc) _m2_words "--html --out --format --color --help" ;;
-            lsp) _m2_words "--stdio --lib --memory --workers --verbose --help" ;;
+            lsp) _m2_words "--stdio --lib --verbose --memory --workers --help" ;;
             explain) _m2_words "--help" ;;
             new) _m2_words "--class --help" ;;
         esac

@@ -1,6 +1,7 @@
 """The commands of m2, and the words and options of each, as the sources of its command line say them.
 
-Only the forms in which these sources are written are read: functions that make a `Command`, add an `Arg`, or call such functions.
+Only the forms in which these sources are written are read: rows of words and options, entries of commands, and functions that add an
+`Arg` or rows, or call such functions.
 A word or an option that is found has to stand in the table's `values`, so that a new one is not forgotten.
 """
 import glob
@@ -11,10 +12,16 @@ from .table import TOP, read
 
 SOURCES = ("command_words", "build_words", "tool_words")
 FUNCTION = re.compile(r"(?m)^(?:pub )?fn (\w+).*?\n}\n", re.S)
-CONSTANT = re.compile(r'(?m)^(?:pub )?const (\w+): &str = "(.*)";')
-STEP = re.compile(r"Command::new\(alloc, (?P<command>[^)]+)\)|\bArg::new\(\s*alloc,\s*(?P<word>[^)]+)\)|\.long\((?P<long>[^)]+)\)"
-                  r"|\.about\(\s*(?P<about>\"(?:[^\"\\]|\\.)*\")|\.help\(\s*(?P<help>\"(?:[^\"\\]|\\.)*\")"
-                  r"|\.action\(ArgAction::(?P<action>\w+)\)|\b(?P<call>\w+)\(\s*alloc\b")
+CONSTANT = re.compile(r'(?m)^(?:pub(?:\(crate\))? )?const (\w+): &str = "(.*)";')
+STEP = re.compile(r"\bArg::new\(\s*alloc,\s*(?P<word>[^)]+)\)|\.long\((?P<long>[^)]+)\)|\.help\(\s*(?P<help>\"(?:[^\"\\]|\\.)*\")"
+                  r"|\.action\(ArgAction::(?P<action>\w+)\)|\bwith_rows\(alloc, .*?, &(?P<rows>\w+)\)|\b(?P<call>\w+)\(\s*alloc\b")
+NAME = r"(?P<name>\w+|\"[^\"]+\")"
+ROW = re.compile(rf"Row {{\s*name: {NAME},\s*sort: Sort::(?P<sort>\w+).*?,\s*help: (?P<help>\"(?:[^\"\\]|\\.)*\"),\s*}}|\b(?P<shared>[A-Z]\w*_ROW)\b", re.S)
+ROWS = re.compile(r"(?m)^const (\w+_ROWS?): (?:\[Row; \d+\]|Row) = (.*?);$", re.S)
+ENTRY = re.compile(rf"Entry {{\s*name: {NAME},\s*about: (?P<about>\"[^\"]*\"),\s*rows: &(?P<rows>\w+),\s*has_steps: (?P<steps>\w+),"
+                   r"\s*group: Group::(?P<group>\w+),\s*}")
+# the options that commands of a group have beside their own
+GROUPS = {"Setting": ["with_building", "STYLE_ROWS"], "Building": ["with_building"], "Style": ["STYLE_ROWS"], "None": []}
 OPTIONS_OF_ALL = [("--help", "Prints the options")]
 OPTIONS_OF_PROGRAM = [*OPTIONS_OF_ALL, ("--version", "Prints the version")]
 
@@ -49,61 +56,80 @@ class Command:
 
 
 class Sources:
-    """The functions of the sources, and their constants, by name. Each crate has constants of its own."""
+    """The functions, rows and entries of the sources, and their constants, by name. Each crate has constants of its own."""
 
     def __init__(self):
         self.functions = {}
-        self.constants = {}
+        self.rows = {}
+        self.entries = []
         for crate in SOURCES:
             texts = [read(path[len(TOP) + 1:]) for path in sorted(glob.glob(f"{TOP}/crates/{crate}/src/*.rt"))]
             own = {name: value for text in texts for name, value in CONSTANT.findall(text)}
             for text in texts:
                 self.functions.update({found[1]: (found[0], own) for found in FUNCTION.finditer(text)})
+                self.rows.update({name: (body, own) for name, body in ROWS.findall(text)})
+                self.entries += [(found, own) for found in ENTRY.finditer(text)]
 
     def value(self, text, constants):
         text = text.strip()
         return json.loads(text) if text.startswith('"') else constants[text]
 
-    def steps(self, name):
-        """The steps of a function that makes a command or a word, with those of the functions that it calls, in order."""
+    def words_of(self, name):
+        """The words and options of rows or of a function, in order."""
+        return list(self.words_of_rows(name) if name in self.rows else self.words_of_function(name))
+
+    def words_of_rows(self, name):
+        body, constants = self.rows[name]
+        for found in ROW.finditer(body):
+            if found["shared"]:
+                yield from self.words_of_rows(found["shared"])
+                continue
+            word = Word(self.value(found["name"], constants))
+            word.is_option = "Word" not in found["sort"]
+            word.takes_value = found["sort"] != "Flag"
+            word.comes_again = found["sort"] in ("Words", "AnyWords", "Values")
+            word.help = self.value(found["help"], constants)
+            yield word
+
+    def words_of_function(self, name):
         body, constants = self.functions[name]
+        words = []
         for found in STEP.finditer(body):
             kind = found.lastgroup
-            if kind == "call":
-                if found["call"] in self.functions:
-                    yield from self.steps(found["call"])
+            if kind == "rows":
+                words += self.words_of_rows(found["rows"])
+            elif kind == "call":
+                words += self.words_of_function(found["call"]) if found["call"] in self.functions else []
+            elif kind == "word":
+                words.append(Word(self.value(found["word"], constants)))
             else:
-                yield kind, found[kind] if kind == "action" else self.value(found[kind], constants)
+                apply(kind, found[kind] if kind == "action" else self.value(found[kind], constants), words[-1])
+        return words
 
 
-def apply(step, command):
-    """One step of the making of a command."""
-    kind, value = step
-    if kind == "word":
-        command.words.append(Word(value))
-    elif kind == "about":
-        command.about = value
-    elif kind == "long":
-        command.words[-1].is_option = True
-        command.words[-1].name = value
+def apply(kind, value, word):
+    """One step of the making of a word or an option."""
+    if kind == "long":
+        word.is_option = True
+        word.name = value
     elif kind == "help":
-        command.words[-1].help = value
-    elif kind == "action":
-        command.words[-1].takes_value = value != "SetTrue"
-        command.words[-1].comes_again = value == "Append"
+        word.help = value
+    else:
+        word.takes_value = value != "SetTrue"
+        word.comes_again = value == "Append"
 
 
 def commands():
     """The commands of m2, in the order in which its help lists them."""
     sources = Sources()
     found = []
-    for step in sources.steps("command"):
-        if step[0] == "command":
-            found.append(Command(step[1]))
-        else:
-            apply(step, found[-1])
-    # the first is the program itself
-    return found[1:]
+    for entry, constants in sources.entries:
+        command = Command(sources.value(entry["name"], constants))
+        command.about = sources.value(entry["about"], constants)
+        parts = [entry["rows"], *(["steps_option"] if entry["steps"] == "true" else []), *GROUPS[entry["group"]]]
+        command.words = [word for part in parts for word in sources.words_of(part)]
+        found.append(command)
+    return found
 
 
 def unknown_values(table, found):

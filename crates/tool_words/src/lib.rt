@@ -3,6 +3,7 @@
 #![tactic(auto)]
 
 mod asked;
+mod commands;
 mod libraries;
 mod own_library;
 mod words;
