@@ -1,4 +1,4 @@
-"""The command `dense`: one module of many arrays and functions, whose text has little but operators and statements."""
+"""The command `dense`: one module of many arrays and functions, whose text is mostly statements and operators."""
 from .builds import report_builds, write_files
 
 ARRAY = "  data{k}: ARRAY [0..{most}] OF CARDINAL;\n"
@@ -7,11 +7,10 @@ VAR at, sum: CARDINAL;
 BEGIN
   sum := from * {factor} + 1;
   FOR at := 0 TO {most} DO
-    IF data{k}[at] > sum THEN sum := data{k}[at] - at ELSE data{k}[at] := sum END
+    IF data{k}[at] > sum THEN sum := data{k}[at] ELSE data{k}[at] := sum END
   END;
   WHILE sum > {limit} DO sum := sum DIV 2 END;
-  CASE sum MOD 4 OF 0: RETURN sum | 1, 2: RETURN at * {factor} ELSE END;
-  RETURN 0
+  CASE sum MOD 4 OF 0: RETURN sum | 1, 2: RETURN at ELSE RETURN 0 END
 END Work{k};
 """
 

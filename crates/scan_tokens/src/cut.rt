@@ -6,7 +6,7 @@ ghost use Rattle.scan_tokens.specs.declared.class.Class.TheVariants as class;
 ghost use Rattle.scan_tokens.specs.declared.refusal.ScanError.TheVariants.{Refused};
 ghost use Rattle.scan_tokens.specs.Division.{tokens_at};
 ghost use Rattle.scan_tokens.specs.Forms.{IsRun, Spells};
-ghost use Rattle.scan_tokens.specs.Steps.{Adds, Begins, HasRoom, IsPair, Opens, Stops, Takes};
+ghost use Rattle.scan_tokens.specs.Steps.{Adds, Begins, HasRoom, IsPair, Opens, Skips, Stops, Takes};
 
 use crate::class::{Class, class_of};
 use crate::comment::{behind, comment_end, right};
@@ -242,6 +242,23 @@ fn cut_space(cut: &mut Cut<'_>)
         rest,
         pos: behind(pos, text[0]),
     };
+}
+
+/// Whether a blank stands here.
+fn begins_blank(text: &[u8]) -> bool
+    ensures { IsTrue result → Begins class.Space text.now }
+{
+    !text.is_empty() && text[0] == b' '
+}
+
+/// Cuts the blanks at the front of what is left of a text: most members are blanks that stand in a row.
+pub fn cut_blanks(cut: &mut Cut<'_>)
+    requires room { HasRoom cut.old.pos cut.old.rest.now }
+    ensures { Skips cut.old.rest.now cut.old.pos cut.new.rest.now cut.new.pos }
+{
+    while begins_blank(cut.rest) {
+        cut_space(cut);
+    }
 }
 
 /// Cuts the member at the front of what is left of a text, and adds its token, if it is one.

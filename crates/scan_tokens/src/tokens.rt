@@ -9,7 +9,7 @@ ghost use Rattle.scan_tokens.specs.Forms.{Member};
 ghost use Rattle.scan_tokens.specs.Division.{Divides, HasTokens, Refuses, max_text};
 ghost use Rattle.scan_tokens.specs.Steps.{IfRefused};
 
-use crate::cut::{Cut, next_cut, put, scan_refusal};
+use crate::cut::{Cut, cut_blanks, next_cut, put, scan_refusal};
 use crate::refusal::{ScanError, TokenRule};
 use m2_tree::{Lexeme, Pos, Token};
 use std::alloc::Global;
@@ -43,6 +43,7 @@ pub fn scan(alloc: Global, text: &[u8]) -> Result<Vec<Token>, ScanError>
     let mut cut = Cut { rest: text, pos };
     while !cut.rest.is_empty() {
         next_cut(alloc, &mut cut, &mut tokens)?;
+        cut_blanks(&mut cut);
     }
     put(&mut tokens, Lexeme::End, cut.pos)?;
     Ok(tokens)

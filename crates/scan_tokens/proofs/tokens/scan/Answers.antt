@@ -3,7 +3,7 @@ use Rattle.std.proofs.lemmas.Result.{err_from_is_err_and}
 use Rattle.std.proofs.lemmas.Bool.{eqb-true}
 use Rattle.std.proofs.lemmas.List.{nil_from_length}
 use Rattle.m2_tree.specs.declared.token.Token.{Token}
-use Rattle.scan_tokens.proofs.Scanned.{Scanned, begins, goes_on, ends, stops, tokens_once, too_long, only_memory, only_refusal, never_both}
+use Rattle.scan_tokens.proofs.Scanned.{Scanned, begins, goes_on, skipped, shorter, ends, stops, tokens_once, too_long, only_memory, only_refusal, never_both}
 use Rattle.scan_tokens.proofs.tokens.scan.Goals as goal
 
 pub returns-then-text-gt-MAX_TEXT-clause-refused : goal.returns-then-text-gt-MAX_TEXT-clause-refused
@@ -24,10 +24,24 @@ returns-in_err-next_cut-clause-accepted c =
     let p = err_from_is_err_and c.from_residual.result c.from_residual.ensures.1 in
     rw (p.1, p.2) (λ ts small h. only_memory c.args.text.now _ ts small h (stops c.args.text.now c.loop-alloc.cut.rest.now c.loop-alloc.cut.pos c.loop-alloc.tokens.items _ c.loop-alloc.invariant c.in_err-next_cut.ensures.refused))
 
+pub cut_blanks-requires : goal.cut_blanks-requires
+cut_blanks-requires c =
+    let a = c.in_ok-next_cut.ensures.taken in
+    let s = goes_on c.args.text.now c.loop-alloc.cut.rest.now c.loop-alloc.cut.pos c.loop-alloc.tokens.items a.0 c.next_cut.new.cut.rest.now c.next_cut.new.cut.pos c.next_cut.new.tokens.items c.loop-alloc.invariant a.1 a.2 in
+    record { room = s.room }
+
+pub loop-alloc-smaller : goal.loop-alloc-smaller
+loop-alloc-smaller c =
+    let a = c.in_ok-next_cut.ensures.taken in
+    let mid = c.next_cut.new.cut in
+    shorter c.loop-alloc.cut.rest.now c.loop-alloc.cut.pos a.0 mid.rest.now mid.pos c.cut_blanks.new.cut.rest.now c.cut_blanks.new.cut.pos a.1 c.cut_blanks.ensures
+
 pub loop-alloc-preserved : goal.loop-alloc-preserved
 loop-alloc-preserved c =
     let a = c.in_ok-next_cut.ensures.taken in
-    goes_on c.args.text.now c.loop-alloc.cut.rest.now c.loop-alloc.cut.pos c.loop-alloc.tokens.items a.0 c.next_cut.new.cut.rest.now c.next_cut.new.cut.pos c.next_cut.new.tokens.items c.loop-alloc.invariant a.1 a.2
+    let mid = c.next_cut.new.cut in
+    let s = goes_on c.args.text.now c.loop-alloc.cut.rest.now c.loop-alloc.cut.pos c.loop-alloc.tokens.items a.0 mid.rest.now mid.pos c.next_cut.new.tokens.items c.loop-alloc.invariant a.1 a.2 in
+    skipped c.args.text.now mid.rest.now mid.pos c.next_cut.new.tokens.items c.cut_blanks.new.cut.rest.now c.cut_blanks.new.cut.pos s c.cut_blanks.ensures
 
 pub returns-clause-tokens : goal.returns-clause-tokens
 returns-clause-tokens c =
