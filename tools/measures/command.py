@@ -4,6 +4,7 @@ import sys
 import tempfile
 
 from .compilers import compilers
+from .dense_program import dense
 from .large_programs import chain, corpus, imports
 from .processes import FAILED, M2C, M2RUN, TOP, measure
 from .ratios import ratios
@@ -15,6 +16,7 @@ COMMANDS = {
     "repeats": (repeats, [(1 << 20, 1 << 20)]),
     "corpus": (corpus, [(64, 511), (300, 900)]),
     "compilers": (compilers, [(64, 511), (300, 900)]),
+    "dense": (dense, [(2000, 2700)]),
     "chain": (chain, [(500, 511)]),
     "imports": (imports, [(1023, 1024), (500, 1024)]),
     "run": (run, [(100, 1_000_000)]),

@@ -89,6 +89,11 @@ space_taken text rest pos q h e at =
     let first : get_or text 0 0 ≡ b = ap (λ (t : Text). get_or t 0 0) h.2 in
     (b ∷ [], h.2 ∙ ap (λ t. b ∷ t) (sym tail), omega arith, longest_space b rest h.3, inl (b, h.3, refl), at ∙ ap (place_after pos) first)
 
+pub blank_begins : (text : Text) → eqb (get_or text 0 0) 32 ≡ true → Begins Space text
+unfolding class
+blank_begins [] h = absurd (cc)
+blank_begins (b ∷ bs) h = (b, bs, refl, ap class (eqb-true b 32 h))
+
 -- ---- runs
 
 pub record IsFront (k : Class) (text run rest : Text) (n : ℕ) : Type 0 where

@@ -1,5 +1,5 @@
 -- How far a text is scanned, and what its end or its refusal is.
-use Rattle.std.proofs.Common.{◌≡◌, ◌≤◌, ◌<◌, List, [], ◌∷◌, ◌++◌, length, Option, Some, ◌⊎◌, inl, inr, ap, sym, refl, ◌∙◌, subst, append-nil, length-append, arith}
+use Rattle.std.proofs.Common.{◌≡◌, ◌≤◌, ◌<◌, List, [], ◌∷◌, ◌++◌, length, Option, Some, None, ◌⊎◌, inl, inr, ap, sym, refl, ◌∙◌, subst, append-nil, length-append, arith}
 use Rattle.m2_tree.specs.declared.pos.Pos.{Pos}
 use Rattle.m2_tree.specs.declared.token.Token.{Token}
 use Rattle.m2_tree.specs.declared.token.Lexeme.{Lexeme}
@@ -12,7 +12,7 @@ use Rattle.scan_tokens.specs.declared.refusal.ScanError.TheVariants.{Refused, No
 use Rattle.scan_tokens.specs.Bytes.{Text}
 use Rattle.scan_tokens.specs.Forms.{Member}
 use Rattle.scan_tokens.specs.Division.{Divides, HasTokens, HasFault, Refuses, RefusesIn, bytes_of, tokens_behind, tokens_at, place, max_text}
-use Rattle.scan_tokens.specs.Steps.{over, HasRoom, Takes, Stops, IfRefused}
+use Rattle.scan_tokens.specs.Steps.{over, HasRoom, Takes, Skips, nothing, one_more, Stops, IfRefused}
 use Rattle.scan_tokens.proofs.Places.{place_over, place_start}
 use Rattle.scan_tokens.proofs.Walks.{room_behind}
 use Rattle.scan_tokens.proofs.Refusals.{one_refusal}
@@ -50,6 +50,18 @@ goes_on text rest pos tokens m after next more s h e =
       room = room_behind w pos next rest after s.room h.1 h.5;
       small = s.small;
     }
+
+pub skipped : (text rest : Text) (pos : Pos) (tokens : List Token) (after : Text) (next : Pos) → Scanned text rest pos tokens → Skips rest pos after next → Scanned text after next tokens
+skipped text rest pos tokens _ _ s nothing = s
+skipped text rest pos tokens _ _ s (one_more mid at after next h k) = goes_on text mid at tokens None after next tokens (skipped text rest pos tokens mid at s h) k (sym (append-nil tokens))
+
+pub no_longer : (text : Text) (pos : Pos) (rest : Text) (next : Pos) → Skips text pos rest next → length rest ≤ length text
+no_longer text pos _ _ nothing = omega arith
+no_longer text pos _ _ (one_more mid at rest next h k) = omega (arith, no_longer text pos mid at h, ap length k.1, length-append k.0 rest)
+
+-- A member was taken, and perhaps more behind it.
+pub shorter : (text : Text) (pos : Pos) (m : Option Lexeme) (mid : Text) (at : Pos) (rest : Text) (next : Pos) → Takes text pos m mid at → Skips mid at rest next → length rest < length text
+shorter text pos m mid at rest next h k = omega (arith, no_longer mid at rest next k, ap length h.1, length-append h.0 mid, h.2)
 
 pub ends : (text rest : Text) (pos : Pos) (tokens more : List Token) → Scanned text rest pos tokens → rest ≡ [] → more ≡ tokens ++ tokens_at pos (Some lexeme.End) → HasTokens text more
 ends text rest pos tokens more s e d =

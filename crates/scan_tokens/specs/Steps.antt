@@ -48,6 +48,12 @@ abbrev pub Adds : Text → Pos → Text → Pos → List Token → List Token �
 Adds text pos rest after before tokens =
     (m : Option Lexeme) × Takes text pos m rest after × (tokens ≡ before ++ tokens_at pos m)
 
+-- Members without a token were taken from the front of the text, one after another.
+pub data Skips (text : Text) (pos : Pos) : Text → Pos → Type 0 where
+  nothing : Skips text pos text pos
+  one_more : (mid : Text) (at : Pos) (rest : Text) (after : Pos) → Skips text pos mid at
+      → Takes mid at None rest after → Skips text pos rest after
+
 -- What stands at the front of the text is refused, and this is the least place of a refusal there.
 abbrev pub Stops : Text → Pos → ScanError → Type 0
 Stops text pos NoMemory = Unit {0}

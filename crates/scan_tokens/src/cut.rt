@@ -6,7 +6,7 @@ ghost use Rattle.scan_tokens.specs.declared.class.Class.TheVariants as class;
 ghost use Rattle.scan_tokens.specs.declared.refusal.ScanError.TheVariants.{Refused};
 ghost use Rattle.scan_tokens.specs.Division.{tokens_at};
 ghost use Rattle.scan_tokens.specs.Forms.{IsRun, Spells};
-ghost use Rattle.scan_tokens.specs.Steps.{Adds, Begins, HasRoom, IsPair, Opens, Stops, Takes};
+ghost use Rattle.scan_tokens.specs.Steps.{Adds, Begins, HasRoom, IsPair, Opens, Skips, Stops, Takes};
 
 use crate::class::{Class, class_of};
 use crate::comment::{behind, comment_end, right};
@@ -17,7 +17,7 @@ use crate::symbols::{pair_of, single_of, word_of};
 use m2_tree::{Lexeme, MAX_NAME, Name, Pos, Quoted, Symbol, Token};
 use std::alloc::{AllocError, Global};
 
-/// What is left behind a member, and its place.
+/// What is left of a text, and its place.
 #[derive(Clone, Copy)]
 pub struct Cut<'a> {
     pub rest: &'a [u8],
@@ -25,10 +25,13 @@ pub struct Cut<'a> {
 }
 
 /// Adds a token. The only error is that memory ran out.
+#[inline(always)]
 pub fn put(tokens: &mut Vec<Token>, lexeme: Lexeme, pos: Pos) -> Result<(), AllocError>
     ensures { OnOk result (tokens.new.items ≡ tokens.old.items ++ tokens_at pos (Some lexeme)) }
 {
-    tokens.reserve(1)?;
+    if tokens.capacity() <= tokens.len() {
+        tokens.reserve(1)?;
+    }
     tokens.push_reserved(Token { lexeme, pos });
     Ok(())
 }
@@ -51,18 +54,16 @@ fn word_lexeme(alloc: Global, run: &[u8]) -> Result<Lexeme, AllocError>
     }
 }
 
-fn cut_name<'a>(
-    alloc: Global,
-    text: &'a [u8],
-    pos: Pos,
-    tokens: &mut Vec<Token>,
-) -> Result<Cut<'a>, ScanError>
-    requires begins { Begins class.Letter text.now }
-    requires room { HasRoom pos text.now }
-    ensures taken { IfOk result
-        (λ cut. Adds text.now pos cut.rest.now cut.pos tokens.old.items tokens.new.items) }
-    ensures refused { IfErr result (Stops text.now pos) }
+fn cut_name(alloc: Global, cut: &mut Cut<'_>, tokens: &mut Vec<Token>) -> Result<(), ScanError>
+    requires begins { Begins class.Letter cut.old.rest.now }
+    requires room { HasRoom cut.old.pos cut.old.rest.now }
+    ensures taken { OnOk result
+        (Adds cut.old.rest.now cut.old.pos cut.new.rest.now cut.new.pos tokens.old.items
+        tokens.new.items) }
+    ensures refused { IfErr result (Stops cut.old.rest.now cut.old.pos) }
 {
+    let text = cut.rest;
+    let pos = cut.pos;
     let len = run_len(text);
     if len > MAX_NAME {
         return Err(scan_refusal(pos, TokenRule::LongName));
@@ -70,45 +71,48 @@ fn cut_name<'a>(
     let (run, rest) = text.split_at(len);
     let lexeme = word_lexeme(alloc, run)?;
     put(tokens, lexeme, pos)?;
-    Ok(Cut {
+    *cut = Cut {
         rest,
         pos: right(pos, len),
-    })
+    };
+    Ok(())
 }
 
-fn cut_number<'a>(text: &'a [u8], pos: Pos, tokens: &mut Vec<Token>) -> Result<Cut<'a>, ScanError>
-    requires begins { Begins class.Digit text.now }
-    requires room { HasRoom pos text.now }
-    ensures taken { IfOk result
-        (λ cut. Adds text.now pos cut.rest.now cut.pos tokens.old.items tokens.new.items) }
-    ensures refused { IfErr result (Stops text.now pos) }
+fn cut_number(cut: &mut Cut<'_>, tokens: &mut Vec<Token>) -> Result<(), ScanError>
+    requires begins { Begins class.Digit cut.old.rest.now }
+    requires room { HasRoom cut.old.pos cut.old.rest.now }
+    ensures taken { OnOk result
+        (Adds cut.old.rest.now cut.old.pos cut.new.rest.now cut.new.pos tokens.old.items
+        tokens.new.items) }
+    ensures refused { IfErr result (Stops cut.old.rest.now cut.old.pos) }
 {
+    let text = cut.rest;
+    let pos = cut.pos;
     let len = run_len(text);
     let (run, rest) = text.split_at(len);
     match number_of(run) {
         Err(broken) => Err(scan_refusal(pos, broken)),
         Ok(token) => {
             put(tokens, token, pos)?;
-            Ok(Cut {
+            *cut = Cut {
                 rest,
                 pos: right(pos, len),
-            })
+            };
+            Ok(())
         }
     }
 }
 
-fn cut_string<'a>(
-    alloc: Global,
-    text: &'a [u8],
-    pos: Pos,
-    tokens: &mut Vec<Token>,
-) -> Result<Cut<'a>, ScanError>
-    requires begins { Begins class.Quote text.now }
-    requires room { HasRoom pos text.now }
-    ensures taken { IfOk result
-        (λ cut. Adds text.now pos cut.rest.now cut.pos tokens.old.items tokens.new.items) }
-    ensures refused { IfErr result (Stops text.now pos) }
+fn cut_string(alloc: Global, cut: &mut Cut<'_>, tokens: &mut Vec<Token>) -> Result<(), ScanError>
+    requires begins { Begins class.Quote cut.old.rest.now }
+    requires room { HasRoom cut.old.pos cut.old.rest.now }
+    ensures taken { OnOk result
+        (Adds cut.old.rest.now cut.old.pos cut.new.rest.now cut.new.pos tokens.old.items
+        tokens.new.items) }
+    ensures refused { IfErr result (Stops cut.old.rest.now cut.old.pos) }
 {
+    let text = cut.rest;
+    let pos = cut.pos;
     let quote = text[0];
     let (_, behind) = text.split_at(1);
     let len = inside_len(quote, behind);
@@ -123,10 +127,11 @@ fn cut_string<'a>(
     let bytes = Quoted::new(alloc, inside)?;
     let (_, rest) = text.split_at(len + 2);
     put(tokens, Lexeme::Text(bytes), pos)?;
-    Ok(Cut {
+    *cut = Cut {
         rest,
         pos: right(pos, len + 2),
-    })
+    };
+    Ok(())
 }
 
 /// Whether a comment begins here.
@@ -136,16 +141,22 @@ fn opens_comment(text: &[u8]) -> bool
     text.len() > 1 && text[0] == b'(' && text[1] == b'*'
 }
 
-fn cut_comment(text: &[u8], pos: Pos) -> Result<Cut<'_>, ScanError>
-    requires begins { Opens text.now }
-    requires room { HasRoom pos text.now }
-    ensures taken { IfOk result (λ cut. Takes text.now pos None cut.rest.now cut.pos) }
-    ensures refused { IfErr result (Stops text.now pos) }
+fn cut_comment(cut: &mut Cut<'_>) -> Result<(), ScanError>
+    requires begins { Opens cut.old.rest.now }
+    requires room { HasRoom cut.old.pos cut.old.rest.now }
+    ensures taken { OnOk result
+        (Takes cut.old.rest.now cut.old.pos None cut.new.rest.now cut.new.pos) }
+    ensures refused { IfErr result (Stops cut.old.rest.now cut.old.pos) }
 {
+    let text = cut.rest;
+    let pos = cut.pos;
     let (_, behind) = text.split_at(2);
     match comment_end(behind, right(pos, 2)) {
         None => Err(scan_refusal(pos, TokenRule::OpenComment)),
-        Some((rest, pos)) => Ok(Cut { rest, pos }),
+        Some((rest, after)) => {
+            *cut = Cut { rest, pos: after };
+            Ok(())
+        }
     }
 }
 
@@ -159,93 +170,115 @@ fn pair(text: &[u8]) -> Option<Symbol>
     pair_of(text[0], text[1])
 }
 
-fn cut_pair<'a>(
-    text: &'a [u8],
-    symbol: Symbol,
-    pos: Pos,
-    tokens: &mut Vec<Token>,
-) -> Result<Cut<'a>, ScanError>
-    requires found { IsPair text.now (Some symbol) }
-    requires room { HasRoom pos text.now }
-    ensures taken { IfOk result
-        (λ cut. Adds text.now pos cut.rest.now cut.pos tokens.old.items tokens.new.items) }
-    ensures refused { IfErr result (Stops text.now pos) }
+fn cut_pair(symbol: Symbol, cut: &mut Cut<'_>, tokens: &mut Vec<Token>) -> Result<(), ScanError>
+    requires found { IsPair cut.old.rest.now (Some symbol) }
+    requires room { HasRoom cut.old.pos cut.old.rest.now }
+    ensures taken { OnOk result
+        (Adds cut.old.rest.now cut.old.pos cut.new.rest.now cut.new.pos tokens.old.items
+        tokens.new.items) }
+    ensures refused { IfErr result (Stops cut.old.rest.now cut.old.pos) }
 {
+    let text = cut.rest;
+    let pos = cut.pos;
     let (_, rest) = text.split_at(2);
     put(tokens, Lexeme::Symbol(symbol), pos)?;
-    Ok(Cut {
+    *cut = Cut {
         rest,
         pos: right(pos, 2),
-    })
+    };
+    Ok(())
 }
 
-fn cut_single<'a>(text: &'a [u8], pos: Pos, tokens: &mut Vec<Token>) -> Result<Cut<'a>, ScanError>
-    requires begins { Begins class.Other text.now }
-    requires no_comment { Opens text.now → ⊥ }
-    requires no_pair { IsPair text.now None }
-    requires room { HasRoom pos text.now }
-    ensures taken { IfOk result
-        (λ cut. Adds text.now pos cut.rest.now cut.pos tokens.old.items tokens.new.items) }
-    ensures refused { IfErr result (Stops text.now pos) }
+fn cut_single(cut: &mut Cut<'_>, tokens: &mut Vec<Token>) -> Result<(), ScanError>
+    requires begins { Begins class.Other cut.old.rest.now }
+    requires no_comment { Opens cut.old.rest.now → ⊥ }
+    requires no_pair { IsPair cut.old.rest.now None }
+    requires room { HasRoom cut.old.pos cut.old.rest.now }
+    ensures taken { OnOk result
+        (Adds cut.old.rest.now cut.old.pos cut.new.rest.now cut.new.pos tokens.old.items
+        tokens.new.items) }
+    ensures refused { IfErr result (Stops cut.old.rest.now cut.old.pos) }
 {
+    let text = cut.rest;
+    let pos = cut.pos;
     match single_of(text[0]) {
         None => Err(scan_refusal(pos, TokenRule::StrayByte)),
         Some(symbol) => {
             let (_, rest) = text.split_at(1);
             put(tokens, Lexeme::Symbol(symbol), pos)?;
-            Ok(Cut {
+            *cut = Cut {
                 rest,
                 pos: right(pos, 1),
-            })
+            };
+            Ok(())
         }
     }
 }
 
-fn cut_sign<'a>(text: &'a [u8], pos: Pos, tokens: &mut Vec<Token>) -> Result<Cut<'a>, ScanError>
-    requires begins { Begins class.Other text.now }
-    requires no_comment { Opens text.now → ⊥ }
-    requires room { HasRoom pos text.now }
-    ensures taken { IfOk result
-        (λ cut. Adds text.now pos cut.rest.now cut.pos tokens.old.items tokens.new.items) }
-    ensures refused { IfErr result (Stops text.now pos) }
+fn cut_sign(cut: &mut Cut<'_>, tokens: &mut Vec<Token>) -> Result<(), ScanError>
+    requires begins { Begins class.Other cut.old.rest.now }
+    requires no_comment { Opens cut.old.rest.now → ⊥ }
+    requires room { HasRoom cut.old.pos cut.old.rest.now }
+    ensures taken { OnOk result
+        (Adds cut.old.rest.now cut.old.pos cut.new.rest.now cut.new.pos tokens.old.items
+        tokens.new.items) }
+    ensures refused { IfErr result (Stops cut.old.rest.now cut.old.pos) }
 {
-    match pair(text) {
-        Some(symbol) => cut_pair(text, symbol, pos, tokens),
-        None => cut_single(text, pos, tokens),
+    match pair(cut.rest) {
+        Some(symbol) => cut_pair(symbol, cut, tokens),
+        None => cut_single(cut, tokens),
     }
 }
 
-fn cut_space(text: &[u8], pos: Pos) -> Cut<'_>
-    requires begins { Begins class.Space text.now }
-    requires room { HasRoom pos text.now }
-    ensures { Takes text.now pos None result.rest.now result.pos }
+fn cut_space(cut: &mut Cut<'_>)
+    requires begins { Begins class.Space cut.old.rest.now }
+    requires room { HasRoom cut.old.pos cut.old.rest.now }
+    ensures { Takes cut.old.rest.now cut.old.pos None cut.new.rest.now cut.new.pos }
 {
+    let text = cut.rest;
+    let pos = cut.pos;
     let (_, rest) = text.split_at(1);
-    Cut {
+    *cut = Cut {
         rest,
         pos: behind(pos, text[0]),
+    };
+}
+
+/// Whether a blank stands here.
+fn begins_blank(text: &[u8]) -> bool
+    ensures { IsTrue result → Begins class.Space text.now }
+{
+    !text.is_empty() && text[0] == b' '
+}
+
+/// Cuts the blanks at the front of what is left of a text: most members are blanks that stand in a row.
+pub fn cut_blanks(cut: &mut Cut<'_>)
+    requires room { HasRoom cut.old.pos cut.old.rest.now }
+    ensures { Skips cut.old.rest.now cut.old.pos cut.new.rest.now cut.new.pos }
+{
+    while begins_blank(cut.rest) {
+        cut_space(cut);
     }
 }
 
-/// Cuts the member at the front of a text that stands at this place, and adds its token, if it is one.
-pub fn next_cut<'a>(
-    alloc: Global,
-    text: &'a [u8],
-    pos: Pos,
-    tokens: &mut Vec<Token>,
-) -> Result<Cut<'a>, ScanError>
-    requires some { 0 < length text.now }
-    requires room { HasRoom pos text.now }
-    ensures taken { IfOk result
-        (λ cut. Adds text.now pos cut.rest.now cut.pos tokens.old.items tokens.new.items) }
-    ensures refused { IfErr result (Stops text.now pos) }
+/// Cuts the member at the front of what is left of a text, and adds its token, if it is one.
+pub fn next_cut(alloc: Global, cut: &mut Cut<'_>, tokens: &mut Vec<Token>) -> Result<(), ScanError>
+    requires some { 0 < length cut.old.rest.now }
+    requires room { HasRoom cut.old.pos cut.old.rest.now }
+    ensures taken { OnOk result
+        (Adds cut.old.rest.now cut.old.pos cut.new.rest.now cut.new.pos tokens.old.items
+        tokens.new.items) }
+    ensures refused { IfErr result (Stops cut.old.rest.now cut.old.pos) }
 {
-    match class_of(text[0]) {
-        Class::Space => Ok(cut_space(text, pos)),
-        Class::Letter => cut_name(alloc, text, pos, tokens),
-        Class::Digit => cut_number(text, pos, tokens),
-        Class::Quote => cut_string(alloc, text, pos, tokens),
-        Class::Other if opens_comment(text) => cut_comment(text, pos),
-        Class::Other => cut_sign(text, pos, tokens),
+    match class_of(cut.rest[0]) {
+        Class::Space => {
+            cut_space(cut);
+            Ok(())
+        }
+        Class::Letter => cut_name(alloc, cut, tokens),
+        Class::Digit => cut_number(cut, tokens),
+        Class::Quote => cut_string(alloc, cut, tokens),
+        Class::Other if opens_comment(cut.rest) => cut_comment(cut),
+        Class::Other => cut_sign(cut, tokens),
     }
 }

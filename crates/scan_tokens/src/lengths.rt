@@ -8,7 +8,11 @@ ghost use Rattle.scan_tokens.specs.Bytes.{is_run_byte, is_inside, is_printable};
 fn is_run_byte(byte: u8) -> bool
     ensures { result ≡ is_run_byte byte }
 {
-    matches!(byte, b'a'..=b'z' | b'A'..=b'Z' | b'0'..=b'9')
+    // small letters come first, since most bytes are small letters
+    if byte >= b'a' {
+        return byte <= b'z';
+    }
+    matches!(byte, b'A'..=b'Z' | b'0'..=b'9')
 }
 
 /// How many letters and digits there are before anything else.

@@ -9,7 +9,7 @@ ghost use Rattle.scan_tokens.specs.Forms.{Member};
 ghost use Rattle.scan_tokens.specs.Division.{Divides, HasTokens, Refuses, max_text};
 ghost use Rattle.scan_tokens.specs.Steps.{IfRefused};
 
-use crate::cut::{next_cut, put, scan_refusal};
+use crate::cut::{Cut, cut_blanks, next_cut, put, scan_refusal};
 use crate::refusal::{ScanError, TokenRule};
 use m2_tree::{Lexeme, Pos, Token};
 use std::alloc::Global;
@@ -35,18 +35,17 @@ pub fn scan(alloc: Global, text: &[u8]) -> Result<Vec<Token>, ScanError>
     ensures reported { (r : ScanRefusal) → Refuses text.now r
         → MatchResult result (λ _. ⊥) (λ e. (e ≡ Refused r) ⊎ (e ≡ NoMemory)) }
 {
-    let mut pos = Pos { line: 1, col: 1 };
+    let pos = Pos { line: 1, col: 1 };
     if text.len() > MAX_TEXT {
         return Err(scan_refusal(pos, TokenRule::TooLong));
     }
     let mut tokens = Vec::new(alloc);
-    let mut rest = text;
-    while !rest.is_empty() {
-        let cut = next_cut(alloc, rest, pos, &mut tokens)?;
-        rest = cut.rest;
-        pos = cut.pos;
+    let mut cut = Cut { rest: text, pos };
+    while !cut.rest.is_empty() {
+        next_cut(alloc, &mut cut, &mut tokens)?;
+        cut_blanks(&mut cut);
     }
-    put(&mut tokens, Lexeme::End, pos)?;
+    put(&mut tokens, Lexeme::End, cut.pos)?;
     Ok(tokens)
 }
 
