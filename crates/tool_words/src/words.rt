@@ -71,6 +71,21 @@ const CALLGRIND: &str = "callgrind";
 
 const LCOV: &str = "lcov";
 
+/// The name of the option for a trace, of the one for its lines, and the most that these can be.
+const TRACE: &str = "trace";
+
+const TRACE_LIMIT: &str = "trace-limit";
+
+const MOST_LINES: u64 = 1000000000;
+
+/// The name of the option for editors.
+const DAP: &str = "dap";
+
+/// The names of the options for what runs with several inputs cost.
+const COST: &str = "cost";
+
+const COST_SVG: &str = "cost-svg";
+
 /// The name of the option for standard streams.
 const STDIO: &str = "stdio";
 
@@ -185,6 +200,39 @@ fn with_measures<'a>(alloc: Global, command: Command<'a>) -> Result<Command<'a>>
     Ok(command)
 }
 
+/// The options of `m2 run` for a trace, and for what runs cost.
+fn with_traces<'a>(alloc: Global, command: Command<'a>) -> Result<Command<'a>> {
+    let command = command
+        .arg(
+            Arg::new(alloc, TRACE).long(TRACE).value_name("FILE").help(
+                "Writes a line for each statement that ran, with the variables that it changed",
+            ),
+        )?
+        .arg(
+            Arg::new(alloc, TRACE_LIMIT)
+                .long(TRACE_LIMIT)
+                .value_name("N")
+                .default_value("1000000")
+                .help("The most lines of the trace, from 1 to 1000000000"),
+        )?
+        .arg(
+            Arg::new(alloc, COST)
+                .long(COST)
+                .value_name("FILE")
+                .action(ArgAction::Append)
+                .help(
+                    "An input, and further ones: says how the reductions grow with the size of the input",
+                ),
+        )?
+        .arg(
+            Arg::new(alloc, COST_SVG)
+                .long(COST_SVG)
+                .value_name("FILE")
+                .help("With --cost: plots the reductions (SVG), with logarithmic scales"),
+        )?;
+    Ok(command)
+}
+
 fn run_command<'a>(alloc: Global) -> Result<Command<'a>> {
     let command = Command::new(alloc, "run")
         .about("Compiles a program in memory and runs it")
@@ -203,7 +251,25 @@ fn run_command<'a>(alloc: Global) -> Result<Command<'a>> {
                 .action(ArgAction::SetTrue)
                 .help("Says on which lines nothing ran"),
         )?;
-    with_setting(alloc, with_measures(alloc, command)?)
+    let command = with_traces(alloc, with_measures(alloc, command)?)?;
+    with_setting(alloc, command)
+}
+
+fn debug_command<'a>(alloc: Global) -> Result<Command<'a>> {
+    let command = Command::new(alloc, "debug")
+        .about(
+            "Goes through a run, forwards and backwards, by commands; the command help lists them",
+        )
+        .arg(program_word(alloc).required(false))?
+        .arg(input_option(alloc))?
+        .arg(steps_option(alloc))?
+        .arg(
+            Arg::new(alloc, DAP)
+                .long(DAP)
+                .action(ArgAction::SetTrue)
+                .help("Serves an editor by the Debug Adapter Protocol over its standard streams"),
+        )?;
+    with_setting(alloc, command)
 }
 
 fn build_command<'a>(alloc: Global) -> Result<Command<'a>> {
@@ -420,6 +486,7 @@ fn command<'a>(alloc: Global) -> Result<Command<'a>> {
             )
             .subcommand_required(true)
             .subcommand(run_command(alloc)?)?
+            .subcommand(debug_command(alloc)?)?
             .subcommand(build_command(alloc)?)?
             .subcommand(input_command(alloc)?)?
             .subcommand(check_command(alloc)?)?
@@ -538,6 +605,12 @@ where
     file_of(rt, matches, INPUT, "--input")
 }
 
+/// The most lines of a trace. A number that they cannot be is reported.
+fn lines_of<R: Eprint>(rt: &R, matches: &ArgMatches) -> Result<u64, Exit> {
+    let text = matches.get_str(TRACE_LIMIT).unwrap_or("");
+    number_option(rt, PROGRAM, TRACE_LIMIT, text, MOST_LINES).ok_or(Exit::Reported(COMMAND_LINE))
+}
+
 /// What is told of a run that is over.
 fn measured_of<R>(rt: &R, matches: &ArgMatches) -> Result<Measured, Exit>
 where
@@ -550,6 +623,32 @@ where
         flame: file_of(rt, matches, FLAME, "--flame")?,
         callgrind: file_of(rt, matches, CALLGRIND, "--callgrind")?,
         lcov: file_of(rt, matches, LCOV, "--lcov")?,
+        trace: file_of(rt, matches, TRACE, "--trace")?,
+        most_lines: lines_of(rt, matches)?,
+    })
+}
+
+fn cost_asked<R>(
+    rt: &R,
+    matches: &ArgMatches,
+    colours: bool,
+    inputs: &[&str],
+) -> Result<Asked, Exit>
+where
+    R: Files + Env + Eprint + AllocGlobal,
+{
+    if matches.get_str(INPUT).is_some() {
+        return Err(refuse(rt, "run takes --input or --cost, not both"));
+    }
+    if !are_named(rt, PROGRAM, "--cost", inputs) {
+        return Err(Exit::Reported(COMMAND_LINE));
+    }
+    Ok(Asked::Cost {
+        steps: steps_of(rt, PROGRAM, matches)?,
+        program: name_of(rt, matches, FILE, FILE)?,
+        inputs: strings_of(rt.alloc(), inputs)?,
+        setting: setting_of(rt, matches, colours)?,
+        plot: file_of(rt, matches, COST_SVG, "--cost-svg")?,
     })
 }
 
@@ -557,12 +656,43 @@ fn run_asked<R>(rt: &R, matches: &ArgMatches, colours: bool) -> Result<Asked, Ex
 where
     R: Files + Env + Eprint + AllocGlobal,
 {
+    if let Some(inputs) = matches.get_strs(COST) {
+        return cost_asked(rt, matches, colours, inputs);
+    }
+    if matches.get_str(COST_SVG).is_some() {
+        return Err(refuse(rt, "--cost-svg goes with --cost"));
+    }
     Ok(Asked::Run {
         steps: steps_of(rt, PROGRAM, matches)?,
         program: name_of(rt, matches, FILE, FILE)?,
         input: input_of(rt, matches)?,
         setting: setting_of(rt, matches, colours)?,
         told: measured_of(rt, matches)?,
+    })
+}
+
+fn debug_asked<R>(rt: &R, matches: &ArgMatches, colours: bool) -> Result<Asked, Exit>
+where
+    R: Files + Env + Eprint + AllocGlobal,
+{
+    let is_served = matches.get_flag(DAP);
+    if is_served && matches.get_str(FILE).is_some() {
+        return Err(refuse(rt, "debug takes PROGRAM or --dap, not both"));
+    }
+    if is_served {
+        return Ok(Asked::Adapt {
+            steps: steps_of(rt, PROGRAM, matches)?,
+            setting: setting_of(rt, matches, colours)?,
+        });
+    }
+    if matches.get_str(FILE).is_none() {
+        return Err(refuse(rt, "debug needs PROGRAM or --dap"));
+    }
+    Ok(Asked::Debug {
+        steps: steps_of(rt, PROGRAM, matches)?,
+        program: name_of(rt, matches, FILE, FILE)?,
+        input: input_of(rt, matches)?,
+        setting: setting_of(rt, matches, colours)?,
     })
 }
 
@@ -808,6 +938,7 @@ where
 {
     match matches.subcommand() {
         Some(("run", inner)) => run_asked(rt, inner, colours),
+        Some(("debug", inner)) => debug_asked(rt, inner, colours),
         Some(("build", inner)) => build_asked(rt, inner, colours),
         Some(("input", inner)) => input_asked(rt, inner, colours),
         Some(("check", inner)) => check_asked(rt, inner, colours),
