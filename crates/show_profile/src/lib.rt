@@ -3,6 +3,7 @@
 #![tactic(auto)]
 
 mod callgrind;
+mod cost;
 mod flame;
 mod lcov;
 mod lines;
@@ -10,6 +11,7 @@ mod source;
 mod tables;
 
 use build_jobs::SourceFile;
+pub use cost::{Cost, cost_plot, cost_table};
 use explain_runs::Counted;
 use std::alloc::{AllocError, Global};
 pub use tables::{coverage_table, profile_table};

@@ -1,0 +1,11 @@
+//! The Debug Adapter Protocol: requests of an editor, and what is answered of a session.
+#![tactic(auto)]
+
+mod adapter;
+mod breakpoints;
+mod messages;
+mod places;
+mod travels;
+
+pub use adapter::Adapter;
+pub use messages::{Outgoing, Request, read_request};
