@@ -20,18 +20,21 @@ _m2() {
     for ((at = 1; at < COMP_CWORD; at++)); do
         word="${COMP_WORDS[at]}"
         case "$word" in
-            --input | --steps | --format | --color | --lib | --memory | --workers | --listing | --flame | --callgrind | --lcov | --out | --single | --host | --bytes) ((at++)) ;;
+            --input | --steps | --format | --color | --lib | --memory | --workers | --listing | --flame | --callgrind | --lcov | --out | --deps | --single | --host | --from | --bytes) ((at++)) ;;
             -*) ;;
             *) if [ -z "$command" ]; then command="$word"; else ((place++)); last="$word"; fi ;;
         esac
     done
     case "$command $before" in
+        "graph --format") _m2_words "dot json ninja make"; return ;;
         "test --format") _m2_words "text json tap junit"; return ;;
         *" --bytes") :; return ;;
         *" --callgrind") _m2_files; return ;;
         *" --color") _m2_words "auto never always"; return ;;
+        *" --deps") _m2_files; return ;;
         *" --flame") _m2_files; return ;;
         *" --format") _m2_words "text json"; return ;;
+        *" --from") _m2_folders; return ;;
         *" --host") _m2_words "wasi plain"; return ;;
         *" --input") _m2_files; return ;;
         *" --lcov") _m2_files; return ;;
@@ -44,13 +47,16 @@ _m2() {
         *" --workers") :; return ;;
     esac
     if [ -z "$command" ]; then
-        case "$current" in -*) _m2_words "--help --version" ;; *) _m2_words "run build input check test show fmt doc lsp explain new help" ;; esac
+        case "$current" in -*) _m2_words "--help --version" ;; *) _m2_words "run build compile link graph input check test show fmt doc lsp explain new help" ;; esac
         return
     fi
     if [[ "$current" == -* ]]; then
         case "$command" in
             run) _m2_words "--input --steps --profile --coverage --format --color --lib --memory --workers --verbose --listing --flame --callgrind --lcov --help" ;;
-            build) _m2_words "--input --out --single --host --format --color --lib --memory --workers --verbose --help" ;;
+            build) _m2_words "--input --out --deps --single --host --format --color --lib --memory --workers --verbose --help" ;;
+            compile) _m2_words "--out --deps --from --format --color --lib --memory --workers --verbose --help" ;;
+            link) _m2_words "--out --memory --help" ;;
+            graph) _m2_words "--format --out --lib --memory --workers --verbose --help" ;;
             input) _m2_words "--format --color --lib --memory --workers --verbose --help" ;;
             check) _m2_words "--fix --yes --format --color --lib --memory --workers --verbose --help" ;;
             test) _m2_words "--each --same --steps --bytes --format --lib --memory --workers --verbose --help" ;;
@@ -64,11 +70,13 @@ _m2() {
         return
     fi
     case "$command $place" in
-        "help 0") _m2_words "run build input check test show fmt doc lsp explain new" ;;
+        "help 0") _m2_words "run build compile link graph input check test show fmt doc lsp explain new" ;;
         "explain 0") _m2_words "1 2 3 4 5 6 7 10 11 12 13 20 21 22 23 24 25 30 31 32 33 34 35 36 37 38 40 41 42 43 44 45 46 47 48 49 50 51 52 53 60 61 70 73 80 81 82 83 84 90 91 92 93 profile input statuses fault status" ;;
         "explain 1") case "$last" in fault) _m2_words "0 1 2 3 4 5 6 7 8 9" ;; status) _m2_words "0 1 2 3 4" ;; esac ;;
         "run 0") _m2_files '!*.mod' ;;
         "build 0") _m2_files '!*.mod' ;;
+        "compile 0") _m2_files ;;
+        "graph 0") _m2_files '!*.mod' ;;
         "input 0") _m2_folders ;;
         "input 1") _m2_files ;;
         "check "*) _m2_files '!*.mod' ;;

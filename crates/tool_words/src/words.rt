@@ -1,10 +1,10 @@
 //! The words of the command line.
 
 use crate::PROGRAM;
-use crate::asked::{Asked, Fix, Layout, Measured, Pass, Setting, Style, Told};
+use crate::asked::{Asked, Drawn, Fix, Layout, Measured, Pass, Setting, Style, Told};
 use crate::libraries::libraries_of;
 use anyhow::Result;
-use build_words::{memory_option, options_of, out_option, workers_option};
+use build_words::{memory_option, options_of, out_option, pages_of, workers_option};
 use clap::{Arg, ArgAction, ArgMatches, Command};
 use command_words::{
     COMMAND_LINE, Exit, VERSION, are_named, command_line, is_named, matches_of, number_option,
@@ -26,6 +26,9 @@ const INPUT_FILE: &str = "FILE";
 
 /// The name of the word for the folder of cases.
 const CASES: &str = "CASES";
+
+/// The name of the word for a module.
+const MODULE: &str = "MODULE";
 
 /// The name of the word for a text.
 const TEXT: &str = "TEXT";
@@ -79,6 +82,12 @@ const INPUT: &str = "input";
 
 /// The name of the option for the folder of the modules.
 const OUT: &str = "out";
+
+/// The name of the option for the file that says what was read.
+const DEPS: &str = "deps";
+
+/// The name of the option for the folder that is searched first.
+const FROM: &str = "from";
 
 /// The name of the option for pages in HTML.
 const HTML: &str = "html";
@@ -154,6 +163,13 @@ fn input_option<'a>(alloc: Global) -> Arg<'a> {
     )
 }
 
+/// The option `--deps`.
+fn deps_option<'a>(alloc: Global) -> Arg<'a> {
+    Arg::new(alloc, DEPS).long(DEPS).value_name("FILE").help(
+        "Writes in make's form what was written, and each file that was read for it",
+    )
+}
+
 /// The options of `m2 run` that write what ran into files.
 fn with_measures<'a>(alloc: Global, command: Command<'a>) -> Result<Command<'a>> {
     let command = command
@@ -212,6 +228,7 @@ fn build_command<'a>(alloc: Global) -> Result<Command<'a>> {
         .arg(program_word(alloc))?
         .arg(input_option(alloc))?
         .arg(out_option(alloc).required(false))?
+        .arg(deps_option(alloc))?
         .arg(
             Arg::new(alloc, SINGLE).long(SINGLE).value_name("FILE").help(
                 "The file into which the program is written as one module, in place of --out",
@@ -223,6 +240,58 @@ fn build_command<'a>(alloc: Global) -> Result<Command<'a>> {
             ),
         )?;
     with_setting(alloc, command)
+}
+
+fn compile_command<'a>(alloc: Global) -> Result<Command<'a>> {
+    let command = Command::new(alloc, "compile")
+        .about("Compiles one module: M.mod to M.wasm and M.link, or checks the definition M.def")
+        .arg(
+            Arg::new(alloc, TEXT)
+                .required(true)
+                .help("The file of the body, or of the definition"),
+        )?
+        .arg(out_option(alloc).required(false))?
+        .arg(deps_option(alloc))?
+        .arg(
+            Arg::new(alloc, FROM).long(FROM).value_name("DIR").help(
+                "The folder that is searched first, in place of the module's own",
+            ),
+        )?;
+    with_setting(alloc, command)
+}
+
+fn link_command<'a>(alloc: Global) -> Result<Command<'a>> {
+    let command = Command::new(alloc, "link")
+        .about("Links modules that m2 compile wrote: writes link.wasm beside them")
+        .arg(
+            Arg::new(alloc, MODULE)
+                .required(true)
+                .help("The name of the program module"),
+        )?
+        .arg(out_option(alloc))?
+        .arg(memory_option(alloc))?;
+    Ok(command)
+}
+
+fn graph_command<'a>(alloc: Global) -> Result<Command<'a>> {
+    let command = Command::new(alloc, "graph")
+        .about("Shows what the modules of a program import, or the steps that build it")
+        .arg(program_word(alloc))?
+        .arg(
+            Arg::new(alloc, "format")
+                .long("format")
+                .value_name("FORMAT")
+                .default_value("dot")
+                .help("dot for graphviz, json for other programs, or ninja or make for the steps"),
+        )?
+        .arg(
+            Arg::new(alloc, OUT)
+                .long(OUT)
+                .value_name("DIR")
+                .default_value("out")
+                .help("The folder into which the steps write the modules"),
+        )?;
+    with_building(alloc, command)
 }
 
 fn input_command<'a>(alloc: Global) -> Result<Command<'a>> {
@@ -421,6 +490,9 @@ fn command<'a>(alloc: Global) -> Result<Command<'a>> {
             .subcommand_required(true)
             .subcommand(run_command(alloc)?)?
             .subcommand(build_command(alloc)?)?
+            .subcommand(compile_command(alloc)?)?
+            .subcommand(link_command(alloc)?)?
+            .subcommand(graph_command(alloc)?)?
             .subcommand(input_command(alloc)?)?
             .subcommand(check_command(alloc)?)?
             .subcommand(test_command(alloc)?)?
@@ -588,6 +660,9 @@ where
     if matches.get_str(OUT).is_some() {
         return Err(refuse(rt, "build takes --out or --single, not both"));
     }
+    if matches.get_str(DEPS).is_some() {
+        return Err(refuse(rt, "--deps goes with --out"));
+    }
     Ok(Asked::Single {
         host: host_of(rt, matches)?,
         out: name_of(rt, matches, SINGLE, "--single")?,
@@ -613,9 +688,68 @@ where
     }
     Ok(Asked::Build {
         out: name_of(rt, matches, OUT, "--out")?,
+        deps: file_of(rt, matches, DEPS, "--deps")?,
         program: name_of(rt, matches, FILE, FILE)?,
         input: input_of(rt, matches)?,
         setting: setting_of(rt, matches, colours)?,
+    })
+}
+
+/// What the imports of a program are drawn as. Any other word is reported.
+fn drawn_of<R: Eprint>(rt: &R, word: &str) -> Option<Drawn> {
+    match word {
+        "dot" => Some(Drawn::Picture),
+        "json" => Some(Drawn::Data),
+        "ninja" => Some(Drawn::Ninja),
+        "make" => Some(Drawn::Make),
+        _ => {
+            let _ = eprintln!(rt; "{PROGRAM}: --format takes dot, json, ninja or make, not {word}");
+            None
+        }
+    }
+}
+
+fn graph_asked<R>(rt: &R, matches: &ArgMatches, colours: bool) -> Result<Asked, Exit>
+where
+    R: Files + Env + Eprint + AllocGlobal,
+{
+    let Some(drawn) = drawn_of(rt, matches.get_str("format").unwrap_or("")) else {
+        return Err(Exit::Reported(COMMAND_LINE));
+    };
+    let style = if colours {
+        Style::Coloured
+    } else {
+        Style::Text
+    };
+    Ok(Asked::Graph {
+        program: name_of(rt, matches, FILE, FILE)?,
+        out: name_of(rt, matches, OUT, "--out")?,
+        drawn,
+        setting: setting_in(rt, matches, style)?,
+    })
+}
+
+fn compile_asked<R>(rt: &R, matches: &ArgMatches, colours: bool) -> Result<Asked, Exit>
+where
+    R: Files + Env + Eprint + AllocGlobal,
+{
+    Ok(Asked::Compile {
+        file: name_of(rt, matches, TEXT, TEXT)?,
+        out: file_of(rt, matches, OUT, "--out")?,
+        deps: file_of(rt, matches, DEPS, "--deps")?,
+        from: file_of(rt, matches, FROM, "--from")?,
+        setting: setting_of(rt, matches, colours)?,
+    })
+}
+
+fn link_asked<R>(rt: &R, matches: &ArgMatches) -> Result<Asked, Exit>
+where
+    R: Eprint + AllocGlobal,
+{
+    Ok(Asked::Link {
+        program: name_of(rt, matches, MODULE, MODULE)?,
+        out: name_of(rt, matches, OUT, "--out")?,
+        pages: pages_of(rt, PROGRAM, matches)?,
     })
 }
 
@@ -809,6 +943,9 @@ where
     match matches.subcommand() {
         Some(("run", inner)) => run_asked(rt, inner, colours),
         Some(("build", inner)) => build_asked(rt, inner, colours),
+        Some(("compile", inner)) => compile_asked(rt, inner, colours),
+        Some(("link", inner)) => link_asked(rt, inner),
+        Some(("graph", inner)) => graph_asked(rt, inner, colours),
         Some(("input", inner)) => input_asked(rt, inner, colours),
         Some(("check", inner)) => check_asked(rt, inner, colours),
         Some(("test", inner)) => test_asked(rt, inner),
