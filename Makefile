@@ -37,6 +37,7 @@ example:
 programs: build
 	tools/try_programs
 	tools/try_m2
+	tools/try_separate
 	tools/try_server
 
 # Compares what programs do by their definition with what is stated of them, and with what their modules do.

@@ -21,7 +21,7 @@ ROWS = re.compile(r"(?m)^const (\w+_ROWS?): (?:\[Row; \d+\]|Row) = (.*?);$", re.
 ENTRY = re.compile(rf"Entry {{\s*name: {NAME},\s*about: (?P<about>\"[^\"]*\"),\s*rows: &(?P<rows>\w+),\s*has_steps: (?P<steps>\w+),"
                    r"\s*group: Group::(?P<group>\w+),\s*}")
 # the options that commands of a group have beside their own
-GROUPS = {"Setting": ["with_building", "STYLE_ROWS"], "Building": ["with_building"], "Style": ["STYLE_ROWS"], "None": []}
+GROUPS = {"Setting": ["with_building", "STYLE_ROWS"], "Building": ["with_building"], "Style": ["STYLE_ROWS"], "Memory": ["memory_option"], "None": []}
 OPTIONS_OF_ALL = [("--help", "Prints the options")]
 OPTIONS_OF_PROGRAM = [*OPTIONS_OF_ALL, ("--version", "Prints the version")]
 

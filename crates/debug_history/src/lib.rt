@@ -8,6 +8,7 @@ mod prepared;
 mod records;
 mod state;
 
+pub use explain_runs::{Activation, Function, Marked, Names, Place, explain_run, marked_program};
 pub use history::{Goal, History, MOST_RECORDS, Outcome};
 pub use prepared::{Places, Prepared, prepare};
 pub use records::{Frame, Piece, Record};

@@ -8,4 +8,5 @@ mod places;
 mod travels;
 
 pub use adapter::Adapter;
+pub use debug_runs::{Followed, Program, Session, follow};
 pub use messages::{Outgoing, Request, read_request};

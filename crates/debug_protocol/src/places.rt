@@ -2,8 +2,7 @@
 
 use crate::adapter::Adapter;
 use crate::messages::Request;
-use debug_history::Frame;
-use debug_views::Found;
+use debug_runs::{Found, Frame};
 use serde_json::{Value, json};
 use std::alloc::AllocError;
 

@@ -1,8 +1,8 @@
 //! Breakpoints.
 
+use debug_history::{Function, Names};
 use debug_views::Views;
 use debug_words::{Condition, Target};
-use explain_runs::{Function, Names};
 use m2_tree::Pos;
 use std::alloc::{AllocError, Global};
 

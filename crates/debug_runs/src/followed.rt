@@ -3,9 +3,8 @@
 use crate::session::Program;
 use anyhow::Result;
 use build_jobs::{Options, SourceFile};
-use debug_history::{Prepared, prepare};
+use debug_history::{Marked, Prepared, marked_program, prepare};
 use debug_views::Views;
-use explain_runs::{Marked, marked_program};
 use std::thread::Threads;
 
 /// A program whose modules tell what they do, and its variables.

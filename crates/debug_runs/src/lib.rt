@@ -12,7 +12,8 @@ mod tracing;
 
 pub use asking::Travel;
 pub use breaks::{Break, Breaks, Placed, Statement};
-pub use debug_history::Outcome;
+pub use debug_history::{Frame, Outcome, explain_run};
+pub use debug_views::Found;
 pub use followed::{Followed, follow};
 pub use goals::{Goals, Way};
 pub use session::{Program, Session};

@@ -5,10 +5,9 @@ use crate::breaks::{Breaks, Placed, Places};
 use crate::telling::Teller;
 use anyhow::Result;
 use build_jobs::{Options, SourceFile};
-use debug_history::{History, MOST_RECORDS, Prepared};
+use debug_history::{History, MOST_RECORDS, Marked, Names, Prepared};
 use debug_views::Views;
 use debug_words::{Command, Condition, HELP, Target, read_command};
-use explain_runs::{Marked, Names};
 use std::alloc::{AllocError, Global};
 use std::thread::Threads;
 

@@ -1,9 +1,8 @@
 //! What is told of a place of a run.
 
 use crate::breaks::Places;
-use debug_history::{Frame, State};
+use debug_history::{Activation, Frame, Place, State};
 use debug_views::{FunctionView, Variable, Views};
-use explain_runs::{Activation, Place};
 use m2_tree::Pos;
 use show_refusals::marked_line;
 use std::alloc::{AllocError, Global};

@@ -5,8 +5,7 @@ use crate::names::{add_names, constants_of, index_of, module_number, procedure_n
 use crate::views::{FunctionView, ModuleView, Variable, Views, Way};
 use anyhow::{Result, bail};
 use build_jobs::SourceFile;
-use debug_history::Places;
-use explain_runs::{Activation, Function, Marked, Names};
+use debug_history::{Activation, Function, Marked, Names, Places};
 use layout_storage::{Layout, Row};
 use serve_names::{Index, Kind};
 use std::alloc::{AllocError, Global};

@@ -26,7 +26,7 @@ pub struct Program {
 }
 
 /// Adds a file that was found.
-fn add_file<R: Files + Eprint + AllocGlobal>(
+pub fn add_file<R: Files + Eprint + AllocGlobal>(
     rt: &R,
     is_verbose: bool,
     name: String,
@@ -98,7 +98,7 @@ fn add_searched<R: AllocGlobal>(
 }
 
 /// The folders that are searched, for people.
-fn searched_by<R: Files + AllocGlobal>(
+pub fn searched_by<R: Files + AllocGlobal>(
     rt: &R,
     places: &Places<'_, R>,
 ) -> Result<Vec<String>, AllocError> {
@@ -136,6 +136,15 @@ fn with_modules<R: Files + Eprint + AllocGlobal>(
     Ok(program)
 }
 
+/// Says why modules were not found.
+pub fn say_find_fault<R: Eprint>(rt: &R, fault: FindFault) -> Exit {
+    let _ = match fault {
+        FindFault::NoMemory => eprintln!(rt; "{PROGRAM}: no memory left (90)"),
+        FindFault::Unread(words) => eprintln!(rt; "{PROGRAM}: cannot read {words}"),
+    };
+    Exit::Reported(FAILED)
+}
+
 /// The program of this text, with the modules that it imports. A file that is there and cannot be read is reported.
 pub fn program_of_text<R: Files + Eprint + AllocGlobal>(
     rt: &R,
@@ -150,14 +159,7 @@ pub fn program_of_text<R: Files + Eprint + AllocGlobal>(
             program.searched = searched_by(rt, &places)?;
             Ok(with_modules(rt, setting.is_verbose, &places, modules, program)?)
         }
-        Err(FindFault::NoMemory) => {
-            let _ = eprintln!(rt; "{PROGRAM}: no memory left (90)");
-            Err(Exit::Reported(FAILED))
-        }
-        Err(FindFault::Unread(words)) => {
-            let _ = eprintln!(rt; "{PROGRAM}: cannot read {words}");
-            Err(Exit::Reported(FAILED))
-        }
+        Err(fault) => Err(say_find_fault(rt, fault)),
     }
 }
 

@@ -2,9 +2,12 @@
 #![tactic(auto)]
 
 mod finding;
+mod needed;
 mod places;
 
 pub use finding::{
     Program, Spare, alone, find_checked, find_program, partner_words, program_of_text, spare_files,
     text_of,
 };
+pub use needed::find_definitions;
+pub use places::folder_of;

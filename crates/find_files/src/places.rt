@@ -13,7 +13,7 @@ use system_streams::{is_stream, read_text};
 pub struct Places<'a, R> {
     rt: &'a R,
     program: &'a str,
-    folders: Vec<String>,
+    pub folders: Vec<String>,
 }
 
 /// What stands in front of the names of a folder's files.

@@ -1,4 +1,5 @@
-//! The one tool for people: `m2 run`, `m2 build`, `m2 check`, `m2 fmt`, `m2 doc`, `m2 show`, `m2 explain` and `m2 new`.
+//! The one tool for people: `m2 run`, `m2 build`, `m2 compile`, `m2 link`, `m2 graph`, `m2 check`, `m2 fmt`, `m2 doc`,
+//! `m2 show`, `m2 explain` and `m2 new`.
 //!
 //! The words of the command line are read first. Then the modules that a program imports are found in folders, and the whole
 //! is built in memory. `run` executes what was built, `build` writes it into a folder, and `check` does neither. What is
@@ -18,6 +19,7 @@ use std::rt::{Env, Files};
 use std::thread::Threads;
 use tool_builds::{build_into, build_single, check_all, exchange_input};
 use tool_debug::{debug_file, serve_debugger};
+use tool_modules::{compile_file, link_program, show_imports};
 use tool_runs::{cost_file, run_file};
 use tool_server::serve_editor;
 use tool_tests::{test_class, test_program};
@@ -57,7 +59,26 @@ where
             input,
             setting,
             out,
-        } => build_into(rt, setting, program.as_str(), input, out.as_str()),
+            deps,
+        } => build_into(rt, setting, program.as_str(), input, out.as_str(), deps),
+        Asked::Compile {
+            file,
+            setting,
+            out,
+            deps,
+            from,
+        } => compile_file(rt, setting, file.as_str(), out, deps, from),
+        Asked::Link {
+            program,
+            out,
+            pages,
+        } => link_program(rt, program.as_str(), out.as_str(), *pages),
+        Asked::Graph {
+            program,
+            setting,
+            drawn,
+            out,
+        } => show_imports(rt, setting, program.as_str(), *drawn, out.as_str()),
         Asked::Single {
             program,
             input,

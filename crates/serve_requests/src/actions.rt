@@ -5,14 +5,13 @@ use crate::params::range_of;
 use crate::server::{Reply, Server};
 use format_text::{FormatFault, format};
 use m2_tree::Refusal;
-use m2c::{BuildFault, SourceFile};
 use serde_json::{Map, Value, json};
 use serve_lists::{Edit, add_member, edit_value};
 use serve_programs::{Folder, Program, length_at, programs_with, refusals_of, spare_of};
 use serve_texts::{Shift, Text};
 use std::alloc::{AllocError, Global};
 use std::thread::Threads;
-use try_mends::{Found, find_mend};
+use try_mends::{BuildFault, Found, SourceFile, find_mend};
 
 /// The kind of an action that mends.
 const QUICK_FIX: &str = "quickfix";

@@ -4,7 +4,6 @@ use crate::changes::path_in;
 use crate::params::{position_of, text_at};
 use crate::server::{Held, Reach, Reply, Server};
 use m2_tree::{Lexeme, Refusal, Token};
-use m2c::SourceFile;
 use scan_tokens::{ScanError, scan};
 use serde_json::{Map, Value, json};
 use serve_lists::{Ask, Edit, add_member, edit_value};
@@ -14,6 +13,7 @@ use serve_programs::{FileView, Folder, Mark, Program, View, file_of, refusals_of
 use std::alloc::{AllocError, Global};
 use std::slice;
 use std::thread::Threads;
+use try_mends::SourceFile;
 
 /// Whether tokens are this name alone.
 fn are_name(tokens: &[Token], name: &[u8]) -> bool {

@@ -7,4 +7,5 @@ mod words;
 
 pub use fixing::write_chains;
 pub use objects::{Given, print_steps};
+pub use try_mends::{Chain, mend_file};
 pub use words::say_chains;

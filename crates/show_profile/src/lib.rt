@@ -12,7 +12,7 @@ mod tables;
 
 use build_jobs::SourceFile;
 pub use cost::{Cost, cost_plot, cost_table};
-use explain_runs::Counted;
+pub use explain_runs::{Counted, profile_run};
 use std::alloc::{AllocError, Global};
 pub use tables::{coverage_table, profile_table};
 

@@ -3,11 +3,10 @@
 use command_words::Exit;
 use find_files::{Program, Spare, spare_files};
 use m2_tree::Refusal;
-use show_mends::say_chains;
+use show_mends::{Chain, mend_file, say_chains};
 use std::rt::Files;
 use std::thread::Threads;
 use tool_words::{Setting, Style};
-use try_mends::{Chain, mend_file};
 
 /// The most files of a program that are mended.
 const MOST_FILES: usize = 8;

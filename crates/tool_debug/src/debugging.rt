@@ -2,7 +2,7 @@
 
 use anyhow::Result;
 use command_words::{Exit, FAILED};
-use debug_runs::{Program, Session, follow};
+use debug_protocol::{Program, Session, follow};
 use find_files::find_program;
 use pool_board::Open;
 use run_program::{Loaded, load_program};

@@ -3,8 +3,7 @@
 use crate::wire::Wire;
 use anyhow::Result;
 use command_words::{Exit, FAILED};
-use debug_protocol::{Adapter, Outgoing, Request};
-use debug_runs::{Followed, Session, follow};
+use debug_protocol::{Adapter, Followed, Outgoing, Request, Session, follow};
 use find_files::{Program as FoundProgram, find_program};
 use m2_tree::Refusal;
 use pool_board::Open;

@@ -5,7 +5,7 @@ ghost use Rattle.std.specs.Prelude.{◌≡◌, ◌<◌, ◌^◌, ◌+◌};
 use crate::measuring::say_measured;
 use crate::tracing::trace_program;
 use command_words::{Exit, FAILED};
-use explain_runs::explain_run;
+use debug_runs::explain_run;
 use find_files::{Program as FoundProgram, find_program};
 use pool_board::Open;
 use run_directory::end_word;

@@ -27,6 +27,19 @@ pub enum Pass {
     Code,
 }
 
+/// What the imports of a program are drawn as.
+#[derive(Clone, Copy, PartialEq, Eq)]
+pub enum Drawn {
+    /// A picture, in the language of graphviz.
+    Picture,
+    /// A JSON object.
+    Data,
+    /// The steps of a build for ninja.
+    Ninja,
+    /// The steps of a build for make.
+    Make,
+}
+
 /// How it is said what came of cases.
 #[derive(Clone, Copy, PartialEq, Eq)]
 pub enum Told {
@@ -129,11 +142,35 @@ pub enum Asked {
         setting: Setting,
         steps: u64,
     },
-    /// To write the modules of the program of this file into a folder. It reads this file, or nothing.
+    /// To write the modules of the program of this file into a folder. It reads this file, or nothing. Into the file `deps` it is
+    /// written of which files the modules were made.
     Build {
         program: String,
         input: Option<String>,
         setting: Setting,
+        out: String,
+        deps: Option<String>,
+    },
+    /// To compile the module of this file alone into a folder, or to check a definition. The folder `from` is searched first,
+    /// or the file's own. Into the file `deps` it is written of which files the module was made.
+    Compile {
+        file: String,
+        setting: Setting,
+        out: Option<String>,
+        deps: Option<String>,
+        from: Option<String>,
+    },
+    /// To link modules of a folder to the program of this name, with so many pages of memory.
+    Link {
+        program: String,
+        out: String,
+        pages: u32,
+    },
+    /// To show what the modules of the program of this file import, or the steps that build it into the folder `out`.
+    Graph {
+        program: String,
+        setting: Setting,
+        drawn: Drawn,
         out: String,
     },
     /// To write the program of this file as one module over a host into the file `out`. It reads the file `input`, or nothing.

@@ -19,6 +19,9 @@ pub(crate) const INPUT_FILE: &str = "FILE";
 /// The name of the word for the folder of cases.
 pub(crate) const CASES: &str = "CASES";
 
+/// The name of the word for a module.
+pub(crate) const MODULE: &str = "MODULE";
+
 /// The name of the word for a text.
 pub(crate) const TEXT: &str = "TEXT";
 
@@ -82,6 +85,12 @@ pub(crate) const INPUT: &str = "input";
 /// The name of the option for the folder of the modules.
 pub(crate) const OUT: &str = "out";
 
+/// The name of the option for the file that says what was read.
+pub(crate) const DEPS: &str = "deps";
+
+/// The name of the option for the folder that is searched first.
+pub(crate) const FROM: &str = "from";
+
 /// The name of the option for pages in HTML.
 pub(crate) const HTML: &str = "html";
 
@@ -106,6 +115,8 @@ enum Sort {
     Flag,
     /// An option with a value, of which this is the name.
     Value(&'static str),
+    /// The same of an option that must be there.
+    Needed(&'static str),
     /// An option with values, each behind its own word.
     Values(&'static str),
     /// An option with a value, which is the second of these if none is given.
@@ -129,6 +140,8 @@ enum Group {
     Building,
     /// How refusals are shown.
     Style,
+    /// How many pages of memory a program has.
+    Memory,
     None,
 }
 
@@ -158,6 +171,23 @@ const INPUT_ROW: Row = Row {
     name: INPUT,
     sort: Sort::Value("FILE"),
     help: "What a program that imports Input reads; - is standard input, to its end",
+};
+
+/// The option `--deps`.
+const DEPS_ROW: Row = Row {
+    name: DEPS,
+    sort: Sort::Value("FILE"),
+    help: "Writes in make's form what was written, and each file that was read for it",
+};
+
+/// What is said of the option for the folder of the modules.
+const OUT_HELP: &str = "The folder into which the modules are written";
+
+/// The option `--out` of those that write modules.
+const OUT_ROW: Row = Row {
+    name: OUT,
+    sort: Sort::Value("DIR"),
+    help: OUT_HELP,
 };
 
 const LIBRARY_ROWS: [Row; 2] = [
@@ -255,14 +285,11 @@ const DEBUG_ROWS: [Row; 3] = [
     },
 ];
 
-const BUILD_ROWS: [Row; 5] = [
+const BUILD_ROWS: [Row; 6] = [
     PROGRAM_ROW,
     INPUT_ROW,
-    Row {
-        name: OUT,
-        sort: Sort::Value("DIR"),
-        help: "The folder into which the modules are written",
-    },
+    OUT_ROW,
+    DEPS_ROW,
     Row {
         name: SINGLE,
         sort: Sort::Value("FILE"),
@@ -272,6 +299,48 @@ const BUILD_ROWS: [Row; 5] = [
         name: HOST,
         sort: Sort::Value("HOST"),
         help: "What this module imports: wasi for WASI preview 1, or plain for put and stop",
+    },
+];
+
+const COMPILE_ROWS: [Row; 4] = [
+    Row {
+        name: TEXT,
+        sort: Sort::Word,
+        help: "The file of the body, or of the definition",
+    },
+    OUT_ROW,
+    DEPS_ROW,
+    Row {
+        name: FROM,
+        sort: Sort::Value("DIR"),
+        help: "The folder that is searched first, in place of the module's own",
+    },
+];
+
+const LINK_ROWS: [Row; 2] = [
+    Row {
+        name: MODULE,
+        sort: Sort::Word,
+        help: "The name of the program module",
+    },
+    Row {
+        name: OUT,
+        sort: Sort::Needed("DIR"),
+        help: OUT_HELP,
+    },
+];
+
+const GRAPH_ROWS: [Row; 3] = [
+    PROGRAM_ROW,
+    Row {
+        name: "format",
+        sort: Sort::Usual("FORMAT", "dot"),
+        help: "dot for graphviz, json for other programs, or ninja or make for the steps",
+    },
+    Row {
+        name: OUT,
+        sort: Sort::Usual("DIR", "out"),
+        help: "The folder into which the steps write the modules",
     },
 ];
 
@@ -406,7 +475,7 @@ const NEW_ROWS: [Row; 2] = [
 ];
 
 /// The commands, in the order in which they are listed.
-const COMMANDS: [Entry; 12] = [
+const COMMANDS: [Entry; 15] = [
     Entry {
         name: "run",
         about: "Compiles a program in memory and runs it",
@@ -427,6 +496,27 @@ const COMMANDS: [Entry; 12] = [
         rows: &BUILD_ROWS,
         has_steps: false,
         group: Group::Setting,
+    },
+    Entry {
+        name: "compile",
+        about: "Compiles one module: M.mod to M.wasm and M.link, or checks the definition M.def",
+        rows: &COMPILE_ROWS,
+        has_steps: false,
+        group: Group::Setting,
+    },
+    Entry {
+        name: "link",
+        about: "Links modules that m2 compile wrote: writes link.wasm beside them",
+        rows: &LINK_ROWS,
+        has_steps: false,
+        group: Group::Memory,
+    },
+    Entry {
+        name: "graph",
+        about: "Shows what the modules of a program import, or the steps that build it",
+        rows: &GRAPH_ROWS,
+        has_steps: false,
+        group: Group::Building,
     },
     Entry {
         name: "input",
@@ -503,6 +593,7 @@ fn arg_of<'a>(alloc: Global, row: Row) -> Arg<'a> {
         Sort::AnyWords => arg.action(ArgAction::Append).num_args(1..),
         Sort::Flag => arg.long(row.name).action(ArgAction::SetTrue),
         Sort::Value(value) => arg.long(row.name).value_name(value),
+        Sort::Needed(value) => arg.long(row.name).value_name(value).required(true),
         Sort::Values(value) => arg
             .long(row.name)
             .value_name(value)
@@ -536,6 +627,7 @@ fn with_group<'a>(alloc: Global, command: Command<'a>, group: Group) -> Result<C
         Group::Setting => with_rows(alloc, with_building(alloc, command)?, &STYLE_ROWS),
         Group::Building => with_building(alloc, command),
         Group::Style => with_rows(alloc, command, &STYLE_ROWS),
+        Group::Memory => Ok(command.arg(memory_option(alloc))?),
         Group::None => Ok(command),
     }
 }

@@ -8,7 +8,7 @@ mod libraries;
 mod own_library;
 mod words;
 
-pub use asked::{Asked, Fix, Layout, Measured, Pass, Setting, Style, Told};
+pub use asked::{Asked, Drawn, Fix, Layout, Measured, Pass, Setting, Style, Told};
 pub use words::read_command_line;
 
 /// The name of the program, in front of what it says.

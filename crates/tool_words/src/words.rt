@@ -1,15 +1,15 @@
 //! The words of the command line.
 
 use crate::PROGRAM;
-use crate::asked::{Asked, Fix, Layout, Measured, Pass, Setting, Style, Told};
+use crate::asked::{Asked, Drawn, Fix, Layout, Measured, Pass, Setting, Style, Told};
 use crate::commands::{
-    BYTES, CALLGRIND, CASES, CHECK, CLASS, COST, COST_SVG, COVERAGE, DAP, DIFF, DIR, EACH, FILE,
-    FIX, FLAME, HOST, HTML, INPUT, INPUT_FILE, LCOV, LISTING, OUT, PROFILE, SAME, SINGLE, TEXT,
-    TRACE, TRACE_LIMIT, YES, command,
+    BYTES, CALLGRIND, CASES, CHECK, CLASS, COST, COST_SVG, COVERAGE, DAP, DEPS, DIFF, DIR, EACH,
+    FILE, FIX, FLAME, FROM, HOST, HTML, INPUT, INPUT_FILE, LCOV, LISTING, MODULE, OUT, PROFILE,
+    SAME, SINGLE, TEXT, TRACE, TRACE_LIMIT, YES, command,
 };
 use crate::libraries::libraries_of;
 use anyhow::Result;
-use build_words::options_of;
+use build_words::{options_of, pages_of};
 use clap::ArgMatches;
 use command_words::{
     COMMAND_LINE, Exit, are_named, command_line, is_named, matches_of, number_option, steps_of,
@@ -247,6 +247,9 @@ where
     if matches.get_str(OUT).is_some() {
         return Err(refuse(rt, "build takes --out or --single, not both"));
     }
+    if matches.get_str(DEPS).is_some() {
+        return Err(refuse(rt, "--deps goes with --out"));
+    }
     Ok(Asked::Single {
         host: host_of(rt, matches)?,
         out: name_of(rt, matches, SINGLE, "--single")?,
@@ -272,9 +275,68 @@ where
     }
     Ok(Asked::Build {
         out: name_of(rt, matches, OUT, "--out")?,
+        deps: file_of(rt, matches, DEPS, "--deps")?,
         program: name_of(rt, matches, FILE, FILE)?,
         input: input_of(rt, matches)?,
         setting: setting_of(rt, matches, colours)?,
+    })
+}
+
+/// What the imports of a program are drawn as. Any other word is reported.
+fn drawn_of<R: Eprint>(rt: &R, word: &str) -> Option<Drawn> {
+    match word {
+        "dot" => Some(Drawn::Picture),
+        "json" => Some(Drawn::Data),
+        "ninja" => Some(Drawn::Ninja),
+        "make" => Some(Drawn::Make),
+        _ => {
+            let _ = eprintln!(rt; "{PROGRAM}: --format takes dot, json, ninja or make, not {word}");
+            None
+        }
+    }
+}
+
+fn graph_asked<R>(rt: &R, matches: &ArgMatches, colours: bool) -> Result<Asked, Exit>
+where
+    R: Files + Env + Eprint + AllocGlobal,
+{
+    let Some(drawn) = drawn_of(rt, matches.get_str("format").unwrap_or("")) else {
+        return Err(Exit::Reported(COMMAND_LINE));
+    };
+    let style = if colours {
+        Style::Coloured
+    } else {
+        Style::Text
+    };
+    Ok(Asked::Graph {
+        program: name_of(rt, matches, FILE, FILE)?,
+        out: name_of(rt, matches, OUT, "--out")?,
+        drawn,
+        setting: setting_in(rt, matches, style)?,
+    })
+}
+
+fn compile_asked<R>(rt: &R, matches: &ArgMatches, colours: bool) -> Result<Asked, Exit>
+where
+    R: Files + Env + Eprint + AllocGlobal,
+{
+    Ok(Asked::Compile {
+        file: name_of(rt, matches, TEXT, TEXT)?,
+        out: file_of(rt, matches, OUT, "--out")?,
+        deps: file_of(rt, matches, DEPS, "--deps")?,
+        from: file_of(rt, matches, FROM, "--from")?,
+        setting: setting_of(rt, matches, colours)?,
+    })
+}
+
+fn link_asked<R>(rt: &R, matches: &ArgMatches) -> Result<Asked, Exit>
+where
+    R: Eprint + AllocGlobal,
+{
+    Ok(Asked::Link {
+        program: name_of(rt, matches, MODULE, MODULE)?,
+        out: name_of(rt, matches, OUT, "--out")?,
+        pages: pages_of(rt, PROGRAM, matches)?,
     })
 }
 
@@ -469,6 +531,9 @@ where
         Some(("run", inner)) => run_asked(rt, inner, colours),
         Some(("debug", inner)) => debug_asked(rt, inner, colours),
         Some(("build", inner)) => build_asked(rt, inner, colours),
+        Some(("compile", inner)) => compile_asked(rt, inner, colours),
+        Some(("link", inner)) => link_asked(rt, inner),
+        Some(("graph", inner)) => graph_asked(rt, inner, colours),
         Some(("input", inner)) => input_asked(rt, inner, colours),
         Some(("check", inner)) => check_asked(rt, inner, colours),
         Some(("test", inner)) => test_asked(rt, inner),

@@ -8,5 +8,6 @@ mod standing;
 
 pub use chain::{Chain, Step, mend_file};
 pub use find::{Found, find_mend};
+pub use m2c::{BuildFault, SourceFile};
 pub use propose_mends::Mend;
 pub use standing::Reach;

@@ -1,0 +1,49 @@
+//! What is read of texts.
+
+use build_jobs::{Read, SourceFile, read_text};
+use m2_tree::{Module, Refusal};
+use std::alloc::{AllocError, Global};
+use std::sync::Arc;
+
+/// What is read of texts: the trees of those that have one, and what the others break.
+#[derive(Drop)]
+pub struct Readings {
+    pub trees: Vec<Arc<Module>>,
+    pub refusals: Vec<Refusal>,
+}
+
+/// Reads a text.
+fn add_reading(alloc: Global, file: &SourceFile, all: &mut Readings) -> Result<(), AllocError> {
+    match read_text(alloc, &file.bytes)? {
+        Read::Parsed(tree) => all.trees.push(tree)?,
+        Read::Refused(pos, number) => {
+            let file = String::from_str(alloc, file.name.as_str())?;
+            all.refusals.push(Refusal { file, pos, number })?;
+        }
+    }
+    Ok(())
+}
+
+/// What is read of each of these texts, in order.
+pub fn readings_of(alloc: Global, files: &[SourceFile]) -> Result<Readings, AllocError> {
+    let mut all = Readings {
+        trees: Vec::new(alloc),
+        refusals: Vec::new(alloc),
+    };
+    for file in files {
+        add_reading(alloc, file, &mut all)?;
+    }
+    Ok(all)
+}
+
+/// Adds trees with the names of their files.
+pub fn add_named<'a>(
+    all: &mut Vec<(&'a str, &'a Module)>,
+    files: &'a [SourceFile],
+    trees: &'a [Arc<Module>],
+) -> Result<(), AllocError> {
+    for (file, tree) in files.iter().zip(trees) {
+        all.push((file.name.as_str(), &**tree))?;
+    }
+    Ok(())
+}

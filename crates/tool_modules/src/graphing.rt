@@ -1,0 +1,149 @@
+//! `m2 graph`: the imports of a program.
+
+use anyhow::Result;
+use build_jobs::{Read, SourceFile, read_text};
+use command_words::{Exit, FAILED};
+use find_files::{Program, find_program, folder_of};
+use m2_tree::{Module, Refusal};
+use show_graph::{Node, Steps, data, make_file, ninja_file, nodes_of, picture};
+use std::alloc::{AllocError, Global};
+use std::rt::Files;
+use std::sync::Arc;
+use tool_output::{say_output_fault, show};
+use tool_words::{Drawn, PROGRAM, Setting};
+
+/// The status of what is shown.
+const SHOWN: u8 = 0;
+
+/// The status of a program that has no steps.
+const REFUSED: u8 = 1;
+
+/// What is read of the files of a program: their trees, or what is refused.
+#[derive(Drop)]
+struct Readings {
+    trees: Vec<Arc<Module>>,
+    refusals: Vec<Refusal>,
+}
+
+/// Reads a file.
+fn add_reading(alloc: Global, file: &SourceFile, all: &mut Readings) -> Result<(), AllocError> {
+    match read_text(alloc, &file.bytes)? {
+        Read::Parsed(tree) => all.trees.push(tree)?,
+        Read::Refused(pos, number) => {
+            let file = String::from_str(alloc, file.name.as_str())?;
+            all.refusals.push(Refusal { file, pos, number })?;
+        }
+    }
+    Ok(())
+}
+
+/// What is read of these files.
+fn readings_of(alloc: Global, files: &[SourceFile]) -> Result<Readings, AllocError> {
+    let mut all = Readings {
+        trees: Vec::new(alloc),
+        refusals: Vec::new(alloc),
+    };
+    for file in files {
+        add_reading(alloc, file, &mut all)?;
+    }
+    Ok(all)
+}
+
+/// The name of the program module, which is that of the first file.
+fn program_of<'a>(nodes: &'a [Node<'_>]) -> Option<&'a str> {
+    match nodes.first() {
+        None => None,
+        Some(first) => {
+            if first.is_program {
+                Some(first.name.as_str())
+            } else {
+                None
+            }
+        }
+    }
+}
+
+/// Writes what is shown. The status.
+fn write_page<R: Print + Eprint>(rt: &R, page: &str) -> u8 {
+    match rt.write_all(page.as_bytes()) {
+        Ok(()) => SHOWN,
+        Err(error) => {
+            say_output_fault(rt, &error);
+            FAILED
+        }
+    }
+}
+
+/// Shows the steps that build a program. If it lacks modules, or is none, that is said. The status.
+fn show_steps<R: Print + Eprint + AllocGlobal>(
+    rt: &R,
+    setting: &Setting,
+    program: &Program,
+    nodes: &[Node<'_>],
+    drawn: Drawn,
+    out: &str,
+) -> Result<u8> {
+    let path = program.files.first().map_or("", |it| it.name.as_str());
+    let Some(name) = program_of(nodes) else {
+        let _ = eprintln!(rt;
+            "{PROGRAM}: {path}: it is no program module, so there is nothing to link"
+        );
+        return Ok(REFUSED);
+    };
+    if !program.lacking.is_empty() {
+        return show(rt, setting.style, program, &[], &[]);
+    }
+    let steps = Steps {
+        out,
+        folder: folder_of(path),
+        libraries: &setting.libraries,
+        pages: setting.options.pages,
+    };
+    let page = if drawn == Drawn::Ninja {
+        ninja_file(rt.alloc(), &steps, name, nodes)?
+    } else {
+        make_file(rt.alloc(), &steps, name, nodes)?
+    };
+    Ok(write_page(rt, page.as_str()))
+}
+
+/// Shows the imports of a program whose texts have trees. The status.
+fn show_nodes<R: Print + Eprint + AllocGlobal>(
+    rt: &R,
+    setting: &Setting,
+    program: &Program,
+    nodes: &[Node<'_>],
+    drawn: Drawn,
+    out: &str,
+) -> Result<u8> {
+    let alloc = rt.alloc();
+    let page = match drawn {
+        Drawn::Picture => picture(alloc, nodes, &program.lacking)?,
+        Drawn::Data => data(alloc, nodes, &program.lacking)?,
+        Drawn::Ninja | Drawn::Make => {
+            return show_steps(rt, setting, program, nodes, drawn, out);
+        }
+    };
+    Ok(write_page(rt, page.as_str()))
+}
+
+/// Shows what the modules of the program of this file import, or the steps that build it into the folder `out`. Texts that have no
+/// trees are refused. The status.
+pub fn show_imports<R>(
+    rt: &R,
+    setting: &Setting,
+    path: &str,
+    drawn: Drawn,
+    out: &str,
+) -> Result<u8, Exit>
+where
+    R: Files + Print + Eprint + AllocGlobal,
+{
+    let program = find_program(rt, setting, path)?;
+    let Readings { trees, refusals } = readings_of(rt.alloc(), &program.files)?;
+    if !refusals.is_empty() {
+        return Ok(show(rt, setting.style, &program, &refusals, &[])?);
+    }
+    let nodes = nodes_of(rt.alloc(), &program.files, &trees)?;
+    Ok(show_nodes(rt, setting, &program, &nodes, drawn, out)?)
+}
