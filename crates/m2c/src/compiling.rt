@@ -14,7 +14,7 @@ use crate::sources::read_files;
 use build_jobs::{MAX_PAGES, MAX_WORKERS, Options, Runner, SourceFile};
 use pool_board::Open;
 use run_directory::{InDir, Sink};
-use std::alloc::Global;
+use std::alloc::{AllocError, Global};
 use std::thread::Threads;
 use write_directory::{OutDir, save};
 
@@ -73,7 +73,7 @@ fn end_of_build<R: Threads + Sync, D: OutDir, S: Sink>(
     };
     match outcome_of(&runner, sources, options.pages, Trees::Left) {
         Ok(outcome) => end_of_outcome(alloc, outcome, dir, out),
-        Err(refused) => Ending::Unbuilt(BuildFault::from(refused)),
+        Err(AllocError) => Ending::Unbuilt(BuildFault::NoMemory),
     }
 }
 
