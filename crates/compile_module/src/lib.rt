@@ -12,3 +12,4 @@ mod texts;
 
 pub use made::{Interface, Made};
 pub use passes::compile_module;
+pub use texts::{Readings, readings_of};

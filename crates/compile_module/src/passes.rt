@@ -171,10 +171,10 @@ fn without_stands(found: Vec<Refusal>) -> Vec<Refusal> {
 }
 
 /// What comes of the first of files with these trees.
-fn of_trees(
+fn of_trees<'a>(
     alloc: Global,
-    files: &[SourceFile],
-    trees: &[Arc<Module>],
+    files: &'a [SourceFile],
+    trees: &'a [Arc<Module>],
 ) -> Result<Made, AllocError> {
     let stands = stands_for(alloc, trees)?;
     let mut all: Vec<(&str, &Module)> = Vec::new(alloc);

@@ -1,7 +1,5 @@
 //! The definitions that one module needs.
 
-ghost use Rattle.std.specs.Vec.{vec_len};
-
 use crate::finding::{Program, add_file, alone, say_find_fault, searched_by};
 use crate::places::Places;
 use command_words::Exit;

@@ -13,6 +13,7 @@ use system_streams::{is_stream, read_text};
 pub struct Places<'a, R> {
     rt: &'a R,
     program: &'a str,
+    /// What stands in front of the names of the files of each folder.
     pub folders: Vec<String>,
 }
 

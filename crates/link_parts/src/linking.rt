@@ -90,10 +90,10 @@ fn trees_of(alloc: Global, files: &[SourceFile]) -> Result<Vec<Arc<Module>>, Lin
 }
 
 /// The graph of files with these trees.
-fn graph_of(
+fn graph_of<'a>(
     alloc: Global,
-    files: &[SourceFile],
-    trees: &[Arc<Module>],
+    files: &'a [SourceFile],
+    trees: &'a [Arc<Module>],
 ) -> Result<Graph, LinkFault> {
     let mut named: Vec<(&str, &Module)> = Vec::new(alloc);
     for (file, tree) in files.iter().zip(trees) {

@@ -13,7 +13,7 @@ const HEAD: &str =
 fn push_rules(page: &mut String, steps: &Steps<'_>, program: &str) -> Result<(), AllocError> {
     page.push_str("rule compile\n  command = $m2")?;
     steps.push_shared(page)?;
-    page.push_str(" $words $in\n  deps = gcc\n\nrule link\n  command = $m2")?;
+    page.push_str(" $words $in\n  deps = gcc\n  restat = 1\n\nrule link\n  command = $m2")?;
     steps.push_link(page, program)?;
     page.push_str("\n\n")
 }

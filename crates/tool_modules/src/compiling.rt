@@ -5,33 +5,17 @@ use anyhow::Result;
 use build_jobs::{Read, read_text};
 use command_words::{COMMAND_LINE, Exit};
 use compile_module::{Interface as Needed, Made, compile_module};
-use find_files::{Program, alone, find_definitions, text_of};
+use find_files::{Program, find_definitions, text_of};
 use link_parts::{Interface, Part, Sizes, sum_of};
 use m2_emit::ModuleBytes;
-use m2_tree::{Contents, Module, Pos, Refusal};
+use m2_tree::{Contents, Module};
 use std::alloc::{AllocError, Global};
 use std::rt::Files;
-use tool_output::show;
+use tool_output::{refuse, show};
 use tool_words::{PROGRAM, Setting};
 
 /// The status of a definition in which nothing is refused.
 const ACCEPTED: u8 = 0;
-
-/// Shows where a text is refused. The status.
-fn refuse_text<R: Print + Eprint + AllocGlobal>(
-    rt: &R,
-    setting: &Setting,
-    path: &str,
-    text: Vec<u8>,
-    pos: Pos,
-    number: u32,
-) -> Result<u8> {
-    let file = String::from_str(rt.alloc(), path)?;
-    let mut refusals = Vec::new(rt.alloc());
-    refusals.push(Refusal { file, pos, number })?;
-    let program = alone(rt.alloc(), path, text)?;
-    show(rt, setting.style, &program, &refusals, &[])
-}
 
 /// The checksum of the text of a file of a program.
 fn sum_in(alloc: Global, program: &Program, file: usize) -> Result<String, AllocError> {
@@ -157,7 +141,7 @@ where
     let tree = match read_text(rt.alloc(), &text)? {
         Read::Parsed(tree) => tree,
         Read::Refused(pos, number) => {
-            return Ok(refuse_text(rt, setting, path, text, pos, number)?);
+            return Ok(refuse(rt, setting.style, path, text, pos, number)?);
         }
     };
     let is_definition = matches!(&tree.contents, Contents::Definition(_));

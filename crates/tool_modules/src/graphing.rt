@@ -1,53 +1,16 @@
 //! `m2 graph`: the imports of a program.
 
 use anyhow::Result;
-use build_jobs::{Read, SourceFile, read_text};
-use command_words::{Exit, FAILED};
+use command_words::Exit;
+use compile_module::{Readings, readings_of};
 use find_files::{Program, find_program, folder_of};
-use m2_tree::{Module, Refusal};
 use show_graph::{Node, Steps, data, make_file, ninja_file, nodes_of, picture};
-use std::alloc::{AllocError, Global};
 use std::rt::Files;
-use std::sync::Arc;
-use tool_output::{say_output_fault, show};
+use tool_output::{show, write_page};
 use tool_words::{Drawn, PROGRAM, Setting};
-
-/// The status of what is shown.
-const SHOWN: u8 = 0;
 
 /// The status of a program that has no steps.
 const REFUSED: u8 = 1;
-
-/// What is read of the files of a program: their trees, or what is refused.
-#[derive(Drop)]
-struct Readings {
-    trees: Vec<Arc<Module>>,
-    refusals: Vec<Refusal>,
-}
-
-/// Reads a file.
-fn add_reading(alloc: Global, file: &SourceFile, all: &mut Readings) -> Result<(), AllocError> {
-    match read_text(alloc, &file.bytes)? {
-        Read::Parsed(tree) => all.trees.push(tree)?,
-        Read::Refused(pos, number) => {
-            let file = String::from_str(alloc, file.name.as_str())?;
-            all.refusals.push(Refusal { file, pos, number })?;
-        }
-    }
-    Ok(())
-}
-
-/// What is read of these files.
-fn readings_of(alloc: Global, files: &[SourceFile]) -> Result<Readings, AllocError> {
-    let mut all = Readings {
-        trees: Vec::new(alloc),
-        refusals: Vec::new(alloc),
-    };
-    for file in files {
-        add_reading(alloc, file, &mut all)?;
-    }
-    Ok(all)
-}
 
 /// The name of the program module, which is that of the first file.
 fn program_of<'a>(nodes: &'a [Node<'_>]) -> Option<&'a str> {
@@ -59,17 +22,6 @@ fn program_of<'a>(nodes: &'a [Node<'_>]) -> Option<&'a str> {
             } else {
                 None
             }
-        }
-    }
-}
-
-/// Writes what is shown. The status.
-fn write_page<R: Print + Eprint>(rt: &R, page: &str) -> u8 {
-    match rt.write_all(page.as_bytes()) {
-        Ok(()) => SHOWN,
-        Err(error) => {
-            say_output_fault(rt, &error);
-            FAILED
         }
     }
 }
@@ -104,7 +56,7 @@ fn show_steps<R: Print + Eprint + AllocGlobal>(
     } else {
         make_file(rt.alloc(), &steps, name, nodes)?
     };
-    Ok(write_page(rt, page.as_str()))
+    Ok(write_page(rt, page.as_bytes()))
 }
 
 /// Shows the imports of a program whose texts have trees. The status.
@@ -124,7 +76,7 @@ fn show_nodes<R: Print + Eprint + AllocGlobal>(
             return show_steps(rt, setting, program, nodes, drawn, out);
         }
     };
-    Ok(write_page(rt, page.as_str()))
+    Ok(write_page(rt, page.as_bytes()))
 }
 
 /// Shows what the modules of the program of this file import, or the steps that build it into the folder `out`. Texts that have no

@@ -11,7 +11,7 @@ mod showing;
 
 pub use depending::write_depends;
 pub use keeping::{holds_bytes, write_changed};
-pub use output::say_output_fault;
+pub use output::{say_output_fault, write_page};
 pub use rewriting::rewrite_file;
 pub use screen::Screen;
-pub use showing::show;
+pub use showing::{refuse, show};

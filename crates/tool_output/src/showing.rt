@@ -5,8 +5,8 @@ use crate::screen::Screen;
 use anyhow::Result;
 use build_jobs::SourceFile;
 use command_words::FAILED;
-use find_files::{Program, partner_words};
-use m2_tree::Refusal;
+use find_files::{Program, alone, partner_words};
+use m2_tree::{Pos, Refusal};
 use show_refusals::{explanation, show_json};
 use std::io;
 use tool_words::{PROGRAM, Style};
@@ -110,4 +110,19 @@ pub fn show<R: Print + Eprint + AllocGlobal>(
             Ok(FAILED)
         }
     }
+}
+
+/// Shows where a text is refused. The status. The error is want of memory.
+pub fn refuse<R: Print + Eprint + AllocGlobal>(
+    rt: &R,
+    style: Style,
+    path: &str,
+    text: Vec<u8>,
+    pos: Pos,
+    number: u32,
+) -> Result<u8> {
+    let mut refusals = Vec::new(rt.alloc());
+    let file = String::from_str(rt.alloc(), path)?;
+    refusals.push(Refusal { file, pos, number })?;
+    show(rt, style, &alone(rt.alloc(), path, text)?, &refusals, &[])
 }
