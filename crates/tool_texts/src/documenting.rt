@@ -1,12 +1,12 @@
 //! `m2 doc`: pages of the definitions of a folder.
 
-use crate::passes::refuse;
 use command_words::{Exit, FAILED};
 use document_modules::{DocumentFault, Kind, Outline, Page, read_definition, write_pages};
 use find_files::text_of;
 use std::alloc::AllocError;
 use std::rt::Files;
 use std::{fs, io};
+use tool_output::refuse;
 use tool_words::{PROGRAM, Style};
 
 /// The status if the pages are written.

@@ -1,12 +1,11 @@
 //! `m2 fmt`: texts in one style.
 
-use crate::passes::{refuse, write_page};
 use command_words::{Exit, FAILED};
 use format_text::{FormatFault, format, unified_diff};
 use program_input::read_input;
 use std::io;
 use std::rt::Files;
-use tool_output::{rewrite_file, say_output_fault};
+use tool_output::{refuse, rewrite_file, say_output_fault, write_page};
 use tool_words::{Layout, PROGRAM, Style};
 
 /// The status if each text has its layout.

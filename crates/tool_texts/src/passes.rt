@@ -1,9 +1,8 @@
 //! `m2 show`: what a pass makes of a program.
 
 use anyhow::Result;
-use command_words::{Exit, FAILED};
-use find_files::{alone, text_of};
-use m2_tree::{Pos, Refusal};
+use command_words::Exit;
+use find_files::text_of;
 use m2c::{Open, Options, Outcome, SourceFile, build};
 use mark_statements::marked_text;
 use show_passes::{File, Shown, show_program, show_text_tokens, show_text_tree};
@@ -12,38 +11,9 @@ use std::alloc::{AllocError, Global};
 use std::rt::Files;
 use std::thread::Threads;
 use tool_builds::{Modules, build_program};
-use tool_output::{say_output_fault, show};
-use tool_words::{Pass, Setting, Style};
+use tool_output::{refuse, write_page};
+use tool_words::{Pass, Setting};
 use typed_program::typed_program;
-
-/// The status of what is shown.
-const SHOWN: u8 = 0;
-
-/// Writes what is shown. The status.
-pub fn write_page<R: Print + Eprint>(rt: &R, page: &[u8]) -> u8 {
-    match rt.write_all(page) {
-        Ok(()) => SHOWN,
-        Err(error) => {
-            say_output_fault(rt, &error);
-            FAILED
-        }
-    }
-}
-
-/// Shows where a text is refused. The status.
-pub fn refuse<R: Print + Eprint + AllocGlobal>(
-    rt: &R,
-    style: Style,
-    path: &str,
-    text: Vec<u8>,
-    pos: Pos,
-    number: u32,
-) -> Result<u8> {
-    let mut refusals = Vec::new(rt.alloc());
-    let file = String::from_str(rt.alloc(), path)?;
-    refusals.push(Refusal { file, pos, number })?;
-    show(rt, style, &alone(rt.alloc(), path, text)?, &refusals, &[])
-}
 
 /// Shows what a pass makes of this text, or where it is refused. The status.
 fn show_text<R: Print + Eprint + AllocGlobal>(
