@@ -99,6 +99,13 @@ impl Signals {
     }
 }
 
+/// Puts a record in the place of the one of this number.
+fn put_record(records: &mut Vec<Record>, at: usize, record: Record) {
+    if let Some(place) = records.get_mut(at) {
+        *place = record;
+    }
+}
+
 /// The records that are kept: the older ones, and behind them the newer ones.
 #[derive(Drop)]
 struct Kept {
@@ -125,12 +132,9 @@ impl Kept {
 
     /// Puts a record in the place of the one of this number.
     fn set(&mut self, at: usize, record: Record) {
-        let place = match at.checked_sub(self.older.len()) {
-            None => self.older.get_mut(at),
-            Some(at) => self.newer.get_mut(at),
-        };
-        if let Some(place) = place {
-            *place = record;
+        match at.checked_sub(self.older.len()) {
+            None => put_record(&mut self.older, at, record),
+            Some(at) => put_record(&mut self.newer, at, record),
         }
     }
 
