@@ -170,6 +170,30 @@ fn without_stands(found: Vec<Refusal>) -> Vec<Refusal> {
     refusals
 }
 
+/// Adds stand-ins, under the name that they have.
+fn add_stands<'a>(
+    all: &mut Vec<(&'a str, &'a Module)>,
+    stands: &'a [Module],
+) -> Result<(), AllocError> {
+    for stand in stands {
+        all.push((FILE, stand))?;
+    }
+    Ok(())
+}
+
+/// Trees under the names of their files, and behind them stand-ins.
+fn all_named<'a>(
+    alloc: Global,
+    files: &'a [SourceFile],
+    trees: &'a [Arc<Module>],
+    stands: &'a [Module],
+) -> Result<Vec<(&'a str, &'a Module)>, AllocError> {
+    let mut all = Vec::new(alloc);
+    add_named(&mut all, files, trees)?;
+    add_stands(&mut all, stands)?;
+    Ok(all)
+}
+
 /// What comes of the first of files with these trees.
 fn of_trees<'a>(
     alloc: Global,
@@ -177,11 +201,7 @@ fn of_trees<'a>(
     trees: &'a [Arc<Module>],
 ) -> Result<Made, AllocError> {
     let stands = stands_for(alloc, trees)?;
-    let mut all: Vec<(&str, &Module)> = Vec::new(alloc);
-    add_named(&mut all, files, trees)?;
-    for stand in &stands {
-        all.push((FILE, stand))?;
-    }
+    let all = all_named(alloc, files, trees, &stands)?;
     match Graph::of(alloc, &all) {
         Ok(graph) => made_of(alloc, &graph, all.get(..files.len()).unwrap_or(&[])),
         Err(GraphError::Refused(refusals)) => Ok(Made::Refused(without_stands(refusals))),

@@ -44,12 +44,18 @@ impl<'a> Session<'a> {
         }
     }
 
+    /// What was printed behind so many bytes.
+    fn output_from(&self, from: usize) -> Result<String, AllocError> {
+        let bytes = self.history.state.output().get(from..).unwrap_or(&[]);
+        String::from_utf8_lossy(self.alloc, bytes)
+    }
+
     /// What was printed since the last time. The only error is that memory ran out.
     pub fn new_output(&mut self) -> Result<String, AllocError> {
-        let output = self.history.state.output();
-        let bytes = output.get(self.shown..).unwrap_or(&[]);
-        let text = String::from_utf8_lossy(self.alloc, bytes)?;
-        self.shown = self.shown.max(output.len());
+        let from = self.shown;
+        let text = self.output_from(from)?;
+        let length = self.history.state.output().len();
+        self.shown = from.max(length);
         Ok(text)
     }
 

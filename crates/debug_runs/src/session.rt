@@ -94,14 +94,20 @@ impl<'a> Session<'a> {
         self.text.extend_from_slice(words.as_bytes())
     }
 
+    /// The bytes that the program printed behind so many, with the end of their line.
+    fn printed_from(&self, from: usize) -> Result<Vec<u8>, AllocError> {
+        let bytes = self.history.state.output().get(from..).unwrap_or(&[]);
+        let mut printed = Vec::from_slice(self.alloc, bytes)?;
+        if !bytes.is_empty() && !bytes.ends_with(b"\n") {
+            printed.push(b'\n')?;
+        }
+        Ok(printed)
+    }
+
     /// Adds bytes that the program printed, and ends their line.
     pub(crate) fn say_bytes(&mut self, from: usize) -> Result<(), AllocError> {
-        let bytes = self.history.state.output().get(from..).unwrap_or(&[]);
-        self.text.extend_from_slice(bytes)?;
-        if !bytes.is_empty() && !bytes.ends_with(b"\n") {
-            self.text.push(b'\n')?;
-        }
-        Ok(())
+        let printed = self.printed_from(from)?;
+        self.text.extend_from_slice(&printed)
     }
 
     /// What is said of the place at which the run is.

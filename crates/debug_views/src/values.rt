@@ -262,10 +262,10 @@ impl Writer<'_> {
 
 impl Views {
     /// What is found, in words of the language. Of what is long the begin alone. The only error is that memory ran out.
-    pub fn text_of(
-        &self,
+    pub fn text_of<'a>(
+        &'a self,
         alloc: Global,
-        state: &State,
+        state: &'a State,
         found: Found,
     ) -> Result<String, AllocError> {
         let mut writer = Writer {

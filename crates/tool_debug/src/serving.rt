@@ -82,7 +82,7 @@ where
 }
 
 /// Finds and builds the program that a request names.
-fn launch<R>(rt: &R, setting: &Setting, request: &Request) -> Result<Launch>
+fn follow_launch<R>(rt: &R, setting: &Setting, request: &Request) -> Result<Launch>
 where
     R: Files + Input + Eprint + AllocGlobal + Threads + Sync,
 {
@@ -155,7 +155,7 @@ where
 {
     match request.command.as_str() {
         "initialize" => out.answer(request, capabilities(rt.alloc())?)?,
-        "launch" => match launch(rt, setting, request)? {
+        "launch" => match follow_launch(rt, setting, request)? {
             Launch::Refused(words) => out.refuse(request, words.as_str())?,
             Launch::Ready(launched) => {
                 out.accept(request)?;

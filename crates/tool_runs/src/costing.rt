@@ -54,7 +54,7 @@ struct Counted {
 }
 
 /// Runs a program for so many reductions, and then in slices of so many, at most as many as this.
-fn counted(alloc: Global, program: &Program, from: u64, slice: u64, steps: u64) -> Counted {
+fn reductions_of(alloc: Global, program: &Program, from: u64, slice: u64, steps: u64) -> Counted {
     let mut counted = Counted {
         end: None,
         made: from,
@@ -89,7 +89,7 @@ fn counted(alloc: Global, program: &Program, from: u64, slice: u64, steps: u64) 
 fn count_run(alloc: Global, program: &Program, steps: u64) -> Counted {
     let mut all = Counted { end: None, made: 0 };
     for slice in SLICES {
-        all = counted(alloc, program, all.made, slice, steps);
+        all = reductions_of(alloc, program, all.made, slice, steps);
         if !matches!(all.end, Some(End::Done(_))) {
             return all;
         }
