@@ -4,7 +4,9 @@ use crate::finding::{Found, local};
 use crate::forms::{Elements, Form, Spot};
 use crate::views::{Variable, Views};
 use debug_history::{Frame, State};
+use layout_storage::Row;
 use std::alloc::{AllocError, Global};
+use typed_tree::{Dictionary, TypeNo};
 
 /// The most procedures that stand around one, and the most components in one another.
 const MOST_LEVELS: usize = 256;
@@ -27,6 +29,45 @@ struct Holder<'a> {
     /// The elements of an open array, of so many bytes each.
     one: Option<u32>,
     size: u32,
+}
+
+/// The part of a spot with this type that begins so many bytes behind.
+fn part_of(spot: Spot, of: TypeNo, start: u32) -> Spot {
+    Spot {
+        module: spot.module,
+        of,
+        address: spot.address.saturating_add(start),
+    }
+}
+
+/// The number of the field that has the byte of this number.
+fn field_at(row: &Row, behind: u32) -> Option<usize> {
+    row.starts
+        .as_slice()
+        .iter()
+        .rposition(|start| *start <= behind)
+}
+
+/// Goes into the field of a record that has the byte of this number. False if there is none.
+fn enter_field(
+    alloc: Global,
+    component: &mut Component,
+    fields: &Dictionary<TypeNo>,
+    row: &Row,
+    behind: u32,
+) -> Result<bool, AllocError> {
+    let Some(number) = field_at(row, behind) else {
+        return Ok(false);
+    };
+    let start = row.starts.as_slice().get(number).map_or(0, |it| *it);
+    let Some((name, of)) = fields.get(number) else {
+        return Ok(false);
+    };
+    component.name.push('.')?;
+    let name = String::from_utf8_lossy(alloc, name)?;
+    component.name.push_str(name.as_str())?;
+    component.spot = part_of(component.spot, *of, start);
+    Ok(true)
 }
 
 impl Views {
@@ -113,6 +154,22 @@ impl Views {
         name.push_str("]")
     }
 
+    /// Goes into the element of an array that has the byte of this number.
+    fn enter_element(
+        &self,
+        alloc: Global,
+        component: &mut Component,
+        elements: Elements,
+        behind: u32,
+    ) -> Result<(), AllocError> {
+        let spot = component.spot;
+        let place = behind.checked_div(elements.one).unwrap_or(0);
+        let start = place.saturating_mul(elements.one);
+        self.put_index(alloc, &mut component.name, spot, elements, place)?;
+        component.spot = part_of(spot, elements.element, start);
+        Ok(())
+    }
+
     /// Goes into the component at an address. False if there is none.
     fn enter(
         &self,
@@ -120,40 +177,21 @@ impl Views {
         component: &mut Component,
         address: u32,
     ) -> Result<bool, AllocError> {
-        let spot = component.spot;
-        let behind = address.saturating_sub(spot.address);
-        match self.form_at(spot) {
+        let behind = address.saturating_sub(component.spot.address);
+        let is_entered = match self.form_at(component.spot) {
             Some(Form::Array(elements)) => {
-                let place = behind.checked_div(elements.one).unwrap_or(0);
-                self.put_index(alloc, &mut component.name, spot, elements, place)?;
-                component.spot = Spot {
-                    of: elements.element,
-                    address: spot
-                        .address
-                        .saturating_add(place.saturating_mul(elements.one)),
-                    ..spot
-                };
+                self.enter_element(alloc, component, elements, behind)?;
+                true
             }
             Some(Form::Record(fields, row)) => {
-                let starts = row.starts.as_slice();
-                let number = starts.iter().rposition(|start| *start <= behind);
-                let part = number.and_then(|it| Some((fields.get(it)?, starts.get(it)?)));
-                let Some(((name, of), start)) = part else {
-                    return Ok(false);
-                };
-                component.name.push_str(".")?;
-                let name = String::from_utf8_lossy(alloc, name)?;
-                component.name.push_str(name.as_str())?;
-                component.spot = Spot {
-                    of: *of,
-                    address: spot.address.saturating_add(*start),
-                    ..spot
-                };
+                enter_field(alloc, component, fields, row, behind)?
             }
-            _ => return Ok(false),
+            _ => false,
+        };
+        if is_entered {
+            component.size = self.size_at(component.spot);
         }
-        component.size = self.size_at(component.spot);
-        Ok(true)
+        Ok(is_entered)
     }
 
     /// The component of a variable, into whose parts it is gone if it is not whole.
