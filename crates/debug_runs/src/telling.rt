@@ -67,10 +67,13 @@ impl<'a> Teller<'a> {
     /// The calls, the innermost first.
     pub fn calls(&self) -> Result<String, AllocError> {
         let mut text = String::new(self.alloc);
-        let mut front = "in ";
         for frame in self.state.frames.iter().rev().take(MOST_CALLS) {
+            let front = if text.is_empty() {
+                "in "
+            } else {
+                "  called in "
+            };
             self.put_call(&mut text, *frame, front)?;
-            front = "  called in ";
         }
         let more = self.state.frames.len().saturating_sub(MOST_CALLS);
         if more > 0 {

@@ -71,12 +71,13 @@ impl Tracer<'_> {
         let Some(view) = views.function(frame.function) else {
             return Ok(());
         };
-        let mut between = " begins with ";
+        let mut is_first = true;
         for variable in view.variables.iter().take(view.formals) {
             if let Some(found) = views.local(&self.history.state, frame, variable) {
+                let between = if is_first { " begins with " } else { ", " };
                 let name = String::from_utf8_lossy(self.alloc, &variable.name)?;
                 self.put_value(between, name.as_str(), found)?;
-                between = ", ";
+                is_first = false;
             }
         }
         if view.formals == 0 {
@@ -87,14 +88,13 @@ impl Tracer<'_> {
 
     /// Adds what a statement changed.
     fn put_changes(&mut self, changes: &[Component]) -> Result<(), AllocError> {
-        let mut between = ": ";
-        for component in changes {
+        for (at, component) in changes.iter().enumerate() {
+            let between = if at == 0 { ": " } else { ", " };
             self.put_value(
                 between,
                 component.name.as_str(),
                 Found::Value(component.spot),
             )?;
-            between = ", ";
         }
         Ok(())
     }
