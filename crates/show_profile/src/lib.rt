@@ -3,7 +3,6 @@
 #![tactic(auto)]
 
 mod callgrind;
-mod cost;
 mod flame;
 mod lcov;
 mod lines;
@@ -11,8 +10,7 @@ mod source;
 mod tables;
 
 use build_jobs::SourceFile;
-pub use cost::{Cost, cost_plot, cost_table};
-pub use explain_runs::{Counted, profile_run};
+use explain_runs::Counted;
 use std::alloc::{AllocError, Global};
 pub use tables::{coverage_table, profile_table};
 

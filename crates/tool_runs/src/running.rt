@@ -3,9 +3,8 @@
 ghost use Rattle.std.specs.Prelude.{◌≡◌, ◌<◌, ◌^◌, ◌+◌};
 
 use crate::measuring::say_measured;
-use crate::tracing::trace_program;
 use command_words::{Exit, FAILED};
-use debug_runs::explain_run;
+use explain_runs::explain_run;
 use find_files::{Program as FoundProgram, find_program};
 use pool_board::Open;
 use run_directory::end_word;
@@ -211,8 +210,7 @@ where
                 say_place(rt, setting, found, end, steps);
             }
             let is_told = say_measured(rt, setting, found, steps, told)?;
-            let is_traced = trace_program(rt, setting, found, steps, &told.trace, told.most_lines)?;
-            Ok(if is_told && is_traced { status } else { FAILED })
+            Ok(if is_told { status } else { FAILED })
         }
     }
 }
