@@ -39,6 +39,7 @@ programs: build
 	tools/try_m2
 	tools/try_separate
 	tools/try_server
+	tools/try_debugger
 
 # Compares what programs do by their definition with what is stated of them, and with what their modules do.
 compare: build plain

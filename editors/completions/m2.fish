@@ -8,7 +8,7 @@ function __m2_at --description 'Whether the word of this command at this place i
     for word in $words[2..]
         if test $is_value = 1
             set is_value 0
-        else if contains -- $word --input --listing --flame --callgrind --lcov --steps --lib --memory --workers --format --color --deps --single --host --from --out --bytes
+        else if contains -- $word --input --listing --flame --callgrind --lcov --trace --trace-limit --cost --cost-svg --steps --lib --memory --workers --format --color --out --deps --single --host --from --bytes
             set is_value 1
         else if string match -q -- '-*' $word
             continue
@@ -42,6 +42,10 @@ complete -c m2 -n '__fish_seen_subcommand_from run' -l listing -x -a '(__fish_co
 complete -c m2 -n '__fish_seen_subcommand_from run' -l flame -x -a '(__fish_complete_path (commandline -ct))' -d 'Writes a picture (SVG) of the calls: the wider, the more reductions'
 complete -c m2 -n '__fish_seen_subcommand_from run' -l callgrind -x -a '(__fish_complete_path (commandline -ct))' -d 'Writes the profile as callgrind does, for KCachegrind'
 complete -c m2 -n '__fish_seen_subcommand_from run' -l lcov -x -a '(__fish_complete_path (commandline -ct))' -d 'Writes which lines ran how often, for lcov'
+complete -c m2 -n '__fish_seen_subcommand_from run' -l trace -x -a '(__fish_complete_path (commandline -ct))' -d 'Writes a line for each statement that ran, with the variables that it changed'
+complete -c m2 -n '__fish_seen_subcommand_from run' -l trace-limit -x -d 'The most lines of the trace, from 1 to 1000000000'
+complete -c m2 -n '__fish_seen_subcommand_from run' -l cost -x -a '(__fish_complete_path (commandline -ct))' -d 'An input, and further ones: says how the reductions grow with the size of the input'
+complete -c m2 -n '__fish_seen_subcommand_from run' -l cost-svg -x -a '(__fish_complete_path (commandline -ct))' -d 'With --cost: plots the reductions (SVG), with logarithmic scales'
 complete -c m2 -n '__fish_seen_subcommand_from run' -l steps -x -d 'The most reductions to make, from 1 to 1000000000000'
 complete -c m2 -n '__fish_seen_subcommand_from run' -l lib -x -a '(__fish_complete_directories)' -d 'A folder to search for modules; M2_LIB names more'
 complete -c m2 -n '__fish_seen_subcommand_from run' -l verbose -d 'Says which files are found'
@@ -51,8 +55,21 @@ complete -c m2 -n '__fish_seen_subcommand_from run' -l format -x -a 'text json' 
 complete -c m2 -n '__fish_seen_subcommand_from run' -l color -x -a 'auto never always' -d 'Whether the mark under a refusal is red: auto, never or always'
 complete -c m2 -n '__fish_seen_subcommand_from run' -s h -l help -d 'Prints the options'
 complete -c m2 -n '__m2_at run 0' -a '(__m2_programs)'
+complete -c m2 -n __fish_use_subcommand -a debug -d 'Goes through a run, forwards and backwards, by commands; the command help lists them'
+complete -c m2 -n '__fish_seen_subcommand_from debug' -l input -x -a '(__fish_complete_path (commandline -ct))' -d 'What a program that imports Input reads; - is standard input, to its end'
+complete -c m2 -n '__fish_seen_subcommand_from debug' -l dap -d 'Serves an editor by the Debug Adapter Protocol over its standard streams'
+complete -c m2 -n '__fish_seen_subcommand_from debug' -l steps -x -d 'The most reductions to make, from 1 to 1000000000000'
+complete -c m2 -n '__fish_seen_subcommand_from debug' -l lib -x -a '(__fish_complete_directories)' -d 'A folder to search for modules; M2_LIB names more'
+complete -c m2 -n '__fish_seen_subcommand_from debug' -l verbose -d 'Says which files are found'
+complete -c m2 -n '__fish_seen_subcommand_from debug' -l memory -x -d 'The pages of 65536 bytes of the program'\''s memory, from 1 to 1024'
+complete -c m2 -n '__fish_seen_subcommand_from debug' -l workers -x -d 'How many threads compile, from 1 to 64'
+complete -c m2 -n '__fish_seen_subcommand_from debug' -l format -x -a 'text json' -d 'How refusals and faults are shown: text, or json for other programs'
+complete -c m2 -n '__fish_seen_subcommand_from debug' -l color -x -a 'auto never always' -d 'Whether the mark under a refusal is red: auto, never or always'
+complete -c m2 -n '__fish_seen_subcommand_from debug' -s h -l help -d 'Prints the options'
+complete -c m2 -n '__m2_at debug 0' -a '(__m2_programs)'
 complete -c m2 -n __fish_use_subcommand -a build -d 'Compiles a program to WebAssembly modules, link.wasm last, or to one module'
 complete -c m2 -n '__fish_seen_subcommand_from build' -l input -x -a '(__fish_complete_path (commandline -ct))' -d 'What a program that imports Input reads; - is standard input, to its end'
+complete -c m2 -n '__fish_seen_subcommand_from build' -l out -x -a '(__fish_complete_directories)' -d 'The folder into which the modules are written'
 complete -c m2 -n '__fish_seen_subcommand_from build' -l deps -x -a '(__fish_complete_path (commandline -ct))' -d 'Writes in make'\''s form what was written, and each file that was read for it'
 complete -c m2 -n '__fish_seen_subcommand_from build' -l single -x -a '(__fish_complete_path (commandline -ct))' -d 'The file into which the program is written as one module, in place of --out'
 complete -c m2 -n '__fish_seen_subcommand_from build' -l host -x -a 'wasi plain' -d 'What this module imports: wasi for WASI preview 1, or plain for put and stop'
@@ -65,6 +82,7 @@ complete -c m2 -n '__fish_seen_subcommand_from build' -l color -x -a 'auto never
 complete -c m2 -n '__fish_seen_subcommand_from build' -s h -l help -d 'Prints the options'
 complete -c m2 -n '__m2_at build 0' -a '(__m2_programs)'
 complete -c m2 -n __fish_use_subcommand -a compile -d 'Compiles one module: M.mod to M.wasm and M.link, or checks the definition M.def'
+complete -c m2 -n '__fish_seen_subcommand_from compile' -l out -x -a '(__fish_complete_directories)' -d 'The folder into which the modules are written'
 complete -c m2 -n '__fish_seen_subcommand_from compile' -l deps -x -a '(__fish_complete_path (commandline -ct))' -d 'Writes in make'\''s form what was written, and each file that was read for it'
 complete -c m2 -n '__fish_seen_subcommand_from compile' -l from -x -a '(__fish_complete_directories)' -d 'The folder that is searched first, in place of the module'\''s own'
 complete -c m2 -n '__fish_seen_subcommand_from compile' -l lib -x -a '(__fish_complete_directories)' -d 'A folder to search for modules; M2_LIB names more'
@@ -76,6 +94,7 @@ complete -c m2 -n '__fish_seen_subcommand_from compile' -l color -x -a 'auto nev
 complete -c m2 -n '__fish_seen_subcommand_from compile' -s h -l help -d 'Prints the options'
 complete -c m2 -n '__m2_at compile 0' -a '(__fish_complete_path (commandline -ct))'
 complete -c m2 -n __fish_use_subcommand -a link -d 'Links modules that m2 compile wrote: writes link.wasm beside them'
+complete -c m2 -n '__fish_seen_subcommand_from link' -l out -x -a '(__fish_complete_directories)' -d 'The folder into which the modules are written'
 complete -c m2 -n '__fish_seen_subcommand_from link' -l memory -x -d 'The pages of 65536 bytes of the program'\''s memory, from 1 to 1024'
 complete -c m2 -n '__fish_seen_subcommand_from link' -s h -l help -d 'Prints the options'
 complete -c m2 -n __fish_use_subcommand -a graph -d 'Shows what the modules of a program import, or the steps that build it'
@@ -158,7 +177,7 @@ complete -c m2 -n __fish_use_subcommand -a new -d 'Writes a program that runs, a
 complete -c m2 -n '__fish_seen_subcommand_from new' -l class -d 'Writes an exercise: a solution, and a folder of cases for m2 test'
 complete -c m2 -n '__fish_seen_subcommand_from new' -s h -l help -d 'Prints the options'
 complete -c m2 -n __fish_use_subcommand -a help -d 'Prints the help of a command'
-complete -c m2 -n '__m2_at help 0' -a 'run build compile link graph input check test show fmt doc lsp explain new'
+complete -c m2 -n '__m2_at help 0' -a 'run debug build compile link graph input check test show fmt doc lsp explain new'
 complete -c m2 -n '__m2_at explain 0' -a '1 2 3 4 5 6 7 10 11 12 13 20 21 22 23 24 25 30 31 32 33 34 35 36 37 38 40 41 42 43 44 45 46 47 48 49 50 51 52 53 60 61 70 73 80 81 82 83 84 90 91 92 93 profile input statuses fault status'
 complete -c m2 -n '__m2_at explain 1; and __m2_behind fault' -a '0 1 2 3 4 5 6 7 8 9'
 complete -c m2 -n '__m2_at explain 1; and __m2_behind status' -a '0 1 2 3 4'

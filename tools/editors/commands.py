@@ -12,11 +12,11 @@ from .table import TOP, read
 
 SOURCES = ("command_words", "build_words", "tool_words")
 FUNCTION = re.compile(r"(?m)^(?:pub )?fn (\w+).*?\n}\n", re.S)
-CONSTANT = re.compile(r'(?m)^(?:pub(?:\(crate\))? )?const (\w+): &str = "(.*)";')
+CONSTANT = re.compile(r'(?m)^(?:pub(?:\(crate\))? )?const (\w+): &str =\s+"(.*)";')
 STEP = re.compile(r"\bArg::new\(\s*alloc,\s*(?P<word>[^)]+)\)|\.long\((?P<long>[^)]+)\)|\.help\(\s*(?P<help>\"(?:[^\"\\]|\\.)*\")"
                   r"|\.action\(ArgAction::(?P<action>\w+)\)|\bwith_rows\(alloc, .*?, &(?P<rows>\w+)\)|\b(?P<call>\w+)\(\s*alloc\b")
 NAME = r"(?P<name>\w+|\"[^\"]+\")"
-ROW = re.compile(rf"Row {{\s*name: {NAME},\s*sort: Sort::(?P<sort>\w+).*?,\s*help: (?P<help>\"(?:[^\"\\]|\\.)*\"),\s*}}|\b(?P<shared>[A-Z]\w*_ROW)\b", re.S)
+ROW = re.compile(rf"Row {{\s*name: {NAME},\s*sort: Sort::(?P<sort>\w+).*?,\s*help: (?P<help>\w+|\"(?:[^\"\\]|\\.)*\"),\s*}}|\b(?P<shared>[A-Z]\w*_ROW)\b", re.S)
 ROWS = re.compile(r"(?m)^const (\w+_ROWS?): (?:\[Row; \d+\]|Row) = (.*?);$", re.S)
 ENTRY = re.compile(rf"Entry {{\s*name: {NAME},\s*about: (?P<about>\"[^\"]*\"),\s*rows: &(?P<rows>\w+),\s*has_steps: (?P<steps>\w+),"
                    r"\s*group: Group::(?P<group>\w+),\s*}")

@@ -13,7 +13,10 @@ mod report;
 mod watching;
 mod words;
 
+pub use functions::{Function, Functions};
 pub use paths::{CallCount, Path};
+pub use place::{Names, Place};
 pub use profile::{Counted, FunctionCount, Spot, Tally, profile_run};
 pub use report::{Report, explain_run};
 pub use watch_code::Activation;
+pub use watching::{Marked, marked_program, storing_modules};

@@ -12,7 +12,7 @@ use std::alloc::{AllocError, Global};
 use std::thread::Threads;
 use wasm_core::{ValidModule, read_module, validate};
 use wasm_run::{End, Instances, Sink};
-use watch_code::{Chosen, Reader, Watched, watch_module};
+use watch_code::{Chosen, Reader, Watched, watch_module, with_stores};
 
 /// How often a run is continued until the program has made its reductions. Each time what the signals took is made up for, which
 /// is a part of what was made.
@@ -148,6 +148,24 @@ fn watched_modules(
         modules,
         sites: all,
     }))
+}
+
+/// The modules of a program that also tell what they write (`with_stores`), link first. Nothing if the code of a module has not its
+/// marks.
+pub fn storing_modules(alloc: Global, program: &Marked) -> Result<Option<Vec<ValidModule>>> {
+    let mut modules = Vec::new(alloc);
+    modules.push(validate(alloc, read_module(alloc, &program.link)?)?)?;
+    for (number, module) in program.modules.iter().enumerate() {
+        match watched_module(alloc, program, number, &module.1, None)? {
+            None => return Ok(None),
+            Some(watched) => {
+                let own = program.functions.of_module(number).len();
+                let tree = with_stores(alloc, watched.tree, own)?;
+                modules.push(validate(alloc, tree)?)?;
+            }
+        }
+    }
+    Ok(Some(modules))
 }
 
 /// Makes so many reductions of the program, and the signals among them.

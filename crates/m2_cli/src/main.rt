@@ -18,15 +18,16 @@ use std::process::ExitCode;
 use std::rt::{Env, Files};
 use std::thread::Threads;
 use tool_builds::{build_into, build_single, check_all, exchange_input};
+use tool_debug::{debug_file, serve_debugger};
 use tool_modules::{compile_file, link_program, show_imports};
-use tool_runs::run_file;
+use tool_runs::{cost_file, run_file};
 use tool_server::serve_editor;
 use tool_tests::{test_class, test_program};
 use tool_texts::{document_folder, explain, format_all, show_pass};
 use tool_words::{Asked, PROGRAM, read_command_line};
 
-/// Does what was asked for, and answers the status. An error if memory or a stream failed.
-fn answer<R, P>(rt: &R, asked: &Asked, out: P) -> Result<u8, Exit>
+/// Does what was asked for, and answers the status. Lines of standard input may be typed at a terminal. An error if memory or a stream failed.
+fn answer<R, P>(rt: &R, asked: &Asked, out: P, is_typed: bool) -> Result<u8, Exit>
 where
     R: Files + Input + Env + Print + Eprint + AllocGlobal + Threads + Sync + Clone + Drop,
     P: Print + Drop,
@@ -39,6 +40,20 @@ where
             steps,
             told,
         } => run_file(rt, setting, program.as_str(), input, *steps, told, out),
+        Asked::Cost {
+            program,
+            inputs,
+            setting,
+            steps,
+            plot,
+        } => cost_file(rt, setting, program.as_str(), inputs, *steps, plot, out),
+        Asked::Debug {
+            program,
+            input,
+            setting,
+            steps,
+        } => debug_file(rt, setting, program.as_str(), input, *steps, is_typed, out),
+        Asked::Adapt { setting, steps } => serve_debugger(rt, setting, *steps, out),
         Asked::Build {
             program,
             input,
@@ -128,17 +143,18 @@ where
 }
 
 /// Does what the words ask for, and answers the status.
-fn elaborate<R, P>(rt: &R, out: P, is_terminal: bool) -> Result<u8, Exit>
+fn elaborate<R, P>(rt: &R, out: P, is_terminal: bool, is_typed: bool) -> Result<u8, Exit>
 where
     R: Files + Input + Env + Print + Eprint + AllocGlobal + Threads + Sync + Clone + Drop,
     P: Print + Drop,
 {
     let asked = read_command_line(rt, is_terminal)?;
-    answer(rt, &asked, out)
+    answer(rt, &asked, out, is_typed)
 }
 
 fn main(rt: HostRuntime) -> ExitCode {
-    match elaborate(&rt, rt.stdout(), rt.stderr().is_terminal()).or_else(Exit::status) {
+    let (is_terminal, is_typed) = (rt.stderr().is_terminal(), rt.stdin().is_terminal());
+    match elaborate(&rt, rt.stdout(), is_terminal, is_typed).or_else(Exit::status) {
         Ok(status) => ExitCode::from(status),
         Err(error) => {
             let _ = eprintln!(rt; "{PROGRAM}: {error}");

@@ -3,6 +3,7 @@
 #![tactic(auto)]
 
 mod callgrind;
+mod cost;
 mod flame;
 mod lcov;
 mod lines;
@@ -10,7 +11,8 @@ mod source;
 mod tables;
 
 use build_jobs::SourceFile;
-use explain_runs::Counted;
+pub use cost::{Cost, cost_plot, cost_table};
+pub use explain_runs::{Counted, profile_run};
 use std::alloc::{AllocError, Global};
 pub use tables::{coverage_table, profile_table};
 

@@ -1,9 +1,8 @@
 //! What ran is told when a run is over.
 
 use anyhow::Result;
-use explain_runs::{Counted, profile_run};
 use find_files::Program as FoundProgram;
-use show_profile::{Form, coverage_table, profile_table, show_counted};
+use show_profile::{Counted, Form, coverage_table, profile_run, profile_table, show_counted};
 use std::fs;
 use std::rt::Files;
 use std::thread::Threads;

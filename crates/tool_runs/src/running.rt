@@ -3,8 +3,9 @@
 ghost use Rattle.std.specs.Prelude.{◌≡◌, ◌<◌, ◌^◌, ◌+◌};
 
 use crate::measuring::say_measured;
+use crate::tracing::trace_program;
 use command_words::{Exit, FAILED};
-use explain_runs::explain_run;
+use debug_runs::explain_run;
 use find_files::{Program as FoundProgram, find_program};
 use pool_board::Open;
 use run_directory::end_word;
@@ -210,7 +211,8 @@ where
                 say_place(rt, setting, found, end, steps);
             }
             let is_told = say_measured(rt, setting, found, steps, told)?;
-            Ok(if is_told { status } else { FAILED })
+            let is_traced = trace_program(rt, setting, found, steps, &told.trace, told.most_lines)?;
+            Ok(if is_told && is_traced { status } else { FAILED })
         }
     }
 }

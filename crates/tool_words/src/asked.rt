@@ -79,6 +79,9 @@ pub struct Measured {
     pub callgrind: Option<String>,
     /// The lines that ran in the format of lcov.
     pub lcov: Option<String>,
+    /// What each statement did, in as many lines as this at most.
+    pub trace: Option<String>,
+    pub most_lines: u64,
 }
 
 /// What is done with a text whose layout is another than the one that it is to have.
@@ -116,6 +119,28 @@ pub enum Asked {
         setting: Setting,
         steps: u64,
         told: Measured,
+    },
+    /// To say how many reductions runs of the program of this file take with each of these inputs, each of at most this many, and maybe
+    /// to plot them into a file.
+    Cost {
+        program: String,
+        inputs: Vec<String>,
+        setting: Setting,
+        steps: u64,
+        plot: Option<String>,
+    },
+    /// To go through a run of the program of this file, of at most this many reductions, by commands of standard input. It reads this
+    /// file, or nothing.
+    Debug {
+        program: String,
+        input: Option<String>,
+        setting: Setting,
+        steps: u64,
+    },
+    /// To serve an editor that follows runs, each of at most this many reductions, over the standard streams.
+    Adapt {
+        setting: Setting,
+        steps: u64,
     },
     /// To write the modules of the program of this file into a folder. It reads this file, or nothing. Into the file `deps` it is
     /// written of which files the modules were made.

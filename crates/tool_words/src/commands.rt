@@ -63,6 +63,19 @@ pub(crate) const CALLGRIND: &str = "callgrind";
 
 pub(crate) const LCOV: &str = "lcov";
 
+/// The names of the options for a trace, and for its lines.
+pub(crate) const TRACE: &str = "trace";
+
+pub(crate) const TRACE_LIMIT: &str = "trace-limit";
+
+/// The name of the option for editors.
+pub(crate) const DAP: &str = "dap";
+
+/// The names of the options for what runs with several inputs cost.
+pub(crate) const COST: &str = "cost";
+
+pub(crate) const COST_SVG: &str = "cost-svg";
+
 /// The name of the option for standard streams.
 pub(crate) const STDIO: &str = "stdio";
 
@@ -94,6 +107,8 @@ enum Sort {
     Word,
     /// One word or more.
     Words,
+    /// A word, or none.
+    AnyWord,
     /// Words, or none.
     AnyWords,
     /// An option without a value.
@@ -141,11 +156,14 @@ struct Entry {
     group: Group,
 }
 
+/// What is said of the word for the program's file.
+const PROGRAM_HELP: &str = "The file of the program module; m2 finds the modules that it imports";
+
 /// The word for the program's file.
 const PROGRAM_ROW: Row = Row {
     name: FILE,
     sort: Sort::Word,
-    help: "The file of the program module; m2 finds the modules that it imports",
+    help: PROGRAM_HELP,
 };
 
 /// The option `--input`.
@@ -198,7 +216,7 @@ const STYLE_ROWS: [Row; 2] = [
     },
 ];
 
-const RUN_ROWS: [Row; 8] = [
+const RUN_ROWS: [Row; 12] = [
     PROGRAM_ROW,
     INPUT_ROW,
     Row {
@@ -230,6 +248,40 @@ const RUN_ROWS: [Row; 8] = [
         name: LCOV,
         sort: Sort::Value("FILE"),
         help: "Writes which lines ran how often, for lcov",
+    },
+    Row {
+        name: TRACE,
+        sort: Sort::Value("FILE"),
+        help: "Writes a line for each statement that ran, with the variables that it changed",
+    },
+    Row {
+        name: TRACE_LIMIT,
+        sort: Sort::Usual("N", "1000000"),
+        help: "The most lines of the trace, from 1 to 1000000000",
+    },
+    Row {
+        name: COST,
+        sort: Sort::Values("FILE"),
+        help: "An input, and further ones: says how the reductions grow with the size of the input",
+    },
+    Row {
+        name: COST_SVG,
+        sort: Sort::Value("FILE"),
+        help: "With --cost: plots the reductions (SVG), with logarithmic scales",
+    },
+];
+
+const DEBUG_ROWS: [Row; 3] = [
+    Row {
+        name: FILE,
+        sort: Sort::AnyWord,
+        help: PROGRAM_HELP,
+    },
+    INPUT_ROW,
+    Row {
+        name: DAP,
+        sort: Sort::Flag,
+        help: "Serves an editor by the Debug Adapter Protocol over its standard streams",
     },
 ];
 
@@ -309,7 +361,7 @@ const CHECK_ROWS: [Row; 3] = [
     Row {
         name: FILE,
         sort: Sort::Words,
-        help: "The file of the program module; m2 finds the modules that it imports",
+        help: PROGRAM_HELP,
     },
     Row {
         name: FIX,
@@ -423,11 +475,18 @@ const NEW_ROWS: [Row; 2] = [
 ];
 
 /// The commands, in the order in which they are listed.
-const COMMANDS: [Entry; 14] = [
+const COMMANDS: [Entry; 15] = [
     Entry {
         name: "run",
         about: "Compiles a program in memory and runs it",
         rows: &RUN_ROWS,
+        has_steps: true,
+        group: Group::Setting,
+    },
+    Entry {
+        name: "debug",
+        about: "Goes through a run, forwards and backwards, by commands; the command help lists them",
+        rows: &DEBUG_ROWS,
         has_steps: true,
         group: Group::Setting,
     },
@@ -529,6 +588,7 @@ fn arg_of<'a>(alloc: Global, row: Row) -> Arg<'a> {
     let arg = Arg::new(alloc, row.name).help(row.help);
     match row.sort {
         Sort::Word => arg.required(true),
+        Sort::AnyWord => arg,
         Sort::Words => arg.required(true).action(ArgAction::Append).num_args(1..),
         Sort::AnyWords => arg.action(ArgAction::Append).num_args(1..),
         Sort::Flag => arg.long(row.name).action(ArgAction::SetTrue),

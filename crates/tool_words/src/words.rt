@@ -3,9 +3,9 @@
 use crate::PROGRAM;
 use crate::asked::{Asked, Drawn, Fix, Layout, Measured, Pass, Setting, Style, Told};
 use crate::commands::{
-    BYTES, CALLGRIND, CASES, CHECK, CLASS, COVERAGE, DEPS, DIFF, DIR, EACH, FILE, FIX, FLAME, FROM,
-    HOST, HTML, INPUT, INPUT_FILE, LCOV, LISTING, MODULE, OUT, PROFILE, SAME, SINGLE, TEXT, YES,
-    command,
+    BYTES, CALLGRIND, CASES, CHECK, CLASS, COST, COST_SVG, COVERAGE, DAP, DEPS, DIFF, DIR, EACH,
+    FILE, FIX, FLAME, FROM, HOST, HTML, INPUT, INPUT_FILE, LCOV, LISTING, MODULE, OUT, PROFILE,
+    SAME, SINGLE, TEXT, TRACE, TRACE_LIMIT, YES, command,
 };
 use crate::libraries::libraries_of;
 use anyhow::Result;
@@ -22,6 +22,9 @@ use std::rt::{Env, Files};
 
 /// The most bytes that a case may be allowed.
 const MOST_BYTES: u64 = 16777216;
+
+/// The most lines that a trace may be allowed.
+const MOST_LINES: u64 = 1000000000;
 
 /// The variable of those who want no colours, whatever its value is.
 const NO_COLOUR: &str = "NO_COLOR";
@@ -131,6 +134,12 @@ where
     file_of(rt, matches, INPUT, "--input")
 }
 
+/// The most lines of a trace. A number that they cannot be is reported.
+fn lines_of<R: Eprint>(rt: &R, matches: &ArgMatches) -> Result<u64, Exit> {
+    let text = matches.get_str(TRACE_LIMIT).unwrap_or("");
+    number_option(rt, PROGRAM, TRACE_LIMIT, text, MOST_LINES).ok_or(Exit::Reported(COMMAND_LINE))
+}
+
 /// What is told of a run that is over.
 fn measured_of<R>(rt: &R, matches: &ArgMatches) -> Result<Measured, Exit>
 where
@@ -143,6 +152,32 @@ where
         flame: file_of(rt, matches, FLAME, "--flame")?,
         callgrind: file_of(rt, matches, CALLGRIND, "--callgrind")?,
         lcov: file_of(rt, matches, LCOV, "--lcov")?,
+        trace: file_of(rt, matches, TRACE, "--trace")?,
+        most_lines: lines_of(rt, matches)?,
+    })
+}
+
+fn cost_asked<R>(
+    rt: &R,
+    matches: &ArgMatches,
+    colours: bool,
+    inputs: &[&str],
+) -> Result<Asked, Exit>
+where
+    R: Files + Env + Eprint + AllocGlobal,
+{
+    if matches.get_str(INPUT).is_some() {
+        return Err(refuse(rt, "run takes --input or --cost, not both"));
+    }
+    if !are_named(rt, PROGRAM, "--cost", inputs) {
+        return Err(Exit::Reported(COMMAND_LINE));
+    }
+    Ok(Asked::Cost {
+        steps: steps_of(rt, PROGRAM, matches)?,
+        program: name_of(rt, matches, FILE, FILE)?,
+        inputs: strings_of(rt.alloc(), inputs)?,
+        setting: setting_of(rt, matches, colours)?,
+        plot: file_of(rt, matches, COST_SVG, "--cost-svg")?,
     })
 }
 
@@ -150,12 +185,43 @@ fn run_asked<R>(rt: &R, matches: &ArgMatches, colours: bool) -> Result<Asked, Ex
 where
     R: Files + Env + Eprint + AllocGlobal,
 {
+    if let Some(inputs) = matches.get_strs(COST) {
+        return cost_asked(rt, matches, colours, inputs);
+    }
+    if matches.get_str(COST_SVG).is_some() {
+        return Err(refuse(rt, "--cost-svg goes with --cost"));
+    }
     Ok(Asked::Run {
         steps: steps_of(rt, PROGRAM, matches)?,
         program: name_of(rt, matches, FILE, FILE)?,
         input: input_of(rt, matches)?,
         setting: setting_of(rt, matches, colours)?,
         told: measured_of(rt, matches)?,
+    })
+}
+
+fn debug_asked<R>(rt: &R, matches: &ArgMatches, colours: bool) -> Result<Asked, Exit>
+where
+    R: Files + Env + Eprint + AllocGlobal,
+{
+    let is_served = matches.get_flag(DAP);
+    if is_served && matches.get_str(FILE).is_some() {
+        return Err(refuse(rt, "debug takes PROGRAM or --dap, not both"));
+    }
+    if is_served {
+        return Ok(Asked::Adapt {
+            steps: steps_of(rt, PROGRAM, matches)?,
+            setting: setting_of(rt, matches, colours)?,
+        });
+    }
+    if matches.get_str(FILE).is_none() {
+        return Err(refuse(rt, "debug needs PROGRAM or --dap"));
+    }
+    Ok(Asked::Debug {
+        steps: steps_of(rt, PROGRAM, matches)?,
+        program: name_of(rt, matches, FILE, FILE)?,
+        input: input_of(rt, matches)?,
+        setting: setting_of(rt, matches, colours)?,
     })
 }
 
@@ -463,6 +529,7 @@ where
 {
     match matches.subcommand() {
         Some(("run", inner)) => run_asked(rt, inner, colours),
+        Some(("debug", inner)) => debug_asked(rt, inner, colours),
         Some(("build", inner)) => build_asked(rt, inner, colours),
         Some(("compile", inner)) => compile_asked(rt, inner, colours),
         Some(("link", inner)) => link_asked(rt, inner),

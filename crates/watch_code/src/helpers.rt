@@ -1,12 +1,9 @@
 //! The functions that check a value, with a signal of what they checked.
 
 use crate::rewriting::Rewriting;
-use crate::signals::{CHECK, CHECKED, CHECKED_VALUES, PUT, STOP, VALUE_BYTES};
+use crate::signals::{BITS, CHECK, CHECKED, CHECKED_VALUES, PUT, STOP, VALUE_BYTES};
 use std::alloc::{AllocError, Global};
 use wasm_tree::{Code, Numeric, Op, Operation};
-
-/// How many bits a byte has.
-const BITS: u64 = 8;
 
 /// Puts operations that print the bytes of a local, the lowest first.
 fn put_value(code: &mut Rewriting, local: u32) -> Result<(), AllocError> {

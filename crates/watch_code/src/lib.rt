@@ -4,12 +4,16 @@
 //! and where they are. How many reductions the signals take is known too.
 #![tactic(auto)]
 
+mod events;
 mod function;
 mod helpers;
 mod module;
 mod reader;
 mod rewriting;
 mod signals;
+mod stores;
 
+pub use events::{Event, EventReader};
 pub use module::{Chosen, Watched, watch_module};
 pub use reader::{Activation, Checked, Reader};
+pub use stores::with_stores;

@@ -10,7 +10,7 @@ use tree_parts::Items;
 use wasm_tree::{Body, Code, Function, WModule};
 
 /// How many functions each module has before its own.
-const HELPERS: usize = 5;
+pub const HELPERS: usize = 5;
 
 /// A statement whose failed check signals its values.
 #[derive(Clone, Copy)]

@@ -7,6 +7,10 @@ pub const PUT: u32 = 0;
 
 pub const STOP: u32 = 1;
 
+pub const COPY: u32 = 2;
+
+pub const FILL: u32 = 3;
+
 pub const CHECK: u32 = 4;
 
 pub const DIV: u32 = 5;
@@ -34,6 +38,27 @@ pub const SITE: u8 = 3;
 /// A check has failed. Its value, the least and the greatest follow, eight bytes each, the lowest first.
 pub const CHECKED: u8 = 4;
 
+/// The next function that begins has its variables from this address on. Four bytes say it, the lowest first.
+pub const FRAME: u8 = 5;
+
+/// Bytes are copied: the addresses to which and from which, and how many, follow.
+pub const COPIED: u8 = 6;
+
+/// Bytes are set to 0: the address, and how many, follow.
+pub const CLEARED: u8 = 7;
+
+/// One, two, four or eight bytes are written: the address and they follow.
+pub const STORED_ONE: u8 = 8;
+
+pub const STORED_TWO: u8 = 9;
+
+pub const STORED_FOUR: u8 = 10;
+
+pub const STORED_EIGHT: u8 = 11;
+
+/// The bytes of an address.
+pub const ADDRESS_BYTES: usize = 4;
+
 /// The first byte of a signal that a mark is come to is this or more. With the next one it says which of its function.
 pub const FIRST_MARK: u8 = 16;
 
@@ -50,6 +75,9 @@ pub const REDUCTIONS: u64 = 2;
 pub const CHECKED_VALUES: u32 = 3;
 
 pub const VALUE_BYTES: usize = 8;
+
+/// How many bits a byte has.
+pub const BITS: u64 = 8;
 
 /// How many values a byte has.
 pub const BYTE: usize = 256;
