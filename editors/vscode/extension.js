@@ -1,4 +1,5 @@
-// Modula-2 for VS Code: attaches the language server `m2 lsp`, and runs programs by `m2 run`. It needs no package but VS Code's own.
+// Modula-2 for VS Code: attaches the language server `m2 lsp`, runs programs by `m2 run`, and follows them by `m2 debug --dap`. It
+// needs no package but VS Code's own.
 const fs = require("node:fs");
 const path = require("node:path");
 const vscode = require("vscode");
@@ -47,6 +48,18 @@ async function run(document) {
   return vscode.tasks.executeTask(task);
 }
 
+/** How a program is followed: its file is that of the text which is edited, where none is named. */
+const debuggers = {
+  resolveDebugConfiguration(_, asked) {
+    const file = vscode.window.activeTextEditor?.document.uri.fsPath;
+    return { type: "m2", request: "launch", name: "Modula-2", ...asked, program: asked.program ?? (file && programOf(file)) };
+  },
+  createDebugAdapterDescriptor() {
+    const { program, words, options } = settings();
+    return new vscode.DebugAdapterExecutable(program, [...words, "debug", "--dap", ...options]);
+  },
+};
+
 /** Calls something with the document that is edited, if there is one. */
 function withDocument(action) {
   return () => {
@@ -62,6 +75,7 @@ exports.activate = async (context) => {
   const folder = vscode.workspace.workspaceFolders?.[0]?.uri.fsPath ?? (file && path.dirname(file));
   server = new Server(settings, folder);
   context.subscriptions.push(server.collection, vscode.commands.registerCommand("m2.run", withDocument(run)));
+  context.subscriptions.push(vscode.debug.registerDebugConfigurationProvider("m2", debuggers), vscode.debug.registerDebugAdapterDescriptorFactory("m2", debuggers));
   await server.start();
   context.subscriptions.push(...server.providers());
 };

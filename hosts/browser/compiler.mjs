@@ -47,10 +47,10 @@ export class Compiler {
     });
   }
 
-  /** Calls m2 with these words, and answers the end with all that was printed on both streams. */
-  async said(words, files) {
+  /** Calls m2 with these words and what is typed, and answers the end with all that was printed on both streams. */
+  async said(words, files, typed) {
     const parts = { 1: [], 2: [] };
-    const end = await this.call({ words, files }, (stream, bytes) => parts[stream].push(bytes));
+    const end = await this.call({ words, files, typed }, (stream, bytes) => parts[stream].push(bytes));
     const [out, error] = await Promise.all([1, 2].map((stream) => new Blob(parts[stream]).arrayBuffer()));
     return { ...end, out: new Uint8Array(out), error: new Uint8Array(error) };
   }

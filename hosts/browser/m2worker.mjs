@@ -1,6 +1,7 @@
-// Runs m2 beside the page, in memory. It is sent { id, words, files } to call m2, { id, program, files, machine, steps, input } to
-// compile a program and run it, or { id, modules, input } to give a program that is built another input. It sends { id, stream, bytes }
-// for what is printed, and then { id, end }. Files and modules are lists of names and bytes, and an input is bytes.
+// Runs m2 beside the page, in memory. It is sent { id, words, files, typed } to call m2, which finds the text `typed` on its standard
+// input, { id, program, files, machine, steps, input } to compile a program and run it, or { id, modules, input } to give a program
+// that is built another input. It sends { id, stream, bytes } for what is printed, and then { id, end }. Files and modules are lists
+// of names and bytes, and an input is bytes.
 import { Refused, outputTo, readProgram, runProgram } from "../common/host.mjs";
 import { LIBRARY_FILES, filesWithInput } from "../common/input.mjs";
 import { MemoryFiles } from "../common/memory_files.mjs";
@@ -32,14 +33,14 @@ function compiler() {
   return loading;
 }
 
-/** Calls m2 over these files. Answers how it ended. */
-async function call(id, words, files) {
+/** Calls m2 over these files; on its standard input stands what was typed. Answers how it ended. */
+async function call(id, words, files, typed = "") {
   const module = await compiler();
   const print = (stream, bytes) => {
     const copy = bytes.slice();
     postMessage({ id, stream, bytes: copy }, [copy.buffer]);
   };
-  const system = { files: new MemoryFiles(files, print), words: ["m2", ...words].map((it) => encoder.encode(it)), variables: () => undefined };
+  const system = { files: new MemoryFiles(files, print, encoder.encode(typed)), words: ["m2", ...words].map((it) => encoder.encode(it)), variables: () => undefined };
   return runOnce(module, system);
 }
 
@@ -74,7 +75,7 @@ async function answer({ id, words, files, modules, ...asked }) {
     return exchanged(modules, asked.input);
   }
   const own = new Map(files);
-  return words === undefined ? runWith(id, asked, own) : call(id, words, own);
+  return words === undefined ? runWith(id, asked, own) : call(id, words, own, asked.typed);
 }
 
 onmessage = async ({ data }) => {

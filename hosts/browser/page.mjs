@@ -7,6 +7,7 @@ import { Screen } from "./screen.mjs";
 import { BadLink, hasProgram, isProgram, programOf } from "./share.mjs";
 import { ShareDialog } from "./sharing.mjs";
 import { keep, kept } from "./storage.mjs";
+import { Strip } from "./strip.mjs";
 import { Tabs } from "./tabs.mjs";
 import { bytesOf, textOf } from "./text_of_files.mjs";
 import { PASSES, View } from "./views.mjs";
@@ -71,7 +72,8 @@ let pause;
 let pauseOfInput;
 let checks = 0;
 
-const workspace = new Workspace({ editor: element("editor"), tabs: element("modules"), run: () => run(), changed: startPause, moved });
+const workspace = new Workspace({ editor: element("editor"), tabs: element("modules"), run: () => run(), changed, moved, pressed: (line) => strip.toggle(line) });
+const strip = new Strip({ workspace, compiler: new Compiler(), asked: askedOfRun, print: showPrinted });
 const views = new Tabs(element("views"), element("panel"), showView);
 new ShareDialog(programToShare, notice);
 
@@ -103,6 +105,7 @@ function setButtons() {
     element("run").focus();
   }
   element("stop").disabled = !isRunning;
+  element("debug").disabled = !isReady || isRunning;
   element("try-tests").disabled = !isReady || isRunning;
 }
 
@@ -234,6 +237,11 @@ function asked() {
   }
   const all = programOfAll(workspace.files);
   return { programs: [all[0]], files: [...files, all] };
+}
+
+function changed() {
+  strip.close();
+  startPause();
 }
 
 function startPause() {
@@ -393,6 +401,7 @@ function runAgain() {
 async function runChecked(isAsked) {
   clearTimeout(pause);
   clearTimeout(pauseOfInput);
+  strip.close();
   counter.stop();
   save();
   screen.clear();
@@ -419,12 +428,35 @@ async function runChecked(isAsked) {
   }
   show("running", `${program} runs.`);
   const errors = [];
-  const asked = { program, files: filesForCompiler(), machine: element("machine").value === "machine", steps: Number(element("steps").value), input: encoder.encode(element("input").value) };
+  const asked = { ...askedOfRun(), machine: element("machine").value === "machine", steps: Number(element("steps").value) };
   const end = await runner.call(asked, (stream, bytes) => (stream === OUTPUT ? screen.take(bytes) : errors.push(bytes)));
   await screen.finish();
   showEnd(end, new Uint8Array(await new Blob(errors).arrayBuffer()));
   if (asked.machine && (end.status === 0 || end.status === FAULTED)) {
     showCount(asked);
+  }
+}
+
+/** What a run needs: the program that is seen, or the first, all files, and the input. */
+function askedOfRun() {
+  return { program: workspace.programs[0], files: filesForCompiler(), input: encoder.encode(element("input").value) };
+}
+
+/** Shows what a run that is gone through has printed so far. */
+function showPrinted(text) {
+  showView("output");
+  screen.clear();
+  screen.take(encoder.encode(text));
+  screen.finish();
+}
+
+/** Opens the strip, or closes it. */
+async function debug() {
+  if (element("debugger").hidden && (await check())?.length === 0 && workspace.programs.length > 0) {
+    show("", "The run is gone through.");
+    strip.open();
+  } else {
+    strip.close();
   }
 }
 
@@ -590,7 +622,7 @@ async function load() {
 }
 
 function listen() {
-  const presses = { run: () => run(), stop: stopForGood, add, rename, remove, download, theme: changeTheme, "files-button": () => element("files").click() };
+  const presses = { run: () => run(), stop: stopForGood, debug, add, rename, remove, download, theme: changeTheme, "files-button": () => element("files").click() };
   for (const [id, press] of Object.entries(presses)) {
     element(id).addEventListener("click", press);
   }

@@ -8,6 +8,8 @@ const HEADING = /^(?:\s|\(\*[^]*?\*\))*(?:(?:DEFINITION|IMPLEMENTATION)\s+)?MODU
 const READS = /\b(?:FROM\s+Input\s+IMPORT|IMPORT\s+(?:[A-Za-z][A-Za-z0-9]*\s*,\s*)*Input)\b/;
 const INDENT = 2;
 const GUTTER = "refusals";
+const BREAKS = "breaks";
+const HERE = "here";
 
 /** Whether a file may have this name. */
 export function isName(name) {
@@ -24,19 +26,32 @@ function isProgram({ name, text }) {
   return name.endsWith(".mod") && PROGRAM.test(text);
 }
 
+/** A sign beside a line. */
+function signOf(kind, text, sentence) {
+  const sign = document.createElement("span");
+  sign.className = kind;
+  sign.textContent = text;
+  sign.title = sentence;
+  return sign;
+}
+
 export class Workspace {
   #editor;
   #tabs;
   #files = [];
   #active;
   #marks = [];
+  #here;
   #told;
 
-  /** `changed` is called when a text or the list of files changed, `moved` when the cursor or the file that is seen did. */
-  constructor({ editor, tabs, run, changed, moved }) {
+  /**
+   * `changed` is called when a text or the list of files changed, `moved` when the cursor or the file that is seen did, and `pressed`
+   * with a line, from 1, beside which a reader pressed.
+   */
+  constructor({ editor, tabs, run, changed, moved, pressed }) {
     this.#editor = CodeMirror(editor, {
       mode: "modula2", lineNumbers: true, indentUnit: INDENT, tabSize: INDENT, matchBrackets: true, autoCloseBrackets: true, styleActiveLine: true,
-      inputStyle: "contenteditable", gutters: [GUTTER, "CodeMirror-linenumbers"], screenReaderLabel: "Text of the module", lineWrapping: false,
+      inputStyle: "contenteditable", gutters: [GUTTER, "CodeMirror-linenumbers", BREAKS], screenReaderLabel: "Text of the module", lineWrapping: false,
       extraKeys: { "Ctrl-Enter": run, "Cmd-Enter": run, Tab: false, "Shift-Tab": false, "Ctrl-/": "toggleComment", "Cmd-/": "toggleComment", "Alt-F": "findPersistent" },
     });
     // the editor's own role hides its name from screen readers
@@ -45,6 +60,7 @@ export class Workspace {
     this.#tabs = new Tabs(tabs, editor, (name) => this.show(name));
     this.#editor.on("change", () => changed());
     this.#editor.on("cursorActivity", () => moved());
+    this.#editor.on("gutterClick", (_, line) => pressed(line + 1));
   }
 
   get files() {
@@ -137,6 +153,26 @@ export class Workspace {
     this.#editor.focus();
   }
 
+  /** Lights the line at which a run is, in place of the one before; none without a place. */
+  light(place) {
+    this.#here?.document.removeLineClass(this.#here.line, "background", HERE);
+    this.#here = undefined;
+    if (place !== undefined && this.has(place.file)) {
+      this.show(place.file);
+      this.#here = { document: this.#active.document, line: place.line - 1 };
+      this.#here.document.addLineClass(this.#here.line, "background", HERE);
+      this.#editor.scrollIntoView({ line: this.#here.line, ch: 0 }, this.#editor.defaultTextHeight() * INDENT);
+    }
+  }
+
+  /** Shows the breakpoints, of which `linesOf` answers the lines for a file. */
+  showBreaks(linesOf) {
+    for (const { name, document: text } of this.#files) {
+      text.clearGutter(BREAKS);
+      linesOf(name).forEach((line) => text.setGutterMarker(line - 1, BREAKS, signOf("break", "●", "a breakpoint")));
+    }
+  }
+
   /** Marks what is refused, in place of what was marked. */
   mark(refusals) {
     this.#marks.forEach((it) => it.clear());
@@ -151,15 +187,7 @@ export class Workspace {
     const to = Math.max(characterAt(words, end, isBytes), from + 1);
     // at the end of a line the mark stands on the character before
     const start = from >= words.length && from > 0 ? from - 1 : from;
-    text.setGutterMarker(line - 1, GUTTER, this.#sign(sentence));
+    text.setGutterMarker(line - 1, GUTTER, signOf("refused-line", "!", sentence));
     return text.markText({ line: line - 1, ch: start }, { line: line - 1, ch: to }, { className: "refused", attributes: { title: sentence } });
-  }
-
-  #sign(sentence) {
-    const sign = document.createElement("span");
-    sign.className = "refused-line";
-    sign.textContent = "!";
-    sign.title = sentence;
-    return sign;
   }
 }

@@ -122,7 +122,7 @@ def in_vs_code(place):
     # the server marks a string that is not closed up to the next line
     rows = [[file, line - 1, in_characters(file, column) - 1, 0 if words == NOT_CLOSED else in_characters(file, end) - 1, rule]
             for file, line, column, end, rule, words, _ in REFUSED]
-    return found, {"diagnostics": rows, "errors": 0, "ran": ["m2", "run", f"{place}/Open.mod"], "definition": []}
+    return found, {"diagnostics": rows, "errors": 0, "ran": ["m2", "run", f"{place}/Open.mod"], "followed": ["m2", "debug", "--dap", "launch", "Open.mod"], "definition": []}
 
 
 READERS = [

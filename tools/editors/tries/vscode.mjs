@@ -12,6 +12,7 @@ const MOST_PAUSES = 200;
 const files = process.argv.slice(FIRST_FILE);
 const shown = new Map();
 const commands = new Map();
+const debuggers = new Map();
 const providers = new Map();
 const ran = [];
 let errors = 0;
@@ -61,6 +62,11 @@ const stand_in = {
   TaskScope: { Workspace: 2 },
   Uri: { file: uriOf, parse: (uri) => uriOf(decodeURIComponent(new URL(uri).pathname)) },
   commands: { registerCommand: (name, action) => commands.set(name, action) && disposable },
+  DebugAdapterExecutable: ProcessExecution,
+  debug: {
+    registerDebugConfigurationProvider: (_, provider) => debuggers.set("configuration", provider) && disposable,
+    registerDebugAdapterDescriptorFactory: (_, factory) => debuggers.set("adapter", factory) && disposable,
+  },
   tasks: { executeTask: (task) => ran.push(...task.execution.words) },
   window: { activeTextEditor: { document: documents[0] }, showErrorMessage: () => (errors += 1) },
   workspace: {
@@ -79,7 +85,9 @@ for (let waits = 0; waits < MOST_PAUSES && files.some((it) => !shown.has(it)); w
 }
 const found = await providers.get("registerDefinitionProvider").provideDefinition(documents[0], new Position(0, 7));
 await commands.get("m2.run")();
+const asked = debuggers.get("configuration").resolveDebugConfiguration(undefined, {});
+const followed = [...debuggers.get("adapter").createDebugAdapterDescriptor().words, asked.request, path.basename(asked.program)];
 const rows = [...shown].flatMap(([file, several]) =>
   several.map((it) => [path.basename(file), it.range.start.line, it.range.start.character, it.range.end.character, Number(it.code)]));
 await client.deactivate();
-process.stdout.write(JSON.stringify({ diagnostics: rows.sort(), errors, ran, definition: found.map(({ parts }) => [path.basename(parts[0].fsPath), parts[1].start.line]) }));
+process.stdout.write(JSON.stringify({ diagnostics: rows.sort(), errors, ran, followed, definition: found.map(({ parts }) => [path.basename(parts[0].fsPath), parts[1].start.line]) }));
