@@ -40,19 +40,37 @@ fn name_at(alloc: Global, source: &Source<'_>, at: usize) -> Result<Option<Strin
     }
 }
 
-/// What a text is.
-pub fn head_of(alloc: Global, text: &[u8]) -> Result<Head, AllocError> {
-    let source = source_of(alloc, text)?;
+/// So many bytes of a text are looked at first for what it is, then so many more, and at last all.
+const BEGINS: [usize; 3] = [256, 4_096, 65_536];
+
+/// How many tokens tell what a text is: up to the name of a module, what stands behind it, and the end.
+const ENOUGH: usize = 5;
+
+/// What a text is that has these tokens.
+fn head_in(alloc: Global, source: &Source<'_>) -> Result<Head, AllocError> {
     match source.symbol(0) {
         Some(Symbol::Module) => Ok(Head::Program),
-        Some(Symbol::Definition) => Ok(match name_at(alloc, &source, 2)? {
+        Some(Symbol::Definition) => Ok(match name_at(alloc, source, 2)? {
             Some(name) => Head::Definition(name),
             None => Head::Unknown,
         }),
-        Some(Symbol::Implementation) => Ok(match name_at(alloc, &source, 2)? {
+        Some(Symbol::Implementation) => Ok(match name_at(alloc, source, 2)? {
             Some(name) => Head::Implementation(name),
             None => Head::Unknown,
         }),
         _ => Ok(Head::Unknown),
     }
+}
+
+/// What a text is. The only error is want of memory.
+pub fn head_of(alloc: Global, text: &[u8]) -> Result<Head, AllocError> {
+    for length in BEGINS {
+        if let Some(begin) = text.get(..length) {
+            let source = source_of(alloc, begin)?;
+            if source.tokens.len() >= ENOUGH {
+                return head_in(alloc, &source);
+            }
+        }
+    }
+    head_in(alloc, &source_of(alloc, text)?)
 }

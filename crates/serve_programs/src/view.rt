@@ -3,7 +3,7 @@
 use crate::program::Program;
 use m2_tree::Pos;
 use m2c::SourceFile;
-use serve_names::{Index, Parsed, Place, Range, read};
+use serve_names::{Index, Place, Range, read};
 use serve_texts::{Shift, Text, Texts};
 use std::alloc::{AllocError, Global};
 
@@ -14,12 +14,12 @@ pub struct FileView {
     pub path: String,
     /// The text as it stands.
     pub now: Text,
-    /// The text whose names are known: the last that had a tree.
-    pub known: Text,
+    /// The last text that had a tree, if the one that stands has none.
+    pub sound: Option<Text>,
     /// From the known text to that which stands.
     pub shift: Shift,
-    /// The tokens and the tree of the known text, if it has a tree.
-    pub parsed: Option<Parsed>,
+    /// Whether the known text has a tree.
+    pub has_tree: bool,
     /// Whether the file was made, so that it is never shown.
     pub is_made: bool,
 }
@@ -53,26 +53,6 @@ fn sound_before(alloc: Global, texts: &Texts, path: &str) -> Result<Option<Text>
     }
 }
 
-/// A file whose names are those of a text.
-fn file_known(
-    alloc: Global,
-    path: String,
-    now: Text,
-    known: Text,
-    is_made: bool,
-) -> Result<FileView, AllocError> {
-    let shift = Shift::between(known.bytes(), now.bytes());
-    let parsed = read(alloc, known.bytes())?;
-    Ok(FileView {
-        path,
-        now,
-        known,
-        shift,
-        parsed,
-        is_made,
-    })
-}
-
 /// A file with its names.
 fn file_view(
     alloc: Global,
@@ -82,11 +62,17 @@ fn file_view(
 ) -> Result<FileView, AllocError> {
     let path = String::from_str(alloc, file.name.as_str())?;
     let now = Text::of(alloc, Vec::from_slice(alloc, &file.bytes)?)?;
-    let known = match sound_before(alloc, texts, file.name.as_str())? {
-        Some(sound) => sound,
-        None => Text::of(alloc, Vec::from_slice(alloc, &file.bytes)?)?,
-    };
-    file_known(alloc, path, now, known, is_made)
+    let sound = sound_before(alloc, texts, file.name.as_str())?;
+    let known = sound.as_ref().map_or(now.bytes(), |it| it.bytes());
+    let shift = Shift::between(known, now.bytes());
+    Ok(FileView {
+        path,
+        now,
+        sound,
+        shift,
+        has_tree: false,
+        is_made,
+    })
 }
 
 /// Adds the files of a program that are not there yet.
@@ -108,11 +94,17 @@ fn add_files(
     Ok(())
 }
 
-/// The names of files.
-fn index_of(alloc: Global, files: &[FileView]) -> Result<Index, AllocError> {
+/// The names of files, and which of the files have trees. The trees are let go.
+fn index_of(alloc: Global, files: &mut [FileView]) -> Result<Index, AllocError> {
+    let mut trees = Vec::new(alloc);
+    for file in files.iter_mut() {
+        let parsed = read(alloc, file.known().bytes())?;
+        file.has_tree = parsed.is_some();
+        trees.push(parsed)?;
+    }
     let mut parsed = Vec::new(alloc);
-    for file in files {
-        parsed.push(file.parsed.as_ref())?;
+    for tree in &trees {
+        parsed.push(tree.as_ref())?;
     }
     Index::of(alloc, &parsed)
 }
@@ -123,19 +115,27 @@ pub fn view_of(alloc: Global, texts: &Texts, programs: &[Program]) -> Result<Vie
     for program in programs {
         add_files(alloc, texts, program, &mut files)?;
     }
-    let index = index_of(alloc, &files)?;
+    let index = index_of(alloc, &mut files)?;
     Ok(View { files, index })
 }
 
 impl FileView {
+    /// The text whose names are known: the last that had a tree.
+    pub fn known(&self) -> &Text {
+        match &self.sound {
+            Some(sound) => sound,
+            None => &self.now,
+        }
+    }
+
     /// The place in the known text of a byte of the text that stands.
     pub fn known_pos(&self, offset: usize) -> Pos {
-        self.known.pos_of_offset(self.shift.to_old(offset))
+        self.known().pos_of_offset(self.shift.to_old(offset))
     }
 
     /// The byte of the text that stands for a place of the known text, unless it was changed.
     pub fn now_offset(&self, pos: Pos) -> Option<usize> {
-        self.shift.to_new(self.known.offset_of_pos(pos))
+        self.shift.to_new(self.known().offset_of_pos(pos))
     }
 }
 
