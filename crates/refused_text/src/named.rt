@@ -69,7 +69,7 @@ const MOST_NAMES: u32 = 1025;
 pub fn free_name(alloc: Global, taken: &[&[u8]]) -> Result<String, AllocError> {
     let mut name = String::from_str(alloc, MADE)?;
     for number in 1..=MOST_NAMES {
-        if !taken.contains(&name.as_bytes()) {
+        if taken.iter().all(|it| *it != name.as_bytes()) {
             break;
         }
         name = format!(in alloc; "{MADE}{number}")?;

@@ -55,7 +55,7 @@ impl<'a> Around<'a> {
             }
             _ => {
                 if is_part {
-                    self.names.push(&outer.name)?;
+                    self.names.push(outer.name.as_slice())?;
                 }
             }
         }
@@ -68,7 +68,7 @@ impl<'a> Around<'a> {
             procedures: Vec::new(ask.alloc),
             names: Vec::new(ask.alloc),
         };
-        around.names.push(&declaration.name)?;
+        around.names.push(declaration.name.as_slice())?;
         let is_part = declaration.kind == Kind::Field;
         let mut parent = declaration.parent;
         for _ in 0..MOST_LEVELS {

@@ -46,18 +46,12 @@ fn own_table<'a>(tables: &'a Tables, job: usize, module: &Module) -> Option<&'a 
     }
 }
 
-/// The tables of what a module imports. That of its own definition comes first among what an implementation needs.
-fn imported(
-    alloc: Global,
-    tables: &Tables,
-    job: usize,
-    module: &Module,
-) -> Result<Items<Shared<Table>>, AllocError> {
-    let mut all = tables.around(alloc, job)?;
-    if matches!(&module.contents, Contents::Implementation(_)) && !all.is_empty() {
-        drop(all.remove(0));
+/// The jobs of the definitions that a module imports. That of its own definition comes first among what an implementation needs.
+fn imported<'a>(needs: &'a [usize], module: &Module) -> &'a [usize] {
+    match (&module.contents, needs) {
+        (Contents::Implementation(_), [_own, imports @ ..]) => imports,
+        _ => needs,
     }
-    Ok(all)
 }
 
 /// Declares what a module declares. For each declaration how many names stand before it, or nothing if a rule is broken.
@@ -244,7 +238,7 @@ impl Inside {
         };
         let module = tree.1;
         let own = own_table(tables, job, module);
-        let imports = imported(alloc, tables, job, module)?;
+        let imports = tables.around(alloc, imported(tables.needs(job), module))?;
         let mut inside = Inside {
             scope: scope_of(alloc, number_of(job), own, imports)?,
             heading: None,

@@ -11,3 +11,4 @@ mod tables;
 mod values;
 
 pub use meaning::{Meant, Wanted, meaning_of};
+pub use tables::Tree;

@@ -131,8 +131,8 @@ fn field_named(types: &Types, of: TypeNo, name: &[u8]) -> Option<FieldOf> {
 fn last_field(types: &Types, of: TypeNo, names: &[&[u8]]) -> Option<FieldOf> {
     match names {
         [] => None,
-        [name] => field_named(types, of, name),
-        [name, inner @ ..] => last_field(types, field_named(types, of, name)?.of, inner),
+        [name] => field_named(types, of, *name),
+        [name, inner @ ..] => last_field(types, field_named(types, of, *name)?.of, inner),
     }
 }
 
@@ -169,7 +169,7 @@ pub fn meaning_of(
     };
     match wanted.names {
         [] => Ok(None),
-        [name] => of_name(alloc, &tables, &inside, name),
-        [name, fields @ ..] => of_field(alloc, &inside, name, fields),
+        [name] => of_name(alloc, &tables, &inside, *name),
+        [name, fields @ ..] => of_field(alloc, &inside, *name, fields),
     }
 }

@@ -105,13 +105,20 @@ impl Tables {
         }
     }
 
-    /// The tables of what a job needs, with that of Console behind them.
-    pub fn around(&self, alloc: Global, job: usize) -> Result<Items<Shared<Table>>, AllocError> {
-        let needs = self
-            .graph
-            .jobs()
-            .get(job)
-            .map_or(&[][..], |it| it.as_slice());
+    /// The jobs that a job needs.
+    pub fn needs(&self, job: usize) -> &[usize] {
+        match self.graph.jobs().get(job) {
+            Some(needs) => needs.as_slice(),
+            None => &[],
+        }
+    }
+
+    /// The tables of the definitions of these jobs, with that of Console behind them.
+    pub fn around(
+        &self,
+        alloc: Global,
+        needs: &[usize],
+    ) -> Result<Items<Shared<Table>>, AllocError> {
         with_console(alloc, needed(alloc, &self.all, needs)?)
     }
 }

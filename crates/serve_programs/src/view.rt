@@ -3,7 +3,7 @@
 use crate::program::Program;
 use m2_tree::Pos;
 use m2c::SourceFile;
-use serve_names::{Index, Place, Range, read};
+use serve_names::{Index, Parsed, Place, Range, read};
 use serve_texts::{Shift, Text, Texts};
 use std::alloc::{AllocError, Global};
 
@@ -53,70 +53,82 @@ fn sound_before(alloc: Global, texts: &Texts, path: &str) -> Result<Option<Text>
     }
 }
 
-/// A file with its names.
+/// A file whose names are those of the text that stands, or of the one before that had a tree, and the tree.
 fn file_view(
     alloc: Global,
     texts: &Texts,
     file: &SourceFile,
     is_made: bool,
-) -> Result<FileView, AllocError> {
+) -> Result<(FileView, Option<Parsed>), AllocError> {
     let path = String::from_str(alloc, file.name.as_str())?;
     let now = Text::of(alloc, Vec::from_slice(alloc, &file.bytes)?)?;
     let sound = sound_before(alloc, texts, file.name.as_str())?;
     let known = sound.as_ref().map_or(now.bytes(), |it| it.bytes());
     let shift = Shift::between(known, now.bytes());
-    Ok(FileView {
+    let parsed = read(alloc, known)?;
+    let view = FileView {
         path,
         now,
         sound,
         shift,
-        has_tree: false,
+        has_tree: parsed.is_some(),
         is_made,
-    })
+    };
+    Ok((view, parsed))
 }
 
-/// Adds the files of a program that are not there yet.
-fn add_files(
-    alloc: Global,
-    texts: &Texts,
-    program: &Program,
-    files: &mut Vec<FileView>,
-) -> Result<(), AllocError> {
-    for (at, file) in program.files.iter().enumerate() {
-        let is_new = files
-            .iter()
-            .all(|it| it.path.as_str() != file.name.as_str());
-        if is_new {
-            let is_made = program.is_made && at == 0;
-            files.push(file_view(alloc, texts, file, is_made)?)?;
+/// Files in the making, each with its tree.
+#[derive(Drop)]
+struct Files {
+    views: Vec<FileView>,
+    trees: Vec<Option<Parsed>>,
+}
+
+impl Files {
+    /// Whether the file of this path is there.
+    fn has(&self, path: &str) -> bool {
+        self.views.iter().any(|it| it.path.as_str() == path)
+    }
+
+    /// Adds the files of a program that are not there yet.
+    fn add(&mut self, alloc: Global, texts: &Texts, program: &Program) -> Result<(), AllocError> {
+        for (at, file) in program.files.iter().enumerate() {
+            if !self.has(file.name.as_str()) {
+                let is_made = program.is_made && at == 0;
+                let (view, parsed) = file_view(alloc, texts, file, is_made)?;
+                self.views.push(view)?;
+                self.trees.push(parsed)?;
+            }
         }
+        Ok(())
     }
-    Ok(())
+
+    /// What their names stand for.
+    fn index(&self, alloc: Global) -> Result<Index, AllocError> {
+        let mut parsed = Vec::new(alloc);
+        for tree in &self.trees {
+            parsed.push(tree.as_ref())?;
+        }
+        Index::of(alloc, &parsed)
+    }
 }
 
-/// The names of files, and which of the files have trees. The trees are let go.
-fn index_of(alloc: Global, files: &mut [FileView]) -> Result<Index, AllocError> {
-    let mut trees = Vec::new(alloc);
-    for file in files.iter_mut() {
-        let parsed = read(alloc, file.known().bytes())?;
-        file.has_tree = parsed.is_some();
-        trees.push(parsed)?;
-    }
-    let mut parsed = Vec::new(alloc);
-    for tree in &trees {
-        parsed.push(tree.as_ref())?;
-    }
-    Index::of(alloc, &parsed)
-}
-
-/// The files of these programs, each once, and what their names stand for. The only error is want of memory.
+/// The files of these programs, each once, and what their names stand for. Their trees are let go. The only error is want of memory.
 pub fn view_of(alloc: Global, texts: &Texts, programs: &[Program]) -> Result<View, AllocError> {
-    let mut files = Vec::new(alloc);
+    let mut files = Files {
+        views: Vec::new(alloc),
+        trees: Vec::new(alloc),
+    };
     for program in programs {
-        add_files(alloc, texts, program, &mut files)?;
+        files.add(alloc, texts, program)?;
     }
-    let index = index_of(alloc, &mut files)?;
-    Ok(View { files, index })
+    let index = files.index(alloc)?;
+    let Files { views, trees } = files;
+    drop(trees);
+    Ok(View {
+        files: views,
+        index,
+    })
 }
 
 impl FileView {

@@ -145,11 +145,11 @@ impl Server {
         programs: &mut Vec<Program>,
     ) -> Result<View, AllocError> {
         if reach == Reach::Program {
-            return view_of(alloc, &self.texts, programs);
+            return view_of(alloc, &self.texts, programs.as_slice());
         }
-        let spare = self.spare_program(alloc, folder, path, programs)?;
+        let spare = self.spare_program(alloc, folder, path, programs.as_slice())?;
         programs.push(spare)?;
-        let view = view_of(alloc, &self.texts, programs)?;
+        let view = view_of(alloc, &self.texts, programs.as_slice())?;
         let _ = programs.pop();
         Ok(view)
     }
