@@ -1,7 +1,7 @@
 //! The files of a program.
 
 use crate::folder::{Folder, Setting};
-use crate::heads::{Head, head_of};
+use crate::heads::{Head, head_of, imports_of};
 use crate::places::{Places, file_ending, folder_of, read_text};
 use find_modules::{FindFault, FoundModule, Part, Sources, find};
 use m2_tree::Name;
@@ -98,7 +98,7 @@ fn program_of_text<F: Folder>(
 ) -> Result<Program, AllocError> {
     let places = Places::of(alloc, texts, folder, path, &setting.libraries)?;
     let mut more = Vec::new(alloc);
-    add_imported(alloc, &places, &text, &mut more)?;
+    add_imported(alloc, &places, &imports_of(alloc, &text)?, &mut more)?;
     let mut files = Vec::new(alloc);
     add_file(&mut files, String::from_str(alloc, path)?, text)?;
     files.append(&mut more)?;
