@@ -11,5 +11,7 @@ mod scopes;
 mod types;
 
 pub use likely::proposals;
-pub use refused_text::{Export, Source, exports_of, importing_program, known_way};
+pub use refused_text::{
+    Export, Source, exports_of, free_name, importing_program, known_way, program_around,
+};
 pub use text_mends::Mend;

@@ -59,6 +59,30 @@ fn push_imports(all: &mut Vec<u8>, text: &[u8]) -> Result<(), AllocError> {
     Ok(())
 }
 
+/// What the names of programs that are made begin with.
+const MADE: &str = "m";
+
+/// The most names that are tried: one more than the files that a program may have.
+const MOST_NAMES: u32 = 1025;
+
+/// A name that none of these modules has: `m`, or else the first of `m1`, `m2` and so on that is free. The only error is want of memory.
+pub fn free_name(alloc: Global, taken: &[&[u8]]) -> Result<String, AllocError> {
+    let mut name = String::from_str(alloc, MADE)?;
+    for number in 1..=MOST_NAMES {
+        if taken.iter().all(|it| *it != name.as_bytes()) {
+            break;
+        }
+        name = format!(in alloc; "{MADE}{number}")?;
+    }
+    Ok(name)
+}
+
+/// A program of this name that imports a module. The only error is want of memory.
+pub fn program_around(alloc: Global, name: &str, module: &str) -> Result<Vec<u8>, AllocError> {
+    let text = format!(in alloc; "MODULE {name}; IMPORT {module}; END {name}.")?;
+    Vec::from_slice(alloc, text.as_bytes())
+}
+
 /// A program that imports all modules which these texts name behind FROM and IMPORT, whatever else stands in them, and these.
 pub fn importing_program(
     alloc: Global,

@@ -1,9 +1,10 @@
 //! What is asked about.
 
 use crate::values::range_value;
+use propose_mends::Source;
 use serde_json::{Value, json};
 use serve_names::{Declaration, Place, Use};
-use serve_programs::{FileView, Mark, View};
+use serve_programs::{FileView, Mark, Program, View, file_of, source_of};
 use serve_texts::{Encoding, Texts, uri_of};
 use std::alloc::{AllocError, Global};
 
@@ -13,6 +14,8 @@ pub struct Ask<'a> {
     pub alloc: Global,
     /// The programs.
     pub view: &'a View,
+    /// Those of the programs of which nothing is refused.
+    pub built: &'a [Program],
     /// The open texts, whose names the editor chose.
     pub texts: &'a Texts,
     /// The number of the file.
@@ -40,7 +43,7 @@ impl<'a> Ask<'a> {
     /// The bytes of the known text of a file.
     pub fn known_bytes(&self, file: usize) -> &'a [u8] {
         match self.view.files.get(file) {
-            Some(it) => it.known.bytes(),
+            Some(it) => it.known().bytes(),
             None => b"",
         }
     }
@@ -87,6 +90,18 @@ impl<'a> Ask<'a> {
         let range = self.range_of(mark)?;
         let uri = self.uri_of(mark.file)?;
         json!(in alloc; { "range": range, "uri": uri })
+    }
+
+    /// The tokens of the file's text as it stands with their places, or of one that does not divide those in front of where it does not.
+    pub fn source(&self) -> Result<Source<'a>, AllocError> {
+        source_of(self.alloc, self.bytes())
+    }
+
+    /// The first of the built programs that has the file of this path.
+    pub fn built_with(&self, path: &str) -> Option<&'a Program> {
+        self.built
+            .iter()
+            .find(|it| file_of(&it.files, path).is_some())
     }
 
     /// The file and the range of a name, or null if it stands nowhere now.

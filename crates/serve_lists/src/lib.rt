@@ -5,24 +5,20 @@
 #![tactic(auto)]
 
 mod ask;
-mod completing;
 mod folding;
-mod hovering;
 mod places;
 mod semantic;
 mod signature;
-mod snippets;
 mod symbols;
 mod values;
 
 pub use ask::Ask;
-pub use completing::{Choice, completion};
 pub use folding::folding_ranges;
-pub use hovering::hover;
 pub use places::{
     Extent, definition, highlights, implementation, prepare_rename, references, type_definition,
 };
 pub use semantic::{TOKEN_MODIFIERS, TOKEN_TYPES, semantic_tokens};
+pub use serve_programs::{Mark, Program};
 pub use signature::signature_help;
 pub use symbols::{add_workspace_symbols, document_symbols};
 pub use values::{Edit, add_member, edit_value, position_value, range_value, text_value};

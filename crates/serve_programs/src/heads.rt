@@ -40,19 +40,82 @@ fn name_at(alloc: Global, source: &Source<'_>, at: usize) -> Result<Option<Strin
     }
 }
 
-/// What a text is.
-pub fn head_of(alloc: Global, text: &[u8]) -> Result<Head, AllocError> {
-    let source = source_of(alloc, text)?;
+/// So many bytes of a text are looked at first for what it is, then so many more, and at last all.
+const BEGINS: [usize; 3] = [256, 4_096, 65_536];
+
+/// How many tokens tell what a text is: up to the name of a module, what stands behind it, and the end.
+const ENOUGH: usize = 5;
+
+/// What a text is that has these tokens.
+fn head_in(alloc: Global, source: &Source<'_>) -> Result<Head, AllocError> {
     match source.symbol(0) {
         Some(Symbol::Module) => Ok(Head::Program),
-        Some(Symbol::Definition) => Ok(match name_at(alloc, &source, 2)? {
+        Some(Symbol::Definition) => Ok(match name_at(alloc, source, 2)? {
             Some(name) => Head::Definition(name),
             None => Head::Unknown,
         }),
-        Some(Symbol::Implementation) => Ok(match name_at(alloc, &source, 2)? {
+        Some(Symbol::Implementation) => Ok(match name_at(alloc, source, 2)? {
             Some(name) => Head::Implementation(name),
             None => Head::Unknown,
         }),
         _ => Ok(Head::Unknown),
     }
+}
+
+/// The begin of a text with enough tokens for what it is, or the text.
+fn source_of_head(alloc: Global, text: &[u8]) -> Result<Source<'_>, AllocError> {
+    for length in BEGINS {
+        if let Some(begin) = text.get(..length) {
+            let source = source_of(alloc, begin)?;
+            if source.tokens.len() >= ENOUGH {
+                return Ok(source);
+            }
+        }
+    }
+    source_of(alloc, text)
+}
+
+/// What a text is. The only error is want of memory.
+pub fn head_of(alloc: Global, text: &[u8]) -> Result<Head, AllocError> {
+    head_in(alloc, &source_of_head(alloc, text)?)
+}
+
+/// Whether a word begins what stands behind the imports of a program.
+fn is_behind_imports(symbol: Symbol) -> bool {
+    matches!(
+        symbol,
+        Symbol::Const | Symbol::Type | Symbol::Var | Symbol::Procedure | Symbol::Begin | Symbol::End
+    )
+}
+
+/// Where the imports of a text end that has these tokens, if they do. The last token may be cut, and behind it stands the end.
+fn imports_end(source: &Source<'_>) -> Option<usize> {
+    let whole = source.tokens.len().saturating_sub(2);
+    let found = (0..whole).find(|at| source.symbol(*at).is_some_and(is_behind_imports));
+    found.map(|at| source.begin(at))
+}
+
+/// A program with the name and the imports of one of which so many bytes are looked at, if its imports end there.
+fn bare_program(alloc: Global, begin: &[u8]) -> Result<Option<Vec<u8>>, AllocError> {
+    let source = source_of(alloc, begin)?;
+    let Some(end) = imports_end(&source) else {
+        return Ok(None);
+    };
+    let mut all = Vec::from_slice(alloc, begin.get(..end).unwrap_or(b""))?;
+    all.extend_from_slice(b" END ")?;
+    all.extend_from_slice(source.spelling(1))?;
+    all.push(b'.')?;
+    Ok(Some(all))
+}
+
+/// A program with the imports of this one and nothing else, so that they are found at once. Of a text whose imports do not end in its
+/// first 65536 bytes the text itself. The only error is want of memory.
+pub fn imports_of(alloc: Global, text: &[u8]) -> Result<Vec<u8>, AllocError> {
+    for length in BEGINS {
+        let begin = text.get(..length).unwrap_or(text);
+        if let Some(program) = bare_program(alloc, begin)? {
+            return Ok(program);
+        }
+    }
+    Vec::from_slice(alloc, text)
 }

@@ -1,12 +1,12 @@
 //! The files of a program.
 
 use crate::folder::{Folder, Setting};
-use crate::heads::{Head, head_of};
-use crate::places::{Places, folder_of, read_text};
+use crate::heads::{Head, head_of, imports_of};
+use crate::places::{Places, file_ending, folder_of, read_text};
 use find_modules::{FindFault, FoundModule, Part, Sources, find};
 use m2_tree::Name;
 use m2c::SourceFile;
-use propose_mends::importing_program;
+use propose_mends::{free_name, importing_program, program_around};
 use serve_texts::Texts;
 use std::alloc::{AllocError, Global};
 
@@ -98,7 +98,7 @@ fn program_of_text<F: Folder>(
 ) -> Result<Program, AllocError> {
     let places = Places::of(alloc, texts, folder, path, &setting.libraries)?;
     let mut more = Vec::new(alloc);
-    add_imported(alloc, &places, &text, &mut more)?;
+    add_imported(alloc, &places, &imports_of(alloc, &text)?, &mut more)?;
     let mut files = Vec::new(alloc);
     add_file(&mut files, String::from_str(alloc, path)?, text)?;
     files.append(&mut more)?;
@@ -108,21 +108,47 @@ fn program_of_text<F: Folder>(
     })
 }
 
-/// A program that imports the module of this name, of which a file of this path and text is a part.
-fn program_around<F: Folder>(
+/// The name of the module that has a file of this path.
+fn module_in(path: &str) -> &str {
+    let name = path.strip_prefix(folder_of(path)).unwrap_or(path);
+    for part in [Part::Definition, Part::Implementation] {
+        if let Some(module) = name.strip_suffix(file_ending(part)) {
+            return module;
+        }
+    }
+    name
+}
+
+/// A name that neither this module nor any module of these files has.
+fn name_beside(alloc: Global, files: &[SourceFile], module: &str) -> Result<String, AllocError> {
+    let mut taken = Vec::new(alloc);
+    taken.push(module.as_bytes())?;
+    for file in files {
+        taken.push(module_in(file.name.as_str()).as_bytes())?;
+    }
+    free_name(alloc, &taken)
+}
+
+/// A program that imports the module of this name, of which a file of this path and text is a part. It has a name that none of its
+/// modules has.
+fn program_of_part<F: Folder>(
     alloc: Global,
     texts: &Texts,
     folder: &F,
     setting: &Setting,
     path: &str,
     text: Vec<u8>,
-    name: &str,
+    module: &str,
 ) -> Result<Program, AllocError> {
-    let made = importing_program(alloc, &[], &[name])?;
-    let mut made_path = String::from_str(alloc, folder_of(path))?;
-    made_path.push_str(MADE_NAME)?;
-    let mut program = program_of_text(alloc, texts, folder, setting, made_path.as_str(), made)?;
+    let importing = importing_program(alloc, &[], &[module])?;
+    let mut made = String::from_str(alloc, folder_of(path))?;
+    made.push_str(MADE_NAME)?;
+    let mut program = program_of_text(alloc, texts, folder, setting, made.as_str(), importing)?;
     add_file(&mut program.files, String::from_str(alloc, path)?, text)?;
+    let name = name_beside(alloc, &program.files, module)?;
+    if let Some(first) = program.files.first_mut() {
+        first.bytes = program_around(alloc, name.as_str(), module)?;
+    }
     program.is_made = true;
     Ok(program)
 }
@@ -140,7 +166,7 @@ pub fn program_of<F: Folder>(
         None => Vec::new(alloc),
     };
     match head_of(alloc, &text)? {
-        Head::Definition(name) | Head::Implementation(name) => program_around(
+        Head::Definition(name) | Head::Implementation(name) => program_of_part(
             alloc,
             texts,
             folder,

@@ -72,11 +72,19 @@ pub fn refusals_of<R: AllocGlobal + Threads + Sync>(
     }
 }
 
-/// How many bytes the token at a place has: one, if none is known.
+/// How many bytes of a token stand in its first line: those of a string that is not closed reach further.
+fn length_in_line(token: &[u8]) -> usize {
+    token
+        .iter()
+        .take_while(|byte| **byte != b'\n' && **byte != b'\r')
+        .count()
+}
+
+/// How many bytes the token at a place has, in its line: one, if none is known.
 pub fn length_at(alloc: Global, text: &[u8], pos: Pos) -> Result<usize, AllocError> {
     let source = Source::of(alloc, text, pos)?;
     match source.number_at(pos) {
-        Some(at) => Ok(source.end(at).saturating_sub(source.begin(at))),
+        Some(at) => Ok(length_in_line(source.spelling(at))),
         None => Ok(1),
     }
 }

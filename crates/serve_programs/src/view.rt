@@ -14,12 +14,12 @@ pub struct FileView {
     pub path: String,
     /// The text as it stands.
     pub now: Text,
-    /// The text whose names are known: the last that had a tree.
-    pub known: Text,
+    /// The last text that had a tree, if the one that stands has none.
+    pub sound: Option<Text>,
     /// From the known text to that which stands.
     pub shift: Shift,
-    /// The tokens and the tree of the known text, if it has a tree.
-    pub parsed: Option<Parsed>,
+    /// Whether the known text has a tree.
+    pub has_tree: bool,
     /// Whether the file was made, so that it is never shown.
     pub is_made: bool,
 }
@@ -53,89 +53,101 @@ fn sound_before(alloc: Global, texts: &Texts, path: &str) -> Result<Option<Text>
     }
 }
 
-/// A file whose names are those of a text.
-fn file_known(
-    alloc: Global,
-    path: String,
-    now: Text,
-    known: Text,
-    is_made: bool,
-) -> Result<FileView, AllocError> {
-    let shift = Shift::between(known.bytes(), now.bytes());
-    let parsed = read(alloc, known.bytes())?;
-    Ok(FileView {
-        path,
-        now,
-        known,
-        shift,
-        parsed,
-        is_made,
-    })
-}
-
-/// A file with its names.
+/// A file whose names are those of the text that stands, or of the one before that had a tree, and the tree.
 fn file_view(
     alloc: Global,
     texts: &Texts,
     file: &SourceFile,
     is_made: bool,
-) -> Result<FileView, AllocError> {
+) -> Result<(FileView, Option<Parsed>), AllocError> {
     let path = String::from_str(alloc, file.name.as_str())?;
     let now = Text::of(alloc, Vec::from_slice(alloc, &file.bytes)?)?;
-    let known = match sound_before(alloc, texts, file.name.as_str())? {
-        Some(sound) => sound,
-        None => Text::of(alloc, Vec::from_slice(alloc, &file.bytes)?)?,
+    let sound = sound_before(alloc, texts, file.name.as_str())?;
+    let known = sound.as_ref().map_or(now.bytes(), |it| it.bytes());
+    let shift = Shift::between(known, now.bytes());
+    let parsed = read(alloc, known)?;
+    let view = FileView {
+        path,
+        now,
+        sound,
+        shift,
+        has_tree: parsed.is_some(),
+        is_made,
     };
-    file_known(alloc, path, now, known, is_made)
+    Ok((view, parsed))
 }
 
-/// Adds the files of a program that are not there yet.
-fn add_files(
-    alloc: Global,
-    texts: &Texts,
-    program: &Program,
-    files: &mut Vec<FileView>,
-) -> Result<(), AllocError> {
-    for (at, file) in program.files.iter().enumerate() {
-        let is_new = files
-            .iter()
-            .all(|it| it.path.as_str() != file.name.as_str());
-        if is_new {
-            let is_made = program.is_made && at == 0;
-            files.push(file_view(alloc, texts, file, is_made)?)?;
+/// Files in the making, each with its tree.
+#[derive(Drop)]
+struct Files {
+    views: Vec<FileView>,
+    trees: Vec<Option<Parsed>>,
+}
+
+impl Files {
+    /// Whether the file of this path is there.
+    fn has(&self, path: &str) -> bool {
+        self.views.iter().any(|it| it.path.as_str() == path)
+    }
+
+    /// Adds the files of a program that are not there yet.
+    fn add(&mut self, alloc: Global, texts: &Texts, program: &Program) -> Result<(), AllocError> {
+        for (at, file) in program.files.iter().enumerate() {
+            if !self.has(file.name.as_str()) {
+                let is_made = program.is_made && at == 0;
+                let (view, parsed) = file_view(alloc, texts, file, is_made)?;
+                self.views.push(view)?;
+                self.trees.push(parsed)?;
+            }
         }
+        Ok(())
     }
-    Ok(())
+
+    /// What their names stand for.
+    fn index(&self, alloc: Global) -> Result<Index, AllocError> {
+        let mut parsed = Vec::new(alloc);
+        for tree in &self.trees {
+            parsed.push(tree.as_ref())?;
+        }
+        Index::of(alloc, &parsed)
+    }
 }
 
-/// The names of files.
-fn index_of(alloc: Global, files: &[FileView]) -> Result<Index, AllocError> {
-    let mut parsed = Vec::new(alloc);
-    for file in files {
-        parsed.push(file.parsed.as_ref())?;
-    }
-    Index::of(alloc, &parsed)
-}
-
-/// The files of these programs, each once, and what their names stand for. The only error is want of memory.
+/// The files of these programs, each once, and what their names stand for. Their trees are let go. The only error is want of memory.
 pub fn view_of(alloc: Global, texts: &Texts, programs: &[Program]) -> Result<View, AllocError> {
-    let mut files = Vec::new(alloc);
+    let mut files = Files {
+        views: Vec::new(alloc),
+        trees: Vec::new(alloc),
+    };
     for program in programs {
-        add_files(alloc, texts, program, &mut files)?;
+        files.add(alloc, texts, program)?;
     }
-    let index = index_of(alloc, &files)?;
-    Ok(View { files, index })
+    let index = files.index(alloc)?;
+    let Files { views, trees } = files;
+    drop(trees);
+    Ok(View {
+        files: views,
+        index,
+    })
 }
 
 impl FileView {
+    /// The text whose names are known: the last that had a tree.
+    pub fn known(&self) -> &Text {
+        match &self.sound {
+            Some(sound) => sound,
+            None => &self.now,
+        }
+    }
+
     /// The place in the known text of a byte of the text that stands.
     pub fn known_pos(&self, offset: usize) -> Pos {
-        self.known.pos_of_offset(self.shift.to_old(offset))
+        self.known().pos_of_offset(self.shift.to_old(offset))
     }
 
     /// The byte of the text that stands for a place of the known text, unless it was changed.
     pub fn now_offset(&self, pos: Pos) -> Option<usize> {
-        self.shift.to_new(self.known.offset_of_pos(pos))
+        self.shift.to_new(self.known().offset_of_pos(pos))
     }
 }
 

@@ -6,7 +6,7 @@ use crate::server::{Reply, Server};
 use format_text::{FormatFault, format};
 use m2_tree::Refusal;
 use serde_json::{Map, Value, json};
-use serve_lists::{Edit, add_member, edit_value};
+use serve_offers::{Edit, add_member, edit_value};
 use serve_programs::{Folder, Program, length_at, programs_with, refusals_of, spare_of};
 use serve_texts::{Shift, Text};
 use std::alloc::{AllocError, Global};

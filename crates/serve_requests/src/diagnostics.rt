@@ -2,8 +2,8 @@
 
 use crate::server::Server;
 use serde_json::{Value, json};
-use serve_lists::range_value;
 use serve_messages::{Method, notice_body};
+use serve_offers::range_value;
 use serve_programs::{Folder, Severity, Shown, all_shown, read_text};
 use serve_texts::{Text, uri_of};
 use std::alloc::{AllocError, Global};

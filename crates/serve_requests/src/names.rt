@@ -4,14 +4,14 @@ use crate::changes::path_in;
 use crate::params::{position_of, text_at};
 use crate::server::{Held, Reach, Reply, Server};
 use serde_json::Value;
-use serve_lists::{
+use serve_messages::{Call, ErrorCode, Method};
+use serve_offers::{
     Ask, Choice, Extent, add_workspace_symbols, completion, definition, document_symbols,
     folding_ranges, highlights, hover, implementation, prepare_rename, references, semantic_tokens,
     signature_help, type_definition,
 };
-use serve_messages::{Call, ErrorCode, Method};
 use serve_programs::{
-    Folder, Program, folder_of, programs_around, programs_with, roots_of, spare_of, view_of,
+    Folder, Program, View, folder_of, programs_around, programs_with, roots_of, spare_of, view_of,
 };
 use std::alloc::{AllocError, Global};
 use std::thread::Threads;
@@ -19,10 +19,12 @@ use std::thread::Threads;
 /// The ending of the name of a definition's file.
 const DEFINITION_ENDING: &str = ".def";
 
-/// Which programs a request looks at.
-fn reach_of(method: Method) -> Reach {
+/// Which programs a request looks at. What a text imports that has no tree is among the files that it may import.
+fn reach_of(method: Method, has_tree: bool) -> Reach {
     match method {
         Method::References | Method::Rename => Reach::Folder,
+        Method::Completion => Reach::Open,
+        _ if has_tree => Reach::Program,
         _ => Reach::Open,
     }
 }
@@ -128,9 +130,33 @@ impl Server {
     ) -> Result<Vec<Program>, AllocError> {
         let (texts, setting) = (&self.texts, &self.setting);
         match reach {
-            Reach::Open => programs_with(alloc, texts, folder, setting, path),
+            Reach::Program | Reach::Open => programs_with(alloc, texts, folder, setting, path),
             Reach::Folder => programs_around(alloc, texts, folder, setting, path),
         }
+    }
+
+    /// What the names of the files of programs stand for, and of those that they may import besides if these are wanted.
+    fn view_for<F: Folder>(
+        &self,
+        alloc: Global,
+        folder: &F,
+        path: &str,
+        reach: Reach,
+        programs: &mut Vec<Program>,
+    ) -> Result<View, AllocError> {
+        if reach == Reach::Program {
+            return view_of(alloc, &self.texts, programs.as_slice());
+        }
+        let spare = self.spare_program(alloc, folder, path, programs.as_slice())?;
+        programs.push(spare)?;
+        let view = view_of(alloc, &self.texts, programs.as_slice())?;
+        let _ = programs.pop();
+        Ok(view)
+    }
+
+    /// Whether the text of this path has a tree, as far as it is open.
+    fn has_tree(&self, path: &str) -> bool {
+        self.texts.get(path).is_none_or(|open| open.sound.is_none())
     }
 
     /// The files that programs may import besides their own, as a program of which nothing is built.
@@ -174,10 +200,7 @@ impl Server {
             return Ok(());
         }
         let mut programs = self.programs_of(alloc, folder, path, reach)?;
-        let spare = self.spare_program(alloc, folder, path, &programs)?;
-        programs.push(spare)?;
-        let view = view_of(alloc, &self.texts, &programs)?;
-        let _ = programs.pop();
+        let view = self.view_for(alloc, folder, path, reach, &mut programs)?;
         self.held = Some(Held {
             path: String::from_str(alloc, path)?,
             reach,
@@ -185,6 +208,23 @@ impl Server {
             view,
         });
         Ok(())
+    }
+
+    /// Whether something is shown as refused of a file of a program.
+    fn is_refused(&self, program: &Program) -> bool {
+        program.files.iter().any(|file| self
+            .shown
+            .iter()
+            .any(|it| it.as_str() == file.name.as_str()))
+    }
+
+    /// Programs of which nothing is refused: none, if it is not known yet, or if something is refused of one of them.
+    fn built<'a>(&self, programs: &'a [Program]) -> &'a [Program] {
+        if self.is_due || programs.iter().any(|it| self.is_refused(it)) {
+            &[]
+        } else {
+            programs
+        }
     }
 
     /// What is asked about: a byte of a file of the programs that are held.
@@ -209,6 +249,7 @@ impl Server {
         Some(Ask {
             alloc,
             view: &held.view,
+            built: self.built(&held.programs),
             texts: &self.texts,
             file,
             offset,
@@ -251,7 +292,8 @@ impl Server {
         if is_of_place(call.method) && place.and_then(position_of).is_none() {
             return Reply::no_params(alloc);
         }
-        self.hold(alloc, folder, path.as_str(), reach_of(call.method))?;
+        let reach = reach_of(call.method, self.has_tree(path.as_str()));
+        self.hold(alloc, folder, path.as_str(), reach)?;
         let Some(held) = &self.held else {
             return Ok(Reply::Result(Value::Null));
         };
@@ -285,6 +327,7 @@ impl Server {
         let ask = Ask {
             alloc,
             view: &view,
+            built: &[],
             texts: &self.texts,
             file: 0,
             offset: 0,

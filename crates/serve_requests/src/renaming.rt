@@ -6,9 +6,9 @@ use crate::server::{Held, Reach, Reply, Server};
 use m2_tree::{Lexeme, Refusal, Token};
 use scan_tokens::{ScanError, scan};
 use serde_json::{Map, Value, json};
-use serve_lists::{Ask, Edit, add_member, edit_value};
 use serve_messages::ErrorCode;
 use serve_names::Index;
+use serve_offers::{Ask, Edit, add_member, edit_value};
 use serve_programs::{FileView, Folder, Mark, Program, View, file_of, refusals_of, view_of};
 use std::alloc::{AllocError, Global};
 use std::slice;
@@ -104,7 +104,7 @@ fn are_alike(before: &Index, after: &Index) -> bool {
 
 /// Whether the text of a file has a tree as it stands.
 fn is_sound(file: &FileView) -> bool {
-    file.parsed.is_some() && file.known.bytes() == file.now.bytes()
+    file.has_tree && file.sound.is_none()
 }
 
 /// The places of the thing at a place, or nothing if one is not known.

@@ -40,7 +40,9 @@ pub(crate) struct Held {
 /// Which programs of a file are looked at.
 #[derive(Clone, Copy, Debug, PartialEq, Eq, PartialOrd, Ord)]
 pub(crate) enum Reach {
-    /// Those of open texts.
+    /// Those of open texts, with the files that they have.
+    Program,
+    /// Also with the files that they may import besides.
     Open,
     /// Also those of the files in the same folder.
     Folder,

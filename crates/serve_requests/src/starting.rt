@@ -1,7 +1,7 @@
 //! What a server and an editor agree on.
 
-use serde_json::{Value, json};
-use serve_lists::{TOKEN_MODIFIERS, TOKEN_TYPES, add_member};
+use serde_json::{Map, Value, json};
+use serve_offers::{TOKEN_MODIFIERS, TOKEN_TYPES, add_member};
 use serve_texts::Encoding;
 use std::alloc::{AllocError, Global};
 
@@ -67,25 +67,41 @@ fn semantic_value(alloc: Global) -> Result<Value, AllocError> {
     })
 }
 
+/// What the server can do with names, as far as there is nothing more to say of it.
+const PLAIN_CAPABILITIES: [&str; 10] = [
+    "declarationProvider",
+    "definitionProvider",
+    "documentHighlightProvider",
+    "documentSymbolProvider",
+    "foldingRangeProvider",
+    "hoverProvider",
+    "implementationProvider",
+    "referencesProvider",
+    "typeDefinitionProvider",
+    "workspaceSymbolProvider",
+];
+
+/// An object that says behind which letters an editor asks.
+fn triggers_value(alloc: Global, letters: &[&str]) -> Result<Value, AllocError> {
+    let letters = texts_value(alloc, letters)?;
+    json!(in alloc; { "triggerCharacters": letters })
+}
+
 /// What the server can do with names.
 fn name_capabilities(alloc: Global) -> Result<Value, AllocError> {
+    let mut all = Value::Object(Map::new(alloc));
+    for name in PLAIN_CAPABILITIES {
+        add_member(alloc, &mut all, name, Value::Bool(true))?;
+    }
+    let completion = triggers_value(alloc, &["."])?;
+    add_member(alloc, &mut all, "completionProvider", completion)?;
+    let signature = triggers_value(alloc, &["(", ","])?;
+    add_member(alloc, &mut all, "signatureHelpProvider", signature)?;
+    let rename = json!(in alloc; { "prepareProvider": true })?;
+    add_member(alloc, &mut all, "renameProvider", rename)?;
     let semantic = semantic_value(alloc)?;
-    json!(in alloc; {
-        "completionProvider": { "triggerCharacters": ["."] },
-        "declarationProvider": true,
-        "definitionProvider": true,
-        "documentHighlightProvider": true,
-        "documentSymbolProvider": true,
-        "foldingRangeProvider": true,
-        "hoverProvider": true,
-        "implementationProvider": true,
-        "referencesProvider": true,
-        "renameProvider": { "prepareProvider": true },
-        "semanticTokensProvider": semantic,
-        "signatureHelpProvider": { "triggerCharacters": ["(", ","] },
-        "typeDefinitionProvider": true,
-        "workspaceSymbolProvider": true
-    })
+    add_member(alloc, &mut all, "semanticTokensProvider", semantic)?;
+    Ok(all)
 }
 
 /// What the server can do, and what it is.

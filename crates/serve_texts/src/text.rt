@@ -35,8 +35,8 @@ pub struct Text {
     bytes: Vec<u8>,
     /// Where lines begin behind bytes 0AH, from the second line on.
     lines: Vec<usize>,
-    /// Where lines begin for the protocol, from the second line on.
-    rows: Vec<usize>,
+    /// Where lines begin for the protocol, from the second line on, if it is elsewhere.
+    rows: Option<Vec<usize>>,
 }
 
 /// A number as one of 32 bits, or the greatest one.
@@ -80,6 +80,12 @@ fn row_begins(alloc: Global, bytes: &[u8]) -> Result<Vec<usize>, AllocError> {
     Ok(begins)
 }
 
+/// Whether a byte 0DH stands somewhere without a 0AH behind it.
+fn has_bare_return(bytes: &[u8]) -> bool {
+    bytes.iter().enumerate().any(|(at, byte)| *byte == b'\r'
+        && bytes.get(at.saturating_add(1)) != Some(&b'\n'))
+}
+
 /// The begin of the line of this number, from 0, if there is one.
 fn begin_of(begins: &[usize], number: usize) -> Option<usize> {
     match number.checked_sub(1) {
@@ -111,13 +117,25 @@ impl Text {
     /// A text of these bytes. The only error is want of memory.
     pub fn of(alloc: Global, bytes: Vec<u8>) -> Result<Text, AllocError> {
         let lines = line_begins(alloc, &bytes)?;
-        let rows = row_begins(alloc, &bytes)?;
+        let rows = if has_bare_return(&bytes) {
+            Some(row_begins(alloc, &bytes)?)
+        } else {
+            None
+        };
         Ok(Text { bytes, lines, rows })
     }
 
     /// Its bytes.
     pub fn bytes(&self) -> &[u8] {
         &self.bytes
+    }
+
+    /// Where lines begin for the protocol, from the second line on.
+    fn rows(&self) -> &[usize] {
+        match &self.rows {
+            Some(rows) => rows,
+            None => &self.lines,
+        }
     }
 
     /// How many bytes stand in front of a place of the compiler: all, if it stands behind the text.
@@ -144,8 +162,8 @@ impl Text {
 
     /// The bytes of the protocol's line of this number, from 0, without those that end it, and where it begins.
     fn row(&self, number: usize) -> Option<(usize, &[u8])> {
-        let begin = begin_of(&self.rows, number)?;
-        let end = self.rows.get(number).copied().unwrap_or(self.bytes.len());
+        let begin = begin_of(self.rows(), number)?;
+        let end = self.rows().get(number).copied().unwrap_or(self.bytes.len());
         Some((begin, without_end(cut(&self.bytes, begin, end))))
     }
 
@@ -163,8 +181,8 @@ impl Text {
     /// The place of the protocol behind so many bytes.
     pub fn position_of(&self, offset: usize, encoding: Encoding) -> Position {
         let offset = offset.min(self.bytes.len());
-        let line = line_with(&self.rows, offset);
-        let begin = begin_of(&self.rows, line).unwrap_or(0);
+        let line = line_with(self.rows(), offset);
+        let begin = begin_of(self.rows(), line).unwrap_or(0);
         let before = cut(&self.bytes, begin, offset);
         Position {
             line: narrow(line),
@@ -175,7 +193,7 @@ impl Text {
     /// The place of the protocol behind so many bytes, counted on from a place in front of it that is known.
     pub fn position_behind(&self, known: Known, offset: usize, encoding: Encoding) -> Position {
         let offset = offset.min(self.bytes.len());
-        if offset < known.offset || line_with(&self.rows, offset) != wide(known.position.line) {
+        if offset < known.offset || line_with(self.rows(), offset) != wide(known.position.line) {
             return self.position_of(offset, encoding);
         }
         let between = encoding.units_of(cut(&self.bytes, known.offset, offset));

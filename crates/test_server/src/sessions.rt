@@ -10,7 +10,7 @@ use std::thread::Threads;
 pub type Row = (&'static str, &'static str);
 
 /// The files that are not open.
-const ON_DISK: [(&str, &str); 4] = [
+const ON_DISK: [(&str, &str); 5] = [
     (
         "/p/Stacks.def",
         "DEFINITION MODULE Stacks;\n\n(* Puts a number on the stack. *)\nPROCEDURE Push(x: INTEGER);\nEND Stacks.\n",
@@ -24,6 +24,7 @@ const ON_DISK: [(&str, &str); 4] = [
         "MODULE N;\nFROM Stacks IMPORT Push;\nBEGIN\n  Push(2)\nEND N.\n",
     ),
     ("/l/Lib.def", "DEFINITION MODULE Lib;\nEND Lib.\n"),
+    ("/q/m.mod", "IMPLEMENTATION MODULE m;\nEND m.\n"),
 ];
 
 /// The messages with which each session begins, and what goes back.
@@ -43,7 +44,7 @@ const BEGIN: [Row; 3] = [
 ];
 
 /// Requests about names, each about the text of `BEGIN`.
-const ABOUT_NAMES: [Row; 21] = [
+const ABOUT_NAMES: [Row; 24] = [
     // The call of P.
     (
         r#"{"jsonrpc":"2.0","id":1,"method":"textDocument/hover","params":{"textDocument":{"uri":"file:///p/M.mod"},"position":{"line":9,"character":7}}}"#,
@@ -53,6 +54,19 @@ const ABOUT_NAMES: [Row; 21] = [
     (
         r#"{"jsonrpc":"2.0","id":1,"method":"textDocument/hover","params":{"textDocument":{"uri":"file:///p/M.mod"},"position":{"line":11,"character":3}}}"#,
         r#"Puts a number on the stack."#,
+    ),
+    // A variable behind a record of two numbers, a field behind a number, and a parameter behind the 16 bytes that are reserved and a number.
+    (
+        r#"{"jsonrpc":"2.0","id":1,"method":"textDocument/hover","params":{"textDocument":{"uri":"file:///p/M.mod"},"position":{"line":9,"character":2}}}"#,
+        r#"VAR n: INTEGER\n```\n\n4 bytes, at offset 8 of the module's data""#,
+    ),
+    (
+        r#"{"jsonrpc":"2.0","id":1,"method":"textDocument/hover","params":{"textDocument":{"uri":"file:///p/M.mod"},"position":{"line":2,"character":19}}}"#,
+        r#"b: INTEGER\n```\n\n4 bytes, at offset 4 of the record""#,
+    ),
+    (
+        r#"{"jsonrpc":"2.0","id":1,"method":"textDocument/hover","params":{"textDocument":{"uri":"file:///p/M.mod"},"position":{"line":6,"character":13}}}"#,
+        r#"4 bytes, passed by reference: its address is at offset 20 of the frame""#,
     ),
     // A word of the language.
     (
@@ -137,7 +151,7 @@ const ABOUT_NAMES: [Row; 21] = [
 ];
 
 /// Other requests, and what changes.
-const CHANGES: [Row; 14] = [
+const CHANGES: [Row; 16] = [
     // An edit by which a name is not declared, and its mend.
     (
         r#"{"jsonrpc":"2.0","method":"textDocument/didChange","params":{"textDocument":{"uri":"file:///p/M.mod","version":2},"contentChanges":[{"range":{"start":{"line":11,"character":7},"end":{"line":11,"character":8}},"text":"nn"}]}}"#,
@@ -195,6 +209,16 @@ const CHANGES: [Row; 14] = [
     (
         r#"{"jsonrpc":"2.0","method":"textDocument/didClose","params":{"textDocument":{"uri":"file:///p/M.mod"}}}"#,
         "",
+    ),
+    // A string that is not closed ends with its line.
+    (
+        r#"{"jsonrpc":"2.0","method":"textDocument/didOpen","params":{"textDocument":{"uri":"file:///p/S.mod","languageId":"modula2","version":1,"text":"MODULE S;\nBEGIN\n  x := 'abc\nEND S.\n"}}}"#,
+        r#""range":{"end":{"character":11,"line":2},"start":{"character":7,"line":2}}"#,
+    ),
+    // A module with the name that a program would get that imports it.
+    (
+        r#"{"jsonrpc":"2.0","method":"textDocument/didOpen","params":{"textDocument":{"uri":"file:///q/m.def","languageId":"modula2","version":1,"text":"DEFINITION MODULE m;\nEND m.\n"}}}"#,
+        r#"{"diagnostics":[],"uri":"file:///q/m.def","version":1}"#,
     ),
 ];
 

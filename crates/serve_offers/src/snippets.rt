@@ -1,10 +1,9 @@
 //! Texts with places to fill: calls of procedures, and procedures that an implementation lacks.
 
-use crate::ask::Ask;
 use crate::completing::{Choice, MOST_BYTES};
-use crate::values::{add_member, text_value};
 use m2_tree::Pos;
 use serde_json::{Value, json};
+use serve_hovers::{Ask, add_member, text_value};
 use serve_names::{Declaration, Kind, Place, Range, words_of};
 use std::alloc::AllocError;
 

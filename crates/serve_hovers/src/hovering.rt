@@ -1,11 +1,14 @@
 //! What a name is, in words.
 
-use crate::ask::Ask;
+use crate::meant::{Meaning, meaning_here};
 use serde_json::{Value, json};
+use serve_lists::{Ask, Mark};
 use serve_names::{Declaration, comment_of, words_of};
-use serve_programs::{Mark, source_of};
 use serve_words::explanation;
 use std::alloc::{AllocError, Global};
+
+/// What stands between paragraphs.
+const PARAGRAPH: &str = "\n\n";
 
 /// Text in the language, for Markdown.
 fn push_code(all: &mut String, words: &str) -> Result<(), AllocError> {
@@ -19,17 +22,39 @@ fn words_in(alloc: Global, bytes: &[u8]) -> Result<String, AllocError> {
     String::from_utf8_lossy(alloc, bytes)
 }
 
-/// What a declared thing is: its declaration, and its comment.
+/// Adds a paragraph, unless it is empty.
+fn push_paragraph(all: &mut String, words: &str) -> Result<(), AllocError> {
+    if !words.is_empty() {
+        all.push_str(PARAGRAPH)?;
+        all.push_str(words)?;
+    }
+    Ok(())
+}
+
+/// A declaration as it is written, and behind it what the constant is that it declares.
+fn code_of(ask: &Ask<'_>, declaration: &Declaration, value: &str) -> Result<String, AllocError> {
+    let text = ask.known_bytes(declaration.place.file);
+    let mut code = words_in(ask.alloc, &words_of(ask.alloc, text, declaration)?)?;
+    if !value.is_empty() {
+        code.push('\n')?;
+        code.push_str(value)?;
+    }
+    Ok(code)
+}
+
+/// What a declared thing is: its declaration, what it means, and its comment.
 fn declared_words(ask: &Ask<'_>, declaration: &Declaration) -> Result<String, AllocError> {
     let alloc = ask.alloc;
-    let text = ask.known_bytes(declaration.place.file);
-    let words = words_in(alloc, &words_of(alloc, text, declaration)?)?;
+    let Meaning { value, storage } = meaning_here(ask, declaration)?;
     let mut all = String::new(alloc);
-    push_code(&mut all, words.as_str())?;
+    push_code(
+        &mut all,
+        code_of(ask, declaration, value.as_str())?.as_str(),
+    )?;
+    push_paragraph(&mut all, storage.as_str())?;
+    let text = ask.known_bytes(declaration.place.file);
     if let Some(comment) = comment_of(text, declaration) {
-        let comment = words_in(alloc, comment)?;
-        all.push_str("\n\n")?;
-        all.push_str(comment.trim())?;
+        push_paragraph(&mut all, words_in(alloc, comment)?.trim())?;
     }
     Ok(all)
 }
@@ -46,7 +71,7 @@ fn shown(ask: &Ask<'_>, mark: Mark, words: String) -> Result<Value, AllocError> 
 
 /// Where the token stands in which the place is.
 fn token_mark(ask: &Ask<'_>) -> Result<Option<Mark>, AllocError> {
-    let source = source_of(ask.alloc, ask.bytes())?;
+    let source = ask.source()?;
     for at in 0..source.tokens.len() {
         let (begin, end) = (source.begin(at), source.end(at));
         if begin <= ask.offset && ask.offset <= end && source.spelling(at).len() > 1 {
@@ -72,13 +97,13 @@ fn word_hover(ask: &Ask<'_>) -> Result<Value, AllocError> {
     };
     let mut all = String::new(alloc);
     push_code(&mut all, word.heading)?;
-    all.push_str("\n\n")?;
-    all.push_str(word.sentence)?;
+    push_paragraph(&mut all, word.sentence)?;
     shown(ask, mark, all)
 }
 
 /// What the name at a place is: its declaration with the comment, or a sentence on a word of the language. Null if neither stands
-/// there.
+/// there. If the program is built, also the value of a constant, and the size and the place of a variable or a field. The only error is
+/// want of memory.
 pub fn hover(ask: &Ask<'_>) -> Result<Value, AllocError> {
     let Some((found, mark)) = ask.name_here() else {
         return word_hover(ask);

@@ -1,11 +1,10 @@
 //! What may be written at a place.
 
-use crate::ask::Ask;
 use crate::snippets::{Formals, Lead, add_call, add_lacking};
-use crate::values::text_value;
 use m2_tree::{Pos, Symbol, Token};
 use scan_tokens::{ScanError, scan};
 use serde_json::{Value, json};
+use serve_hovers::{Ask, text_value};
 use serve_names::{Kind, Offer, words_of};
 use serve_words::{Sort, Word, explanation, reserved_words};
 use std::alloc::{AllocError, Global};
