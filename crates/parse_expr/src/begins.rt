@@ -6,6 +6,7 @@ ghost use Rattle.def_grammar.specs.declared.kind.Kind.TheVariants as the;
 ghost use Rattle.def_grammar.specs.Kinds.{kind_said};
 ghost use Rattle.def_grammar.specs.Tables.{in_expr, in_formal, in_selector, in_simple, in_type};
 ghost use Rattle.def_grammar.specs.Reading.{is_among};
+ghost use Rattle.parse_expr.specs.Lone.{going_on, lone_kinds};
 
 use def_grammar::Kind;
 use m2_tree::{Lexeme, Symbol};
@@ -36,6 +37,51 @@ pub fn begins_expr(kind: Kind) -> bool
             Symbol::Plus | Symbol::Minus | Symbol::LeftBrace | Symbol::Not | Symbol::LeftParen
         ),
         Kind::End => false,
+    }
+}
+
+/// Whether this token can be the whole of an expression.
+#[tactic(auto, unfolding(def_grammar::specs::Kinds::same_kind))]
+pub(crate) fn can_be_lone(lexeme: &Lexeme) -> bool
+    ensures { result ≡ is_among (kind_said lexeme.now) lone_kinds }
+{
+    match lexeme {
+        Lexeme::Name(_) | Lexeme::Number(_) | Lexeme::Char(_) | Lexeme::Text(_) => true,
+        Lexeme::Symbol(_) | Lexeme::End => false,
+    }
+}
+
+/// Whether an expression that begins with a name or a literal goes on with this token.
+#[tactic(auto, using(def_grammar::proofs::Truth::symbols), unfolding(def_grammar::specs::Kinds::same_kind))]
+pub(crate) fn goes_on(lexeme: &Lexeme) -> bool
+    ensures { result ≡ is_among (kind_said lexeme.now) going_on }
+{
+    match lexeme {
+        Lexeme::Symbol(symbol) => matches!(
+            symbol,
+            Symbol::Equal
+                | Symbol::Unequal
+                | Symbol::Less
+                | Symbol::AtMost
+                | Symbol::Greater
+                | Symbol::AtLeast
+                | Symbol::In
+                | Symbol::Plus
+                | Symbol::Minus
+                | Symbol::Or
+                | Symbol::Star
+                | Symbol::Slash
+                | Symbol::Div
+                | Symbol::Mod
+                | Symbol::And
+                | Symbol::Dot
+                | Symbol::LeftBracket
+                | Symbol::LeftParen
+                | Symbol::LeftBrace
+        ),
+        Lexeme::Name(_) | Lexeme::Number(_) | Lexeme::Char(_) | Lexeme::Text(_) | Lexeme::End => {
+            false
+        }
     }
 }
 

@@ -19,12 +19,14 @@ ghost use Rattle.def_grammar.specs.Reading.{
   ReadsAs,
   TookIf,
 };
+ghost use Rattle.parse_expr.specs.Lone.{is_lone, lone_kinds, value_of};
 
-use crate::begins::{begins_simple, begins_type, kind_of};
+use crate::begins::{begins_simple, begins_type, can_be_lone, goes_on, kind_of};
 use def_grammar::{GrammarRule, Kind, ParseRefusal, Stop};
-use m2_tree::{Expr, Ident, Lexeme, Pos, Symbol, Token};
+use m2_tree::{Designator, Expr, Ident, Lexeme, Pos, Symbol, Token};
 use std::alloc::Global;
 use std::marker::Model;
+use tree_parts::Items;
 
 /// What is left of the tokens. Contracts see it as their list.
 ///
@@ -198,6 +200,45 @@ impl<'a> Cursor<'a> {
             Lexeme::Char(code) => Expr::Char(token.pos, *code),
             Lexeme::Text(text) => Expr::Text(token.pos, text.clone()?),
             Lexeme::Name(_) | Lexeme::Symbol(_) | Lexeme::End => {
+                return Err(Stop::Refused(GrammarRule::Unfit));
+            }
+        };
+        self.rest = rest;
+        Ok(value)
+    }
+
+    /// Whether the next token is the whole of an expression: a name or a literal behind which it does not go on.
+    #[tactic(auto, unfolding(def_grammar::specs::Kinds::same_kind))]
+    pub(crate) fn is_lone(&self) -> bool
+        ensures { result ≡ is_lone self.now }
+    {
+        match self.rest {
+            [token, next, ..] => can_be_lone(&token.lexeme) && !goes_on(&next.lexeme),
+            _ => false,
+        }
+    }
+
+    /// Takes the next token, which has to be a name or a literal, as an expression.
+    #[tactic(auto, unfolding(def_grammar::specs::Kinds::same_kind))]
+    pub(crate) fn lone(&mut self) -> Result<Expr, Stop>
+        ensures { ReadsAs value_of (one_token lone_kinds self.old) result self.new }
+    {
+        let [token, rest @ ..] = self.rest else {
+            return Err(Stop::Refused(GrammarRule::Unfit));
+        };
+        let value = match &token.lexeme {
+            Lexeme::Name(name) => {
+                let name = Ident {
+                    name: name.clone()?,
+                    pos: token.pos,
+                };
+                let selectors = Items::new(self.alloc);
+                Expr::Use(Designator { name, selectors }, None)
+            }
+            Lexeme::Number(number) => Expr::Number(token.pos, *number),
+            Lexeme::Char(code) => Expr::Char(token.pos, *code),
+            Lexeme::Text(text) => Expr::Text(token.pos, text.clone()?),
+            Lexeme::Symbol(_) | Lexeme::End => {
                 return Err(Stop::Refused(GrammarRule::Unfit));
             }
         };

@@ -92,10 +92,14 @@ fn push_indexes(
 impl Cursor<'_> {
     /// An expression, with this many levels of nesting left.
     #[cycle(expr)]
-    #[tactic(auto, using(def_grammar::proofs::Rules::expr_is))]
+    #[tactic(auto, using(def_grammar::proofs::Rules::expr_is, crate::proofs::Lone::lone_is))]
     pub fn expr(&mut self, room: usize) -> Result<Expr, Stop>
         ensures { Reads (read_rule room expr_rule self.old) result self.new }
     {
+        if self.is_lone() {
+            let value = self.lone()?;
+            return Ok(value);
+        }
         let left = self.sum(room)?;
         match self.relation() {
             None => Ok(left),
