@@ -7,6 +7,7 @@ const BETWEEN = "between";
 const SENTENCE = `'${BETWEEN}' is no command; help lists all of them\n`;
 /** What is asked for behind each press. */
 const ASKED = ["where", "vars", "output"];
+const NOTHING_PRINTED = "the program has printed nothing\n";
 const PLACE = /^in (.+), (\S+):(\d+):(\d+)$/m;
 const BREAKPOINT = /^(?:.*; )?breakpoint (\d+): (\S+):(\d+):\d+/m;
 const INPUT = "given";
@@ -23,7 +24,7 @@ function answersIn(out) {
   const [said, where, variables, output] = decoder.decode(out).split(SENTENCE).slice(-1 - ASKED.length);
   const found = PLACE.exec(where ?? "");
   const place = found === null ? undefined : { file: found[2], line: Number(found[3]) };
-  return { said, where, variables, output, place };
+  return { said, where, variables, output: output === NOTHING_PRINTED ? "" : output, place };
 }
 
 export class Debugging {

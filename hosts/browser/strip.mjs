@@ -37,15 +37,20 @@ export class Strip {
     return button;
   }
 
+  #setBusy(isBusy) {
+    this.#isBusy = isBusy;
+    element("debugger").setAttribute("aria-busy", String(isBusy));
+  }
+
   /** Waits for an answer and shows it. A press meanwhile is left out. */
   async #answer(ask) {
     if (this.#isBusy) {
       return;
     }
-    this.#isBusy = true;
+    this.#setBusy(true);
     const debugging = this.#debugging;
     const answer = await ask();
-    this.#isBusy = false;
+    this.#setBusy(false);
     if (answer !== undefined && debugging === this.#debugging) {
       this.#show(answer);
     }

@@ -174,10 +174,21 @@ int unlink(const u8 *path) { return (int)answered(host_unlink(path, length_of(pa
 
 int mkdir(const u8 *path, u32 mode) { return (int)answered(host_mkdir(path, length_of(path))); }
 /* A host has no paths but those that are given to it. */
-enum { NO_SUCH_CALL = 38 };
+enum { NO_SUCH_CALL = 38, TOO_SHORT = 34 };
 u8 *realpath(const u8 *path, u8 *resolved) {
   error = NO_SUCH_CALL;
   return 0;
+}
+
+/* The folder in which the program runs, if the host has the variable that shells give. */
+u8 *getcwd(u8 *to, u64 room) {
+  i64 length = host_variable((const u8 *)"PWD", 3, to, room ? room - 1 : 0);
+  if (length < 0) {
+    error = length == -2 ? TOO_SHORT : NO_SUCH_CALL;
+    return 0;
+  }
+  to[length] = 0;
+  return to;
 }
 
 int rmdir(const u8 *path) { return (int)answered(host_rmdir(path, length_of(path))); }
@@ -208,7 +219,7 @@ i64 getdents64(int folder, u8 *to, u64 room) {
   return (i64)made;
 }
 
-enum { ILLEGAL_SEEK = 29, NO_THREAD = 11, NO_SUCH_THREAD = 3, TOO_SHORT = 34 };
+enum { ILLEGAL_SEEK = 29, NO_THREAD = 11, NO_SUCH_THREAD = 3 };
 i64 lseek(int file, i64 offset, int from) { return answered(-ILLEGAL_SEEK); }
 
 /* Linux's statx, of which libraries read what kind of file it is and its size. */

@@ -24,8 +24,8 @@ BEGIN
   WriteLn
 END Top.
 """
-# the run stops in front of RETURN, where `most` is 4 and not 9; a step back leads to what the loop did last, and a step on leads back
-WANTED = {"stopped": [13, "Top.Largest", "4"], "back": 9, "again": 13, "calls": ["Top.Largest", "Top"], "printed": True, "ended": True}
+# the run stops in front of RETURN, where `most` is 4 and not 9; a step back leads to FOR, which found its end, and a step on leads back
+WANTED = {"stopped": [13, "Top.Largest", "4"], "back": 8, "again": 13, "calls": ["Top.Largest", "the body of Top"], "printed": True, "ended": True}
 IN_EMACS = r"""
 (require 'package)
 (add-to-list 'package-directory-list "/usr/share/emacs/site-lisp/elpa")
