@@ -53,8 +53,10 @@ fn told<D: InDir, S: InDir>(
     followed: &Followed,
 ) -> Result<String, AllocError> {
     let activations = &followed.reader.activations;
-    let innermost = activations.last().map(|it| *it);
-    let Some(place) = innermost.and_then(|it| place_of(&program.maps, it)) else {
+    let Some(innermost) = activations.last() else {
+        return Ok(String::new(alloc));
+    };
+    let Some(place) = place_of(&program.maps, *innermost) else {
         return Ok(String::new(alloc));
     };
     let spot = place.spot(alloc)?;

@@ -40,13 +40,13 @@ impl Ruler {
             self.labels = self.labels.saturating_sub(1);
             return Ok(0);
         }
-        match ops.first() {
+        match ops.first().map(|op| *op) {
             None => Ok(0),
             Some(Op::Block(_, _) | Op::Loop(_, _) | Op::If(_, _) | Op::IfElse(_, _, _)) => Ok(
                 BLOCK,
             ),
             Some(Op::BrTable(count, _)) => {
-                self.labels = *count;
+                self.labels = count;
                 self.length(split_ops(ops, count.saturating_add(1)).0)
             }
             Some(_) => self.length(split_ops(ops, 1).0),

@@ -144,7 +144,8 @@ impl Walk<'_> {
             .get(self.number)
             .is_some_and(|it| are_alike(*it, op));
         self.is_alike = self.is_alike && is_same;
-        let size = self.ruler.first(&self.marked[at.min(self.marked.len())..])?;
+        let marked = self.marked;
+        let size = self.ruler.first(&marked[at.min(marked.len())..])?;
         self.number = self.number.saturating_add(1);
         self.offset = self.offset.saturating_add(size);
         self.enter_all(at, op)?;

@@ -6,7 +6,7 @@ use crate::signals::{LEFT, PRINTED, PUT, entered, mark_signal};
 use std::alloc::{AllocError, Global};
 use std::mem;
 use tree_parts::Items;
-use wasm_tree::{Code, Op, WModule};
+use wasm_tree::{Code, Function, Op, WModule};
 
 /// A walk over the code of a function.
 #[derive(Drop)]
@@ -65,6 +65,22 @@ fn code_with_numbers(
     Ok(Code::new(made.finish(ops)))
 }
 
+/// Puts signals into one of the module's own functions.
+fn signal_in(
+    alloc: Global,
+    function: &mut Function,
+    own: usize,
+    first: u32,
+    numbers: &[Vec<u32>],
+) -> Result<(), AllocError> {
+    if let Some(numbers) = numbers.get(own) {
+        let number = first.saturating_add(u32::try_from(own).unwrap_or(u32::MAX));
+        let code = code_with_numbers(alloc, &function.body.code, number, numbers.as_slice())?;
+        function.body.code = code;
+    }
+    Ok(())
+}
+
 /// A module of a program as it was built, with signals. `numbers` has for each of its functions, the body first, the numbers of the
 /// instructions at which it signals, as `watch_module` does at marks. The functions have numbers from `first` on.
 ///
@@ -77,10 +93,10 @@ pub fn watch_numbered(
 ) -> Result<WModule, AllocError> {
     let mut tree = tree;
     let mut functions = mem::replace(&mut tree.functions, Items::new(alloc)).into_vec();
-    let mut number = first;
-    for (function, own) in functions.iter_mut().skip(HELPERS).zip(numbers) {
-        function.body.code = code_with_numbers(alloc, &function.body.code, number, own)?;
-        number = number.saturating_add(1);
+    for (at, function) in functions.iter_mut().enumerate() {
+        if at >= HELPERS {
+            signal_in(alloc, function, at.saturating_sub(HELPERS), first, numbers)?;
+        }
     }
     tree.functions = Items::from_vec(functions);
     Ok(tree)
