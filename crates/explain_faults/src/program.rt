@@ -81,7 +81,7 @@ fn found_in(alloc: Global, code: &[u8], text: &[u8]) -> Result<Found> {
 }
 
 /// The module of this name with its map.
-fn found<D: InDir>(alloc: Global, dir: &mut D, name: &str) -> Result<Found> {
+fn look_for<D: InDir>(alloc: Global, dir: &mut D, name: &str) -> Result<Found> {
     let text = bytes_of(alloc, dir, name, "map")?;
     let code = bytes_of(alloc, dir, name, "wasm")?;
     match (text, code) {
@@ -137,7 +137,7 @@ fn load_all<D: InDir>(
     };
     program.modules.push(validate(alloc, link)?)?;
     for name in names {
-        match found(alloc, dir, name.as_str())? {
+        match look_for(alloc, dir, name.as_str())? {
             Found::Mapped(tree, map) => program.add(alloc, tree, map)?,
             Found::Unusable(reason) => {
                 let name = String::from_str(alloc, name.as_str())?;

@@ -1,6 +1,6 @@
 //! What is told of runs by their maps.
 
-use crate::programs::{Text, mapped, told};
+use crate::programs::{Text, build_mapped, told};
 
 /// Of each call of a procedure that calls itself, one is told.
 const INDEX: &str = "MODULE M;
@@ -26,7 +26,7 @@ const INDEX_PROGRAM: [Text; 1] = [("M.mod", INDEX)];
 
 #[test]
 fn places_are_told_by_maps(rt: HostRuntime) {
-    let program = mapped(&rt, &INDEX_PROGRAM).expect(&rt, "a program");
+    let program = build_mapped(&rt, &INDEX_PROGRAM).expect(&rt, "a program");
     let Some(program) = program else {
         panic!(rt; "refused");
     };

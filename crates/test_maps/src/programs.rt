@@ -39,7 +39,10 @@ fn files_of(alloc: Global, texts: &[Text]) -> Result<Vec<SourceFile>> {
 }
 
 /// The program of these files with its maps. Nothing if it is refused.
-pub fn mapped<R: AllocGlobal + Threads + Sync>(rt: &R, texts: &[Text]) -> Result<Option<Mapped>> {
+pub fn build_mapped<R: AllocGlobal + Threads + Sync>(
+    rt: &R,
+    texts: &[Text],
+) -> Result<Option<Mapped>> {
     let alloc = rt.alloc();
     let files = files_of(alloc, texts)?;
     let Outcome::Built { link, modules } = build(rt, alloc, &files, OPTIONS, &Open)? else {

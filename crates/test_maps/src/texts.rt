@@ -1,6 +1,6 @@
 //! A map whose rows were counted by hand in the code that docs/CODE.md states, and texts that are no maps.
 
-use crate::programs::{Text, mapped};
+use crate::programs::{Text, build_mapped};
 use map_files::{MapFault, read_map, write_map};
 
 const PROGRAM: [Text; 1] = [(
@@ -22,7 +22,7 @@ end 78cd4af2ada315519411a8ef47ef0890468a23a353d22cb0f20c7100a632911d
 
 #[test]
 fn rows_are_mapped(rt: HostRuntime) {
-    let program = mapped(&rt, &PROGRAM).expect(&rt, "a program");
+    let program = build_mapped(&rt, &PROGRAM).expect(&rt, "a program");
     let made = program.as_ref().and_then(|it| it.maps.first());
     let text = made.map_or("", |it| it.as_str());
     assert!(rt; text == MAP, "{text}");
