@@ -183,7 +183,7 @@ export class Mapped {
   #read;
   #find;
   #maps = new Map();
-  #modules = 0;
+  #isWhole = true;
   #reasons = [];
 
   /** `read` and `find` take the name of a file and answer a promise of its bytes; `find` answers nothing where it is not there. */
@@ -192,20 +192,15 @@ export class Mapped {
     this.#find = find;
   }
 
-  /** Why a map that is there is not used, in sentences without their ends. */
-  get reasons() {
-    return this.#reasons;
-  }
-
-  /** The bytes of a file. A module that has a map has its name in them. */
+  /** The bytes of a file. A module that has a map, as all before it, has its name in them. */
   async read(file) {
     const code = new Uint8Array(await this.#read(file));
     const name = file.replace(/\.wasm$/, "");
     if (name === LINK) {
       return code;
     }
-    this.#modules += 1;
-    return (await this.#enter(name, code)) ? named(name, code) : code;
+    this.#isWhole = this.#isWhole && (await this.#enter(name, code));
+    return this.#isWhole ? named(name, code) : code;
   }
 
   async #enter(name, code) {
@@ -225,10 +220,10 @@ export class Mapped {
     }
   }
 
-  /** The lines that tell where a run ended with this stack. None unless each module has a map. */
+  /** The lines that tell where a run ended with this stack, or why a map is not used. None if a module has no map. */
   async lines(stack) {
-    if (this.#maps.size < this.#modules) {
-      return [];
+    if (!this.#isWhole) {
+      return this.#reasons.map((reason) => `${reason}, so places are not told`);
     }
     return linesOfPlaces(placesIn(stack, this.#maps), this.#find);
   }

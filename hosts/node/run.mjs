@@ -108,11 +108,8 @@ async function findIn(folder, file) {
   return undefined;
 }
 
-/** Says where a run ended, as far as maps tell it. */
+/** Says where a run ended, as far as maps tell it, or why they do not. */
 async function sayPlaces(mapped, { stack }) {
-  for (const reason of mapped.reasons) {
-    say(`run.mjs: ${reason}, so places are not told`);
-  }
   for (const line of await mapped.lines(stack)) {
     say(line);
   }
