@@ -40,6 +40,7 @@ programs: build
 	tools/try_separate
 	tools/try_server
 	tools/try_debugger
+	tools/try_maps
 
 # Compares what programs do by their definition with what is stated of them, and with what their modules do.
 compare: build plain

@@ -71,6 +71,7 @@ complete -c m2 -n __fish_use_subcommand -a build -d 'Compiles a program to WebAs
 complete -c m2 -n '__fish_seen_subcommand_from build' -l input -x -a '(__fish_complete_path (commandline -ct))' -d 'What a program that imports Input reads; - is standard input, to its end'
 complete -c m2 -n '__fish_seen_subcommand_from build' -l out -x -a '(__fish_complete_directories)' -d 'The folder into which the modules are written'
 complete -c m2 -n '__fish_seen_subcommand_from build' -l deps -x -a '(__fish_complete_path (commandline -ct))' -d 'Writes in make'\''s form what was written, and each file that was read for it'
+complete -c m2 -n '__fish_seen_subcommand_from build' -l map -d 'Writes M.map beside each M.wasm, by which m2run and node tell where a fault was'
 complete -c m2 -n '__fish_seen_subcommand_from build' -l single -x -a '(__fish_complete_path (commandline -ct))' -d 'The file into which the program is written as one module, in place of --out'
 complete -c m2 -n '__fish_seen_subcommand_from build' -l host -x -a 'wasi plain' -d 'What this module imports: wasi for WASI preview 1, or plain for put and stop'
 complete -c m2 -n '__fish_seen_subcommand_from build' -l lib -x -a '(__fish_complete_directories)' -d 'A folder to search for modules; M2_LIB names more'

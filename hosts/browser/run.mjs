@@ -1,6 +1,7 @@
 // The page: chooses a program, runs it in a worker, shows what it prints and how it ends, and stops it.
 import { Refused, readProgram } from "../common/host.mjs";
 import { CHANGED_FILES, readsInput } from "../common/input.mjs";
+import { Mapped } from "../common/maps.mjs";
 import { Compiler } from "./compiler.mjs";
 import { Screen } from "./screen.mjs";
 import { namesBeside, sourceBeside, sourceOfFiles } from "./sources.mjs";
@@ -49,11 +50,19 @@ function leave() {
   running = undefined;
 }
 
+/** Shows where a run ended, as far as maps tell it. */
+async function showPlace({ mapped }, { stack }) {
+  const lines = stack === undefined ? [] : await mapped.lines(stack);
+  element("place").textContent = lines.join("\n");
+  element("place").hidden = lines.length === 0;
+}
+
 async function finish(run, end) {
   await screen.finish();
   if (run === running) {
     leave();
     showEnd(end);
+    await showPlace(run, end);
   }
 }
 
@@ -94,17 +103,28 @@ async function readerOf({ read }) {
   return async (name) => changed.get(name) ?? read(name);
 }
 
+/** The bytes of a map or a source, which stands in the folder of the program. Nothing where it is not there. */
+async function findIn({ read }, file) {
+  try {
+    return await read(file.split("/").at(-1));
+  } catch {
+    return undefined;
+  }
+}
+
 /** Runs the program that was chosen, from its begin. */
 async function run() {
   clearTimeout(pause);
   leave();
   screen.clear();
+  element("place").hidden = true;
   const own = {};
   running = own;
   document.title = source.name;
   show("running", `${source.name} is read.`);
   try {
-    const modules = await readProgram(await readerOf(source));
+    own.mapped = new Mapped(await readerOf(source), (file) => findIn(source, file));
+    const modules = await readProgram((file) => own.mapped.read(file));
     if (own === running) {
       element("reading").hidden = !readsInput(modules[0].module);
       startWorker(own, modules);
@@ -120,6 +140,7 @@ function choose(find) {
   screen.clear();
   source = undefined;
   input = undefined;
+  element("place").hidden = true;
   element("input").value = "";
   element("reading").hidden = true;
   try {

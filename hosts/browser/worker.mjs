@@ -17,4 +17,6 @@ function endOf(modules) {
   }
 }
 
+// all calls of a program stand in the stack of its end
+Error.stackTraceLimit = Infinity;
 onmessage = ({ data: modules }) => postMessage(endOf(modules));

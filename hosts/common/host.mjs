@@ -101,7 +101,7 @@ function isStackUsedUp(error) {
   return error instanceof RangeError || error?.name === "InternalError";
 }
 
-function endOfError(error) {
+function kindOfError(error) {
   if (error instanceof Stop) {
     return endOfStop(error.number);
   }
@@ -112,6 +112,11 @@ function endOfError(error) {
     return { kind: "stack", words: "the engine's call stack is used up before the program's storage" };
   }
   throw error;
+}
+
+/** The end with the engine's own stack, from which maps.mjs tells places. */
+function endOfError(error) {
+  return { ...kindOfError(error), stack: String(error.stack) };
 }
 
 function endOfRun(run) {
@@ -125,7 +130,8 @@ function endOfRun(run) {
 
 /**
  * Links the modules and runs them up to their end. All that they print is handed on before this returns.
- * The kinds of an end are `ended`, `halted`, `fault`, `trap` and `stack`; the words are empty for the first two.
+ * The kinds of an end are `ended`, `halted`, `fault`, `trap` and `stack`; the words are empty for the first two. An end that was
+ * thrown has the engine's stack.
  */
 export function runProgram(modules, output) {
   const end = endOfRun(linked(modules, hostOf(output)));

@@ -3,10 +3,11 @@
 // with. The module of m2 makes the two modules that change, in memory; nothing is written.
 import { openSync, writeSync } from "node:fs";
 import { readFile } from "node:fs/promises";
-import { join } from "node:path";
+import { basename, join } from "node:path";
 import { parseArgs } from "node:util";
 import { Refused, outputTo, readProgram, runProgram } from "../common/host.mjs";
 import { LIBRARY_FILES, filesWithInput } from "../common/input.mjs";
+import { Mapped } from "../common/maps.mjs";
 import { nodeFiles } from "./files.mjs";
 import { libraryFile, loadModule } from "./module.mjs";
 
@@ -96,11 +97,32 @@ async function readerOf(folder, input) {
   }
 }
 
+/** The bytes of a map or a source: as it is named, or in the folder of the program. Nothing where it is not there. */
+async function findIn(folder, file) {
+  const paths = file.endsWith(".map") ? [join(folder, file)] : [file, join(folder, basename(file))];
+  for (const path of paths) {
+    try {
+      return await readFile(path);
+    } catch {}
+  }
+  return undefined;
+}
+
+/** Says where a run ended, as far as maps tell it, or why they do not. */
+async function sayPlaces(mapped, { stack }) {
+  for (const line of await mapped.lines(stack)) {
+    say(line);
+  }
+}
+
 async function run({ folder, input }) {
-  const modules = await readProgram(await readerOf(folder, input));
+  const mapped = new Mapped(await readerOf(folder, input), (file) => findIn(folder, file));
+  const modules = await readProgram((file) => mapped.read(file));
+  Error.stackTraceLimit = Infinity;
   const end = runProgram(modules, outputTo(writeAll));
   if (end.words !== "") {
     say(end.kind === "stack" ? `${end.words}; ${MORE_STACK}` : end.words);
+    await sayPlaces(mapped, end);
   }
   return STATUS[end.kind];
 }

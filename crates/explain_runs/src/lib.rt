@@ -3,7 +3,6 @@
 //! them: it is made once more, of modules that say where they are (`watch_code`).
 #![tactic(auto)]
 
-mod calls;
 mod functions;
 mod parts;
 mod paths;

@@ -1,11 +1,11 @@
 //! What is said of a run that did not end well.
 
-use crate::calls::{Call, Calls, calls_of};
 use crate::parts::part_of;
 use crate::place::{Names, Place};
 use crate::watching::{Course, Marked, marked_program, watch};
 use crate::words::{check_of, checked_words};
 use anyhow::Result;
+use follow_runs::{Call, Calls, calls_of};
 use m2_rule::Fault;
 use m2c::{Options, SourceFile};
 use mark_statements::MarkKind;

@@ -1,22 +1,17 @@
 //! A run is made once more, of modules that say where they are.
 
-ghost use Rattle.std.specs.Prelude.{◌≡◌, ◌+◌, ◌<◌, ◌^◌};
-
 use crate::functions::{Function, Functions, functions_of};
 use crate::profile::Tallies;
 use anyhow::Result;
+use follow_runs::{Ear, Followed, follow};
 use m2c::{Open, Options, Outcome, SourceFile, build};
 use mark_statements::{Mark, fully_marked_text};
 use show_passes::Built;
 use std::alloc::{AllocError, Global};
 use std::thread::Threads;
 use wasm_core::{ValidModule, read_module, validate};
-use wasm_run::{End, Instances, Sink};
+use wasm_run::{End, Instances};
 use watch_code::{Chosen, Reader, Watched, watch_module, with_stores};
-
-/// How often a run is continued until the program has made its reductions. Each time what the signals took is made up for, which
-/// is a part of what was made.
-const MOST_TURNS: usize = 4096;
 
 /// A program whose statements are marked, as it was built.
 #[derive(Drop)]
@@ -34,33 +29,6 @@ pub struct Course {
     pub reader: Reader,
     /// How many checks of the kind that failed the chosen statement has.
     pub sites: u8,
-}
-
-/// What hears the signals of a run.
-#[derive(Drop)]
-struct Ear {
-    reader: Reader,
-    failures: u64,
-}
-
-impl Sink for Ear {
-    ghost use Rattle.std.specs.Prelude.{None};
-
-    ghost failed = { λ s. s.failures };
-
-    ghost reported = { λ _. None };
-
-    fn take(&mut self, byte: u8) -> bool {
-        let is_taken = self.reader.take(byte).is_ok();
-        if !is_taken {
-            self.failures += 1;
-        }
-        is_taken
-    }
-
-    fn failures(&self) -> u64 {
-        self.failures
-    }
 }
 
 /// The files with all their marks.
@@ -168,25 +136,6 @@ pub fn storing_modules(alloc: Global, program: &Marked) -> Result<Option<Vec<Val
     Ok(Some(modules))
 }
 
-/// Makes so many reductions of the program, and the signals among them.
-fn run_watched(instances: &mut Instances<'_>, steps: u64, ear: &mut Ear) -> Option<End>
-    requires { ear.old.failures ≡ 0 }
-{
-    let mut made: u64 = 0;
-    for _ in 0..MOST_TURNS {
-        let left = steps.saturating_sub(made.saturating_sub(ear.reader.reductions));
-        if left == 0 || ear.failures > 0 {
-            break;
-        }
-        match instances.run(left, ear) {
-            Ok(End::StillRunning) => made = made.saturating_add(left),
-            Ok(end) => return Some(end),
-            Err(_) => return None,
-        }
-    }
-    Some(End::StillRunning)
-}
-
 /// Makes one reduction, and adds it to the tallies. False if the run is over.
 fn run_one(
     instances: &mut Instances<'_>,
@@ -226,10 +175,7 @@ pub fn watch_each(
         return Ok(false);
     };
     let mut instances = Instances::link(alloc, &watching.modules)?;
-    let mut ear = Ear {
-        reader: Reader::new(alloc),
-        failures: 0,
-    };
+    let mut ear = Ear::new(alloc);
     for made in 0..u64::MAX {
         let own = made.saturating_sub(ear.reader.reductions);
         if own >= steps || !run_one(&mut instances, &mut ear, tallies)? {
@@ -249,13 +195,7 @@ pub fn watch(
     let Some(watching) = watched_modules(alloc, program, chosen)? else {
         return Ok(None);
     };
-    let mut instances = Instances::link(alloc, &watching.modules)?;
-    let mut ear = Ear {
-        reader: Reader::new(alloc),
-        failures: 0,
-    };
-    let end = run_watched(&mut instances, steps, &mut ear);
-    let Ear { reader, .. } = ear;
+    let Followed { end, reader } = follow(alloc, &watching.modules, steps)?;
     Ok(Some(Course {
         end,
         reader,

@@ -60,7 +60,16 @@ where
             setting,
             out,
             deps,
-        } => build_into(rt, setting, program.as_str(), input, out.as_str(), deps),
+            is_mapped,
+        } => build_into(
+            rt,
+            setting,
+            program.as_str(),
+            input,
+            out.as_str(),
+            deps,
+            *is_mapped,
+        ),
         Asked::Compile {
             file,
             setting,

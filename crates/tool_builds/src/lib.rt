@@ -7,6 +7,7 @@ mod checking;
 mod exchanging;
 mod giving;
 mod linking;
+mod mapping;
 mod mending;
 mod pages;
 mod saving;

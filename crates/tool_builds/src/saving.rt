@@ -2,6 +2,7 @@
 
 use crate::building::{Modules, build_found};
 use crate::giving::give_input;
+use crate::mapping::{made_maps, write_maps};
 use anyhow::Result;
 use command_words::{Exit, FAILED};
 use find_files::find_program;
@@ -101,7 +102,7 @@ fn write_made<R: Files + Eprint + AllocGlobal>(
 }
 
 /// Builds the program of this file, with this input, and writes its modules into this folder. Before, it is written into the file
-/// `deps`, if there is one, of which files they were made. The status.
+/// `deps`, if there is one, of which files they were made. Behind them their maps are written, if they are wanted. The status.
 pub fn build_into<R>(
     rt: &R,
     setting: &Setting,
@@ -109,6 +110,7 @@ pub fn build_into<R>(
     input: &Option<String>,
     out: &str,
     deps: &Option<String>,
+    is_mapped: bool,
 ) -> Result<u8, Exit>
 where
     R: Files + Input + Print + Eprint + AllocGlobal + Threads + Sync,
@@ -119,5 +121,14 @@ where
     if let Some(deps) = deps {
         write_made(rt, deps.as_str(), &modules, input, out)?;
     }
-    Ok(save_modules(rt, modules, out))
+    let maps = if is_mapped {
+        made_maps(rt, setting, path, &modules)?
+    } else {
+        Vec::new(rt.alloc())
+    };
+    let status = save_modules(rt, modules, out);
+    if status == BUILT {
+        write_maps(rt, out, &maps)?;
+    }
+    Ok(status)
 }

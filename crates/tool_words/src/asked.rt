@@ -143,13 +143,14 @@ pub enum Asked {
         steps: u64,
     },
     /// To write the modules of the program of this file into a folder. It reads this file, or nothing. Into the file `deps` it is
-    /// written of which files the modules were made.
+    /// written of which files the modules were made. Beside each module its map is written, if this is wanted.
     Build {
         program: String,
         input: Option<String>,
         setting: Setting,
         out: String,
         deps: Option<String>,
+        is_mapped: bool,
     },
     /// To compile the module of this file alone into a folder, or to check a definition. The folder `from` is searched first,
     /// or the file's own. Into the file `deps` it is written of which files the module was made.

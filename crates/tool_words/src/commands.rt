@@ -88,6 +88,9 @@ pub(crate) const OUT: &str = "out";
 /// The name of the option for the file that says what was read.
 pub(crate) const DEPS: &str = "deps";
 
+/// The name of the option for maps.
+pub(crate) const MAP: &str = "map";
+
 /// The name of the option for the folder that is searched first.
 pub(crate) const FROM: &str = "from";
 
@@ -285,11 +288,16 @@ const DEBUG_ROWS: [Row; 3] = [
     },
 ];
 
-const BUILD_ROWS: [Row; 6] = [
+const BUILD_ROWS: [Row; 7] = [
     PROGRAM_ROW,
     INPUT_ROW,
     OUT_ROW,
     DEPS_ROW,
+    Row {
+        name: MAP,
+        sort: Sort::Flag,
+        help: "Writes M.map beside each M.wasm, by which m2run and node tell where a fault was",
+    },
     Row {
         name: SINGLE,
         sort: Sort::Value("FILE"),

@@ -4,8 +4,8 @@ use crate::PROGRAM;
 use crate::asked::{Asked, Drawn, Fix, Layout, Measured, Pass, Setting, Style, Told};
 use crate::commands::{
     BYTES, CALLGRIND, CASES, CHECK, CLASS, COST, COST_SVG, COVERAGE, DAP, DEPS, DIFF, DIR, EACH,
-    FILE, FIX, FLAME, FROM, HOST, HTML, INPUT, INPUT_FILE, LCOV, LISTING, MODULE, OUT, PROFILE,
-    SAME, SINGLE, TEXT, TRACE, TRACE_LIMIT, YES, command,
+    FILE, FIX, FLAME, FROM, HOST, HTML, INPUT, INPUT_FILE, LCOV, LISTING, MAP, MODULE, OUT,
+    PROFILE, SAME, SINGLE, TEXT, TRACE, TRACE_LIMIT, YES, command,
 };
 use crate::libraries::libraries_of;
 use anyhow::Result;
@@ -250,6 +250,9 @@ where
     if matches.get_str(DEPS).is_some() {
         return Err(refuse(rt, "--deps goes with --out"));
     }
+    if matches.get_flag(MAP) {
+        return Err(refuse(rt, "--map goes with --out"));
+    }
     Ok(Asked::Single {
         host: host_of(rt, matches)?,
         out: name_of(rt, matches, SINGLE, "--single")?,
@@ -276,6 +279,7 @@ where
     Ok(Asked::Build {
         out: name_of(rt, matches, OUT, "--out")?,
         deps: file_of(rt, matches, DEPS, "--deps")?,
+        is_mapped: matches.get_flag(MAP),
         program: name_of(rt, matches, FILE, FILE)?,
         input: input_of(rt, matches)?,
         setting: setting_of(rt, matches, colours)?,

@@ -8,6 +8,9 @@ use mark_statements::{Mark, MarkKind};
 use std::alloc::{AllocError, Global};
 use wasm_tree::{Code, Numeric, Op};
 
+/// How many operations a mark is.
+pub const MARK_OPERATIONS: usize = 6;
+
 /// The code of a mark.
 const MARK: [Op; 6] = [
     Op::I64Const(0),
@@ -17,9 +20,6 @@ const MARK: [Op; 6] = [
     Op::Numeric(Numeric::I32WrapI64),
     Op::If(None, 0),
 ];
-
-/// How many operations of a mark stand behind the first.
-const BEHIND_FIRST: usize = 5;
 
 /// The functions that the statement behind a mark calls in place of check, DIV and MOD.
 #[derive(Clone, Copy)]
@@ -52,7 +52,7 @@ struct Walk<'a> {
 }
 
 /// Whether the code of a mark begins with the operation of this number.
-fn is_mark(ops: &[Op], at: usize) -> bool {
+pub fn is_mark(ops: &[Op], at: usize) -> bool {
     for (number, op) in MARK.iter().enumerate() {
         if ops.get(at.saturating_add(number)) != Some(op) {
             return false;
@@ -79,7 +79,7 @@ impl Walk<'_> {
     /// The code of a mark.
     fn pass_mark(&mut self) -> Result<(), AllocError> {
         self.is_alike = self.is_alike && self.next_kind() != Some(MarkKind::Condition);
-        self.passed = BEHIND_FIRST;
+        self.passed = MARK_OPERATIONS.saturating_sub(1);
         self.meet()
     }
 

@@ -8,12 +8,16 @@ mod events;
 mod function;
 mod helpers;
 mod module;
+mod numbered;
 mod reader;
 mod rewriting;
 mod signals;
 mod stores;
 
 pub use events::{Event, EventReader};
-pub use module::{Chosen, Watched, watch_module};
+pub use function::{MARK_OPERATIONS, is_mark};
+pub use module::{Chosen, HELPERS, Watched, watch_module};
+pub use numbered::watch_numbered;
 pub use reader::{Activation, Checked, Reader};
+pub use signals::IMPORTED;
 pub use stores::with_stores;
