@@ -7,10 +7,11 @@ ghost use Rattle.m2c.specs.Build.{IsBuilt};
 ghost use Rattle.m2c.specs.Compiles.{AreFine, Checks, ComesOf, Comes, Compiles};
 
 use crate::ending::Ending;
-use crate::files::{BuildFault, Outcome, build};
+use crate::files::{BuildFault, Outcome};
+use crate::outcome::{Trees, outcome_of};
 use crate::say::{print_refusals, write_ending};
 use crate::sources::read_files;
-use build_jobs::{MAX_PAGES, MAX_WORKERS, Options, SourceFile};
+use build_jobs::{MAX_PAGES, MAX_WORKERS, Options, Runner, SourceFile};
 use pool_board::Open;
 use run_directory::{InDir, Sink};
 use std::alloc::Global;
@@ -49,7 +50,7 @@ fn end_of_outcome<D: OutDir, S: Sink>(
     }
 }
 
-/// Builds files, and prints the refusals or saves the modules.
+/// Builds files, and prints the refusals or saves the modules. The trees stay.
 fn end_of_build<R: Threads + Sync, D: OutDir, S: Sink>(
     rt: &R,
     alloc: Global,
@@ -64,9 +65,15 @@ fn end_of_build<R: Threads + Sync, D: OutDir, S: Sink>(
     ensures { ComesOf D.calls D.failed S.reported S.failed sources.now options.pages result
         dir.old dir.new out.old out.new }
 {
-    match build(rt, alloc, sources, options, &Open) {
+    let runner = Runner {
+        rt,
+        alloc,
+        workers: options.workers,
+        gate: &Open,
+    };
+    match outcome_of(&runner, sources, options.pages, Trees::Left) {
         Ok(outcome) => end_of_outcome(alloc, outcome, dir, out),
-        Err(fault) => Ending::Unbuilt(fault),
+        Err(refused) => Ending::Unbuilt(BuildFault::from(refused)),
     }
 }
 
@@ -103,6 +110,9 @@ fn ending_of<'n, R: Threads + Sync, I: InDir, D: OutDir, S: Sink>(
 /// 73), and then no file is read; 3 if a file, memory, `dir` or `out` failed. What 2 and 3 mean is
 /// said in a line on `err`, behind what `files` says of itself. Each stream is left alone after its first failure; one of
 /// `err` changes no status.
+///
+/// The trees of the texts are not dropped: a program calls this once and ends, and their memory goes with it at once. Who
+/// goes on calls `build`.
 pub fn compile<R: Threads + Sync, I: InDir, D: OutDir, S: Sink, E: Sink>(
     rt: &R,
     alloc: Global,

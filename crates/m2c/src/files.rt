@@ -5,7 +5,7 @@ ghost use Rattle.pool_board.specs.Seats.{max_workers};
 ghost use Rattle.def_scheme.specs.Modules.{max_pages};
 ghost use Rattle.m2c.specs.Build.{AreAlike, IsBuilt};
 
-use crate::outcome::outcome_of;
+use crate::outcome::{Trees, outcome_of};
 use build_jobs::{MAX_PAGES, MAX_WORKERS, Options, Runner, SourceFile};
 use m2_tree::Refusal;
 use pool_board::Gate;
@@ -115,6 +115,6 @@ pub fn build<R: Threads + Sync, G: Gate>(
         workers: options.workers,
         gate,
     };
-    let outcome = outcome_of(&runner, files, options.pages)?;
+    let outcome = outcome_of(&runner, files, options.pages, Trees::Dropped)?;
     Ok(outcome)
 }

@@ -29,6 +29,7 @@ use m2_rule::Rule;
 use m2_tree::{Contents, Module, Pos, Refusal};
 use pool_board::Gate;
 use std::alloc::{AllocError, AllocFailed, Global};
+use std::mem::forget;
 use std::thread;
 use std::thread::Threads;
 use wasm_tree::PAGE_SIZE;
@@ -251,18 +252,40 @@ fn let_go<R: Threads + Sync, G: Gate>(runner: &Runner<'_, R, G>, reads: &mut [Re
     );
 }
 
+/// What becomes of trees when a build has its outcome.
+#[derive(Clone, Copy)]
+pub enum Trees {
+    /// They are dropped, for a caller that goes on.
+    Dropped,
+    /// They stay, for a program that ends, with which all memory goes at once.
+    Left,
+}
+
+/// Does with what was read as it is told.
+fn end_reads<R: Threads + Sync, G: Gate>(
+    runner: &Runner<'_, R, G>,
+    mut reads: Vec<Read>,
+    trees: Trees,
+) {
+    match trees {
+        Trees::Dropped => let_go(runner, reads.as_mut_slice()),
+        Trees::Left => forget(reads),
+    }
+}
+
 /// The outcome of a build if the numbers of workers and pages are fine.
 pub fn outcome_of<R: Threads + Sync, G: Gate>(
     runner: &Runner<'_, R, G>,
     files: &[SourceFile],
     pages: u32,
+    trees: Trees,
 ) -> Result<Outcome, AllocError>
     requires least { 1 ≤ pages }
     requires most { pages ≤ max_pages }
     ensures { IfOk result (IsBuilt files.now pages) }
 {
-    let mut reads = runner.read_all(files)?;
+    let reads = runner.read_all(files)?;
     let outcome = of_reads(runner, files, &reads, pages);
-    let_go(runner, reads.as_mut_slice());
+    end_reads(runner, reads, trees);
     outcome
 }
