@@ -59,7 +59,7 @@ browser:
 
 # The gate: no source makes up want of memory or has a number without a name, no crate lists a library that it does not name,
 # definitions are laid out, the pages of m2 are those of docs/ and so are the numbers of definitions and the index of rules, what
-# editors and shells read has the language's words and m2's options, each
+# editors and shells read has the language's words and m2's options, the modules of lib/ and the examples are laid out, each
 # edit still fits its file, the gate's copies of exercises are copies, and a sample of requests for memory is refused.
 # What the pages name is there, and links lead somewhere.
 # Then every proof, the tests and the programs, and behind them the edits of gate-edits/, which the prover must refuse.
@@ -73,6 +73,7 @@ test:
 	tools/believed_definitions --check
 	tools/rule_index --check
 	tools/copy_cases --check
+	tools/check_layout
 	tools/try_edits --applies
 	tools/hostile --sample
 	tools/snapshot --check
