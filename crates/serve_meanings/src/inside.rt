@@ -239,8 +239,9 @@ impl Inside {
         let module = tree.1;
         let own = own_table(tables, job, module);
         let imports = tables.around(alloc, imported(tables.needs(job), module))?;
+        let scope = scope_of(alloc, number_of(job), own, imports)?;
         let mut inside = Inside {
-            scope: scope_of(alloc, number_of(job), own, imports)?,
+            scope,
             heading: None,
             formals: 0,
         };

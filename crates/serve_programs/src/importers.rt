@@ -49,13 +49,15 @@ fn add_name(
     let bytes = name.name.as_bytes();
     for one in broken {
         if one.module.as_bytes() == bytes {
+            let path = String::from_str(alloc, path)?;
+            let words = String::from_str(alloc, WORDS)?;
             all.push(Shown {
-                path: String::from_str(alloc, path)?,
+                path,
                 pos: name.pos,
                 length: bytes.len(),
                 number: one.number,
                 severity: Severity::Information,
-                words: String::from_str(alloc, WORDS)?,
+                words,
             })?;
         }
     }

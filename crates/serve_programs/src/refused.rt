@@ -145,13 +145,16 @@ fn shown_at<R: AllocGlobal + Threads + Sync>(
         Some(file) => file.bytes.as_slice(),
         None => b"",
     };
+    let path = String::from_str(rt.alloc(), refusal.file.as_str())?;
+    let length = length_at(rt.alloc(), text, refusal.pos)?;
+    let words = words_of(rt, setting, files, refusal, is_explained)?;
     Ok(Shown {
-        path: String::from_str(rt.alloc(), refusal.file.as_str())?,
+        path,
         pos: refusal.pos,
-        length: length_at(rt.alloc(), text, refusal.pos)?,
+        length,
         number: refusal.number,
         severity: Severity::Error,
-        words: words_of(rt, setting, files, refusal, is_explained)?,
+        words,
     })
 }
 

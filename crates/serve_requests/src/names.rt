@@ -201,8 +201,9 @@ impl Server {
         }
         let mut programs = self.programs_of(alloc, folder, path, reach)?;
         let view = self.view_for(alloc, folder, path, reach, &mut programs)?;
+        let path = String::from_str(alloc, path)?;
         self.held = Some(Held {
-            path: String::from_str(alloc, path)?,
+            path,
             reach,
             programs,
             view,

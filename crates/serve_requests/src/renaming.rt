@@ -73,10 +73,9 @@ fn renamed_program(
             Some(number) => marks_in(alloc, marks, number)?,
             None => Vec::new(alloc),
         };
-        files.push(SourceFile {
-            name: String::from_str(alloc, file.name.as_str())?,
-            bytes: renamed(alloc, &file.bytes, &marks, new)?,
-        })?;
+        let name = String::from_str(alloc, file.name.as_str())?;
+        let bytes = renamed(alloc, &file.bytes, &marks, new)?;
+        files.push(SourceFile { name, bytes })?;
     }
     Ok(Program {
         files,

@@ -48,11 +48,12 @@ impl Texts {
         version: i64,
         text: &str,
     ) -> Result<(), AllocError> {
-        let bytes = Vec::from_slice(alloc, text.as_bytes())?;
+        let uri = String::from_str(alloc, uri)?;
+        let text = Text::of(alloc, Vec::from_slice(alloc, text.as_bytes())?)?;
         let opened = OpenText {
-            uri: String::from_str(alloc, uri)?,
+            uri,
             version,
-            text: Text::of(alloc, bytes)?,
+            text,
             sound: None,
         };
         drop(self.all.insert(String::from_str(alloc, path)?, opened)?);
