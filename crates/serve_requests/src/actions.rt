@@ -4,9 +4,10 @@ use crate::changes::path_in;
 use crate::params::range_of;
 use crate::server::{Reply, Server};
 use format_text::{FormatFault, format};
+use m2_rule::Rule;
 use m2_tree::Refusal;
 use serde_json::{Map, Value, json};
-use serve_offers::{Edit, add_member, edit_value};
+use serve_offers::{Edit, add_member, edit_value, implementation_text, new_file_value};
 use serve_programs::{Folder, Program, length_at, programs_with, refusals_of, spare_of};
 use serve_texts::{Shift, Text};
 use std::alloc::{AllocError, Global};
@@ -15,6 +16,11 @@ use try_mends::{BuildFault, Found, SourceFile, find_mend};
 
 /// The kind of an action that mends.
 const QUICK_FIX: &str = "quickfix";
+
+/// How the files of definitions and of implementations end.
+const DEFINITION: &str = ".def";
+
+const IMPLEMENTATION: &str = ".mod";
 
 /// Whether the editor wants edits that mend.
 fn is_wanted(params: &Value) -> bool {
@@ -81,6 +87,24 @@ fn mend_of<R: AllocGlobal + Threads + Sync>(
     }
 }
 
+/// Files with one more.
+fn with_file(
+    alloc: Global,
+    files: &[SourceFile],
+    name: &str,
+    bytes: Vec<u8>,
+) -> Result<Vec<SourceFile>, AllocError> {
+    let mut all = Vec::new(alloc);
+    for file in files {
+        let name = String::from_str(alloc, file.name.as_str())?;
+        let bytes = Vec::from_slice(alloc, &file.bytes)?;
+        all.push(SourceFile { name, bytes })?;
+    }
+    let name = String::from_str(alloc, name)?;
+    all.push(SourceFile { name, bytes })?;
+    Ok(all)
+}
+
 impl Server {
     /// The edits of a file, as a change of it.
     fn change_value(
@@ -118,6 +142,37 @@ impl Server {
         })
     }
 
+    /// Adds the action that writes the implementation of a definition, if nothing is refused of both then.
+    fn add_partner<R: AllocGlobal + Threads + Sync>(
+        &self,
+        rt: &R,
+        path: &str,
+        text: &Text,
+        files: &[SourceFile],
+        all: &mut Vec<Value>,
+    ) -> Result<(), AllocError> {
+        let alloc = rt.alloc();
+        let made = implementation_text(alloc, text)?;
+        let (Some(front), Some(made)) = (path.strip_suffix(DEFINITION), made) else {
+            return Ok(());
+        };
+        let name = format!(in alloc; "{front}{IMPLEMENTATION}")?;
+        let change = new_file_value(alloc, name.as_str(), &made)?;
+        let title = format!(in alloc; "Write {name} with all procedures")?;
+        let tried = with_file(alloc, files, name.as_str(), made)?;
+        let refusals = refusals_of(rt, &self.setting, &tried)?;
+        let is_refused = |it: &Refusal| {
+            let file = it.file.as_str();
+            file == path || file == name.as_str()
+        };
+        if !refusals.iter().any(is_refused) {
+            all.push(json!(in alloc; {
+                "edit": change, "isPreferred": true, "kind": QUICK_FIX, "title": title
+            })?)?;
+        }
+        Ok(())
+    }
+
     /// Adds the action that mends what a program is refused for at bytes of a file.
     fn add_actions<R: AllocGlobal + Threads + Sync, F: Folder>(
         &self,
@@ -135,6 +190,9 @@ impl Server {
         let Some(refusal) = refused_at(alloc, refusals, path, &text, wanted)? else {
             return Ok(());
         };
+        if refusal.number == Rule::LonelyModule.number() && self.makes_files {
+            return self.add_partner(rt, path, &text, files, all);
+        }
         let spare = spare_of(alloc, &self.texts, folder, &self.setting, path, files)?;
         if let Some(found) = mend_of(rt, files, &spare, &refusal, self.setting.pages)? {
             all.push(self.action_of(alloc, path, &text, &found)?)?;

@@ -1,11 +1,12 @@
 //! The server, and how it takes messages.
 
 use crate::changes::{change_text, close_text, open_text, path_in};
-use crate::starting::{capabilities, encoding_of, has_snippets};
+use crate::starting::{capabilities, encoding_of};
 use serde_json::Value;
 use serve_messages::{
     Call, ErrorCode, FrameFault, Incoming, Invalid, Method, error_body, read_message, result_body,
 };
+use serve_offers::{has_snippets, makes_files};
 use serve_programs::{Folder, Program, Setting, View};
 use serve_texts::{Encoding, Texts};
 use std::alloc::{AllocError, Global};
@@ -66,6 +67,8 @@ pub struct Server {
     pub(crate) cancelled: Vec<Value>,
     /// Whether the editor takes texts with places to fill.
     pub(crate) has_snippets: bool,
+    /// Whether the editor makes files that an edit asks for.
+    pub(crate) makes_files: bool,
     stage: Stage,
 }
 
@@ -139,6 +142,7 @@ impl Server {
             latest: None,
             cancelled: Vec::new(alloc),
             has_snippets: false,
+            makes_files: false,
             stage: Stage::Fresh,
         }
     }
@@ -207,6 +211,7 @@ impl Server {
                 self.stage = Stage::Running;
                 self.encoding = encoding_of(&call.params);
                 self.has_snippets = has_snippets(&call.params);
+                self.makes_files = makes_files(&call.params);
                 Ok(Reply::Result(capabilities(alloc, self.encoding)?))
             }
             (Stage::Fresh, _) => Reply::failed(

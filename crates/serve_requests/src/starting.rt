@@ -31,14 +31,6 @@ pub fn encoding_of(params: &Value) -> Encoding {
     }
 }
 
-/// Whether the editor takes texts with places to fill.
-pub fn has_snippets(params: &Value) -> bool {
-    params
-        .pointer("/capabilities/textDocument/completion/completionItem/snippetSupport")
-        .and_then(Value::as_bool)
-        .unwrap_or(false)
-}
-
 /// The name of an encoding.
 fn name_of(encoding: Encoding) -> &'static str {
     match encoding {
