@@ -11,6 +11,9 @@ use std::alloc::{AllocError, Global};
 use tree_parts::{Items, Shared};
 use typed_tree::{Meaning, Table, TypeNo};
 
+/// More names than a block has: a heading of a definition is looked at from its end.
+const ALL_NAMES: usize = usize::MAX;
+
 /// What is known in a block.
 #[derive(Drop)]
 pub struct Inside {
@@ -194,7 +197,7 @@ impl Inside {
                 let Some(heading) = heading_at(defs, *at) else {
                     return Ok(false);
                 };
-                self.enter_heading(alloc, 0, heading)?;
+                self.enter_heading(alloc, ALL_NAMES, heading)?;
                 Ok(true)
             }
             [_, _, ..] => Ok(false),
