@@ -6,4 +6,8 @@ mod hovering;
 mod meant;
 
 pub use hovering::hover;
-pub use serve_lists::*;
+pub use serve_lists::{
+    Ask, Edit, Extent, TOKEN_MODIFIERS, TOKEN_TYPES, add_member, add_workspace_symbols, definition,
+    document_symbols, edit_value, folding_ranges, highlights, implementation, prepare_rename,
+    range_value, references, semantic_tokens, signature_help, text_value, type_definition,
+};

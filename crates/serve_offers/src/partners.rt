@@ -13,9 +13,9 @@ const NAME: usize = 2;
 
 /// The text of an implementation in the making.
 #[derive(Drop)]
-struct Draft<'a> {
-    definition: &'a Text,
-    tokens: &'a [Token],
+struct Draft<'d, 't> {
+    definition: &'d Text,
+    tokens: &'t [Token],
     made: Vec<u8>,
 }
 
@@ -34,7 +34,7 @@ fn end_of(tokens: &[Token], begin: usize) -> usize {
     tokens.len().saturating_sub(1)
 }
 
-impl Draft<'_> {
+impl Draft<'_, '_> {
     /// The byte at which the token of this number begins.
     fn offset_of(&self, number: usize) -> usize {
         match self.tokens.get(number) {
