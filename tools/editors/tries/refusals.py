@@ -119,8 +119,7 @@ def compiling(place):
 
 def in_vs_code(place):
     found = json.loads(called(["node", f"{HERE}/vscode.mjs", *(f"{place}/{row[0]}" for row in REFUSED)], cwd=place))
-    # the server marks a string that is not closed up to the next line
-    rows = [[file, line - 1, in_characters(file, column) - 1, 0 if words == NOT_CLOSED else in_characters(file, end) - 1, rule]
+    rows = [[file, line - 1, in_characters(file, column) - 1, in_characters(file, end) - 1, rule]
             for file, line, column, end, rule, words, _ in REFUSED]
     return found, {"diagnostics": rows, "errors": 0, "ran": ["m2", "run", f"{place}/Open.mod"], "followed": ["m2", "debug", "--dap", "launch", "Open.mod"], "definition": []}
 

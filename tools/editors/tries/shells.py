@@ -10,7 +10,7 @@ from .house import command
 from .painters import called
 
 COMPLETIONS = f"{TOP}/editors/completions"
-COMMANDS = "build check explain fmt help input new run show test"
+COMMANDS = "build check compile debug doc explain fmt graph help input link lsp new run show test"
 SETTINGS = "--color --format --help --lib --memory --verbose --workers"
 FILES = ("Hello.mod", "HelloWords.def", "HelloWords.mod", "text.txt")
 FOLDERS = ("cases", "out")
@@ -19,19 +19,19 @@ LINES = [
     ("m2 ", COMMANDS),
     ("m2 ex", "explain"),
     ("m2 --", "--help --version"),
-    ("m2 help ", "build check explain fmt input new run show test"),
-    ("m2 run --", f"{SETTINGS} --input --steps"),
-    ("m2 build --", f"{SETTINGS} --host --input --out --single"),
+    ("m2 help ", COMMANDS.replace("help ", "")),
+    ("m2 run --", f"{SETTINGS} --callgrind --cost --cost-svg --coverage --flame --input --lcov --listing --profile --steps --trace --trace-limit"),
+    ("m2 build --", f"{SETTINGS} --deps --host --input --map --out --single"),
     ("m2 fmt --", "--check --color --diff --format --help"),
     ("m2 build --host ", "plain wasi"),
-    ("m2 check --", SETTINGS),
+    ("m2 check --", f"{SETTINGS} --fix --yes"),
     ("m2 input --", SETTINGS),
     ("m2 show --", SETTINGS),
     ("m2 test --", "--bytes --each --format --help --lib --memory --same --steps --verbose --workers"),
     ("m2 new --", "--class --help"),
     ("m2 run --format ", "json text"),
     ("m2 test --format ", "json junit tap text"),
-    ("m2 check --color ", "always never"),
+    ("m2 check --color ", "always auto never"),
     ("m2 show ", "code tokens tree types"),
     ("m2 explain fault ", "0 1 2 3 4 5 6 7 8 9"),
     ("m2 explain status ", "0 1 2 3 4"),
@@ -179,5 +179,5 @@ def helped_options():
     for name in COMMANDS.split():
         if name != "help":
             text = called([*command(), name, "--help"])
-            found[name] = sorted(set(re.findall(r"(?m)^ +(?:-\w, )?(--[a-z]+)", text)))
+            found[name] = sorted(set(re.findall(r"(?m)^ +(?:-\w, )?(--[a-z-]+)", text)))
     return found
