@@ -4,6 +4,7 @@
 // of names and bytes, and an input is bytes.
 import { Refused, outputTo, readProgram, runProgram } from "../common/host.mjs";
 import { LIBRARY_FILES, filesWithInput } from "../common/input.mjs";
+import { Mapped } from "../common/maps.mjs";
 import { MemoryFiles } from "../common/memory_files.mjs";
 import { runOnce } from "../common/system.mjs";
 
@@ -15,6 +16,9 @@ const LIBRARY = ["--lib", "lib"];
 const INPUT = "given";
 const encoder = new TextEncoder();
 let loading;
+
+// all calls of a program stand in the stack of its end
+Error.stackTraceLimit = Infinity;
 
 async function bytesAt(path) {
   const answer = await fetch(new URL(path, import.meta.url));
@@ -44,17 +48,21 @@ async function call(id, words, files, typed = "") {
   return runOnce(module, system);
 }
 
-/** Builds a program, and runs its modules on the engine. */
+/** Builds a program, and runs its modules on the engine. What maps tell of the place of a fault is a part of the end. */
 async function runOnEngine(id, words, files) {
   files.set(`${FOLDER}/`, new Uint8Array(0));
-  const built = await call(id, ["build", "--out", FOLDER, ...words], files);
+  const built = await call(id, ["build", "--map", "--out", FOLDER, ...words], files);
   if (built.kind !== "exit" || built.status !== 0) {
     return built;
   }
   const began = performance.now();
-  const modules = await readProgram(async (name) => files.get(`${FOLDER}/${name}`));
+  const made = async (name) => files.get(`${FOLDER}/${name}`);
+  const mapped = new Mapped(made, async (name) => (await made(name)) ?? files.get(name));
+  const modules = await readProgram((name) => mapped.read(name));
   const output = outputTo((bytes) => postMessage({ id, stream: OUTPUT, bytes: bytes.slice() }));
-  return { ...runProgram(modules, output), milliseconds: performance.now() - began };
+  const { stack, ...end } = runProgram(modules, output);
+  const milliseconds = performance.now() - began;
+  return { ...end, place: stack === undefined ? [] : await mapped.lines(stack), milliseconds };
 }
 
 async function runWith(id, { program, machine, steps, input }, files) {

@@ -351,7 +351,7 @@ function showEnd(end, printed) {
   if (end.kind === "stack") {
     show("wrong", "The browser's call stack is used up before the program's storage. The proved machine has more.");
   } else if (end.kind === "failed" || end.kind === "trap" || end.kind === "fault" || end.status > 0) {
-    show("wrong", said || STATUSES[end.status] || "It failed.");
+    show("wrong", [said || STATUSES[end.status] || "It failed.", ...(end.place ?? [])].join("\n"));
   } else {
     show("well", end.kind === "halted" ? "The program has ended by HALT." : "The program has ended.");
   }
