@@ -13,8 +13,8 @@ const OPTIONS: Options = Options {
 
 const STEPS: u64 = 100000;
 
-/// Of each call of a procedure that calls itself, one is told.
-const INDEX: &str = "MODULE M;
+/// A fault in a procedure that calls itself.
+pub const INDEX: &str = "MODULE M;
 VAR a: ARRAY [0..9] OF CARDINAL;
 PROCEDURE Fill(n: CARDINAL);
 BEGIN
@@ -26,6 +26,7 @@ BEGIN
 END M.
 ";
 
+/// Of each call of a procedure that calls itself, one is told.
 const INDEX_TOLD: &str = "M.mod:6:5: in M.Fill: index 10 is not in 0..9
 6 |   a[n + 7] := 1
         ^

@@ -1,7 +1,18 @@
-//! A map whose rows were counted by hand in the code that docs/CODE.md states, and texts that are no maps.
+//! A map whose rows were counted by hand in the code that docs/CODE.md states, what maps tell of a run, and texts that are no maps.
 
-use crate::programs::{Text, build_mapped};
+use crate::mapped::{Text, build_mapped, told};
+use crate::places::INDEX;
 use map_files::{MapFault, read_map, write_map};
+
+const INDEX_PROGRAM: [Text; 1] = [("M.mod", INDEX)];
+
+/// Of each call of a procedure that calls itself, one is told.
+const INDEX_TOLD: &str = "M.mod:6:3: in M.Fill
+6 |   a[n + 7] := 1
+      ^
+  called in M.Fill, M.mod:5:17
+  called in the body of M, M.mod:9:3
+";
 
 const PROGRAM: [Text; 1] = [(
     "M.mod",
@@ -26,6 +37,17 @@ fn rows_are_mapped(rt: HostRuntime) {
     let made = program.as_ref().and_then(|it| it.maps.first());
     let text = made.map_or("", |it| it.as_str());
     assert!(rt; text == MAP, "{text}");
+}
+
+#[test]
+fn places_are_told_by_maps(rt: HostRuntime) {
+    let program = build_mapped(&rt, &INDEX_PROGRAM).expect(&rt, "a program");
+    let Some(program) = program else {
+        panic!(rt; "refused");
+    };
+    let map = program.maps.first().map_or("", |it| it.as_str());
+    let text = told(rt.alloc(), &program, map.as_bytes(), INDEX, true).expect(&rt, "a text");
+    assert!(rt; text.as_str() == INDEX_TOLD, "{text} {map}");
 }
 
 #[test]
