@@ -7,11 +7,11 @@ const { Server } = require("./server.js");
 
 const KIND = /^[ \t]*(DEFINITION|IMPLEMENTATION|MODULE)\b/m;
 
-/** How m2 is called, and the options behind its command. */
+/** How m2 is called, the options behind its command, and the address of the explanations, if it is said. */
 function settings() {
   const found = vscode.workspace.getConfiguration("m2");
   const [program, ...words] = found.get("program", ["m2"]);
-  return { program, words, options: found.get("options", []) };
+  return { program, words, options: found.get("options", []), explanations: found.get("explanations", "") };
 }
 
 /** The text of a file, or nothing where there is none. */

@@ -26,11 +26,14 @@ function workspaceEditOf(edit) {
   return all;
 }
 
+/** The number of a refusal, with a link to its explanation if the server knows one. */
+const codeOf = (it) => (it.codeDescription ? { value: it.code, target: vscode.Uri.parse(it.codeDescription.href) } : it.code);
+
 /** A diagnostic of VS Code. The protocol counts severities from 1. */
 function diagnosticOf(it) {
   const diagnostic = new vscode.Diagnostic(rangeOf(it.range), it.message, (it.severity ?? 1) - 1);
   diagnostic.source = it.source;
-  diagnostic.code = it.code;
+  diagnostic.code = codeOf(it);
   return diagnostic;
 }
 
@@ -73,7 +76,7 @@ class Server {
   }
 
   start() {
-    const { program, words, options } = this.settings();
+    const { program, words, options, explanations } = this.settings();
     this.buffer = Buffer.alloc(0);
     this.starts += 1;
     this.process = spawn(program, [...words, "lsp", ...options], { cwd: this.folder, stdio: ["pipe", "pipe", "ignore"] });
@@ -81,8 +84,13 @@ class Server {
     this.process.on("exit", () => this.restart());
     this.process.stdin.on("error", () => undefined);
     this.process.stdout.on("data", (bytes) => this.take(bytes));
-    const capabilities = { general: { positionEncodings: ["utf-16"] }, workspace: { workspaceEdit: { documentChanges: true } } };
-    this.ready = this.ask("initialize", { processId: process.pid, rootUri: this.folder ? vscode.Uri.file(this.folder).toString() : null, capabilities }).then((found) => {
+    const capabilities = {
+      general: { positionEncodings: ["utf-16"] },
+      textDocument: { publishDiagnostics: { codeDescriptionSupport: true } },
+      workspace: { workspaceEdit: { documentChanges: true } },
+    };
+    const initializationOptions = explanations ? { explanations } : {};
+    this.ready = this.ask("initialize", { processId: process.pid, rootUri: this.folder ? vscode.Uri.file(this.folder).toString() : null, capabilities, initializationOptions }).then((found) => {
       this.capabilities = found.capabilities;
       this.notify("initialized", {});
       vscode.workspace.textDocuments.forEach((it) => this.open(it));

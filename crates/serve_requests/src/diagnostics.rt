@@ -3,7 +3,7 @@
 use crate::server::Server;
 use serde_json::{Value, json};
 use serve_messages::{Method, notice_body};
-use serve_offers::range_value;
+use serve_offers::{add_member, range_value};
 use serve_programs::{Folder, Severity, Shown, all_shown, read_text};
 use serve_texts::{Text, uri_of};
 use std::alloc::{AllocError, Global};
@@ -123,12 +123,18 @@ impl Server {
         let range = range_value(alloc, text, self.encoding, begin, end)?;
         let (number, words) = (one.number, one.words.as_str());
         let severity = severity_number(one.severity);
-        json!(in alloc; {
+        let mut diagnostic = json!(in alloc; {
             "code": number,
             "message": words,
             "range": range,
             "severity": severity,
             "source": SOURCE
-        })
+        })?;
+        if let Some(explanations) = &self.explanations {
+            let address = explanations.address_of(alloc, number)?;
+            let link = json!(in alloc; { "href": address })?;
+            add_member(alloc, &mut diagnostic, "codeDescription", link)?;
+        }
+        Ok(diagnostic)
     }
 }

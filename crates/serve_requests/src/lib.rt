@@ -11,6 +11,7 @@
 mod actions;
 mod changes;
 mod diagnostics;
+mod explanations;
 mod names;
 mod params;
 mod renaming;

@@ -1,6 +1,7 @@
 //! The server, and how it takes messages.
 
 use crate::changes::{change_text, close_text, open_text, path_in};
+use crate::explanations::{Explanations, explanations_for};
 use crate::starting::{capabilities, encoding_of};
 use serde_json::Value;
 use serve_messages::{
@@ -69,6 +70,8 @@ pub struct Server {
     pub(crate) has_snippets: bool,
     /// Whether the editor makes files that an edit asks for.
     pub(crate) makes_files: bool,
+    /// The explanations to which links lead, if the editor shows links.
+    pub(crate) explanations: Option<Explanations>,
     stage: Stage,
 }
 
@@ -143,6 +146,7 @@ impl Server {
             cancelled: Vec::new(alloc),
             has_snippets: false,
             makes_files: false,
+            explanations: None,
             stage: Stage::Fresh,
         }
     }
@@ -207,13 +211,7 @@ impl Server {
     ) -> Result<Reply, AllocError> {
         let alloc = rt.alloc();
         match (self.stage, call.method) {
-            (Stage::Fresh, Method::Initialize) => {
-                self.stage = Stage::Running;
-                self.encoding = encoding_of(&call.params);
-                self.has_snippets = has_snippets(&call.params);
-                self.makes_files = makes_files(&call.params);
-                Ok(Reply::Result(capabilities(alloc, self.encoding)?))
-            }
+            (Stage::Fresh, Method::Initialize) => self.begin(alloc, folder, &call.params),
             (Stage::Fresh, _) => Reply::failed(
                 alloc,
                 ErrorCode::ServerNotInitialized,
@@ -240,6 +238,21 @@ impl Server {
             ),
             (Stage::Running, _) => self.request(rt, folder, call),
         }
+    }
+
+    /// Begins the session with an editor that says this of itself.
+    fn begin<F: Folder>(
+        &mut self,
+        alloc: Global,
+        folder: &F,
+        params: &Value,
+    ) -> Result<Reply, AllocError> {
+        self.stage = Stage::Running;
+        self.encoding = encoding_of(params);
+        self.has_snippets = has_snippets(params);
+        self.makes_files = makes_files(params);
+        self.explanations = explanations_for(alloc, folder, &self.setting.libraries, params)?;
+        Ok(Reply::Result(capabilities(alloc, self.encoding)?))
     }
 
     /// Takes a notification.

@@ -10,7 +10,7 @@ use std::thread::Threads;
 pub type Row = (&'static str, &'static str);
 
 /// The files that are not open.
-const ON_DISK: [(&str, &str); 5] = [
+const ON_DISK: [(&str, &str); 6] = [
     (
         "/p/Stacks.def",
         "DEFINITION MODULE Stacks;\n\n(* Puts a number on the stack. *)\nPROCEDURE Push(x: INTEGER);\nEND Stacks.\n",
@@ -25,6 +25,11 @@ const ON_DISK: [(&str, &str); 5] = [
     ),
     ("/l/Lib.def", "DEFINITION MODULE Lib;\nEND Lib.\n"),
     ("/q/m.mod", "IMPLEMENTATION MODULE m;\nEND m.\n"),
+    // A page beside the folder in which the library stands.
+    (
+        "/docs/refusals/10.md",
+        "# Refusal 10: another token is expected\n",
+    ),
 ];
 
 /// The messages with which each session begins, and what goes back.
@@ -272,6 +277,42 @@ const WRONG: [Row; 16] = [
     ),
 ];
 
+/// Where a name is not declared, and where a string is not closed.
+const REFUSED: [&str; 2] = [
+    r#"{"jsonrpc":"2.0","method":"textDocument/didOpen","params":{"textDocument":{"uri":"file:///p/S.mod","languageId":"modula2","version":1,"text":"MODULE S;\nBEGIN\n  x := 1\nEND S.\n"}}}"#,
+    r#"{"jsonrpc":"2.0","method":"textDocument/didOpen","params":{"textDocument":{"uri":"file:///p/S.mod","languageId":"modula2","version":2,"text":"MODULE S;\nBEGIN\n  x := 'abc\nEND S.\n"}}}"#,
+];
+
+/// What an editor says of itself, and what is shown then: a link, if the editor shows links and an address is known.
+const LINKS: [Row; 6] = [
+    (
+        r#"{"jsonrpc":"2.0","id":0,"method":"initialize","params":{"capabilities":{}}}"#,
+        r#""code":30,"message""#,
+    ),
+    (
+        r#"{"jsonrpc":"2.0","id":0,"method":"initialize","params":{"capabilities":{"textDocument":{"publishDiagnostics":{"codeDescriptionSupport":true}}}}}"#,
+        r#""code":30,"codeDescription":{"href":"file:///docs/refusals/30.md"},"message""#,
+    ),
+    // A number has two digits.
+    (
+        r#"{"jsonrpc":"2.0","id":0,"method":"initialize","params":{"capabilities":{"textDocument":{"publishDiagnostics":{"codeDescriptionSupport":true}}}}}"#,
+        r#""codeDescription":{"href":"file:///docs/refusals/04.md"}"#,
+    ),
+    // An address, in which the number takes its place or stands at the end, and one that is empty.
+    (
+        r#"{"jsonrpc":"2.0","id":0,"method":"initialize","params":{"capabilities":{"textDocument":{"publishDiagnostics":{"codeDescriptionSupport":true}}},"initializationOptions":{"explanations":"https://m2.test/{number}.html"}}}"#,
+        r#""codeDescription":{"href":"https://m2.test/30.html"}"#,
+    ),
+    (
+        r#"{"jsonrpc":"2.0","id":0,"method":"initialize","params":{"capabilities":{"textDocument":{"publishDiagnostics":{"codeDescriptionSupport":true}}},"initializationOptions":{"explanations":"https://m2.test/#"}}}"#,
+        r#""codeDescription":{"href":"https://m2.test/#30"}"#,
+    ),
+    (
+        r#"{"jsonrpc":"2.0","id":0,"method":"initialize","params":{"capabilities":{"textDocument":{"publishDiagnostics":{"codeDescriptionSupport":true}}},"initializationOptions":{"explanations":""}}}"#,
+        r#""code":30,"message""#,
+    ),
+];
+
 /// How a session ends.
 const END: [Row; 3] = [
     (
@@ -360,6 +401,86 @@ fn others(rt: HostRuntime) -> Result<(), Fail> {
     let wrong = all_wrong(&rt, &mut server, &BEGIN)?;
     assert_eq!(rt; wrong.as_str(), "");
     let wrong = all_wrong(&rt, &mut server, &CHANGES)?;
+    assert_eq!(rt; wrong.as_str(), "");
+    Ok(())
+}
+
+/// What goes back for texts that are refused, to an editor that says this of itself.
+fn refused_by<R: AllocGlobal + Threads + Sync>(
+    rt: &R,
+    initialize: &str,
+) -> Result<String, AllocError> {
+    let mut server = begun(rt.alloc())?;
+    let mut all = lines_of(rt, &mut server, initialize)?;
+    for opened in REFUSED {
+        all.push_str(lines_of(rt, &mut server, opened)?.as_str())?;
+    }
+    Ok(all)
+}
+
+#[test]
+fn links(rt: HostRuntime) -> Result<(), Fail> {
+    let mut wrong = String::new(rt.alloc());
+    for row in &LINKS {
+        let lines = refused_by(&rt, row.0)?;
+        if !lines.contains(row.1) {
+            wrong.push_str(lines.as_str())?;
+        }
+    }
+    assert_eq!(rt; wrong.as_str(), "");
+    Ok(())
+}
+
+/// A change and a request that come together: the names are those of the text as it stands then.
+const TOGETHER: [Row; 5] = [
+    (
+        r#"{"jsonrpc":"2.0","method":"textDocument/didOpen","params":{"textDocument":{"uri":"file:///p/T.mod","languageId":"modula2","version":1,"text":"MODULE T;\nEND T.\n"}}}"#,
+        "",
+    ),
+    (
+        r#"{"jsonrpc":"2.0","method":"textDocument/didChange","params":{"textDocument":{"uri":"file:///p/T.mod","version":2},"contentChanges":[{"text":"MODULE T;\nVAR n: CHAR;\nPROCEDURE P(n: INTEGER): INTEGER;\n  PROCEDURE Q(x: BOOLEAN);\n  BEGIN\n  END Q;\nBEGIN\n  RETURN n\nEND P;\nPROCEDURE R;\nVAR n: BITSET;\nBEGIN\n  n := {}\nEND R;\nEND T.\n"}]}}"#,
+        "",
+    ),
+    // The parameter of P, though the variables of R are not looked at.
+    (
+        r#"{"jsonrpc":"2.0","id":1,"method":"textDocument/hover","params":{"textDocument":{"uri":"file:///p/T.mod"},"position":{"line":7,"character":9}}}"#,
+        r#"n: INTEGER\n```"#,
+    ),
+    (
+        r#"{"jsonrpc":"2.0","id":2,"method":"textDocument/hover","params":{"textDocument":{"uri":"file:///p/T.mod"},"position":{"line":12,"character":2}}}"#,
+        r#"VAR n: BITSET\n```"#,
+    ),
+    // All places of the same variable.
+    (
+        r#"{"jsonrpc":"2.0","id":3,"method":"textDocument/documentHighlight","params":{"textDocument":{"uri":"file:///p/T.mod"},"position":{"line":12,"character":2}}}"#,
+        r#""result":[{"kind":3,"range":{"end":{"character":5,"line":10},"start":{"character":4,"line":10}}},{"kind":2,"range":{"end":{"character":3,"line":12},"start":{"character":2,"line":12}}}]"#,
+    ),
+];
+
+/// The rows to which something else goes back, if nothing is said of what is refused between them.
+fn wrong_together<R: AllocGlobal + Threads + Sync>(
+    rt: &R,
+    server: &mut Server,
+    rows: &[Row],
+) -> Result<String, AllocError> {
+    let mut wrong = String::new(rt.alloc());
+    for row in rows {
+        let answer = server.answer(rt, &Files(&ON_DISK), row.0.as_bytes())?;
+        let mut lines = String::new(rt.alloc());
+        add_bodies(rt.alloc(), &answer.bodies, &mut lines)?;
+        if !lines.contains(row.1) {
+            wrong.push_str(lines.as_str())?;
+        }
+    }
+    Ok(wrong)
+}
+
+#[test]
+fn together(rt: HostRuntime) -> Result<(), Fail> {
+    let mut server = begun(rt.alloc())?;
+    let wrong = all_wrong(&rt, &mut server, &BEGIN)?;
+    assert_eq!(rt; wrong.as_str(), "");
+    let wrong = wrong_together(&rt, &mut server, &TOGETHER)?;
     assert_eq!(rt; wrong.as_str(), "");
     Ok(())
 }
