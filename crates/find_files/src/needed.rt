@@ -5,6 +5,7 @@ use crate::places::Places;
 use command_words::Exit;
 use find_modules::{FindFault, FoundModule, ModuleFolders, Part, find};
 use m2_tree::{Contents, Module, Name};
+use propose_mends::{free_name, program_around};
 use std::alloc::{AllocError, Global};
 use std::rt::Files;
 use tool_words::Setting;
@@ -53,9 +54,9 @@ fn start_of(alloc: Global, tree: &Module, text: &[u8]) -> Result<Vec<u8>, AllocE
     if matches!(&tree.contents, Contents::Program(_)) {
         return Vec::from_slice(alloc, text);
     }
-    let name = String::from_utf8_lossy(alloc, tree.name.name.as_bytes())?;
-    let words = format!(in alloc; "MODULE P; IMPORT {name}; END P.")?;
-    Vec::from_slice(alloc, words.as_bytes())
+    let module = String::from_utf8_lossy(alloc, tree.name.name.as_bytes())?;
+    let name = free_name(alloc, &[module.as_bytes()])?;
+    program_around(alloc, name.as_str(), module.as_str())
 }
 
 /// Adds the definition of a module, or the name of one that is nowhere. The text that is compiled is there already.

@@ -12,4 +12,4 @@ pub use export::{Export, exports_of};
 pub use known::known_way;
 pub use likeness::{MOST_UNLIKE, are_alike, capitals, unlikeness};
 pub use named::{free_name, importing_program, program_around};
-pub use source::{Source, word_width};
+pub use source::{Source, tokens_of, word_width};

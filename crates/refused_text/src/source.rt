@@ -15,8 +15,8 @@ pub struct Source<'a> {
     begins: Vec<usize>,
 }
 
-/// The tokens of a text, and none if it does not divide.
-fn tokens_of(alloc: Global, text: &[u8]) -> Result<Vec<Token>, AllocError> {
+/// The tokens of a text, and none if it does not divide. The only error is want of memory.
+pub fn tokens_of(alloc: Global, text: &[u8]) -> Result<Vec<Token>, AllocError> {
     match scan(alloc, text) {
         Ok(tokens) => Ok(tokens),
         Err(ScanError::Refused(_)) => Ok(Vec::new(alloc)),

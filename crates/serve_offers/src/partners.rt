@@ -1,7 +1,7 @@
 //! The implementation that a definition wants, if its file is not there.
 
 use m2_tree::{Symbol, Token};
-use scan_tokens::{ScanError, scan};
+use refused_text::tokens_of;
 use serde_json::{Value, json};
 use serve_hovers::text_value;
 use serve_texts::{Text, uri_of};
@@ -85,22 +85,13 @@ impl Draft<'_, '_> {
     }
 }
 
-/// The tokens of a text. None if it does not divide into tokens.
-fn tokens_of(alloc: Global, text: &Text) -> Result<Vec<Token>, AllocError> {
-    match scan(alloc, text.bytes()) {
-        Ok(tokens) => Ok(tokens),
-        Err(ScanError::Refused(_)) => Ok(Vec::new(alloc)),
-        Err(ScanError::NoMemory) => Err(AllocError),
-    }
-}
-
 /// The text of an implementation of a definition: its imports, and each procedure with an empty body. Nothing if the definition has no
 /// name. The only error is want of memory.
 pub fn implementation_text(
     alloc: Global,
     definition: &Text,
 ) -> Result<Option<Vec<u8>>, AllocError> {
-    let tokens = tokens_of(alloc, definition)?;
+    let tokens = tokens_of(alloc, definition.bytes())?;
     let Some(name) = name_at(&tokens, NAME) else {
         return Ok(None);
     };
