@@ -101,7 +101,7 @@ fn close_heading(walk: &mut Walk, around: Option<usize>) {
 
 /// Notes the closing name of a procedure.
 fn closing_name(walk: &mut Walk, heading: &Heading) -> Result<(), AllocError> {
-    let place = walk.marks.closing_of(walk.file, &heading.name);
+    let place = walk.marks().closing_of(walk.file, &heading.name);
     match walk.declared_here(&heading.name) {
         Some(number) => walk.program.add_use(place, number, Role::Closing),
         None => Ok(()),
@@ -111,7 +111,7 @@ fn closing_name(walk: &mut Walk, heading: &Heading) -> Result<(), AllocError> {
 /// A heading in a definition.
 fn bare_heading(walk: &mut Walk, heading: &Heading) -> Result<(), AllocError> {
     let around = walk.parent;
-    let range = walk.marks.heading_of(&heading.name);
+    let range = walk.marks().heading_of(&heading.name);
     open_heading(walk, heading, range)?;
     close_heading(walk, around);
     Ok(())
@@ -120,10 +120,30 @@ fn bare_heading(walk: &mut Walk, heading: &Heading) -> Result<(), AllocError> {
 /// Begins a procedure with a body. The declaration around it.
 fn open_procedure(walk: &mut Walk, heading: &Heading) -> Result<Option<usize>, AllocError> {
     let around = walk.parent;
-    closing_name(walk, heading)?;
-    let range = walk.marks.body_of(&heading.name);
+    let range = walk.marks().body_of(&heading.name);
     open_heading(walk, heading, range)?;
     Ok(around)
+}
+
+/// Ends a procedure with a body in this declaration.
+fn close_procedure(
+    walk: &mut Walk,
+    heading: &Heading,
+    around: Option<usize>,
+) -> Result<(), AllocError> {
+    close_heading(walk, around);
+    closing_name(walk, heading)
+}
+
+/// Whether a procedure with a body is passed over.
+fn is_passed(walk: &Walk, heading: &Heading) -> bool {
+    walk.passes_over(walk.marks().body_of(&heading.name))
+}
+
+/// A procedure with a body that is passed over: what it gives.
+fn passed_procedure(walk: &mut Walk, heading: &Heading) -> Result<(), AllocError> {
+    let procedure = walk.declared_here(&heading.name);
+    result_type(walk, procedure, &heading.result)
 }
 
 #[cycle(decl)]
@@ -132,11 +152,11 @@ fn decl(walk: &mut Walk, of: &Decl) -> Result<(), AllocError> {
         Decl::Constants(rows) => constants(walk, rows.as_slice()),
         Decl::Types(rows) => type_decls(walk, rows.as_slice()),
         Decl::Variables(rows) => variables_decls(walk, rows.as_slice()),
+        Decl::Procedure(heading, _) if is_passed(walk, heading) => passed_procedure(walk, heading),
         Decl::Procedure(heading, inner) => {
             let around = open_procedure(walk, heading)?;
             block(walk, inner.get())?;
-            close_heading(walk, around);
-            Ok(())
+            close_procedure(walk, heading, around)
         }
     }
 }
@@ -155,8 +175,8 @@ pub fn block(walk: &mut Walk, of: &Block) -> Result<(), AllocError> {
     decls_names(walk, of.decls.as_slice())?;
     decls(walk, of.decls.as_slice())?;
     match &of.body {
-        None => Ok(()),
-        Some(body) => stmts(walk, body.as_slice()),
+        Some(body) if !walk.passes_over(walk.marks().whole()) => stmts(walk, body.as_slice()),
+        _ => Ok(()),
     }
 }
 

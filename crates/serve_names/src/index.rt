@@ -1,9 +1,9 @@
 //! What is known of the names of a program, and what is asked of it.
 
-use crate::parsed::Parsed;
+use crate::parsed::{Outline, Parsed};
 use crate::units::{all_bodies, all_definitions, all_names};
-use m2_tree::Pos;
-use serve_scopes::{Declaration, Place, Program, Shape, Standing, Use};
+use m2_tree::{Module, Pos};
+use serve_scopes::{Declaration, Focus, Marks, Packed, Place, Program, Shape, Standing, Use};
 use serve_walks::Walk;
 use std::alloc::{AllocError, Global};
 
@@ -14,24 +14,90 @@ pub struct Index {
 }
 
 /// The uses from one number to another, as far as there are so many.
-fn between(uses: &[Use], from: usize, to: usize) -> &[Use] {
+fn between(uses: &[Packed], from: usize, to: usize) -> &[Packed] {
     let front = &uses[..to.min(uses.len())];
     &front[from.min(front.len())..]
 }
 
 /// How many uses stand in files before this one.
-fn count_before(uses: &[Use], file: usize) -> usize {
-    uses.partition_point(|it| it.place.file < file)
+fn count_before(uses: &[Packed], file: usize) -> usize {
+    uses.partition_point(|it| it.file() < file)
+}
+
+/// What the names of files with these trees and tokens stand for, in the order in which they are come upon.
+fn gathered(
+    alloc: Global,
+    trees: &[Option<&Module>],
+    marks: Vec<Marks>,
+    focus: Option<Focus>,
+) -> Result<Program, AllocError> {
+    let mut walk = Walk::new(alloc, marks, focus);
+    let numbers = all_names(&mut walk, trees)?;
+    all_definitions(&mut walk, trees, &numbers)?;
+    all_bodies(&mut walk, trees)?;
+    let Walk { program, .. } = walk;
+    Ok(program)
+}
+
+/// The same of files with these outlines, whose trees are let go.
+fn gathered_outlines(
+    alloc: Global,
+    files: Vec<Option<Outline>>,
+    focus: Option<Focus>,
+) -> Result<Program, AllocError> {
+    let mut marks = Vec::new(alloc);
+    let mut trees = Vec::new(alloc);
+    for file in files {
+        match file {
+            Some(Outline { marks: one, tree }) => {
+                marks.push(one)?;
+                trees.push(Some(tree))?;
+            }
+            None => {
+                marks.push(Marks::none(alloc))?;
+                trees.push(None)?;
+            }
+        }
+    }
+    gathered(alloc, &lent(alloc, &trees)?, marks, focus)
+}
+
+/// Trees, lent.
+fn lent(alloc: Global, trees: &[Option<Module>]) -> Result<Vec<Option<&Module>>, AllocError> {
+    let mut all = Vec::new(alloc);
+    for tree in trees {
+        all.push(tree.as_ref())?;
+    }
+    Ok(all)
 }
 
 impl Index {
     /// The index of the files of a program. Of a file that has no tree nothing is known. The only error is that memory ran out.
     pub fn of(alloc: Global, files: &[Option<&Parsed>]) -> Result<Index, AllocError> {
-        let mut walk = Walk::new(alloc);
-        let numbers = all_names(&mut walk, files)?;
-        all_definitions(&mut walk, files, &numbers)?;
-        all_bodies(&mut walk, files)?;
-        let Walk { program, .. } = walk;
+        let mut marks = Vec::new(alloc);
+        let mut trees = Vec::new(alloc);
+        for file in files {
+            match file {
+                Some(parsed) => marks.push(parsed.marks(alloc)?)?,
+                None => marks.push(Marks::none(alloc))?,
+            }
+            trees.push(file.map(|it| &it.tree))?;
+        }
+        Index::sorted(gathered(alloc, &trees, marks, None)?)
+    }
+
+    /// The index of the files of a program with these outlines. If a place is asked about, the names inside of other procedures are
+    /// left out, and those in the statements of other files. The only error is that memory ran out.
+    pub fn of_outlines(
+        alloc: Global,
+        files: Vec<Option<Outline>>,
+        focus: Option<Focus>,
+    ) -> Result<Index, AllocError> {
+        Index::sorted(gathered_outlines(alloc, files, focus)?)
+    }
+
+    /// The index of what was gathered.
+    fn sorted(program: Program) -> Result<Index, AllocError> {
         let mut index = Index { program };
         index.program.uses.sort()?;
         index.program.unresolved.sort()?;
@@ -49,7 +115,7 @@ impl Index {
     }
 
     /// All places at which a name stands for a declaration, in the order of files and places.
-    pub fn uses(&self) -> &[Use] {
+    pub fn uses(&self) -> &[Packed] {
         &self.program.uses
     }
 
@@ -59,7 +125,7 @@ impl Index {
     }
 
     /// The uses in a file, in order.
-    pub fn uses_in(&self, file: usize) -> &[Use] {
+    pub fn uses_in(&self, file: usize) -> &[Packed] {
         let uses = self.uses();
         let behind = count_before(uses, file.saturating_add(1));
         between(uses, count_before(uses, file), behind)
@@ -68,10 +134,10 @@ impl Index {
     /// The use in whose name a place lies, or directly behind it.
     pub fn use_at(&self, file: usize, pos: Pos) -> Option<Use> {
         let uses = self.uses_in(file);
-        let behind = uses.partition_point(|it| it.place.pos <= pos);
-        let found = uses.get(behind.checked_sub(1)?)?;
+        let behind = uses.partition_point(|it| it.pos() <= pos);
+        let found = uses.get(behind.checked_sub(1)?)?.unpacked();
         if found.place.has(file, pos) {
-            Some(*found)
+            Some(found)
         } else {
             None
         }
@@ -87,8 +153,8 @@ impl Index {
     pub fn uses_of(&self, alloc: Global, declaration: usize) -> Result<Vec<Use>, AllocError> {
         let mut found = Vec::new(alloc);
         for it in self.uses() {
-            if it.declaration == declaration {
-                found.push(*it)?;
+            if it.declaration() == declaration {
+                found.push(it.unpacked())?;
             }
         }
         Ok(found)

@@ -14,7 +14,7 @@ mod words;
 
 pub use index::Index;
 pub use offers::Offer;
-pub use parsed::{Parsed, read};
+pub use parsed::{Outline, Parsed, read};
 pub use paths::Signature;
-pub use serve_scopes::{Declaration, Kind, Place, Range, Role, Use};
+pub use serve_scopes::{Declaration, Focus, Kind, Packed, Place, Range, Role, Use};
 pub use words::{comment_of, formals_of, words_of};

@@ -1,8 +1,9 @@
 //! Texts with their tokens and trees.
 
 use m2_parse::{ParseError, parse};
-use m2_tree::{Module, Token};
+use m2_tree::{Contents, Module, Token};
 use scan_tokens::{ScanError, scan};
+use serve_scopes::Marks;
 use std::alloc::{AllocError, Global};
 
 /// The tokens and the tree of a text.
@@ -10,6 +11,33 @@ use std::alloc::{AllocError, Global};
 pub struct Parsed {
     pub tokens: Vec<Token>,
     pub tree: Module,
+}
+
+/// The tree of a text, and of its tokens what tells where declarations begin and end.
+#[derive(Drop)]
+pub struct Outline {
+    pub(crate) marks: Marks,
+    pub(crate) tree: Module,
+}
+
+/// Whether a tree is a definition's.
+pub(crate) fn is_definition(tree: &Module) -> bool {
+    matches!(&tree.contents, Contents::Definition(_))
+}
+
+impl Parsed {
+    /// What tells where the declarations begin and end. The only error is that memory ran out.
+    pub(crate) fn marks(&self, alloc: Global) -> Result<Marks, AllocError> {
+        Marks::of(alloc, &self.tokens, is_definition(&self.tree))
+    }
+
+    /// The tree, without the tokens. The only error is that memory ran out.
+    pub fn outline(self, alloc: Global) -> Result<Outline, AllocError> {
+        let marks = self.marks(alloc)?;
+        let Parsed { tokens, tree } = self;
+        drop(tokens);
+        Ok(Outline { marks, tree })
+    }
 }
 
 /// The tokens and the tree of a text, or none if it has no tree. The only error is that memory ran out.

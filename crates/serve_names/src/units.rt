@@ -2,21 +2,19 @@
 
 use crate::blocks::{block, defs};
 use crate::imports::imports;
-use crate::parsed::Parsed;
+use crate::parsed::is_definition;
 use m2_tree::{Block, Contents, Def, Ident, Module};
-use serve_scopes::{Kind, Marks, Range, Role};
+use serve_scopes::{Kind, Range, Role};
 use serve_walks::{Walk, defs_names, facts_of};
 use std::alloc::AllocError;
 
 /// Begins a file.
-fn begin_file(walk: &mut Walk, file: usize, parsed: &Parsed) -> Result<(), AllocError> {
-    walk.is_definition = matches!(&parsed.tree.contents, Contents::Definition(_));
-    walk.marks = Marks::of(walk.alloc, &parsed.tokens, walk.is_definition)?;
+fn begin_file(walk: &mut Walk, file: usize, tree: &Module) {
+    walk.is_definition = is_definition(tree);
     walk.file = file;
     walk.around.clear();
     walk.module = None;
     walk.parent = None;
-    Ok(())
 }
 
 /// Goes on in the module of this declaration.
@@ -27,8 +25,8 @@ fn begin_module(walk: &mut Walk, number: usize) {
 
 /// Declares a module under its name.
 fn declare_module(walk: &mut Walk, name: &Ident) -> Result<usize, AllocError> {
-    let range = walk.marks.module_of(name);
-    let end = walk.marks.tail_of(name).end;
+    let range = walk.marks().module_of(name);
+    let end = walk.marks().tail_of(name).end;
     let tail = Range { begin: end, end };
     let facts = facts_of(walk, Kind::Module, range, tail);
     walk.program.declare(walk.file, name, facts)
@@ -36,7 +34,7 @@ fn declare_module(walk: &mut Walk, name: &Ident) -> Result<usize, AllocError> {
 
 /// Notes the closing name of a module.
 fn close_module(walk: &mut Walk, name: &Ident, number: usize) -> Result<(), AllocError> {
-    let place = walk.marks.closing_of(walk.file, name);
+    let place = walk.marks().closing_of(walk.file, name);
     walk.program.add_use(place, number, Role::Closing)
 }
 
@@ -73,12 +71,12 @@ fn declare_definition(
 fn definition_names(
     walk: &mut Walk,
     file: usize,
-    parsed: &Parsed,
+    tree: &Module,
 ) -> Result<Option<usize>, AllocError> {
-    match &parsed.tree.contents {
+    match &tree.contents {
         Contents::Definition(exported) => {
-            begin_file(walk, file, parsed)?;
-            let name = &parsed.tree.name;
+            begin_file(walk, file, tree);
+            let name = &tree.name;
             Ok(Some(declare_definition(walk, name, exported.as_slice())?))
         }
         Contents::Implementation(_) | Contents::Program(_) => Ok(None),
@@ -88,7 +86,7 @@ fn definition_names(
 /// Begins the scope of what a module imports, and that of what its definition exports, if it has one.
 fn open_module(walk: &mut Walk, number: usize, tree: &Module) -> Result<(), AllocError> {
     begin_module(walk, number);
-    let whole = walk.marks.whole();
+    let whole = walk.marks().whole();
     let imported = walk.program.new_scope()?;
     imports(walk, imported, tree.imports.as_slice())?;
     walk.open(imported, whole)?;
@@ -102,12 +100,12 @@ fn open_module(walk: &mut Walk, number: usize, tree: &Module) -> Result<(), Allo
 fn definition_contents(
     walk: &mut Walk,
     file: usize,
-    parsed: &Parsed,
+    tree: &Module,
     number: usize,
 ) -> Result<(), AllocError> {
-    if let Contents::Definition(exported) = &parsed.tree.contents {
-        begin_file(walk, file, parsed)?;
-        open_module(walk, number, &parsed.tree)?;
+    if let Contents::Definition(exported) = &tree.contents {
+        begin_file(walk, file, tree);
+        open_module(walk, number, tree)?;
         defs(walk, exported.as_slice())?;
     }
     Ok(())
@@ -129,7 +127,7 @@ fn implemented(walk: &mut Walk, name: &Ident) -> Result<usize, AllocError> {
     match defined_before(walk, name) {
         Some(number) => {
             let place = walk.place(name);
-            let range = walk.marks.module_of(name);
+            let range = walk.marks().module_of(name);
             walk.program.implement(number, place, range)?;
             Ok(number)
         }
@@ -147,23 +145,22 @@ fn body_contents(
     close_module(walk, &tree.name, number)?;
     open_module(walk, number, tree)?;
     let own = walk.program.new_scope()?;
-    let whole = walk.marks.whole();
+    let whole = walk.marks().whole();
     walk.open(own, whole)?;
     block(walk, inner)
 }
 
 /// What stands in a file that is a program or an implementation.
-fn body(walk: &mut Walk, file: usize, parsed: &Parsed) -> Result<(), AllocError> {
-    let tree = &parsed.tree;
+fn body(walk: &mut Walk, file: usize, tree: &Module) -> Result<(), AllocError> {
     match &tree.contents {
         Contents::Definition(_) => Ok(()),
         Contents::Implementation(inner) => {
-            begin_file(walk, file, parsed)?;
+            begin_file(walk, file, tree);
             let number = implemented(walk, &tree.name)?;
             body_contents(walk, number, tree, inner)
         }
         Contents::Program(inner) => {
-            begin_file(walk, file, parsed)?;
+            begin_file(walk, file, tree);
             let number = declare_module(walk, &tree.name)?;
             body_contents(walk, number, tree, inner)
         }
@@ -173,12 +170,12 @@ fn body(walk: &mut Walk, file: usize, parsed: &Parsed) -> Result<(), AllocError>
 /// Declares what the definitions among the files export. For each file the number of its module, if it is a definition.
 pub fn all_names(
     walk: &mut Walk,
-    files: &[Option<&Parsed>],
+    files: &[Option<&Module>],
 ) -> Result<Vec<Option<usize>>, AllocError> {
     let mut numbers = Vec::new(walk.alloc);
-    for (file, parsed) in files.iter().enumerate() {
-        let number = match parsed {
-            Some(parsed) => definition_names(walk, file, parsed)?,
+    for (file, tree) in files.iter().enumerate() {
+        let number = match tree {
+            Some(tree) => definition_names(walk, file, tree)?,
             None => None,
         };
         numbers.push(number)?;
@@ -189,23 +186,23 @@ pub fn all_names(
 /// What stands in the definitions among the files, whose modules have these numbers.
 pub fn all_definitions(
     walk: &mut Walk,
-    files: &[Option<&Parsed>],
+    files: &[Option<&Module>],
     numbers: &[Option<usize>],
 ) -> Result<(), AllocError> {
-    for (file, parsed) in files.iter().enumerate() {
+    for (file, tree) in files.iter().enumerate() {
         let number = numbers.get(file).and_then(|it| *it);
-        if let (Some(parsed), Some(number)) = (parsed, number) {
-            definition_contents(walk, file, parsed, number)?;
+        if let (Some(tree), Some(number)) = (tree, number) {
+            definition_contents(walk, file, tree, number)?;
         }
     }
     Ok(())
 }
 
 /// What stands in the programs and implementations among the files.
-pub fn all_bodies(walk: &mut Walk, files: &[Option<&Parsed>]) -> Result<(), AllocError> {
-    for (file, parsed) in files.iter().enumerate() {
-        if let Some(parsed) = parsed {
-            body(walk, file, parsed)?;
+pub fn all_bodies(walk: &mut Walk, files: &[Option<&Module>]) -> Result<(), AllocError> {
+    for (file, tree) in files.iter().enumerate() {
+        if let Some(tree) = tree {
+            body(walk, file, tree)?;
         }
     }
     Ok(())

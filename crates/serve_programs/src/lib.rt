@@ -19,4 +19,4 @@ pub use places::{Places, file_ending, folder_of, read_text};
 pub use program::{Program, file_of, program_of, spare_of};
 pub use refused::{Severity, Shown, length_at, refusals_of, shown_of};
 pub use roots::{all_shown, programs_around, programs_with, roots_of};
-pub use view::{FileView, Mark, View, view_of};
+pub use view::{FileView, Fresh, Mark, Spot, View, view_for, view_of};

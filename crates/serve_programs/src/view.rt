@@ -3,8 +3,8 @@
 use crate::program::Program;
 use m2_tree::Pos;
 use m2c::SourceFile;
-use serve_names::{Index, Parsed, Place, Range, read};
-use serve_texts::{Shift, Text, Texts};
+use serve_names::{Focus, Index, Outline, Parsed, Place, Range, read};
+use serve_texts::{Encoding, Position, Shift, Text, Texts};
 use std::alloc::{AllocError, Global};
 
 /// A file of a view.
@@ -42,6 +42,23 @@ pub struct View {
     pub index: Index,
 }
 
+/// The tree of an open text as it stands, which was read when the text changed.
+#[derive(Drop)]
+pub struct Fresh {
+    /// The path of the text.
+    pub path: String,
+    pub parsed: Parsed,
+}
+
+/// A place of a text as it stands.
+#[derive(Clone, Copy)]
+pub struct Spot<'a> {
+    /// The path of the text.
+    pub path: &'a str,
+    pub position: Position,
+    pub encoding: Encoding,
+}
+
 /// The text with a tree that an editor had before this one.
 fn sound_before(alloc: Global, texts: &Texts, path: &str) -> Result<Option<Text>, AllocError> {
     match texts.get(path).and_then(|open| open.sound.as_ref()) {
@@ -53,82 +70,133 @@ fn sound_before(alloc: Global, texts: &Texts, path: &str) -> Result<Option<Text>
     }
 }
 
+/// The tree of a known text. That of the open text of this path was read already, if it is fresh.
+fn outline_of(
+    alloc: Global,
+    path: &str,
+    known: &[u8],
+    fresh: &mut Option<Fresh>,
+) -> Result<Option<Outline>, AllocError> {
+    let is_read = fresh.as_ref().is_some_and(|it| it.path.as_str() == path);
+    let parsed = if is_read {
+        fresh.take().map(|it| it.parsed)
+    } else {
+        read(alloc, known)?
+    };
+    match parsed {
+        Some(parsed) => Ok(Some(parsed.outline(alloc)?)),
+        None => Ok(None),
+    }
+}
+
 /// A file whose names are those of the text that stands, or of the one before that had a tree, and the tree.
 fn file_view(
     alloc: Global,
     texts: &Texts,
     file: &SourceFile,
     is_made: bool,
-) -> Result<(FileView, Option<Parsed>), AllocError> {
+    fresh: &mut Option<Fresh>,
+) -> Result<(FileView, Option<Outline>), AllocError> {
     let path = String::from_str(alloc, file.name.as_str())?;
     let now = Text::of(alloc, Vec::from_slice(alloc, &file.bytes)?)?;
     let sound = sound_before(alloc, texts, file.name.as_str())?;
     let known = sound.as_ref().map_or(now.bytes(), |it| it.bytes());
     let shift = Shift::between(known, now.bytes());
-    let parsed = read(alloc, known)?;
+    let outline = outline_of(alloc, file.name.as_str(), known, fresh)?;
     let view = FileView {
         path,
         now,
         sound,
         shift,
-        has_tree: parsed.is_some(),
+        has_tree: outline.is_some(),
         is_made,
     };
-    Ok((view, parsed))
+    Ok((view, outline))
 }
 
 /// Files in the making, each with its tree.
 #[derive(Drop)]
 struct Files {
     views: Vec<FileView>,
-    trees: Vec<Option<Parsed>>,
+    trees: Vec<Option<Outline>>,
 }
 
 impl Files {
     /// Whether the file of this path is there.
     fn has(&self, path: &str) -> bool {
-        self.views.iter().any(|it| it.path.as_str() == path)
+        number_of(&self.views, path).is_some()
     }
 
     /// Adds the files of a program that are not there yet.
-    fn add(&mut self, alloc: Global, texts: &Texts, program: &Program) -> Result<(), AllocError> {
+    fn add(
+        &mut self,
+        alloc: Global,
+        texts: &Texts,
+        program: &Program,
+        fresh: &mut Option<Fresh>,
+    ) -> Result<(), AllocError> {
         for (at, file) in program.files.iter().enumerate() {
             if !self.has(file.name.as_str()) {
                 let is_made = program.is_made && at == 0;
-                let (view, parsed) = file_view(alloc, texts, file, is_made)?;
+                let (view, outline) = file_view(alloc, texts, file, is_made, fresh)?;
                 self.views.push(view)?;
-                self.trees.push(parsed)?;
+                self.trees.push(outline)?;
             }
         }
         Ok(())
     }
 
-    /// What their names stand for.
-    fn index(&self, alloc: Global) -> Result<Index, AllocError> {
-        let mut parsed = Vec::new(alloc);
-        for tree in &self.trees {
-            parsed.push(tree.as_ref())?;
-        }
-        Index::of(alloc, &parsed)
+    /// The place that is asked about, in the known text of its file.
+    fn focus(&self, spot: Spot<'_>) -> Option<Focus> {
+        let file = number_of(&self.views, spot.path)?;
+        let view = self.views.get(file)?;
+        let offset = view.now.offset_of(spot.position, spot.encoding);
+        Some(Focus {
+            file,
+            pos: view.known_pos(offset),
+        })
+    }
+
+    /// What their names stand for, as far as is told for a place. The trees are let go.
+    fn view(self, alloc: Global, spot: Option<Spot<'_>>) -> Result<View, AllocError> {
+        let focus = spot.and_then(|it| self.focus(it));
+        let Files { views, trees } = self;
+        let index = Index::of_outlines(alloc, trees, focus)?;
+        Ok(View {
+            files: views,
+            index,
+        })
     }
 }
 
 /// The files of these programs, each once, and what their names stand for. Their trees are let go. The only error is want of memory.
 pub fn view_of(alloc: Global, texts: &Texts, programs: &[Program]) -> Result<View, AllocError> {
+    view_for(alloc, texts, programs, None, None)
+}
+
+/// The same, where a tree may be read already. If a place is named, only the names that are known there are looked at, and those in the
+/// procedures around it.
+pub fn view_for(
+    alloc: Global,
+    texts: &Texts,
+    programs: &[Program],
+    fresh: Option<Fresh>,
+    spot: Option<Spot<'_>>,
+) -> Result<View, AllocError> {
+    let mut fresh = fresh;
     let mut files = Files {
         views: Vec::new(alloc),
         trees: Vec::new(alloc),
     };
     for program in programs {
-        files.add(alloc, texts, program)?;
+        files.add(alloc, texts, program, &mut fresh)?;
     }
-    let index = files.index(alloc)?;
-    let Files { views, trees } = files;
-    drop(trees);
-    Ok(View {
-        files: views,
-        index,
-    })
+    files.view(alloc, spot)
+}
+
+/// The number of the file of this path.
+fn number_of(files: &[FileView], path: &str) -> Option<usize> {
+    files.iter().position(|it| it.path.as_str() == path)
 }
 
 impl FileView {
@@ -154,7 +222,7 @@ impl FileView {
 impl View {
     /// The number of the file of this path.
     pub fn file_number(&self, path: &str) -> Option<usize> {
-        self.files.iter().position(|it| it.path.as_str() == path)
+        number_of(&self.files, path)
     }
 
     /// The file that is shown under a number.

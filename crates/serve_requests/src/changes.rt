@@ -2,7 +2,8 @@
 
 use crate::params::{range_of, text_at};
 use serde_json::Value;
-use serve_names::read;
+use serve_names::{Parsed, read};
+use serve_programs::Fresh;
 use serve_texts::{Change, Encoding, OpenText, Text, Texts, path_of};
 use std::alloc::{AllocError, Global};
 
@@ -74,9 +75,14 @@ fn has_tree(alloc: Global, text: &Text) -> Result<bool, AllocError> {
     Ok(read(alloc, text.bytes())?.is_some())
 }
 
-/// Keeps a text that had a tree, if the one that came of it has none.
-fn keep_sound(alloc: Global, open: &mut OpenText, before: Vec<u8>) -> Result<(), AllocError> {
-    if has_tree(alloc, &open.text)? {
+/// The tree of a text that changed. Of one that has none the text before is kept, if it had a tree.
+fn keep_sound(
+    alloc: Global,
+    open: &mut OpenText,
+    before: Vec<u8>,
+) -> Result<Option<Parsed>, AllocError> {
+    let parsed = read(alloc, open.text.bytes())?;
+    if parsed.is_some() {
         open.sound = None;
     } else if open.sound.is_none() {
         let before = Text::of(alloc, before)?;
@@ -84,15 +90,16 @@ fn keep_sound(alloc: Global, open: &mut OpenText, before: Vec<u8>) -> Result<(),
             open.sound = Some(before);
         }
     }
-    Ok(())
+    Ok(parsed)
 }
 
-/// Makes the changes of a text. Whether the message says which, of a text that is open.
+/// Makes the changes of a text. Whether the message says which, of a text that is open. Its tree is fresh then, if it has one.
 pub fn change_text(
     alloc: Global,
     texts: &mut Texts,
     params: &Value,
     encoding: Encoding,
+    fresh: &mut Option<Fresh>,
 ) -> Result<bool, AllocError> {
     let Some(path) = path_in(alloc, params)? else {
         return Ok(false);
@@ -105,7 +112,8 @@ pub fn change_text(
     if let Some(changes) = params.get("contentChanges").and_then(Value::as_array) {
         make_changes(alloc, open, changes, encoding)?;
     }
-    keep_sound(alloc, open, before)?;
+    let parsed = keep_sound(alloc, open, before)?;
+    *fresh = parsed.map(|parsed| Fresh { path, parsed });
     Ok(true)
 }
 

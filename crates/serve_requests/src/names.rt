@@ -11,8 +11,10 @@ use serve_offers::{
     signature_help, type_definition,
 };
 use serve_programs::{
-    Folder, Program, View, folder_of, programs_around, programs_with, roots_of, spare_of, view_of,
+    Folder, Program, Spot, folder_of, programs_around, programs_with, roots_of, spare_of, view_for,
+    view_of,
 };
+use serve_texts::Position;
 use std::alloc::{AllocError, Global};
 use std::thread::Threads;
 
@@ -43,6 +45,18 @@ fn is_of_place(method: Method) -> bool {
             | Method::PrepareRename
             | Method::SignatureHelp
             | Method::Completion
+    )
+}
+
+/// Whether a request is answered by what the name at a place stands for, whatever other procedures have inside.
+fn is_of_name(method: Method) -> bool {
+    matches!(
+        method,
+        Method::Hover
+            | Method::Definition
+            | Method::Declaration
+            | Method::Implementation
+            | Method::TypeDefinition
     )
 }
 
@@ -135,23 +149,21 @@ impl Server {
         }
     }
 
-    /// What the names of the files of programs stand for, and of those that they may import besides if these are wanted.
-    fn view_for<F: Folder>(
+    /// The programs of a file, and behind them the files that they may import besides, if these are wanted. How many programs it has.
+    fn programs_and_spare<F: Folder>(
         &self,
         alloc: Global,
         folder: &F,
         path: &str,
         reach: Reach,
-        programs: &mut Vec<Program>,
-    ) -> Result<View, AllocError> {
-        if reach == Reach::Program {
-            return view_of(alloc, &self.texts, programs.as_slice());
+    ) -> Result<(Vec<Program>, usize), AllocError> {
+        let mut programs = self.programs_of(alloc, folder, path, reach)?;
+        let count = programs.len();
+        if reach != Reach::Program {
+            let spare = self.spare_program(alloc, folder, path, programs.as_slice())?;
+            programs.push(spare)?;
         }
-        let spare = self.spare_program(alloc, folder, path, programs.as_slice())?;
-        programs.push(spare)?;
-        let view = view_of(alloc, &self.texts, programs.as_slice())?;
-        let _ = programs.pop();
-        Ok(view)
+        Ok((programs, count))
     }
 
     /// Whether the text of this path has a tree, as far as it is open.
@@ -184,27 +196,48 @@ impl Server {
         })
     }
 
-    /// Looks at the names of the programs of a file, unless they are known.
+    /// Whether the names of the programs of a file are known, as far as is asked for.
+    fn is_held(&self, path: &str, reach: Reach, position: Option<Position>) -> bool {
+        match &self.held {
+            Some(held) => {
+                let is_known = held.focus.is_none() || held.focus == position;
+                is_known && held.path.as_str() == path && held.reach >= reach
+            }
+            None => false,
+        }
+    }
+
+    /// Looks at the names of the programs of a file, unless they are known. If a place is asked about, the names inside of other
+    /// procedures may be left out until `prepare`. What was known before is let go first.
     pub(crate) fn hold<F: Folder>(
         &mut self,
         alloc: Global,
         folder: &F,
         path: &str,
         reach: Reach,
+        position: Option<Position>,
     ) -> Result<(), AllocError> {
-        let is_held = match &self.held {
-            Some(held) => held.path.as_str() == path && held.reach >= reach,
-            None => false,
-        };
-        if is_held {
+        if self.is_held(path, reach, position) {
             return Ok(());
         }
-        let mut programs = self.programs_of(alloc, folder, path, reach)?;
-        let view = self.view_for(alloc, folder, path, reach, &mut programs)?;
-        let path = String::from_str(alloc, path)?;
-        self.held = Some(Held {
+        self.held = None;
+        let fresh = self.fresh.take();
+        let (mut programs, count) = self.programs_and_spare(alloc, folder, path, reach)?;
+        let encoding = self.encoding;
+        let spot = position.map(|position| Spot {
             path,
+            position,
+            encoding,
+        });
+        let view = view_for(alloc, &self.texts, &programs, fresh, spot)?;
+        programs.truncate(count);
+        if position.is_some() {
+            self.latest = Some(String::from_str(alloc, path)?);
+        }
+        self.held = Some(Held {
+            path: String::from_str(alloc, path)?,
             reach,
+            focus: position,
             programs,
             view,
         });
@@ -294,7 +327,10 @@ impl Server {
             return Reply::no_params(alloc);
         }
         let reach = reach_of(call.method, self.has_tree(path.as_str()));
-        self.hold(alloc, folder, path.as_str(), reach)?;
+        let position = place
+            .filter(|_| is_of_name(call.method))
+            .and_then(position_of);
+        self.hold(alloc, folder, path.as_str(), reach, position)?;
         let Some(held) = &self.held else {
             return Ok(Reply::Result(Value::Null));
         };

@@ -98,7 +98,7 @@ fn are_alike(before: &Index, after: &Index) -> bool {
             .uses()
             .iter()
             .zip(after.uses().iter())
-            .all(|pair| pair.0.declaration == pair.1.declaration)
+            .all(|pair| pair.0.declaration() == pair.1.declaration())
 }
 
 /// Whether the text of a file has a tree as it stands.
@@ -310,7 +310,7 @@ impl Server {
             let words = "this is no name of the language";
             return Reply::failed(alloc, ErrorCode::RequestFailed, words);
         }
-        self.hold(alloc, folder, path.as_str(), Reach::Folder)?;
+        self.hold(alloc, folder, path.as_str(), Reach::Folder, None)?;
         self.renamed_to(rt, place, new.as_bytes())
     }
 

@@ -8,8 +8,8 @@ use serve_messages::{
     Call, ErrorCode, FrameFault, Incoming, Invalid, Method, error_body, read_message, result_body,
 };
 use serve_offers::{has_snippets, makes_files};
-use serve_programs::{Folder, Program, Setting, View};
-use serve_texts::{Encoding, Texts};
+use serve_programs::{Folder, Fresh, Program, Setting, View};
+use serve_texts::{Encoding, Position, Texts};
 use std::alloc::{AllocError, Global};
 use std::thread::Threads;
 
@@ -35,6 +35,8 @@ pub(crate) struct Held {
     /// The path of the file.
     pub(crate) path: String,
     pub(crate) reach: Reach,
+    /// The place that was asked about, if the names inside of other procedures are not known.
+    pub(crate) focus: Option<Position>,
     pub(crate) programs: Vec<Program>,
     pub(crate) view: View,
 }
@@ -60,9 +62,11 @@ pub struct Server {
     pub(crate) shown: Vec<String>,
     /// The programs that were asked about last, until a text changes.
     pub(crate) held: Option<Held>,
+    /// The tree of the text that changed last, until it is asked for or said what is refused.
+    pub(crate) fresh: Option<Fresh>,
     /// Whether a text changed since it was last said what is refused.
     pub(crate) is_due: bool,
-    /// The text that changed last, until its names are looked at.
+    /// The text whose names are looked at when nothing is asked: that which changed last, or that of whose names not all are known.
     pub(crate) latest: Option<String>,
     /// The requests that are not wanted any more.
     pub(crate) cancelled: Vec<Value>,
@@ -141,6 +145,7 @@ impl Server {
             texts: Texts::new(alloc),
             shown: Vec::new(alloc),
             held: None,
+            fresh: None,
             is_due: false,
             latest: None,
             cancelled: Vec::new(alloc),
@@ -276,9 +281,16 @@ impl Server {
 
     /// Takes what a notification says of texts. Whether what is refused may be other then.
     fn take_change(&mut self, alloc: Global, call: &Call) -> Result<bool, AllocError> {
+        self.fresh = None;
         match call.method {
             Method::DidOpen => open_text(alloc, &mut self.texts, &call.params),
-            Method::DidChange => change_text(alloc, &mut self.texts, &call.params, self.encoding),
+            Method::DidChange => change_text(
+                alloc,
+                &mut self.texts,
+                &call.params,
+                self.encoding,
+                &mut self.fresh,
+            ),
             Method::DidClose => close_text(alloc, &mut self.texts, &call.params),
             Method::DidSave | Method::DidChangeWatchedFiles => Ok(true),
             _ => Ok(false),

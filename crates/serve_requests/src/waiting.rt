@@ -39,14 +39,15 @@ impl Server {
             return Ok(Vec::new(rt.alloc()));
         }
         self.is_due = false;
+        self.fresh = None;
         self.diagnose(rt, folder)
     }
 
-    /// Looks at the names of the text that changed last, so that the next request about it need not wait. The only error is want of
-    /// memory.
+    /// Looks at the names of the text that changed last, or of whose names not all are known, so that the next request about it need
+    /// not wait. The only error is want of memory.
     pub fn prepare<F: Folder>(&mut self, alloc: Global, folder: &F) -> Result<(), AllocError> {
         match self.latest.take() {
-            Some(path) => self.hold(alloc, folder, path.as_str(), Reach::Open),
+            Some(path) => self.hold(alloc, folder, path.as_str(), Reach::Open, None),
             None => Ok(()),
         }
     }

@@ -11,7 +11,7 @@ mod spots;
 
 pub use declaration::{Declaration, Facts, Kind, Numbers};
 pub use marks::Marks;
-pub use places::{Place, Range, Role, Use};
+pub use places::{Focus, Packed, Place, Range, Role, Use};
 pub use program::Program;
 pub use scopes::{Region, Scope, Shape, Standing, Type};
 pub use spots::{PUT, Spot};

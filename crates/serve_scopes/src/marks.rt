@@ -1,7 +1,7 @@
 //! Where the declarations of a text begin and end, by its tokens. A tree keeps the places of names, and not those of semicolons and
 //! closing names.
 
-use crate::places::{Place, Range};
+use crate::places::{Place, Range, narrow, wide};
 use m2_tree::{Ident, Lexeme, Pos, Symbol, Token};
 use std::alloc::{AllocError, Global};
 
@@ -32,7 +32,7 @@ pub struct Marks {
     places: Vec<Pos>,
     /// For each token, the last one first: the number of the token that closes what it opens, or else of the semicolon or the closing
     /// token that ends the part in which it stands.
-    ends: Vec<usize>,
+    ends: Vec<u32>,
 }
 
 /// What a symbol does to the levels. Behind a PROCEDURE with a name stands a body, unless the module is a definition.
@@ -64,16 +64,22 @@ struct Walk {
     /// The levels that are open around the innermost one.
     outer: Vec<Level>,
     level: Level,
-    ends: Vec<usize>,
+    ends: Vec<u32>,
 }
 
 impl Walk {
+    /// Notes the token that ends the next one.
+    fn put(&mut self, end: usize) -> Result<(), AllocError> {
+        self.ends.push(narrow(end))?;
+        Ok(())
+    }
+
     /// Passes the token of this number.
     fn pass(&mut self, number: usize, turn: Turn) -> Result<(), AllocError> {
         match turn {
             Turn::Stays => {
-                self.ends.push(self.level.end)?;
-                return Ok(());
+                let end = self.level.end;
+                return self.put(end);
             }
             Turn::Separates => self.level.end = number,
             Turn::Closes => {
@@ -84,18 +90,17 @@ impl Walk {
                 };
             }
             Turn::Opens => {
-                self.ends.push(self.level.closer)?;
+                let closer = self.level.closer;
                 self.level = self.outer.pop().unwrap_or(self.level);
-                return Ok(());
+                return self.put(closer);
             }
         }
-        self.ends.push(number)?;
-        Ok(())
+        self.put(number)
     }
 }
 
 /// The ends of tokens, the last first.
-fn ends_of(alloc: Global, tokens: &[Token], is_definition: bool) -> Result<Vec<usize>, AllocError> {
+fn ends_of(alloc: Global, tokens: &[Token], is_definition: bool) -> Result<Vec<u32>, AllocError> {
     let last = Level {
         closer: tokens.len(),
         end: tokens.len(),
@@ -157,7 +162,7 @@ impl Marks {
     fn end_of(&self, number: usize) -> usize {
         let last = self.ends.len().saturating_sub(1);
         match self.ends.get(last.saturating_sub(number)) {
-            Some(end) => *end,
+            Some(end) => wide(*end),
             None => last,
         }
     }

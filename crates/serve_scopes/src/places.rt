@@ -2,6 +2,19 @@
 
 use m2_tree::{Ident, Pos};
 
+/// A number as one of 32 bits, or the greatest one.
+pub fn narrow(number: usize) -> u32 {
+    match u32::try_from(number) {
+        Ok(narrow) => narrow,
+        Err(_) => u32::MAX,
+    }
+}
+
+/// A number of 32 bits as a wider one.
+pub fn wide(number: u32) -> usize {
+    number as usize
+}
+
 /// A name where it stands in a file.
 #[derive(Clone, Copy, Debug, PartialEq, Eq, PartialOrd, Ord)]
 pub struct Place {
@@ -25,10 +38,9 @@ impl Place {
 
     /// The place directly behind its last letter.
     pub fn end(&self) -> Pos {
-        let length = u32::try_from(self.length).unwrap_or(u32::MAX);
         Pos {
             line: self.pos.line,
-            col: self.pos.col.saturating_add(length),
+            col: self.pos.col.saturating_add(narrow(self.length)),
         }
     }
 
@@ -83,4 +95,63 @@ pub struct Use {
     pub declaration: usize,
     /// What it does there.
     pub role: Role,
+}
+
+/// The same in less room, and ordered alike.
+#[derive(Clone, Copy, Debug, PartialEq, Eq, PartialOrd, Ord)]
+pub struct Packed {
+    file: u32,
+    pos: Pos,
+    length: u32,
+    declaration: u32,
+    role: Role,
+}
+
+impl Packed {
+    /// A use in less room.
+    pub fn of(it: Use) -> Packed {
+        Packed {
+            file: narrow(it.place.file),
+            pos: it.place.pos,
+            length: narrow(it.place.length),
+            declaration: narrow(it.declaration),
+            role: it.role,
+        }
+    }
+
+    /// The number of the file.
+    pub fn file(&self) -> usize {
+        wide(self.file)
+    }
+
+    /// The place of the name's first letter.
+    pub fn pos(&self) -> Pos {
+        self.pos
+    }
+
+    /// The number of the declaration.
+    pub fn declaration(&self) -> usize {
+        wide(self.declaration)
+    }
+
+    /// The use.
+    pub fn unpacked(&self) -> Use {
+        Use {
+            place: Place {
+                file: self.file(),
+                pos: self.pos,
+                length: wide(self.length),
+            },
+            declaration: self.declaration(),
+            role: self.role,
+        }
+    }
+}
+
+/// The place that is asked about.
+#[derive(Clone, Copy, Debug, PartialEq, Eq)]
+pub struct Focus {
+    /// The number of the file.
+    pub file: usize,
+    pub pos: Pos,
 }

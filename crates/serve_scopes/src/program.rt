@@ -1,7 +1,7 @@
 //! A program, as far as its names are gathered.
 
 use crate::declaration::{Declaration, Facts, Kind};
-use crate::places::{Place, Range, Role, Use};
+use crate::places::{Packed, Place, Range, Role, Use};
 use crate::scopes::{Region, Scope, Shape, Standing, Type};
 use indexmap::IndexMap;
 use m2_tree::Ident;
@@ -18,7 +18,7 @@ pub struct Program {
     pub scopes: Vec<Scope>,
     /// In the order in which they begin.
     pub regions: Vec<Region>,
-    pub uses: Vec<Use>,
+    pub uses: Vec<Packed>,
     /// The names that stand for nothing.
     pub unresolved: Vec<Place>,
     /// The declarations of the modules that have a definition, by name.
@@ -148,11 +148,12 @@ impl Program {
         declaration: usize,
         role: Role,
     ) -> Result<(), AllocError> {
-        self.uses.push(Use {
+        let found = Use {
             place,
             declaration,
             role,
-        })?;
+        };
+        self.uses.push(Packed::of(found))?;
         Ok(())
     }
 

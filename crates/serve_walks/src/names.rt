@@ -37,7 +37,7 @@ pub fn declare_listed(
     name: &Ident,
     tail: Range,
 ) -> Result<usize, AllocError> {
-    let range = walk.marks.part_from(name.pos);
+    let range = walk.marks().part_from(name.pos);
     let facts = facts_of(walk, kind, range, tail);
     walk.declare(name, facts)
 }
@@ -83,7 +83,7 @@ fn type_names(walk: &mut Walk, owner: Option<usize>, of: &TypeExpr) -> Result<()
 
 fn constant_names(walk: &mut Walk, rows: &[Constant]) -> Result<(), AllocError> {
     for row in rows {
-        let tail = walk.marks.tail_of(&row.name);
+        let tail = walk.marks().tail_of(&row.name);
         declare_listed(walk, Kind::Constant, &row.name, tail)?;
     }
     Ok(())
@@ -95,7 +95,7 @@ fn is_enumeration(of: &TypeExpr) -> bool {
 }
 
 fn one_type(walk: &mut Walk, row: &TypeDecl) -> Result<(), AllocError> {
-    let tail = walk.marks.tail_of(&row.name);
+    let tail = walk.marks().tail_of(&row.name);
     let number = declare_listed(walk, Kind::Type, &row.name, tail)?;
     let begin = walk.program.declarations.len();
     type_names(walk, Some(number), &row.of)?;
@@ -124,7 +124,7 @@ pub fn list_names(
     let Some(last) = names.last() else {
         return Ok(None);
     };
-    let tail = walk.marks.tail_of(last);
+    let tail = walk.marks().tail_of(last);
     let mut first = None;
     for name in names {
         let number = declare_listed(walk, kind, name, tail)?;
@@ -143,8 +143,8 @@ fn variables_names(walk: &mut Walk, rows: &[Variables]) -> Result<(), AllocError
 
 /// Declares a procedure that has no body.
 fn heading_name(walk: &mut Walk, heading: &Heading) -> Result<(), AllocError> {
-    let range = walk.marks.heading_of(&heading.name);
-    let tail = walk.marks.tail_of(&heading.name);
+    let range = walk.marks().heading_of(&heading.name);
+    let tail = walk.marks().tail_of(&heading.name);
     let facts = facts_of(walk, Kind::Procedure, range, tail);
     walk.declare(&heading.name, facts)?;
     Ok(())
@@ -170,14 +170,14 @@ fn defined_before(walk: &Walk, name: &Ident) -> Option<usize> {
 /// Declares a procedure with a body, or notes that it is the implementation of one.
 fn procedure_name(walk: &mut Walk, heading: &Heading) -> Result<(), AllocError> {
     let name = &heading.name;
-    let range = walk.marks.body_of(name);
+    let range = walk.marks().body_of(name);
     match defined_before(walk, name) {
         Some(number) => {
             let place = walk.place(name);
             walk.program.implement(number, place, range)
         }
         None => {
-            let tail = walk.marks.tail_of(name);
+            let tail = walk.marks().tail_of(name);
             let facts = facts_of(walk, Kind::Procedure, range, tail);
             walk.declare(name, facts)?;
             Ok(())

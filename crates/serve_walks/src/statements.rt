@@ -54,7 +54,7 @@ fn open_fields(walk: &mut Walk, record: &Designator) -> Result<(), AllocError> {
         Some(fields) => fields,
         None => walk.program.new_scope()?,
     };
-    let range = walk.marks.with_of(&record.name);
+    let range = walk.marks().with_of(&record.name);
     walk.open(fields, range)
 }
 

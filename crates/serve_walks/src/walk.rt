@@ -1,7 +1,7 @@
 //! A walk through the trees of a program, with the scopes around its place.
 
 use m2_tree::{Ident, Qualified};
-use serve_scopes::{Facts, Marks, Place, Program, Range, Role, Spot, Standing};
+use serve_scopes::{Facts, Focus, Marks, Place, Program, Range, Role, Spot, Standing};
 use serve_words::is_predeclared;
 use std::alloc::{AllocError, Global};
 
@@ -10,8 +10,12 @@ use std::alloc::{AllocError, Global};
 pub struct Walk {
     pub alloc: Global,
     pub program: Program,
-    /// The tokens of the file.
-    pub marks: Marks,
+    /// The tokens of each file.
+    marks: Vec<Marks>,
+    /// Those of a file that has none.
+    no_marks: Marks,
+    /// The place that is asked about, if one is.
+    focus: Option<Focus>,
     pub file: usize,
     /// The scopes around the place, the outermost first.
     pub around: Vec<usize>,
@@ -25,18 +29,37 @@ pub struct Walk {
 }
 
 impl Walk {
-    /// A walk that has not begun.
-    pub fn new(alloc: Global) -> Walk {
+    /// A walk through files with these tokens that has not begun. If a place is asked about, bodies around which it does not stand
+    /// are passed over.
+    pub fn new(alloc: Global, marks: Vec<Marks>, focus: Option<Focus>) -> Walk {
         Walk {
             alloc,
             program: Program::new(alloc),
-            marks: Marks::none(alloc),
+            marks,
+            no_marks: Marks::none(alloc),
+            focus,
             file: 0,
             around: Vec::new(alloc),
             module: None,
             parent: None,
             is_definition: false,
             is_var: false,
+        }
+    }
+
+    /// The tokens of the file.
+    pub fn marks(&self) -> &Marks {
+        match self.marks.get(self.file) {
+            Some(marks) => marks,
+            None => &self.no_marks,
+        }
+    }
+
+    /// Whether a stretch of the file is passed over, since another place is asked about.
+    pub fn passes_over(&self, range: Range) -> bool {
+        match self.focus {
+            Some(focus) => focus.file != self.file || !range.has(focus.pos),
+            None => false,
         }
     }
 
