@@ -58,7 +58,7 @@ _m2() {
         case "$command" in
             run) _m2_words "--input --profile --coverage --listing --flame --callgrind --lcov --trace --trace-limit --cost --cost-svg --steps --lib --verbose --memory --workers --format --color --help" ;;
             debug) _m2_words "--input --dap --steps --lib --verbose --memory --workers --format --color --help" ;;
-            build) _m2_words "--input --out --deps --map --single --host --lib --verbose --memory --workers --format --color --help" ;;
+            build) _m2_words "--input --out --deps --map --fresh --single --host --lib --verbose --memory --workers --format --color --help" ;;
             compile) _m2_words "--out --deps --from --lib --verbose --memory --workers --format --color --help" ;;
             link) _m2_words "--out --memory --help" ;;
             graph) _m2_words "--format --out --lib --verbose --memory --workers --help" ;;

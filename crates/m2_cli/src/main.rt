@@ -61,6 +61,7 @@ where
             out,
             deps,
             is_mapped,
+            fresh: _,
         } => build_into(
             rt,
             setting,

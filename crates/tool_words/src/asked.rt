@@ -102,7 +102,7 @@ pub struct Setting {
     pub options: Options,
     /// The folders in which modules are looked for behind the folder of the program, in this order.
     pub libraries: Vec<String>,
-    /// Whether it is said what is found.
+    /// Whether it is said what is found, and why each module is compiled.
     pub is_verbose: bool,
     /// How refusals are shown.
     pub style: Style,
@@ -143,7 +143,8 @@ pub enum Asked {
         steps: u64,
     },
     /// To write the modules of the program of this file into a folder. It reads this file, or nothing. Into the file `deps` it is
-    /// written of which files the modules were made. Beside each module its map is written, if this is wanted.
+    /// written of which files the modules were made. Beside each module its map is written, if this is wanted. A fresh build
+    /// takes nothing of an earlier one.
     Build {
         program: String,
         input: Option<String>,
@@ -151,6 +152,7 @@ pub enum Asked {
         out: String,
         deps: Option<String>,
         is_mapped: bool,
+        fresh: bool,
     },
     /// To compile the module of this file alone into a folder, or to check a definition. The folder `from` is searched first,
     /// or the file's own. Into the file `deps` it is written of which files the module was made.

@@ -91,6 +91,9 @@ pub(crate) const DEPS: &str = "deps";
 /// The name of the option for maps.
 pub(crate) const MAP: &str = "map";
 
+/// The name of the option for a build that takes nothing of an earlier one.
+pub(crate) const FRESH: &str = "fresh";
+
 /// The name of the option for the folder that is searched first.
 pub(crate) const FROM: &str = "from";
 
@@ -202,7 +205,7 @@ const LIBRARY_ROWS: [Row; 2] = [
     Row {
         name: "verbose",
         sort: Sort::Flag,
-        help: "Says which files are found",
+        help: "Says which files are found, and why build compiles each module",
     },
 ];
 
@@ -288,7 +291,7 @@ const DEBUG_ROWS: [Row; 3] = [
     },
 ];
 
-const BUILD_ROWS: [Row; 7] = [
+const BUILD_ROWS: [Row; 8] = [
     PROGRAM_ROW,
     INPUT_ROW,
     OUT_ROW,
@@ -297,6 +300,11 @@ const BUILD_ROWS: [Row; 7] = [
         name: MAP,
         sort: Sort::Flag,
         help: "Writes M.map beside each M.wasm, by which m2run and node tell where a fault was",
+    },
+    Row {
+        name: FRESH,
+        sort: Sort::Flag,
+        help: "Takes nothing of an earlier build",
     },
     Row {
         name: SINGLE,

@@ -4,7 +4,7 @@ use crate::PROGRAM;
 use crate::asked::{Asked, Drawn, Fix, Layout, Measured, Pass, Setting, Style, Told};
 use crate::commands::{
     BYTES, CALLGRIND, CASES, CHECK, CLASS, COST, COST_SVG, COVERAGE, DAP, DEPS, DIFF, DIR, EACH,
-    FILE, FIX, FLAME, FROM, HOST, HTML, INPUT, INPUT_FILE, LCOV, LISTING, MAP, MODULE, OUT,
+    FILE, FIX, FLAME, FRESH, FROM, HOST, HTML, INPUT, INPUT_FILE, LCOV, LISTING, MAP, MODULE, OUT,
     PROFILE, SAME, SINGLE, TEXT, TRACE, TRACE_LIMIT, YES, command,
 };
 use crate::libraries::libraries_of;
@@ -253,6 +253,9 @@ where
     if matches.get_flag(MAP) {
         return Err(refuse(rt, "--map goes with --out"));
     }
+    if matches.get_flag(FRESH) {
+        return Err(refuse(rt, "--fresh goes with --out"));
+    }
     Ok(Asked::Single {
         host: host_of(rt, matches)?,
         out: name_of(rt, matches, SINGLE, "--single")?,
@@ -280,6 +283,7 @@ where
         out: name_of(rt, matches, OUT, "--out")?,
         deps: file_of(rt, matches, DEPS, "--deps")?,
         is_mapped: matches.get_flag(MAP),
+        fresh: matches.get_flag(FRESH),
         program: name_of(rt, matches, FILE, FILE)?,
         input: input_of(rt, matches)?,
         setting: setting_of(rt, matches, colours)?,

@@ -21,7 +21,7 @@ LINES = [
     ("m2 --", "--help --version"),
     ("m2 help ", COMMANDS.replace("help ", "")),
     ("m2 run --", f"{SETTINGS} --callgrind --cost --cost-svg --coverage --flame --input --lcov --listing --profile --steps --trace --trace-limit"),
-    ("m2 build --", f"{SETTINGS} --deps --host --input --map --out --single"),
+    ("m2 build --", f"{SETTINGS} --deps --fresh --host --input --map --out --single"),
     ("m2 fmt --", "--check --color --diff --format --help"),
     ("m2 build --host ", "plain wasi"),
     ("m2 check --", f"{SETTINGS} --fix --yes"),
