@@ -14,9 +14,10 @@ pub fn propose_comment(mends: &mut Mends<'_>, at: usize) -> Result<(), AllocErro
         let begin = mends.source.begin(number);
         let behind = rest(mends.source.bytes, begin);
         match behind {
-            [b'/', b'/', ..] => put_comment(mends, begin, line_width(behind), 2, 0)?,
+            [b'/', b'/', ..] | [b'-', b'-', ..] => {
+                put_comment(mends, begin, line_width(behind), 2, 0)?;
+            }
             [b'/', b'*', ..] => put_comment(mends, begin, c_width(behind), 2, 2)?,
-            [b'-', b'-', ..] => put_comment(mends, begin, line_width(behind), 2, 0)?,
             [b'{', ..] => {
                 mends.is_bold = true;
                 put_comment(mends, begin, brace_width(behind), 1, 1)?;
@@ -70,8 +71,7 @@ fn put_comment(
     text.extend_from_slice(b"(*")?;
     text.extend_from_slice(inside)?;
     text.extend_from_slice(b"*)")?;
-    let words = String::from_str(mends.alloc, "a comment stands between `(*` and `*)`")?;
-    mends.put(begin, end, &text, words)
+    mends.put_known(begin, end, &text, "a comment stands between `(*` and `*)`")
 }
 
 /// Writes a block in braces with a word and END.
@@ -92,21 +92,24 @@ fn put_block(
     mends.replace_all(open, close, text.as_bytes(), words)
 }
 
+/// Writes a block in braces with each of the words that begin one, and its first brace as such a word.
+fn put_blocks(mends: &mut Mends<'_>, open: usize) -> Result<(), AllocError> {
+    let close = mends.next_of(open, Symbol::RightBrace, Symbol::RightBrace);
+    for word in &["THEN", "DO", "BEGIN"] {
+        put_block(mends, open, close, word)?;
+    }
+    mends.replace_each(open, &["THEN", "DO"])
+}
+
 /// Writes a block in braces, or one of them, with the words of the language.
 pub fn propose_blocks(mends: &mut Mends<'_>, at: usize) -> Result<(), AllocError> {
     for open in at.saturating_sub(1)..=at {
         if mends.source.is(open, Symbol::LeftBrace) {
-            let close = mends.next_of(open, Symbol::RightBrace, Symbol::RightBrace);
-            put_block(mends, open, close, "THEN")?;
-            put_block(mends, open, close, "DO")?;
-            put_block(mends, open, close, "BEGIN")?;
-            mends.replace(open, b"THEN")?;
-            mends.replace(open, b"DO")?;
+            put_blocks(mends, open)?;
         }
     }
     if mends.source.is(at, Symbol::RightBrace) {
-        mends.replace(at, b"END")?;
-        mends.replace(at, b"END;")?;
+        mends.replace_each(at, &["END", "END;"])?;
     }
     Ok(())
 }
@@ -121,6 +124,5 @@ pub fn propose_steps(mends: &mut Mends<'_>, at: usize) -> Result<(), AllocError>
         .saturating_sub(1);
     let limit = words_of(mends.alloc, mends.source.between(at.saturating_add(1), end))?;
     let text = format!(in mends.alloc; "TO {limit} BY -1")?;
-    let words = format!(in mends.alloc; "a FOR counts down with BY: write `{text}`")?;
-    mends.replace_all(at, end, text.as_bytes(), words)
+    mends.write(at, end, text.as_str(), "a FOR counts down with BY")
 }

@@ -80,30 +80,30 @@ const BEHIND_STRINGS: [&[u8]; 12] = [
     b");", b")", b";", b" THEN", b" DO", b" OF", b", 1)", b",", b" END", b"]", b" AND", b" ELSE",
 ];
 
+/// What is said of a sign that no text may have.
+fn sign_words(mends: &Mends<'_>, sign: &Spelled) -> Result<String, AllocError> {
+    if sign.here.is_empty() {
+        return String::from_str(
+            mends.alloc,
+            "the text begins with a byte order mark: save the file without it",
+        );
+    }
+    let there = words_of(mends.alloc, sign.there)?;
+    let here = words_of(mends.alloc, sign.here)?;
+    format!(in mends.alloc; "write `{}` in place of `{there}`", here.trim())
+}
+
 /// Writes a sign that no text may have.
 fn propose_sign(mends: &mut Mends<'_>, begin: usize) -> Result<(), AllocError> {
     for sign in &SIGNS {
         if rest(mends.source.bytes, begin).starts_with(sign.there) {
-            let there = words_of(mends.alloc, sign.there)?;
-            let here = words_of(mends.alloc, sign.here)?;
-            let words = if here.is_empty() {
-                String::from_str(
-                    mends.alloc,
-                    "the text begins with a byte order mark: save the file without it",
-                )?
-            } else {
-                format!(in mends.alloc; "write `{}` in place of `{there}`", here.trim())?
-            };
-            mends.put(
-                begin,
-                begin.saturating_add(sign.there.len()),
-                sign.here,
-                words,
-            )?;
+            let words = sign_words(mends, sign)?;
+            let end = begin.saturating_add(sign.there.len());
+            mends.put(begin, end, sign.here, words)?;
         }
     }
-    let words = format!(in mends.alloc; "take this character out")?;
-    mends.put(begin, begin.saturating_add(1), b"", words)
+    let end = begin.saturating_add(1);
+    mends.put_known(begin, end, b"", "take this character out")
 }
 
 /// Whether a byte belongs to a name elsewhere.
@@ -142,11 +142,8 @@ fn propose_names(mends: &mut Mends<'_>, begin: usize) -> Result<(), AllocError> 
             };
         }
     }
-    let words = String::from_str(
-        mends.alloc,
-        "names have letters and digits alone: write them without `_`",
-    )?;
-    mends.put(begin, mends.source.bytes.len(), &text, words)
+    let words = "names have letters and digits alone: write them without `_`";
+    mends.put_known(begin, mends.source.bytes.len(), &text, words)
 }
 
 /// Ends a comment at the end of a line.
@@ -155,16 +152,12 @@ fn propose_comment_end(mends: &mut Mends<'_>, begin: usize) -> Result<(), AllocE
     for (at, byte) in mends.source.bytes.iter().enumerate() {
         if *byte == b'\n' && at >= begin && count < MOST_LINES {
             count = count.saturating_add(1);
-            let words = String::from_str(mends.alloc, "a comment is not closed: end it with `*)`")?;
-            mends.put(at, at, b" *)", words)?;
+            mends.put_known(at, at, b" *)", "a comment is not closed: end it with `*)`")?;
         }
     }
     let end = begin.saturating_add(2);
-    let words = String::from_str(
-        mends.alloc,
-        "`(*` begins a comment: put a blank between `(` and `*`",
-    )?;
-    mends.put(begin, end, b"( *", words)
+    let words = "`(*` begins a comment: put a blank between `(` and `*`";
+    mends.put_known(begin, end, b"( *", words)
 }
 
 /// The bytes up to the end of the line.
@@ -177,11 +170,39 @@ fn line_behind(text: &[u8], begin: usize) -> usize {
 
 /// Ends a string at a place.
 fn put_quote(mends: &mut Mends<'_>, place: usize, quote: &[u8]) -> Result<(), AllocError> {
-    let words = String::from_str(
-        mends.alloc,
-        "a string is not closed: each begins and ends with a quote",
-    )?;
-    mends.put(place, place, quote, words)
+    let words = "a string is not closed: each begins and ends with a quote";
+    mends.put_known(place, place, quote, words)
+}
+
+/// Ends a string in front of what its line ends with.
+fn propose_quote_before(
+    mends: &mut Mends<'_>,
+    begin: usize,
+    line: &[u8],
+    quote: &[u8],
+) -> Result<(), AllocError> {
+    for ending in &BEHIND_STRINGS {
+        if let Some(back) = find_last(line, ending) {
+            put_quote(mends, begin.saturating_add(back), quote)?;
+        }
+    }
+    Ok(())
+}
+
+/// Ends a string in front of a byte that may follow on one, or behind it.
+fn propose_quote_at(
+    mends: &mut Mends<'_>,
+    place: usize,
+    byte: u8,
+    quote: &[u8],
+) -> Result<(), AllocError> {
+    if matches!(byte, b',' | b')' | b']' | b':' | b';' | b'(' | b' ' | b'=') {
+        put_quote(mends, place, quote)?;
+    }
+    if matches!(byte, b' ' | b'(') {
+        put_quote(mends, place.saturating_add(1), quote)?;
+    }
+    Ok(())
 }
 
 /// Ends a string in front of what its line ends with, at its end, or in front of what may follow on one, anywhere in the line.
@@ -190,20 +211,11 @@ fn propose_quote(mends: &mut Mends<'_>, begin: usize) -> Result<(), AllocError> 
     let end = begin.saturating_add(line_behind(bytes, begin));
     let line = part(bytes, begin, end);
     let quote = part(line, 0, 1);
-    for ending in &BEHIND_STRINGS {
-        if let Some(back) = find_last(line, ending) {
-            put_quote(mends, begin.saturating_add(back), quote)?;
-        }
-    }
+    propose_quote_before(mends, begin, line, quote)?;
     put_quote(mends, end, quote)?;
     let first = begin.saturating_sub(begin_width(bytes, begin));
     for (at, byte) in part(bytes, first, end).iter().enumerate() {
-        if matches!(*byte, b',' | b')' | b']' | b':' | b';' | b'(' | b' ' | b'=') {
-            put_quote(mends, first.saturating_add(at), quote)?;
-            if matches!(*byte, b' ' | b'(') {
-                put_quote(mends, first.saturating_add(at).saturating_add(1), quote)?;
-            }
-        }
+        propose_quote_at(mends, first.saturating_add(at), *byte, quote)?;
     }
     Ok(())
 }
@@ -223,15 +235,11 @@ fn put_other_quote(
     let other = other_quote(quote);
     let mut text = Vec::new(mends.alloc);
     text.push(other)?;
-    for byte in part(mends.source.bytes, first.saturating_add(1), last) {
-        text.push(*byte)?;
-    }
+    text.extend_from_slice(part(mends.source.bytes, first.saturating_add(1), last))?;
     text.push(other)?;
-    let words = String::from_str(
-        mends.alloc,
-        "a string is not closed: with its own quote inside it stands between quotes of the other kind",
-    )?;
-    mends.put(first, last.saturating_add(1), &text, words)
+    let words =
+        "a string is not closed: with its own quote inside it stands between quotes of the other kind";
+    mends.put_known(first, last.saturating_add(1), &text, words)
 }
 
 /// Writes the other quote around a string that has its own inside, of which the last is the refused one.
@@ -270,6 +278,19 @@ fn find_last(line: &[u8], text: &[u8]) -> Option<usize> {
     found
 }
 
+/// Writes digits behind `0x` as a hexadecimal number of the language.
+fn put_hexadecimal(
+    mends: &mut Mends<'_>,
+    begin: usize,
+    end: usize,
+    digits: &[u8],
+) -> Result<(), AllocError> {
+    let digits = words_of(mends.alloc, digits)?.to_ascii_uppercase(mends.alloc)?;
+    let text = format!(in mends.alloc; "0{digits}H")?;
+    let words = format!(in mends.alloc; "a hexadecimal number ends with H: write `{text}`")?;
+    mends.put(begin, end, text.as_bytes(), words)
+}
+
 /// Writes digits as a number of the language.
 fn propose_number(mends: &mut Mends<'_>, begin: usize) -> Result<(), AllocError> {
     let bytes = mends.source.bytes;
@@ -277,17 +298,12 @@ fn propose_number(mends: &mut Mends<'_>, begin: usize) -> Result<(), AllocError>
     let end = begin.saturating_add(width);
     let number = part(bytes, begin, end);
     if let [b'0', b'x' | b'X', digits @ ..] = number {
-        let digits = words_of(mends.alloc, digits)?.to_ascii_uppercase(mends.alloc)?;
-        let text = format!(in mends.alloc; "0{digits}H")?;
-        let words = format!(in mends.alloc; "a hexadecimal number ends with H: write `{text}`")?;
-        mends.put(begin, end, text.as_bytes(), words)?;
+        put_hexadecimal(mends, begin, end, digits)?;
     }
     let digits = number.iter().take_while(|it| it.is_ascii_digit()).count();
     let place = begin.saturating_add(digits);
-    let words = String::from_str(mends.alloc, "put a blank behind the number")?;
-    mends.put(place, place, b" ", words)?;
-    let words = String::from_str(mends.alloc, "a hexadecimal number ends with H")?;
-    mends.put(end, end, b"H", words)
+    mends.put_known(place, place, b" ", "put a blank behind the number")?;
+    mends.put_known(end, end, b"H", "a hexadecimal number ends with H")
 }
 
 /// Mends where a rule of tokens is broken at a place.

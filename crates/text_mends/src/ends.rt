@@ -102,6 +102,15 @@ fn end_place(mends: &Mends<'_>, opener: usize, place: usize) -> usize {
     }
 }
 
+/// Where something is put that stands in front of a token, in words.
+fn words_before(mends: &Mends<'_>, place: usize) -> Result<String, AllocError> {
+    if mends.source.is_first(place) {
+        return format!(in mends.alloc; "before line {}", mends.source.line(place));
+    }
+    let there = words_of(mends.alloc, mends.source.spelling(place))?;
+    format!(in mends.alloc; "before `{there}`")
+}
+
 /// Puts an END of a construct in front of a token.
 fn put_end(
     mends: &mut Mends<'_>,
@@ -111,12 +120,7 @@ fn put_end(
 ) -> Result<(), AllocError> {
     let kind = words_of(mends.alloc, mends.source.spelling(opener))?;
     let line = mends.source.line(opener);
-    let before = if mends.source.is_first(place) {
-        format!(in mends.alloc; "before line {}", mends.source.line(place))?
-    } else {
-        let there = words_of(mends.alloc, mends.source.spelling(place))?;
-        format!(in mends.alloc; "before `{there}`")?
-    };
+    let before = words_before(mends, place)?;
     let words = format!(in mends.alloc;
         "an {} is missing for the {kind} of line {line}: put it {before}",
         if mends.source.is(opener, Symbol::Repeat) {
@@ -136,17 +140,11 @@ pub fn put_line(
     words: String,
 ) -> Result<(), AllocError> {
     let begin = mends.source.begin(place);
-    let mut text = String::from_str(mends.alloc, word)?;
-    if mends.source.is(place, Symbol::Semicolon) {
-        text = format!(in mends.alloc; " {word}")?;
-    } else if mends.source.is_first(place) {
-        text.push('\n')?;
-        for _ in 1..mends.source.column(place) {
-            text.push(' ')?;
-        }
+    let text = if mends.source.is(place, Symbol::Semicolon) {
+        format!(in mends.alloc; " {word}")?
     } else {
-        text.push(' ')?;
-    }
+        mends.leading(place, word, mends.source.is_first(place))?
+    };
     mends.put(begin, begin, text.as_bytes(), words)
 }
 

@@ -97,6 +97,69 @@ impl<'a> Mends<'a> {
         self.put(begin, end, text, words)
     }
 
+    /// Adds an edit with a sentence that is known.
+    pub fn put_known(
+        &mut self,
+        begin: usize,
+        end: usize,
+        text: &[u8],
+        words: &str,
+    ) -> Result<(), AllocError> {
+        let words = String::from_str(self.alloc, words)?;
+        self.put(begin, end, text, words)
+    }
+
+    /// Replaces the tokens from one to another by a text, with a sentence that is known.
+    pub fn replace_known(
+        &mut self,
+        first: usize,
+        last: usize,
+        text: &[u8],
+        words: &str,
+    ) -> Result<(), AllocError> {
+        let (begin, end) = (self.source.begin(first), self.source.end(last));
+        self.put_known(begin, end, text, words)
+    }
+
+    /// Replaces the tokens from one to another by a text that the sentence shows behind the reason.
+    pub fn write(
+        &mut self,
+        first: usize,
+        last: usize,
+        text: &str,
+        reason: &str,
+    ) -> Result<(), AllocError> {
+        let words = format!(in self.alloc; "{reason}: write `{text}`")?;
+        self.replace_all(first, last, text.as_bytes(), words)
+    }
+
+    /// Writes the tokens from one to another between two texts.
+    pub fn wrap(
+        &mut self,
+        first: usize,
+        last: usize,
+        ends: (&str, &str),
+        reason: &str,
+    ) -> Result<(), AllocError> {
+        let there = words_of(self.alloc, self.source.between(first, last))?;
+        let text = format!(in self.alloc; "{}{there}{}", ends.0, ends.1)?;
+        self.write(first, last, text.as_str(), reason)
+    }
+
+    /// Replaces a token by each of these words.
+    pub fn replace_each(&mut self, at: usize, all: &[&str]) -> Result<(), AllocError> {
+        for word in all {
+            self.replace(at, word.as_bytes())?;
+        }
+        Ok(())
+    }
+
+    /// Replaces a token by another one's word.
+    pub fn replace_by(&mut self, at: usize, other: usize) -> Result<(), AllocError> {
+        let word = Vec::from_slice(self.alloc, self.source.spelling(other))?;
+        self.replace(at, &word)
+    }
+
     /// Replaces a token by a word.
     pub fn replace(&mut self, at: usize, word: &[u8]) -> Result<(), AllocError> {
         if self.source.spelling(at) == word {
@@ -148,31 +211,44 @@ impl<'a> Mends<'a> {
         self.put(place, place, text.as_bytes(), words)
     }
 
+    /// A word as it stands in front of a token: on a line of its own, or with a blank behind it.
+    pub fn leading(&self, at: usize, word: &str, is_alone: bool) -> Result<String, AllocError> {
+        let mut text = String::from_str(self.alloc, word)?;
+        if !is_alone {
+            text.push(' ')?;
+            return Ok(text);
+        }
+        text.push('\n')?;
+        for _ in 1..self.source.column(at) {
+            text.push(' ')?;
+        }
+        Ok(text)
+    }
+
     /// Puts a word in front of a token, on a line of its own if it stands on one and the token begins a line.
     fn put_front(&mut self, at: usize, word: &str, words: String) -> Result<(), AllocError> {
         let place = self.source.begin(at);
-        let mut text = String::from_str(self.alloc, word)?;
-        if stands_alone(word) && self.source.is_first(at) {
-            text.push('\n')?;
-            for _ in 1..self.source.column(at) {
-                text.push(' ')?;
-            }
-        } else {
-            text.push(' ')?;
-        }
+        let text = self.leading(at, word, stands_alone(word) && self.source.is_first(at))?;
         self.put(place, place, text.as_bytes(), words)
+    }
+
+    /// What is said of a word that is missing between a token and the one in front of it.
+    fn missing_words(&self, at: usize, word: &str) -> Result<String, AllocError> {
+        let what = noun(self.alloc, word)?;
+        let place = if stands_behind(word) {
+            self.back_words(at)?
+        } else {
+            self.front_words(at)?
+        };
+        format!(in self.alloc; "{what} is missing: put it {place}")
     }
 
     /// Puts a word between a token and the one in front of it.
     pub fn insert(&mut self, at: usize, word: &str) -> Result<(), AllocError> {
-        let what = noun(self.alloc, word)?;
+        let words = self.missing_words(at, word)?;
         if stands_behind(word) {
-            let place = self.back_words(at)?;
-            let words = format!(in self.alloc; "{what} is missing: put it {place}")?;
             return self.put_behind(at, word, words);
         }
-        let place = self.front_words(at)?;
-        let words = format!(in self.alloc; "{what} is missing: put it {place}")?;
         self.put_front(at, word, words)
     }
 

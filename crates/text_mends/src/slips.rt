@@ -505,6 +505,20 @@ pub fn propose_signs(mends: &mut Mends<'_>, at: usize) -> Result<(), AllocError>
     Ok(())
 }
 
+/// Adds a text up to a token, and the word that stands for the token.
+fn push_word(
+    mends: &Mends<'_>,
+    text: &mut Vec<u8>,
+    from: usize,
+    at: usize,
+    word: &[u8],
+) -> Result<(), AllocError> {
+    let between = text_tokens::part(mends.source.bytes, from, mends.source.begin(at));
+    text.extend_from_slice(between)?;
+    text.extend_from_slice(word)?;
+    Ok(())
+}
+
 /// Writes all names that are reserved words in capital letters so.
 pub fn propose_all_capitals(mends: &mut Mends<'_>) -> Result<(), AllocError> {
     let mut first = None;
@@ -512,24 +526,21 @@ pub fn propose_all_capitals(mends: &mut Mends<'_>) -> Result<(), AllocError> {
     let mut text = Vec::new(mends.alloc);
     for at in 0..mends.source.tokens.len() {
         let word = capitals(mends.alloc, mends.source.spelling(at))?;
-        let is_small = word_of(&word).is_some() && mends.source.is_name(at);
-        if is_small {
-            let begin = first.unwrap_or(mends.source.begin(at));
-            if first.is_some() {
-                text.extend_from_slice(text_tokens::part(
-                    mends.source.bytes,
-                    last,
-                    mends.source.begin(at),
-                ))?;
-            }
-            first = Some(begin);
+        if word_of(&word).is_some() && mends.source.is_name(at) {
+            let begin = mends.source.begin(at);
+            let from = if first.is_some() { last } else { begin };
+            push_word(mends, &mut text, from, at, &word)?;
+            first = Some(first.unwrap_or(begin));
             last = mends.source.end(at);
-            text.extend_from_slice(&word)?;
         }
     }
     let Some(begin) = first else {
         return Ok(());
     };
-    let words = String::from_str(mends.alloc, "write all reserved words in capital letters")?;
-    mends.put(begin, last, &text, words)
+    mends.put_known(
+        begin,
+        last,
+        &text,
+        "write all reserved words in capital letters",
+    )
 }

@@ -65,7 +65,6 @@ pub enum Fix {
 }
 
 /// What is told of a run that is over: on standard error, or in files of these names.
-#[derive(Drop)]
 pub struct Measured {
     /// How many reductions each procedure and each line took, and how often it ran.
     pub is_profiled: bool,
@@ -82,6 +81,27 @@ pub struct Measured {
     /// What each statement did, in as many lines as this at most.
     pub trace: Option<String>,
     pub most_lines: u64,
+}
+
+// Written by hand, so that each exit takes a drop as one call.
+impl Drop for Measured {
+    fn drop(self) {
+        let Measured {
+            is_profiled: _,
+            is_covered: _,
+            listing,
+            flame,
+            callgrind,
+            lcov,
+            trace,
+            most_lines: _,
+        } = self;
+        drop(listing);
+        drop(flame);
+        drop(callgrind);
+        drop(lcov);
+        drop(trace);
+    }
 }
 
 /// What is done with a text whose layout is another than the one that it is to have.

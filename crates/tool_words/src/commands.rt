@@ -618,11 +618,16 @@ fn arg_of<'a>(alloc: Global, row: Row) -> Arg<'a> {
     }
 }
 
+/// A command with one more word or option.
+fn with_arg<'a>(command: Command<'a>, arg: Arg<'a>) -> Result<Command<'a>> {
+    Ok(command.arg(arg)?)
+}
+
 /// A command with the words and options of these rows.
 fn with_rows<'a>(alloc: Global, command: Command<'a>, rows: &[Row]) -> Result<Command<'a>> {
     let mut command = command;
     for row in rows {
-        command = command.arg(arg_of(alloc, *row))?;
+        command = with_arg(command, arg_of(alloc, *row))?;
     }
     Ok(command)
 }
@@ -630,11 +635,8 @@ fn with_rows<'a>(alloc: Global, command: Command<'a>, rows: &[Row]) -> Result<Co
 /// A command with the options that say how a program is found and built.
 fn with_building<'a>(alloc: Global, command: Command<'a>) -> Result<Command<'a>> {
     let command = with_rows(alloc, command, &LIBRARY_ROWS)?;
-    Ok(
-        command
-            .arg(memory_option(alloc))?
-            .arg(workers_option(alloc))?,
-    )
+    let command = with_arg(command, memory_option(alloc))?;
+    with_arg(command, workers_option(alloc))
 }
 
 /// A command with the options of a group.
@@ -643,7 +645,7 @@ fn with_group<'a>(alloc: Global, command: Command<'a>, group: Group) -> Result<C
         Group::Setting => with_rows(alloc, with_building(alloc, command)?, &STYLE_ROWS),
         Group::Building => with_building(alloc, command),
         Group::Style => with_rows(alloc, command, &STYLE_ROWS),
-        Group::Memory => Ok(command.arg(memory_option(alloc))?),
+        Group::Memory => with_arg(command, memory_option(alloc)),
         Group::None => Ok(command),
     }
 }
@@ -653,7 +655,8 @@ fn command_of<'a>(alloc: Global, entry: &Entry) -> Result<Command<'a>> {
     let command = Command::new(alloc, entry.name).about(entry.about);
     let command = with_rows(alloc, command, entry.rows)?;
     if entry.has_steps {
-        return with_group(alloc, command.arg(steps_option(alloc))?, entry.group);
+        let command = with_arg(command, steps_option(alloc))?;
+        return with_group(alloc, command, entry.group);
     }
     with_group(alloc, command, entry.group)
 }

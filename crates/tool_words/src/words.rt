@@ -134,10 +134,83 @@ where
     file_of(rt, matches, INPUT, "--input")
 }
 
+/// A program, what it reads, and how it is built.
+#[derive(Drop)]
+struct Given {
+    program: String,
+    input: Option<String>,
+    setting: Setting,
+}
+
+/// The program, what it reads, and how it is built. What cannot be had is reported.
+fn given_of<R>(rt: &R, matches: &ArgMatches, colours: bool) -> Result<Given, Exit>
+where
+    R: Files + Env + Eprint + AllocGlobal,
+{
+    Ok(Given {
+        program: name_of(rt, matches, FILE, FILE)?,
+        input: input_of(rt, matches)?,
+        setting: setting_of(rt, matches, colours)?,
+    })
+}
+
+/// Two names.
+#[derive(Drop)]
+struct Names {
+    first: String,
+    second: String,
+}
+
+/// The names of a word and of what stands behind it. An empty name is reported.
+fn names_of<R>(
+    rt: &R,
+    matches: &ArgMatches,
+    word: &str,
+    other: &str,
+    said: &str,
+) -> Result<Names, Exit>
+where
+    R: Eprint + AllocGlobal,
+{
+    Ok(Names {
+        first: name_of(rt, matches, word, word)?,
+        second: name_of(rt, matches, other, said)?,
+    })
+}
+
 /// The most lines of a trace. A number that they cannot be is reported.
 fn lines_of<R: Eprint>(rt: &R, matches: &ArgMatches) -> Result<u64, Exit> {
     let text = matches.get_str(TRACE_LIMIT).unwrap_or("");
     number_option(rt, PROGRAM, TRACE_LIMIT, text, MOST_LINES).ok_or(Exit::Reported(COMMAND_LINE))
+}
+
+/// Reads the name of the file that an option names. An empty name is reported.
+fn read_file<R>(
+    rt: &R,
+    matches: &ArgMatches,
+    id: &str,
+    said: &str,
+    file: &mut Option<String>,
+) -> Result<(), Exit>
+where
+    R: Eprint + AllocGlobal,
+{
+    *file = file_of(rt, matches, id, said)?;
+    Ok(())
+}
+
+/// Reads into which files it is told what ran.
+fn read_files<R>(rt: &R, matches: &ArgMatches, told: &mut Measured) -> Result<(), Exit>
+where
+    R: Eprint + AllocGlobal,
+{
+    read_file(rt, matches, LISTING, "--listing", &mut told.listing)?;
+    read_file(rt, matches, FLAME, "--flame", &mut told.flame)?;
+    read_file(rt, matches, CALLGRIND, "--callgrind", &mut told.callgrind)?;
+    read_file(rt, matches, LCOV, "--lcov", &mut told.lcov)?;
+    read_file(rt, matches, TRACE, "--trace", &mut told.trace)?;
+    told.most_lines = lines_of(rt, matches)?;
+    Ok(())
 }
 
 /// What is told of a run that is over.
@@ -145,16 +218,31 @@ fn measured_of<R>(rt: &R, matches: &ArgMatches) -> Result<Measured, Exit>
 where
     R: Eprint + AllocGlobal,
 {
-    Ok(Measured {
+    let mut told = Measured {
         is_profiled: matches.get_flag(PROFILE),
         is_covered: matches.get_flag(COVERAGE),
-        listing: file_of(rt, matches, LISTING, "--listing")?,
-        flame: file_of(rt, matches, FLAME, "--flame")?,
-        callgrind: file_of(rt, matches, CALLGRIND, "--callgrind")?,
-        lcov: file_of(rt, matches, LCOV, "--lcov")?,
-        trace: file_of(rt, matches, TRACE, "--trace")?,
-        most_lines: lines_of(rt, matches)?,
-    })
+        listing: None,
+        flame: None,
+        callgrind: None,
+        lcov: None,
+        trace: None,
+        most_lines: MOST_LINES,
+    };
+    read_files(rt, matches, &mut told)?;
+    Ok(told)
+}
+
+/// How programs are built, and into which file what they cost is plotted.
+fn plotted_of<R>(
+    rt: &R,
+    matches: &ArgMatches,
+    colours: bool,
+) -> Result<(Setting, Option<String>), Exit>
+where
+    R: Files + Env + Eprint + AllocGlobal,
+{
+    let setting = setting_of(rt, matches, colours)?;
+    Ok((setting, file_of(rt, matches, COST_SVG, "--cost-svg")?))
 }
 
 fn cost_asked<R>(
@@ -172,12 +260,16 @@ where
     if !are_named(rt, PROGRAM, "--cost", inputs) {
         return Err(Exit::Reported(COMMAND_LINE));
     }
+    let steps = steps_of(rt, PROGRAM, matches)?;
+    let program = name_of(rt, matches, FILE, FILE)?;
+    let inputs = strings_of(rt.alloc(), inputs)?;
+    let (setting, plot) = plotted_of(rt, matches, colours)?;
     Ok(Asked::Cost {
-        steps: steps_of(rt, PROGRAM, matches)?,
-        program: name_of(rt, matches, FILE, FILE)?,
-        inputs: strings_of(rt.alloc(), inputs)?,
-        setting: setting_of(rt, matches, colours)?,
-        plot: file_of(rt, matches, COST_SVG, "--cost-svg")?,
+        program,
+        inputs,
+        setting,
+        steps,
+        plot,
     })
 }
 
@@ -191,12 +283,20 @@ where
     if matches.get_str(COST_SVG).is_some() {
         return Err(refuse(rt, "--cost-svg goes with --cost"));
     }
+    let steps = steps_of(rt, PROGRAM, matches)?;
+    let given = given_of(rt, matches, colours)?;
+    let told = measured_of(rt, matches)?;
+    let Given {
+        program,
+        input,
+        setting,
+    } = given;
     Ok(Asked::Run {
-        steps: steps_of(rt, PROGRAM, matches)?,
-        program: name_of(rt, matches, FILE, FILE)?,
-        input: input_of(rt, matches)?,
-        setting: setting_of(rt, matches, colours)?,
-        told: measured_of(rt, matches)?,
+        program,
+        input,
+        setting,
+        steps,
+        told,
     })
 }
 
@@ -217,11 +317,17 @@ where
     if matches.get_str(FILE).is_none() {
         return Err(refuse(rt, "debug needs PROGRAM or --dap"));
     }
+    let steps = steps_of(rt, PROGRAM, matches)?;
+    let Given {
+        program,
+        input,
+        setting,
+    } = given_of(rt, matches, colours)?;
     Ok(Asked::Debug {
-        steps: steps_of(rt, PROGRAM, matches)?,
-        program: name_of(rt, matches, FILE, FILE)?,
-        input: input_of(rt, matches)?,
-        setting: setting_of(rt, matches, colours)?,
+        program,
+        input,
+        setting,
+        steps,
     })
 }
 
@@ -256,12 +362,19 @@ where
     if matches.get_flag(FRESH) {
         return Err(refuse(rt, "--fresh goes with --out"));
     }
+    let host = host_of(rt, matches)?;
+    let out = name_of(rt, matches, SINGLE, "--single")?;
+    let Given {
+        program,
+        input,
+        setting,
+    } = given_of(rt, matches, colours)?;
     Ok(Asked::Single {
-        host: host_of(rt, matches)?,
-        out: name_of(rt, matches, SINGLE, "--single")?,
-        program: name_of(rt, matches, FILE, FILE)?,
-        input: input_of(rt, matches)?,
-        setting: setting_of(rt, matches, colours)?,
+        program,
+        input,
+        setting,
+        host,
+        out,
     })
 }
 
@@ -279,14 +392,21 @@ where
     if matches.get_str(OUT).is_none() {
         return Err(refuse(rt, "build needs --out DIR or --single FILE"));
     }
+    let out = name_of(rt, matches, OUT, "--out")?;
+    let deps = file_of(rt, matches, DEPS, "--deps")?;
+    let Given {
+        program,
+        input,
+        setting,
+    } = given_of(rt, matches, colours)?;
     Ok(Asked::Build {
-        out: name_of(rt, matches, OUT, "--out")?,
-        deps: file_of(rt, matches, DEPS, "--deps")?,
+        program,
+        input,
+        setting,
+        out,
+        deps,
         is_mapped: matches.get_flag(MAP),
         fresh: matches.get_flag(FRESH),
-        program: name_of(rt, matches, FILE, FILE)?,
-        input: input_of(rt, matches)?,
-        setting: setting_of(rt, matches, colours)?,
     })
 }
 
@@ -316,24 +436,52 @@ where
     } else {
         Style::Text
     };
+    let names = names_of(rt, matches, FILE, OUT, "--out")?;
+    let setting = setting_in(rt, matches, style)?;
+    let Names { first, second } = names;
     Ok(Asked::Graph {
-        program: name_of(rt, matches, FILE, FILE)?,
-        out: name_of(rt, matches, OUT, "--out")?,
+        program: first,
+        setting,
         drawn,
-        setting: setting_in(rt, matches, style)?,
+        out: second,
     })
+}
+
+/// The folder and the file into which a module is written. An empty name is reported.
+fn written_of<R>(rt: &R, matches: &ArgMatches) -> Result<(Option<String>, Option<String>), Exit>
+where
+    R: Eprint + AllocGlobal,
+{
+    let out = file_of(rt, matches, OUT, "--out")?;
+    Ok((out, file_of(rt, matches, DEPS, "--deps")?))
+}
+
+/// The folder that is searched first, and how programs are found. What cannot be had is reported.
+fn searched_of<R>(
+    rt: &R,
+    matches: &ArgMatches,
+    colours: bool,
+) -> Result<(Option<String>, Setting), Exit>
+where
+    R: Files + Env + Eprint + AllocGlobal,
+{
+    let from = file_of(rt, matches, FROM, "--from")?;
+    Ok((from, setting_of(rt, matches, colours)?))
 }
 
 fn compile_asked<R>(rt: &R, matches: &ArgMatches, colours: bool) -> Result<Asked, Exit>
 where
     R: Files + Env + Eprint + AllocGlobal,
 {
+    let file = name_of(rt, matches, TEXT, TEXT)?;
+    let (out, deps) = written_of(rt, matches)?;
+    let (from, setting) = searched_of(rt, matches, colours)?;
     Ok(Asked::Compile {
-        file: name_of(rt, matches, TEXT, TEXT)?,
-        out: file_of(rt, matches, OUT, "--out")?,
-        deps: file_of(rt, matches, DEPS, "--deps")?,
-        from: file_of(rt, matches, FROM, "--from")?,
-        setting: setting_of(rt, matches, colours)?,
+        file,
+        setting,
+        out,
+        deps,
+        from,
     })
 }
 
@@ -341,10 +489,13 @@ fn link_asked<R>(rt: &R, matches: &ArgMatches) -> Result<Asked, Exit>
 where
     R: Eprint + AllocGlobal,
 {
+    let names = names_of(rt, matches, MODULE, OUT, "--out")?;
+    let pages = pages_of(rt, PROGRAM, matches)?;
+    let Names { first, second } = names;
     Ok(Asked::Link {
-        program: name_of(rt, matches, MODULE, MODULE)?,
-        out: name_of(rt, matches, OUT, "--out")?,
-        pages: pages_of(rt, PROGRAM, matches)?,
+        program: first,
+        out: second,
+        pages,
     })
 }
 
@@ -352,10 +503,13 @@ fn input_asked<R>(rt: &R, matches: &ArgMatches, colours: bool) -> Result<Asked, 
 where
     R: Files + Env + Eprint + AllocGlobal,
 {
+    let names = names_of(rt, matches, DIR, INPUT_FILE, INPUT_FILE)?;
+    let setting = setting_of(rt, matches, colours)?;
+    let Names { first, second } = names;
     Ok(Asked::Input {
-        folder: name_of(rt, matches, DIR, DIR)?,
-        input: name_of(rt, matches, INPUT_FILE, INPUT_FILE)?,
-        setting: setting_of(rt, matches, colours)?,
+        folder: first,
+        input: second,
+        setting,
     })
 }
 
@@ -412,15 +566,20 @@ where
     let Some(told) = told_of(rt, matches.get_str("format").unwrap_or("")) else {
         return Err(Exit::Reported(COMMAND_LINE));
     };
+    let steps = steps_of(rt, PROGRAM, matches)?;
+    let bytes = bytes_of(rt, matches)?;
+    let names = names_of(rt, matches, FILE, CASES, CASES)?;
+    let setting = setting_in(rt, matches, Style::Text)?;
+    let Names { first, second } = names;
     Ok(Asked::Test {
-        told,
+        program: first,
         is_class: matches.get_flag(EACH),
         is_compared: matches.get_flag(SAME),
-        steps: steps_of(rt, PROGRAM, matches)?,
-        bytes: bytes_of(rt, matches)?,
-        program: name_of(rt, matches, FILE, FILE)?,
-        cases: name_of(rt, matches, CASES, CASES)?,
-        setting: setting_in(rt, matches, Style::Text)?,
+        cases: second,
+        setting,
+        told,
+        steps,
+        bytes,
     })
 }
 
@@ -484,9 +643,10 @@ where
     let Some(style) = style_of(rt, matches, colours) else {
         return Err(Exit::Reported(COMMAND_LINE));
     };
+    let Names { first, second } = names_of(rt, matches, DIR, OUT, "--out")?;
     Ok(Asked::Document {
-        folder: name_of(rt, matches, DIR, DIR)?,
-        out: name_of(rt, matches, OUT, "--out")?,
+        folder: first,
+        out: second,
         is_html: matches.get_flag(HTML),
         style,
     })
@@ -530,29 +690,69 @@ where
     })
 }
 
+/// What a subcommand asks for that takes no program.
+fn other_request<R>(rt: &R, name: &str, matches: &ArgMatches) -> Result<Asked, Exit>
+where
+    R: Files + Env + Eprint + AllocGlobal,
+{
+    match name {
+        "lsp" => lsp_asked(rt, matches),
+        "explain" => explain_asked(rt.alloc(), matches),
+        "new" => new_asked(rt, matches),
+        _ => Err(Exit::Reported(COMMAND_LINE)),
+    }
+}
+
+/// What a subcommand asks for that shows or lays out texts, or else no program.
+fn text_request<R>(rt: &R, name: &str, matches: &ArgMatches, colours: bool) -> Result<Asked, Exit>
+where
+    R: Files + Env + Eprint + AllocGlobal,
+{
+    match name {
+        "check" => check_asked(rt, matches, colours),
+        "show" => show_asked(rt, matches, colours),
+        "fmt" => fmt_asked(rt, matches, colours),
+        "doc" => doc_asked(rt, matches, colours),
+        _ => other_request(rt, name, matches),
+    }
+}
+
+/// What a subcommand asks for that builds, or else runs nothing.
+fn build_request<R>(rt: &R, name: &str, matches: &ArgMatches, colours: bool) -> Result<Asked, Exit>
+where
+    R: Files + Env + Eprint + AllocGlobal,
+{
+    match name {
+        "build" => build_asked(rt, matches, colours),
+        "compile" => compile_asked(rt, matches, colours),
+        "link" => link_asked(rt, matches),
+        "graph" => graph_asked(rt, matches, colours),
+        "input" => input_asked(rt, matches, colours),
+        _ => text_request(rt, name, matches, colours),
+    }
+}
+
 /// What a subcommand asks for.
 fn request<R>(rt: &R, matches: &ArgMatches, colours: bool) -> Result<Asked, Exit>
 where
     R: Files + Env + Eprint + AllocGlobal,
 {
     match matches.subcommand() {
+        None => Err(Exit::Reported(COMMAND_LINE)),
         Some(("run", inner)) => run_asked(rt, inner, colours),
         Some(("debug", inner)) => debug_asked(rt, inner, colours),
-        Some(("build", inner)) => build_asked(rt, inner, colours),
-        Some(("compile", inner)) => compile_asked(rt, inner, colours),
-        Some(("link", inner)) => link_asked(rt, inner),
-        Some(("graph", inner)) => graph_asked(rt, inner, colours),
-        Some(("input", inner)) => input_asked(rt, inner, colours),
-        Some(("check", inner)) => check_asked(rt, inner, colours),
         Some(("test", inner)) => test_asked(rt, inner),
-        Some(("show", inner)) => show_asked(rt, inner, colours),
-        Some(("fmt", inner)) => fmt_asked(rt, inner, colours),
-        Some(("doc", inner)) => doc_asked(rt, inner, colours),
-        Some(("lsp", inner)) => lsp_asked(rt, inner),
-        Some(("explain", inner)) => explain_asked(rt.alloc(), inner),
-        Some(("new", inner)) => new_asked(rt, inner),
-        _ => Err(Exit::Reported(COMMAND_LINE)),
+        Some((name, inner)) => build_request(rt, name, inner, colours),
     }
+}
+
+/// What these words ask for.
+fn asked_by<R>(rt: &R, words: &[String], colours: bool) -> Result<Asked, Exit>
+where
+    R: Files + Env + Print + Eprint + AllocGlobal,
+{
+    let matches = matches_of(rt, command(rt.alloc())?, words)?;
+    request(rt, &matches, colours)
 }
 
 /// What the command line asks for. Marks are red if standard error is a terminal and the command line says no more.
@@ -561,6 +761,5 @@ where
     R: Files + Env + Print + Eprint + AllocGlobal,
 {
     let words = command_line(rt, PROGRAM)?;
-    let matches = matches_of(rt, command(rt.alloc())?, &words)?;
-    request(rt, &matches, is_terminal && may_be_coloured(rt))
+    asked_by(rt, &words, is_terminal && may_be_coloured(rt))
 }
