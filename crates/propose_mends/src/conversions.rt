@@ -3,35 +3,35 @@
 use m2_tree::Symbol;
 use std::alloc::AllocError;
 use text_mends::{Mends, words_of};
-use text_tokens::{ASSIGNMENT, DESIGNATOR, operand_begin, operand_end, strength_of};
+use text_tokens::{ASSIGNMENT, DESIGNATOR, Strength, operand_begin, operand_end, strength_of};
 
 /// What is written around a value so that it has another type.
 struct Conversion {
     front: &'static str,
-    of: &'static str,
+    reason: &'static str,
 }
 
 /// The conversions that are tried.
 const CONVERSIONS: [Conversion; 5] = [
     Conversion {
         front: "VAL(INTEGER, ",
-        of: "an INTEGER",
+        reason: "take it as an INTEGER",
     },
     Conversion {
         front: "VAL(CARDINAL, ",
-        of: "a CARDINAL",
+        reason: "take it as a CARDINAL",
     },
     Conversion {
         front: "ORD(",
-        of: "a number",
+        reason: "take it as a number",
     },
     Conversion {
         front: "CHR(",
-        of: "a character",
+        reason: "take it as a character",
     },
     Conversion {
         front: "VAL(BOOLEAN, ",
-        of: "a BOOLEAN",
+        reason: "take it as a BOOLEAN",
     },
 ];
 
@@ -59,11 +59,8 @@ fn convert(mends: &mut Mends<'_>, first: usize, last: usize) -> Result<(), Alloc
     if last < first || mends.source.between(first, last).is_empty() {
         return Ok(());
     }
-    let there = words_of(mends.alloc, mends.source.between(first, last))?;
     for conversion in &CONVERSIONS {
-        let text = format!(in mends.alloc; "{}{there})", conversion.front)?;
-        let words = format!(in mends.alloc; "take it as {}: write `{text}`", conversion.of)?;
-        mends.replace_all(first, last, text.as_bytes(), words)?;
+        mends.wrap(first, last, (conversion.front, ")"), conversion.reason)?;
     }
     Ok(())
 }
@@ -76,20 +73,28 @@ pub fn convert_value(mends: &mut Mends<'_>, at: usize) -> Result<(), AllocError>
     convert(mends, at, end.saturating_sub(1))
 }
 
+/// Converts the side in front of an operator, as far as operators of this strength go.
+fn convert_before(mends: &mut Mends<'_>, at: usize, strength: Strength) -> Result<(), AllocError> {
+    let begin = operand_begin(mends.alloc, &mends.source.tokens, at, strength)?;
+    convert(mends, begin, at.saturating_sub(1))
+}
+
+/// Converts the side behind an operator, as far as operators of this strength go.
+fn convert_behind(mends: &mut Mends<'_>, at: usize, strength: Strength) -> Result<(), AllocError> {
+    let behind = at.saturating_add(1);
+    let end = operand_end(&mends.source.tokens, behind, strength);
+    convert(mends, behind, end.saturating_sub(1))
+}
+
 /// Converts one of the sides of an operator.
 pub fn convert_sides(mends: &mut Mends<'_>, at: usize) -> Result<(), AllocError> {
     let Some(strength) = mends.source.symbol(at).and_then(strength_of) else {
         return Ok(());
     };
-    let begin = operand_begin(mends.alloc, &mends.source.tokens, at, strength)?;
-    convert(mends, begin, at.saturating_sub(1))?;
-    let behind = at.saturating_add(1);
-    let end = operand_end(&mends.source.tokens, behind, strength);
-    convert(mends, behind, end.saturating_sub(1))?;
-    let end = operand_end(&mends.source.tokens, behind, DESIGNATOR);
-    convert(mends, behind, end.saturating_sub(1))?;
-    let begin = operand_begin(mends.alloc, &mends.source.tokens, at, DESIGNATOR)?;
-    convert(mends, begin, at.saturating_sub(1))
+    convert_before(mends, at, strength)?;
+    convert_behind(mends, at, strength)?;
+    convert_behind(mends, at, DESIGNATOR)?;
+    convert_before(mends, at, DESIGNATOR)
 }
 
 /// Writes another operator.
@@ -97,17 +102,30 @@ pub fn propose_operators(mends: &mut Mends<'_>, at: usize) -> Result<(), AllocEr
     if mends.source.symbol(at).and_then(strength_of).is_none() {
         return Ok(());
     }
-    for word in &OPERATORS {
-        mends.replace(at, word.as_bytes())?;
-    }
+    mends.replace_each(at, &OPERATORS)
+}
+
+/// Adds an operand of AND or OR, and the operator behind it.
+fn push_operator(
+    mends: &Mends<'_>,
+    text: &mut Vec<u8>,
+    first: usize,
+    operator: usize,
+) -> Result<(), AllocError> {
+    push_comparison(mends, text, first, operator)?;
+    text.extend_from_slice(b" ")?;
+    text.extend_from_slice(mends.source.spelling(operator))?;
+    text.extend_from_slice(b" ")?;
     Ok(())
 }
 
-/// Writes the comparisons of a condition in brackets.
-pub fn propose_comparisons(mends: &mut Mends<'_>, at: usize) -> Result<(), AllocError> {
-    let begin = operand_begin(mends.alloc, &mends.source.tokens, at, ASSIGNMENT)?;
-    let end = operand_end(&mends.source.tokens, begin, ASSIGNMENT);
-    let mut text = Vec::new(mends.alloc);
+/// Adds the operands of AND and OR from one token to another, but for the last one. Where that begins.
+fn push_operators(
+    mends: &Mends<'_>,
+    text: &mut Vec<u8>,
+    begin: usize,
+    end: usize,
+) -> Result<usize, AllocError> {
     let mut first = begin;
     let mut depth: usize = 0;
     for number in begin..end {
@@ -115,15 +133,21 @@ pub fn propose_comparisons(mends: &mut Mends<'_>, at: usize) -> Result<(), Alloc
             Some(Symbol::LeftParen | Symbol::LeftBracket) => depth = depth.saturating_add(1),
             Some(Symbol::RightParen | Symbol::RightBracket) => depth = depth.saturating_sub(1),
             Some(Symbol::And | Symbol::Or) if depth == 0 => {
-                push_comparison(mends, &mut text, first, number)?;
-                text.extend_from_slice(b" ")?;
-                text.extend_from_slice(mends.source.spelling(number))?;
-                text.extend_from_slice(b" ")?;
+                push_operator(mends, text, first, number)?;
                 first = number.saturating_add(1);
             }
             _ => {}
         }
     }
+    Ok(first)
+}
+
+/// Writes the comparisons of a condition in brackets.
+pub fn propose_comparisons(mends: &mut Mends<'_>, at: usize) -> Result<(), AllocError> {
+    let begin = operand_begin(mends.alloc, &mends.source.tokens, at, ASSIGNMENT)?;
+    let end = operand_end(&mends.source.tokens, begin, ASSIGNMENT);
+    let mut text = Vec::new(mends.alloc);
+    let first = push_operators(mends, &mut text, begin, end)?;
     if first == begin {
         return propose_negation(mends, at, end);
     }
@@ -158,15 +182,20 @@ fn propose_negation(mends: &mut Mends<'_>, at: usize, end: usize) -> Result<(), 
     if !mends.source.is(begin, Symbol::Not) {
         return Ok(());
     }
-    let inside = words_of(
-        mends.alloc,
-        mends
-            .source
-            .between(begin.saturating_add(1), end.saturating_sub(1)),
-    )?;
+    put_negation(mends, begin, end.saturating_sub(1))
+}
+
+/// Writes what stands behind a NOT up to a token in brackets.
+fn put_negation(mends: &mut Mends<'_>, begin: usize, last: usize) -> Result<(), AllocError> {
+    let inside = mends.source.between(begin.saturating_add(1), last);
+    let inside = words_of(mends.alloc, inside)?;
     let text = format!(in mends.alloc; "NOT ({inside})")?;
-    let words = format!(in mends.alloc; "NOT binds more than a comparison: write `{text}`")?;
-    mends.replace_all(begin, end.saturating_sub(1), text.as_bytes(), words)
+    mends.write(
+        begin,
+        last,
+        text.as_str(),
+        "NOT binds more than a comparison",
+    )
 }
 
 /// The last NOT in front of a token.

@@ -141,12 +141,39 @@ fn propose_brackets(mends: &mut Mends<'_>, at: usize) -> Result<(), AllocError> 
     }
     let behind = operand_end(&mends.source.tokens, at.saturating_add(1), DESIGNATOR);
     let last = behind.saturating_sub(1).max(at);
-    let there = words_of(mends.alloc, mends.source.between(at, last))?;
-    let text = format!(in mends.alloc; "({there})")?;
-    let words = format!(in mends.alloc;
-        "a sign behind an operator stands in brackets: write `{text}`"
-    )?;
-    mends.replace_all(at, last, text.as_bytes(), words)
+    let reason = "a sign behind an operator stands in brackets";
+    mends.wrap(at, last, ("(", ")"), reason)
+}
+
+/// Writes `x := x + 1` for `x += 1`, of which the sign is this token.
+fn put_update(
+    mends: &mut Mends<'_>,
+    begin: usize,
+    at: usize,
+    place: &str,
+    sign: &str,
+) -> Result<(), AllocError> {
+    let text = format!(in mends.alloc; "{place} := {place} {sign}")?;
+    let words = format!(in mends.alloc; "write `{text} ..` in place of `{place} {sign}= ..`")?;
+    mends.replace_all(begin, at.saturating_add(1), text.as_bytes(), words)
+}
+
+/// Writes `INC(x)` for `x++`, of which the first sign is this token.
+fn put_count(
+    mends: &mut Mends<'_>,
+    begin: usize,
+    at: usize,
+    place: &str,
+    sign: &str,
+) -> Result<(), AllocError> {
+    let call = if mends.source.is(at, Symbol::Plus) {
+        "INC"
+    } else {
+        "DEC"
+    };
+    let text = format!(in mends.alloc; "{call}({place})")?;
+    let words = format!(in mends.alloc; "write `{text}` in place of `{place}{sign}{sign}`")?;
+    mends.replace_all(begin, at.saturating_add(1), text.as_bytes(), words)
 }
 
 /// Writes `x := x + 1` for `x += 1` and `INC(x)` for `x++`.
@@ -156,31 +183,42 @@ fn propose_update(mends: &mut Mends<'_>, at: usize) -> Result<(), AllocError> {
         mends.source.symbol(at),
         Some(Symbol::Plus | Symbol::Minus | Symbol::Star | Symbol::Slash)
     );
-    if !is_sign {
+    let is_twice = mends.source.symbol(next) == mends.source.symbol(at);
+    if !is_sign || !(is_twice || mends.source.is(next, Symbol::Equal)) {
         return Ok(());
     }
     let begin = operand_begin(mends.alloc, &mends.source.tokens, at, DESIGNATOR)?;
-    let place = words_of(
-        mends.alloc,
-        mends.source.between(begin, at.saturating_sub(1)),
-    )?;
+    let place = mends.source.between(begin, at.saturating_sub(1));
+    let place = words_of(mends.alloc, place)?;
     let sign = words_of(mends.alloc, mends.source.spelling(at))?;
-    if mends.source.is(next, Symbol::Equal) {
-        let text = format!(in mends.alloc; "{place} := {place} {sign}")?;
-        let words = format!(in mends.alloc; "write `{text} ..` in place of `{place} {sign}= ..`")?;
-        return mends.replace_all(begin, next, text.as_bytes(), words);
+    if is_twice {
+        return put_count(mends, begin, at, place.as_str(), sign.as_str());
     }
-    if mends.source.symbol(next) == mends.source.symbol(at) {
-        let call = if mends.source.is(at, Symbol::Plus) {
-            "INC"
-        } else {
-            "DEC"
-        };
-        let text = format!(in mends.alloc; "{call}({place})")?;
-        let words = format!(in mends.alloc; "write `{text}` in place of `{place}{sign}{sign}`")?;
-        return mends.replace_all(begin, next, text.as_bytes(), words);
+    put_update(mends, begin, at, place.as_str(), sign.as_str())
+}
+
+/// Adds the text between two tokens, and ELSIF.
+fn push_elsif(
+    mends: &Mends<'_>,
+    text: &mut Vec<u8>,
+    before: Option<usize>,
+    number: usize,
+) -> Result<(), AllocError> {
+    if let Some(before) = before {
+        let (end, begin) = (mends.source.end(before), mends.source.begin(number));
+        text.extend_from_slice(text_tokens::part(mends.source.bytes, end, begin))?;
     }
+    text.extend_from_slice(b"ELSIF")?;
     Ok(())
+}
+
+/// Writes the ELSE IF whose IF is this token as ELSIF.
+fn put_elsif(mends: &mut Mends<'_>, last: usize) -> Result<(), AllocError> {
+    let line = mends.source.line(last);
+    let words = format!(in mends.alloc;
+        "ELSE IF needs an END of its own: write ELSIF in line {line}"
+    )?;
+    mends.replace_all(last.saturating_sub(1), last, b"ELSIF", words)
 }
 
 /// Writes the last ELSE IF in front of a place, or all of them, as ELSIF.
@@ -191,29 +229,17 @@ fn propose_elsif(mends: &mut Mends<'_>, at: usize) -> Result<(), AllocError> {
     for number in 0..at {
         let next = number.saturating_add(1);
         if mends.source.is(number, Symbol::Else) && mends.source.is(next, Symbol::If) {
-            if let Some(before) = last {
-                let between = text_tokens::part(
-                    mends.source.bytes,
-                    mends.source.end(before),
-                    mends.source.begin(number),
-                );
-                text.extend_from_slice(between)?;
-            }
+            push_elsif(mends, &mut text, last, number)?;
             first = first.min(number);
             last = Some(next);
-            text.extend_from_slice(b"ELSIF")?;
         }
     }
     let Some(last) = last else {
         return Ok(());
     };
-    let line = mends.source.line(last);
-    let words = format!(in mends.alloc;
-        "ELSE IF needs an END of its own: write ELSIF in line {line}"
-    )?;
-    mends.replace_all(last.saturating_sub(1), last, b"ELSIF", words)?;
-    let words = String::from_str(mends.alloc, "ELSE IF needs an END of its own: write ELSIF")?;
-    mends.replace_all(first, last, &text, words)
+    put_elsif(mends, last)?;
+    let words = "ELSE IF needs an END of its own: write ELSIF";
+    mends.replace_known(first, last, &text, words)
 }
 
 /// The bracket that is open in front of a token.
@@ -264,40 +290,49 @@ fn propose_heads(mends: &mut Mends<'_>, at: usize) -> Result<(), AllocError> {
     for back in 1..MOST_TWICE.min(at) {
         let number = at.saturating_sub(back);
         if mends.source.is(number, Symbol::LeftBrace) {
-            mends.replace(number, b"THEN")?;
-            mends.replace(number, b"DO")?;
+            mends.replace_each(number, &["THEN", "DO"])?;
         }
     }
     Ok(())
 }
 
+/// Puts the name of another token in front of one.
+fn put_near(mends: &mut Mends<'_>, at: usize, number: usize) -> Result<(), AllocError> {
+    let name = Vec::from_slice(mends.alloc, mends.source.spelling(number))?;
+    mends.insert_name(at, &name)
+}
+
 /// Puts names that stand near in front of a token.
 pub fn propose_near_names(mends: &mut Mends<'_>, at: usize) -> Result<(), AllocError> {
     let near = names_around(mends, at)?;
-    for number in near {
-        let name = Vec::from_slice(mends.alloc, mends.source.spelling(number))?;
-        mends.insert_name(at, &name)?;
+    for number in &near {
+        put_near(mends, at, *number)?;
     }
     mends.insert_name(at, b"0")?;
     mends.insert_name(at, b"1")
+}
+
+/// Writes square brackets for those at these tokens.
+fn put_index(mends: &mut Mends<'_>, open: usize, close: usize) -> Result<(), AllocError> {
+    let (first, last) = (open.saturating_add(1), close.saturating_sub(1));
+    let inside = words_of(mends.alloc, mends.source.between(first, last))?;
+    let text = format!(in mends.alloc; "[{inside}]")?;
+    mends.write(
+        open,
+        close,
+        text.as_str(),
+        "an index stands in square brackets",
+    )
 }
 
 /// Writes brackets of an index for those of a call in front of an assignment.
 fn propose_index(mends: &mut Mends<'_>, at: usize) -> Result<(), AllocError> {
     let close = at.saturating_sub(1);
     let is_call = mends.source.is(at, Symbol::Assign) && mends.source.is(close, Symbol::RightParen);
-    let Some(open) = bracket_before(mends, close)?.filter(|_| is_call) else {
-        return Ok(());
-    };
-    let inside = words_of(
-        mends.alloc,
-        mends
-            .source
-            .between(open.saturating_add(1), close.saturating_sub(1)),
-    )?;
-    let text = format!(in mends.alloc; "[{inside}]")?;
-    let words = format!(in mends.alloc; "an index stands in square brackets: write `{text}`")?;
-    mends.replace_all(open, close, text.as_bytes(), words)
+    match bracket_before(mends, close)? {
+        Some(open) if is_call => put_index(mends, open, close),
+        _ => Ok(()),
+    }
 }
 
 /// Writes the range of an array in brackets.
@@ -306,11 +341,8 @@ fn propose_range(mends: &mut Mends<'_>, at: usize) -> Result<(), AllocError> {
     if !mends.source.is(at.saturating_sub(1), Symbol::Array) || end <= at {
         return Ok(());
     }
-    let last = end.saturating_sub(1);
-    let inside = words_of(mends.alloc, mends.source.between(at, last))?;
-    let text = format!(in mends.alloc; "[{inside}]")?;
-    let words = format!(in mends.alloc; "a range stands in square brackets: write `{text}`")?;
-    mends.replace_all(at, last, text.as_bytes(), words)
+    let reason = "a range stands in square brackets";
+    mends.wrap(at, end.saturating_sub(1), ("[", "]"), reason)
 }
 
 /// Words that may be missing in front of a token.
@@ -329,13 +361,20 @@ fn propose_closing(mends: &mut Mends<'_>, at: usize) -> Result<(), AllocError> {
         let is_heading = mends.source.is(before, Symbol::Procedure)
             || mends.source.is(before, Symbol::Module);
         if is_heading && mends.source.is_name(number) {
-            let name = Vec::from_slice(mends.alloc, mends.source.spelling(number))?;
-            mends.replace(at, &name)?;
-            let closing = Vec::from_slice(mends.alloc, mends.source.spelling(at))?;
-            mends.replace(number, &closing)?;
+            mends.replace_by(at, number)?;
+            mends.replace_by(number, at)?;
         }
     }
     Ok(())
+}
+
+/// Puts the name at a token behind the END in front of another one.
+fn put_closing(mends: &mut Mends<'_>, at: usize, number: usize) -> Result<(), AllocError> {
+    let name = words_of(mends.alloc, mends.source.spelling(number))?;
+    let place = mends.source.end(at.saturating_sub(1));
+    let text = format!(in mends.alloc; " {name}")?;
+    let words = format!(in mends.alloc; "the name is missing behind END: write `END {name}`")?;
+    mends.put(place, place, text.as_bytes(), words)
 }
 
 /// Puts the name of a procedure or of the module behind its END.
@@ -349,13 +388,7 @@ fn propose_name(mends: &mut Mends<'_>, at: usize) -> Result<(), AllocError> {
         let is_heading = mends.source.is(before, Symbol::Procedure)
             || mends.source.is(before, Symbol::Module);
         if is_heading && mends.source.is_name(number) {
-            let name = words_of(mends.alloc, mends.source.spelling(number))?;
-            let place = mends.source.end(at.saturating_sub(1));
-            let text = format!(in mends.alloc; " {name}")?;
-            let words = format!(in mends.alloc;
-                "the name is missing behind END: write `END {name}`"
-            )?;
-            mends.put(place, place, text.as_bytes(), words)?;
+            put_closing(mends, at, number)?;
         }
     }
     Ok(())

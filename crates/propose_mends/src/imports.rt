@@ -18,26 +18,45 @@ fn list_of(mends: &Mends<'_>, module: &[u8]) -> Option<usize> {
     found
 }
 
-/// Imports what a module exports, in a list that is there or in a line of its own.
-fn put_import(mends: &mut Mends<'_>, export: &Export) -> Result<(), AllocError> {
+/// Adds a name to the import from its module, of which this is the last name.
+fn put_listed(mends: &mut Mends<'_>, export: &Export, last: usize) -> Result<(), AllocError> {
     let module = words_of(mends.alloc, &export.module)?;
     let name = words_of(mends.alloc, &export.name)?;
-    if let Some(last) = list_of(mends, &export.module) {
-        let place = mends.source.end(last);
-        let text = format!(in mends.alloc; ", {name}")?;
-        let words = format!(in mends.alloc;
-            "`{name}` is not imported: add it to FROM {module} IMPORT"
-        )?;
-        return mends.put(place, place, text.as_bytes(), words);
-    }
+    let place = mends.source.end(last);
+    let text = format!(in mends.alloc; ", {name}")?;
+    let words = format!(in mends.alloc;
+        "`{name}` is not imported: add it to FROM {module} IMPORT"
+    )?;
+    mends.put(place, place, text.as_bytes(), words)
+}
+
+/// The import of a name from its module.
+fn import_of(mends: &Mends<'_>, export: &Export) -> Result<String, AllocError> {
+    let module = words_of(mends.alloc, &export.module)?;
+    let name = words_of(mends.alloc, &export.name)?;
+    format!(in mends.alloc; "FROM {module} IMPORT {name};")
+}
+
+/// Imports a name from its module in a line behind the heading.
+fn put_first(mends: &mut Mends<'_>, export: &Export) -> Result<(), AllocError> {
     let heading = mends.next_of(0, Symbol::Semicolon, Symbol::Begin);
     let place = mends.source.end(heading);
-    let text = format!(in mends.alloc; "\nFROM {module} IMPORT {name};")?;
+    let import = import_of(mends, export)?;
+    let name = words_of(mends.alloc, &export.name)?;
+    let text = format!(in mends.alloc; "\n{import}")?;
     let words = format!(in mends.alloc;
-        "`{name}` is not imported: put `FROM {module} IMPORT {name};` behind line {}",
+        "`{name}` is not imported: put `{import}` behind line {}",
         mends.source.line(heading)
     )?;
     mends.put(place, place, text.as_bytes(), words)
+}
+
+/// Imports what a module exports, in a list that is there or in a line of its own.
+fn put_import(mends: &mut Mends<'_>, export: &Export) -> Result<(), AllocError> {
+    match list_of(mends, &export.module) {
+        Some(last) => put_listed(mends, export, last),
+        None => put_first(mends, export),
+    }
 }
 
 /// Imports a name from each module that exports it.
@@ -73,30 +92,49 @@ fn propose_module(mends: &mut Mends<'_>, at: usize, exports: &[Export]) -> Resul
     mends.put(place, place, text.as_bytes(), words)
 }
 
-/// Takes a name out of its import, and imports it from another module.
-fn move_import(mends: &mut Mends<'_>, at: usize, export: &Export) -> Result<(), AllocError> {
-    let module = words_of(mends.alloc, &export.module)?;
-    let name = words_of(mends.alloc, &export.name)?;
-    let from = statement_of_import(mends, at);
-    let end = mends.next_of(at, Symbol::Semicolon, Symbol::Begin);
+/// The names of an import from one token to another without the name at a token, with commas between them.
+fn other_names(
+    mends: &Mends<'_>,
+    from: usize,
+    end: usize,
+    at: usize,
+) -> Result<String, AllocError> {
     let mut text = Vec::new(mends.alloc);
-    let mut count: usize = 0;
-    for number in from.saturating_add(3)..end {
+    for number in from..end {
         if number != at && mends.source.is_name(number) {
-            text.extend_from_slice(if count == 0 { b"" } else { b", " })?;
+            text.extend_from_slice(if text.is_empty() { b"" } else { b", " })?;
             text.extend_from_slice(mends.source.spelling(number))?;
-            count = count.saturating_add(1);
         }
     }
+    words_of(mends.alloc, &text)
+}
+
+/// The import between two tokens without the name at a token, and the import of this name from another module.
+fn moved_import(
+    mends: &Mends<'_>,
+    from: usize,
+    end: usize,
+    at: usize,
+    export: &Export,
+) -> Result<String, AllocError> {
+    let left = other_names(mends, from.saturating_add(3), end, at)?;
+    let import = import_of(mends, export)?;
+    if left.is_empty() {
+        return Ok(import);
+    }
     let here = words_of(mends.alloc, mends.source.spelling(from.saturating_add(1)))?;
-    let left = words_of(mends.alloc, &text)?;
-    let line = if left.is_empty() {
-        format!(in mends.alloc; "FROM {module} IMPORT {name};")?
-    } else {
-        format!(in mends.alloc; "FROM {here} IMPORT {left}; FROM {module} IMPORT {name};")?
-    };
-    let words = format!(in mends.alloc; "`{name}` stands in {module}: write `{line}`")?;
-    mends.replace_all(from, end, line.as_bytes(), words)
+    format!(in mends.alloc; "FROM {here} IMPORT {left}; {import}")
+}
+
+/// Takes a name out of its import, and imports it from another module.
+fn move_import(mends: &mut Mends<'_>, at: usize, export: &Export) -> Result<(), AllocError> {
+    let from = statement_of_import(mends, at);
+    let end = mends.next_of(at, Symbol::Semicolon, Symbol::Begin);
+    let line = moved_import(mends, from, end, at, export)?;
+    let module = words_of(mends.alloc, &export.module)?;
+    let name = words_of(mends.alloc, &export.name)?;
+    let reason = format!(in mends.alloc; "`{name}` stands in {module}")?;
+    mends.write(from, end, line.as_str(), reason.as_str())
 }
 
 /// The FROM or IMPORT of the import that has a token.

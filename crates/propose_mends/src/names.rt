@@ -115,11 +115,22 @@ pub fn propose_exports(
     for export in exports {
         let there = mends.source.spelling(at);
         if export.is_given && export.name.as_slice() != there && are_alike(there, &export.name) {
-            let name = Vec::from_slice(mends.alloc, &export.name)?;
-            put_name(mends, at, &name)?;
+            put_name(mends, at, &export.name)?;
         }
     }
     Ok(())
+}
+
+/// Writes a declaration as the name that is not declared.
+fn put_declared(mends: &mut Mends<'_>, at: usize, declared: usize) -> Result<(), AllocError> {
+    let name = words_of(mends.alloc, mends.source.spelling(declared))?;
+    let new = words_of(mends.alloc, mends.source.spelling(at))?;
+    let line = mends.source.line(declared);
+    let words = format!(in mends.alloc;
+        "`{new}` is declared as `{name}` in line {line}: write `{new}` there"
+    )?;
+    let text = Vec::from_slice(mends.alloc, mends.source.spelling(at))?;
+    mends.replace_all(declared, declared, &text, words)
 }
 
 /// Writes a declaration that is alike as the name that is not declared.
@@ -129,14 +140,7 @@ fn propose_declared(mends: &mut Mends<'_>, at: usize, numbers: &[usize]) -> Resu
         let name = mends.source.spelling(*number);
         if *number < at && name != there && are_alike(there, name) {
             let declared = first_of(mends, *number);
-            let name = words_of(mends.alloc, mends.source.spelling(declared))?;
-            let new = words_of(mends.alloc, mends.source.spelling(at))?;
-            let line = mends.source.line(declared);
-            let words = format!(in mends.alloc;
-                "`{new}` is declared as `{name}` in line {line}: write `{new}` there"
-            )?;
-            let text = Vec::from_slice(mends.alloc, mends.source.spelling(at))?;
-            mends.replace_all(declared, declared, &text, words)?;
+            put_declared(mends, at, declared)?;
         }
     }
     Ok(())
@@ -152,12 +156,8 @@ fn first_of(mends: &Mends<'_>, at: usize) -> usize {
     at
 }
 
-/// Names that may be meant by one that is not declared.
-pub fn propose_alike(
-    mends: &mut Mends<'_>,
-    at: usize,
-    exports: &[Export],
-) -> Result<(), AllocError> {
+/// The tokens near a name that are names like it.
+fn names_alike(mends: &Mends<'_>, at: usize) -> Result<Vec<usize>, AllocError> {
     let near = names_near(mends, at, MOST_TOKENS)?;
     let mut alike = Vec::new(mends.alloc);
     for number in &near {
@@ -166,6 +166,16 @@ pub fn propose_alike(
             alike.push(*number)?;
         }
     }
+    Ok(alike)
+}
+
+/// Names that may be meant by one that is not declared.
+pub fn propose_alike(
+    mends: &mut Mends<'_>,
+    at: usize,
+    exports: &[Export],
+) -> Result<(), AllocError> {
+    let alike = names_alike(mends, at)?;
     for unlike in 0..=MOST_UNLIKE {
         propose_names(mends, at, &alike, unlike)?;
         propose_predeclared(mends, at, unlike)?;

@@ -3,6 +3,7 @@
 use m2_tree::{Pos, Symbol};
 use refused_text::Source;
 use std::alloc::AllocError;
+use std::fmt::Write;
 use text_mends::{Mends, put_line, words_of};
 
 /// The types that are tried of a variable.
@@ -19,37 +20,44 @@ fn body_of(mends: &Mends<'_>, at: usize) -> Option<usize> {
     None
 }
 
+/// Declares a name as a variable of a type in front of a body.
+fn put_variable(mends: &mut Mends<'_>, at: usize, body: usize, of: &str) -> Result<(), AllocError> {
+    let name = words_of(mends.alloc, mends.source.spelling(at))?;
+    let text = format!(in mends.alloc; "VAR {name}: {of};")?;
+    let line = mends.source.line(body);
+    let words = format!(in mends.alloc;
+        "`{name}` is not declared: put `{text}` before line {line}"
+    )?;
+    put_line(mends, body, text.as_str(), words)
+}
+
 /// Declares a name as a variable.
 pub fn propose_variable(mends: &mut Mends<'_>, at: usize) -> Result<(), AllocError> {
     let Some(body) = body_of(mends, at) else {
         return Ok(());
     };
-    let name = words_of(mends.alloc, mends.source.spelling(at))?;
     for of in &TYPES {
-        let text = format!(in mends.alloc; "VAR {name}: {of};")?;
-        let line = mends.source.line(body);
-        let words = format!(in mends.alloc;
-            "`{name}` is not declared: put `{text}` before line {line}"
-        )?;
-        put_line(mends, body, text.as_str(), words)?;
+        put_variable(mends, at, body, of)?;
     }
     Ok(())
 }
 
+/// Writes VAR in front of a name.
+fn put_var(mends: &mut Mends<'_>, number: usize) -> Result<(), AllocError> {
+    let name = words_of(mends.alloc, mends.source.spelling(number))?;
+    let line = mends.source.line(number);
+    let words = format!(in mends.alloc; "write `VAR {name}` in line {line}")?;
+    let place = mends.source.begin(number);
+    mends.put(place, place, b"VAR ", words)
+}
+
 /// Writes VAR in front of the formals of the procedure that has a token.
 pub fn propose_var_formal(mends: &mut Mends<'_>, at: usize) -> Result<(), AllocError> {
-    let name = Vec::from_slice(mends.alloc, mends.source.spelling(at))?;
     for number in 0..at {
         let is_formal = mends.source.is(number.saturating_sub(1), Symbol::LeftParen)
-            && mends.source.spelling(number) == name.as_slice();
+            && mends.source.spelling(number) == mends.source.spelling(at);
         if is_formal && mends.source.is(number.saturating_sub(3), Symbol::Procedure) {
-            let name = words_of(mends.alloc, &name)?;
-            let words = format!(in mends.alloc;
-                "write `VAR {name}` in line {}",
-                mends.source.line(number)
-            )?;
-            let place = mends.source.begin(number);
-            mends.put(place, place, b"VAR ", words)?;
+            put_var(mends, number)?;
         }
     }
     Ok(())
@@ -60,19 +68,24 @@ pub fn propose_once(mends: &mut Mends<'_>, at: usize) -> Result<(), AllocError> 
     let before = at.saturating_sub(1);
     let behind = at.saturating_add(1);
     if mends.source.is(before, Symbol::Comma) {
-        let words = String::from_str(mends.alloc, "take the second one out")?;
-        mends.replace_all(before, at, b"", words)?;
+        mends.replace_known(before, at, b"", "take the second one out")?;
     }
     if mends.source.is(behind, Symbol::Comma) {
-        let words = String::from_str(mends.alloc, "take the second one out")?;
-        mends.replace_all(at, behind, b"", words)?;
+        mends.replace_known(at, behind, b"", "take the second one out")?;
     }
     let end = mends.next_of(at, Symbol::Semicolon, Symbol::Begin);
     if mends.source.is(behind, Symbol::Colon) || mends.source.is(behind, Symbol::Equal) {
-        let words = String::from_str(mends.alloc, "take the second declaration out")?;
-        mends.replace_all(at, end, b"", words)?;
+        mends.replace_known(at, end, b"", "take the second declaration out")?;
     }
     Ok(())
+}
+
+/// Writes the heading of a procedure as this one.
+fn put_heading(mends: &mut Mends<'_>, at: usize, heading: &[u8]) -> Result<(), AllocError> {
+    let text = words_of(mends.alloc, heading)?;
+    let words = format!(in mends.alloc; "the definition has `{text}`: write it so")?;
+    let last = heading_end(mends, at);
+    mends.replace_all(at.saturating_sub(1), last, text.as_bytes(), words)
 }
 
 /// Writes the heading of a procedure as its definition has it.
@@ -81,11 +94,7 @@ pub fn propose_heading(mends: &mut Mends<'_>, at: usize, partner: &[u8]) -> Resu
     for number in 1..definition.tokens.len() {
         let is_heading = definition.is(number.saturating_sub(1), Symbol::Procedure);
         if is_heading && definition.spelling(number) == mends.source.spelling(at) {
-            let heading = heading_of(&definition, number);
-            let text = words_of(mends.alloc, heading)?;
-            let words = format!(in mends.alloc; "the definition has `{text}`: write it so")?;
-            let last = heading_end(mends, at);
-            mends.replace_all(at.saturating_sub(1), last, text.as_bytes(), words)?;
+            put_heading(mends, at, heading_of(&definition, number))?;
         }
     }
     Ok(())
@@ -96,28 +105,48 @@ fn heading_end(mends: &Mends<'_>, at: usize) -> usize {
     heading_last(&mends.source, at)
 }
 
-/// Adds the procedures that a definition has and an implementation lacks.
-pub fn propose_procedures(mends: &mut Mends<'_>, partner: &[u8]) -> Result<(), AllocError> {
-    let definition = Source::of(mends.alloc, partner, Pos { line: 1, col: 1 })?;
-    let mut text = String::new(mends.alloc);
-    let mut names = String::new(mends.alloc);
+/// Procedures that an implementation lacks: their texts, and their headings with commas between them.
+#[derive(Drop)]
+struct Lacking {
+    text: String,
+    names: String,
+}
+
+impl Lacking {
+    /// Adds the procedure of this heading.
+    fn push(&mut self, name: &str, heading: &str) -> Result<(), AllocError> {
+        write!(self.text, "{heading};\nBEGIN\nEND {name};\n\n")?;
+        let between = if self.names.is_empty() { "" } else { ", " };
+        self.names.push_str(between)?;
+        self.names.push_str(heading)
+    }
+}
+
+/// The procedures of a definition that an implementation lacks.
+fn procedures_lacking(mends: &Mends<'_>, definition: &Source<'_>) -> Result<Lacking, AllocError> {
+    let mut lacking = Lacking {
+        text: String::new(mends.alloc),
+        names: String::new(mends.alloc),
+    };
     for number in 1..definition.tokens.len() {
         let is_heading = definition.is(number.saturating_sub(1), Symbol::Procedure)
             && definition.is_name(number);
         if is_heading && !has_procedure(mends, definition.spelling(number)) {
             let name = words_of(mends.alloc, definition.spelling(number))?;
-            let heading = words_of(mends.alloc, heading_of(&definition, number))?;
-            text.push_str(heading.as_str())?;
-            text.push_str(";\nBEGIN\nEND ")?;
-            text.push_str(name.as_str())?;
-            text.push_str(";\n\n")?;
-            names.push_str(if names.is_empty() { "" } else { ", " })?;
-            names.push_str(heading.as_str())?;
+            let heading = words_of(mends.alloc, heading_of(definition, number))?;
+            lacking.push(name.as_str(), heading.as_str())?;
         }
     }
+    Ok(lacking)
+}
+
+/// Adds the procedures that a definition has and an implementation lacks.
+pub fn propose_procedures(mends: &mut Mends<'_>, partner: &[u8]) -> Result<(), AllocError> {
+    let definition = Source::of(mends.alloc, partner, Pos { line: 1, col: 1 })?;
+    let lacking = procedures_lacking(mends, &definition)?;
     let place = procedures_end(mends);
-    let words = format!(in mends.alloc; "the implementation lacks `{names}`: add it")?;
-    mends.put(place, place, text.as_bytes(), words)
+    let words = format!(in mends.alloc; "the implementation lacks `{}`: add it", lacking.names)?;
+    mends.put(place, place, lacking.text.as_bytes(), words)
 }
 
 /// Whether a procedure of this name is there.

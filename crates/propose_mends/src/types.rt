@@ -10,7 +10,7 @@ use crate::scopes::{
 use m2_tree::Symbol;
 use refused_text::Export;
 use std::alloc::AllocError;
-use text_mends::{Mends, propose_signs, propose_words, words_of};
+use text_mends::{Mends, propose_signs, propose_words};
 use text_tokens::{Call, call_at, depth_behind};
 
 /// Rules that have mends of their own.
@@ -62,36 +62,44 @@ fn propose_undeclared(
 
 /// Writes a name as a string.
 fn propose_text(mends: &mut Mends<'_>, at: usize) -> Result<(), AllocError> {
-    let there = words_of(mends.alloc, mends.source.spelling(at))?;
-    let text = format!(in mends.alloc; "\"{there}\"")?;
-    let words = format!(in mends.alloc; "a string stands between quotes: write `{text}`")?;
-    mends.replace_all(at, at, text.as_bytes(), words)
+    mends.wrap(at, at, ("\"", "\""), "a string stands between quotes")
+}
+
+/// Writes a value as one more argument in front of a place.
+fn put_argument(
+    mends: &mut Mends<'_>,
+    place: usize,
+    between: &str,
+    value: &str,
+) -> Result<(), AllocError> {
+    let text = format!(in mends.alloc; "{between}{value}")?;
+    let words = format!(in mends.alloc; "an argument is missing: write one more, as `{value}`")?;
+    mends.put(place, place, text.as_bytes(), words)
+}
+
+/// Mends of a call whose bracket opens at a token.
+fn propose_arguments_of(mends: &mut Mends<'_>, open: usize) -> Result<(), AllocError> {
+    let close = close_of(mends, open);
+    let place = mends.source.begin(close);
+    let is_empty = close == open.saturating_add(1);
+    for value in &VALUES {
+        put_argument(mends, place, if is_empty { "" } else { ", " }, value)?;
+    }
+    let from = mends.source.begin(last_comma(mends, open, close));
+    let words = "the call has an argument too many: take the last one out";
+    mends.put_known(from, place, b"", words)
 }
 
 /// Mends of a call with a wrong number of arguments.
 fn propose_arguments(mends: &mut Mends<'_>, at: usize) -> Result<(), AllocError> {
     let Call { open, name, .. } = call_at(&mends.source.tokens, at);
-    let Some(open) = open else {
-        let place = mends.source.end(name);
-        let words = String::from_str(mends.alloc, "the call lacks its argument")?;
-        return mends.put(place, place, b"(1)", words);
-    };
-    let close = close_of(mends, open);
-    let place = mends.source.begin(close);
-    let is_empty = close == open.saturating_add(1);
-    for value in &VALUES {
-        let text = format!(in mends.alloc; "{}{value}", if is_empty { "" } else { ", " })?;
-        let words = format!(in mends.alloc;
-            "an argument is missing: write one more, as `{value}`"
-        )?;
-        mends.put(place, place, text.as_bytes(), words)?;
+    match open {
+        Some(open) => propose_arguments_of(mends, open),
+        None => {
+            let place = mends.source.end(name);
+            mends.put_known(place, place, b"(1)", "the call lacks its argument")
+        }
     }
-    let comma = last_comma(mends, open, close);
-    let words = format!(in mends.alloc;
-        "the call has an argument too many: take the last one out"
-    )?;
-    let from = mends.source.begin(comma);
-    mends.put(from, place, b"", words)
 }
 
 /// The bracket that closes the one of this number, or the end.
@@ -119,21 +127,23 @@ fn last_comma(mends: &Mends<'_>, open: usize, close: usize) -> usize {
     open.saturating_add(1)
 }
 
+/// Writes a value behind a RETURN.
+fn put_returned(mends: &mut Mends<'_>, at: usize, value: &str) -> Result<(), AllocError> {
+    let place = mends.source.end(at);
+    let text = format!(in mends.alloc; " {value}")?;
+    let words = format!(in mends.alloc;
+        "a function returns a value: write one, as `RETURN {value}`"
+    )?;
+    mends.put(place, place, text.as_bytes(), words)
+}
+
 /// Mends of a RETURN that has a value or lacks one.
 fn propose_return(mends: &mut Mends<'_>, at: usize) -> Result<(), AllocError> {
     let end = mends.next_of(at, Symbol::Semicolon, Symbol::End);
-    let words = String::from_str(
-        mends.alloc,
-        "a proper procedure returns no value: write RETURN alone",
-    )?;
-    mends.replace_all(at, end.saturating_sub(1).max(at), b"RETURN", words)?;
+    let words = "a proper procedure returns no value: write RETURN alone";
+    mends.replace_known(at, end.saturating_sub(1).max(at), b"RETURN", words)?;
     for value in &VALUES {
-        let place = mends.source.end(at);
-        let text = format!(in mends.alloc; " {value}")?;
-        let words = format!(in mends.alloc;
-            "a function returns a value: write one, as `RETURN {value}`"
-        )?;
-        mends.put(place, place, text.as_bytes(), words)?;
+        put_returned(mends, at, value)?;
     }
     Ok(())
 }
