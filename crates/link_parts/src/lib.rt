@@ -1,7 +1,8 @@
 //! Modules that were compiled alone, and how they are linked.
 //!
 //! - `Part` is what link has to know of a module. `write_part` writes it as the text of a file M.link, `read_part` reads it.
-//! - `sum_of` is the checksum by which texts, modules and definitions are told apart.
+//! - `sum_of` is the checksum by which texts and modules are told apart, `interface_sum` that of definitions.
+//! - `begun`, `sealed` and `opened` make and read such texts, which others use too.
 //! - `link_modules` says whether modules fit together, and answers the module link.
 #![tactic(auto)]
 
@@ -9,6 +10,7 @@ mod fault;
 mod linking;
 mod part;
 mod reading;
+mod sealing;
 mod stands;
 mod sums;
 mod writing;
@@ -16,6 +18,7 @@ mod writing;
 pub use fault::{LinkFault, PartFault};
 pub use linking::link_modules;
 pub use part::{Interface, Part, Sizes, is_name};
-pub use reading::read_part;
-pub use sums::sum_of;
-pub use writing::write_part;
+pub use reading::{name_in, part_of, read_part};
+pub use sealing::{begun, opened, sealed};
+pub use sums::{interface_sum, sum_of};
+pub use writing::{push_imports, push_part, write_part};

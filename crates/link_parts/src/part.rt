@@ -18,7 +18,7 @@ pub struct Sizes {
 pub struct Interface {
     /// The name of its module.
     pub name: String,
-    /// The checksum of its text.
+    /// The checksum of its tokens.
     pub sum: String,
 }
 

@@ -2,10 +2,9 @@
 
 use crate::fault::PartFault;
 use crate::part::{Interface, Part, Sizes, is_name};
-use crate::sums::sum_of;
-use crate::writing::{FIRST, LAST};
+use crate::sealing::opened;
+use crate::writing::FORM;
 use std::alloc::Global;
-use std::str;
 
 /// A module of which nothing is read yet.
 fn nothing(alloc: Global) -> Part {
@@ -24,8 +23,8 @@ fn nothing(alloc: Global) -> Part {
     }
 }
 
-/// The name of a module.
-fn name_in(alloc: Global, value: &str) -> Result<String, PartFault> {
+/// The name of a module. `Altered` if it is none.
+pub fn name_in(alloc: Global, value: &str) -> Result<String, PartFault> {
     if !is_name(value) {
         return Err(PartFault::Altered);
     }
@@ -72,8 +71,8 @@ fn add_value(alloc: Global, word: &str, value: &str, part: &mut Part) -> Result<
     Ok(())
 }
 
-/// Reads lines, each of a word and a value.
-fn part_of(alloc: Global, lines: &str) -> Result<Part, PartFault> {
+/// The module of these lines, each of a word and a value, as `push_part` puts them. `Altered` if a line is none of these.
+pub fn part_of(alloc: Global, lines: &str) -> Result<Part, PartFault> {
     let mut part = nothing(alloc);
     for line in lines.lines() {
         let Some((word, value)) = line.split_once(' ') else {
@@ -87,48 +86,11 @@ fn part_of(alloc: Global, lines: &str) -> Result<Part, PartFault> {
     Ok(part)
 }
 
-/// What stands in front of the last line, if this has the checksum of it.
-fn checked(alloc: Global, text: &str) -> Result<&str, PartFault> {
-    let Some(whole) = text.strip_suffix('\n') else {
-        return Err(PartFault::Altered);
-    };
-    let at = whole.rfind('\n').map_or(0, |it| it.saturating_add(1));
-    let (front, last) = (text.get(..at).unwrap_or(""), whole.get(at..).unwrap_or(""));
-    let sum = sum_of(alloc, front.as_bytes())?;
-    match last.strip_prefix(LAST) {
-        Some(found) => {
-            if found.as_bytes() == sum.as_bytes() {
-                Ok(front)
-            } else {
-                Err(PartFault::Altered)
-            }
-        }
-        None => Err(PartFault::Altered),
-    }
-}
-
 /// What is read of the text of a file M.link.
 ///
 /// `Version` if its first line is that of another form or version, else `Altered` if the checksum in its last line is not that of the
 /// text in front of it, or a line is none that `write_part` writes. `NoMemory` if memory ran out.
 pub fn read_part(alloc: Global, version: &str, text: &[u8]) -> Result<Part, PartFault> {
-    let Ok(text) = str::from_utf8(text) else {
-        return Err(PartFault::Altered);
-    };
-    let Some((first, _)) = text.split_once('\n') else {
-        return Err(PartFault::Altered);
-    };
-    if !first.starts_with("m2-link ") {
-        return Err(PartFault::Altered);
-    }
-    let is_same = match first.strip_prefix(FIRST) {
-        Some(found) => found.as_bytes() == version.as_bytes(),
-        None => false,
-    };
-    if !is_same {
-        return Err(PartFault::Version);
-    }
-    let lines = checked(alloc, text)?;
-    let behind = lines.split_once('\n').map_or("", |it| it.1);
-    part_of(alloc, behind)
+    let lines = opened(alloc, FORM, version, text)?;
+    part_of(alloc, lines)
 }
