@@ -11,5 +11,5 @@ mod stands;
 mod texts;
 
 pub use made::{Interface, Made};
-pub use passes::compile_module;
+pub use passes::{compile_module, compile_trees};
 pub use texts::{Readings, readings_of};

@@ -2,7 +2,7 @@
 
 use crate::made::{Interface, Made};
 use crate::stands::{FILE, stands_for};
-use crate::texts::{Readings, add_named, readings_of};
+use crate::texts::{Readings, add_named, names_of, readings_of};
 use build_jobs::{Compiled, SourceFile, compile};
 use list_imports::add_imports;
 use m2_emit::ModuleBytes;
@@ -184,26 +184,26 @@ fn add_stands<'a>(
 /// Trees under the names of their files, and behind them stand-ins.
 fn all_named<'a>(
     alloc: Global,
-    files: &'a [SourceFile],
+    names: &'a [String],
     trees: &'a [Arc<Module>],
     stands: &'a [Module],
 ) -> Result<Vec<(&'a str, &'a Module)>, AllocError> {
     let mut all = Vec::new(alloc);
-    add_named(&mut all, files, trees)?;
+    add_named(&mut all, names, trees)?;
     add_stands(&mut all, stands)?;
     Ok(all)
 }
 
-/// What comes of the first of files with these trees.
-fn of_trees<'a>(
+/// Compiles one module alone, as `compile_module` does, from the names of its files and the trees of their texts.
+pub fn compile_trees<'a>(
     alloc: Global,
-    files: &'a [SourceFile],
+    names: &'a [String],
     trees: &'a [Arc<Module>],
 ) -> Result<Made, AllocError> {
     let stands = stands_for(alloc, trees)?;
-    let all = all_named(alloc, files, trees, &stands)?;
+    let all = all_named(alloc, names, trees, &stands)?;
     match Graph::of(alloc, &all) {
-        Ok(graph) => made_of(alloc, &graph, all.get(..files.len()).unwrap_or(&[])),
+        Ok(graph) => made_of(alloc, &graph, all.get(..names.len()).unwrap_or(&[])),
         Err(GraphError::Refused(refusals)) => Ok(Made::Refused(without_stands(refusals))),
         Err(GraphError::NoMemory) => Err(AllocError),
     }
@@ -220,5 +220,5 @@ pub fn compile_module(alloc: Global, files: &[SourceFile]) -> Result<Made, Alloc
     if !refusals.is_empty() {
         return Ok(Made::Refused(in_order(refusals)?));
     }
-    of_trees(alloc, files, &trees)
+    compile_trees(alloc, &names_of(alloc, files)?, &trees)
 }

@@ -39,11 +39,20 @@ pub fn readings_of(alloc: Global, files: &[SourceFile]) -> Result<Readings, Allo
 /// Adds trees with the names of their files.
 pub fn add_named<'a>(
     all: &mut Vec<(&'a str, &'a Module)>,
-    files: &'a [SourceFile],
+    names: &'a [String],
     trees: &'a [Arc<Module>],
 ) -> Result<(), AllocError> {
-    for (file, tree) in files.iter().zip(trees) {
-        all.push((file.name.as_str(), &**tree))?;
+    for (name, tree) in names.iter().zip(trees) {
+        all.push((name.as_str(), &**tree))?;
     }
     Ok(())
+}
+
+/// The names of these files.
+pub fn names_of(alloc: Global, files: &[SourceFile]) -> Result<Vec<String>, AllocError> {
+    let mut names = Vec::new(alloc);
+    for file in files {
+        names.push(String::from_str(alloc, file.name.as_str())?)?;
+    }
+    Ok(names)
 }

@@ -145,6 +145,20 @@ pub fn say_find_fault<R: Eprint>(rt: &R, fault: FindFault) -> Exit {
     Exit::Reported(FAILED)
 }
 
+/// The program of this text, with the modules that were found in these places.
+pub fn program_of_modules<R: Files + Eprint + AllocGlobal>(
+    rt: &R,
+    setting: &Setting,
+    path: &str,
+    text: Vec<u8>,
+    places: &Places<'_, R>,
+    modules: Vec<FoundModule>,
+) -> Result<Program, AllocError> {
+    let mut program = alone(rt.alloc(), path, text)?;
+    program.searched = searched_by(rt, places)?;
+    with_modules(rt, setting.is_verbose, places, modules, program)
+}
+
 /// The program of this text, with the modules that it imports. A file that is there and cannot be read is reported.
 pub fn program_of_text<R: Files + Eprint + AllocGlobal>(
     rt: &R,
@@ -154,11 +168,7 @@ pub fn program_of_text<R: Files + Eprint + AllocGlobal>(
 ) -> Result<Program, Exit> {
     let places = Places::of(rt, path, &setting.libraries)?;
     match find(rt.alloc(), &places, &text) {
-        Ok(modules) => {
-            let mut program = alone(rt.alloc(), path, text)?;
-            program.searched = searched_by(rt, &places)?;
-            Ok(with_modules(rt, setting.is_verbose, &places, modules, program)?)
-        }
+        Ok(modules) => Ok(program_of_modules(rt, setting, path, text, &places, modules)?),
         Err(fault) => Err(say_find_fault(rt, fault)),
     }
 }
@@ -260,7 +270,7 @@ pub fn text_of<R: Files + Eprint + AllocGlobal>(rt: &R, path: &str) -> Result<Ve
 
 /// The text of a file, or of one whose name has `.mod` behind it, with the path of the one that is there. If neither
 /// can be read, that is reported of the first.
-fn text_of_program<R: Files + Eprint + AllocGlobal>(
+pub fn text_of_program<R: Files + Eprint + AllocGlobal>(
     rt: &R,
     path: &str,
 ) -> Result<(String, Vec<u8>), Exit> {

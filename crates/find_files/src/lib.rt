@@ -6,8 +6,8 @@ mod needed;
 mod places;
 
 pub use finding::{
-    Program, Spare, alone, find_checked, find_program, partner_words, program_of_text, spare_files,
-    text_of,
+    Program, Spare, alone, find_checked, find_program, partner_words, program_of_modules,
+    program_of_text, say_find_fault, spare_files, text_of, text_of_program,
 };
 pub use needed::find_definitions;
-pub use places::folder_of;
+pub use places::{Places, folder_of};

@@ -17,7 +17,7 @@ use std::io::IsTerminal;
 use std::process::ExitCode;
 use std::rt::{Env, Files};
 use std::thread::Threads;
-use tool_builds::{build_into, build_single, check_all, exchange_input};
+use tool_builds::{Wanted, build_into, build_single, check_all, exchange_input};
 use tool_debug::{debug_file, serve_debugger};
 use tool_modules::{compile_file, link_program, show_imports};
 use tool_runs::{cost_file, run_file};
@@ -61,16 +61,17 @@ where
             out,
             deps,
             is_mapped,
-            fresh: _,
-        } => build_into(
-            rt,
-            setting,
-            program.as_str(),
-            input,
-            out.as_str(),
-            deps,
-            *is_mapped,
-        ),
+            fresh,
+        } => {
+            let wanted = Wanted {
+                input,
+                out: out.as_str(),
+                deps,
+                is_mapped: *is_mapped,
+                is_fresh: *fresh,
+            };
+            build_into(rt, setting, program.as_str(), &wanted)
+        }
         Asked::Compile {
             file,
             setting,

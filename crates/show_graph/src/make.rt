@@ -14,12 +14,13 @@ fn push_all(
     page: &mut String,
     steps: &Steps<'_>,
     nodes: &[Node<'_>],
+    reader: Reader,
     ending: &str,
 ) -> Result<(), AllocError> {
     for node in nodes {
         if node.body.is_some() {
             page.push_str(" \\\n    ")?;
-            steps.push_made(alloc, page, Reader::Make, node.name.as_str(), ending)?;
+            steps.push_made(alloc, page, reader, node.name.as_str(), ending)?;
         }
     }
     Ok(())
@@ -35,7 +36,7 @@ fn push_link(
 ) -> Result<(), AllocError> {
     steps.push_made(alloc, page, Reader::Make, "link", ".wasm")?;
     page.push(':')?;
-    push_all(alloc, page, steps, nodes, ".link")?;
+    push_all(alloc, page, steps, nodes, Reader::Make, ".link")?;
     page.push_str("\n\t$(M2)")?;
     steps.push_link(page, program)?;
     page.push_str("\n\n")?;
@@ -85,7 +86,7 @@ pub fn make_file(
         }
     }
     page.push_str("-include")?;
-    push_all(alloc, &mut page, steps, nodes, ".d")?;
+    push_all(alloc, &mut page, steps, nodes, Reader::Include, ".d")?;
     page.push('\n')?;
     Ok(page)
 }

@@ -6,6 +6,8 @@ use std::alloc::AllocError;
 #[derive(Clone, Copy, PartialEq, Eq)]
 pub enum Reader {
     Make,
+    /// make, behind the word `include`: there a colon is a character like others.
+    Include,
     Ninja,
 }
 
@@ -45,21 +47,27 @@ fn push_backslashes(page: &mut String, count: usize) -> Result<(), AllocError> {
 }
 
 /// Puts a character of the name of a file as make reads it, behind so many backslashes.
-fn push_for_make(page: &mut String, c: char, backslashes: usize) -> Result<(), AllocError> {
+fn push_for_make(
+    page: &mut String,
+    c: char,
+    backslashes: usize,
+    is_included: bool,
+) -> Result<(), AllocError> {
     match c {
         ' ' | '\t' => push_backslashes(page, backslashes.saturating_add(1))?,
-        '#' | ':' => page.push('\\')?,
+        '#' => page.push('\\')?,
+        ':' if !is_included => page.push('\\')?,
         '$' => page.push('$')?,
         _ => {}
     }
     page.push(c)
 }
 
-/// Puts the name of a file as make reads it.
-fn push_make_name(page: &mut String, name: &str) -> Result<(), AllocError> {
+/// Puts the name of a file as make reads it, in a rule or behind the word `include`.
+fn push_make_name(page: &mut String, name: &str, is_included: bool) -> Result<(), AllocError> {
     let mut backslashes: usize = 0;
     for c in name.chars() {
-        push_for_make(page, c, backslashes)?;
+        push_for_make(page, c, backslashes, is_included)?;
         backslashes = if c == '\\' {
             backslashes.saturating_add(1)
         } else {
@@ -83,7 +91,8 @@ fn push_ninja_name(page: &mut String, name: &str) -> Result<(), AllocError> {
 /// Puts the name of a file as this program reads it.
 pub fn push_name(page: &mut String, reader: Reader, name: &str) -> Result<(), AllocError> {
     match reader {
-        Reader::Make => push_make_name(page, name),
+        Reader::Make => push_make_name(page, name, false),
+        Reader::Include => push_make_name(page, name, true),
         Reader::Ninja => push_ninja_name(page, name),
     }
 }

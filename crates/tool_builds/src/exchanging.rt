@@ -74,5 +74,5 @@ where
     give_file(rt, input, &mut program)?;
     let built = build_found(rt, setting, READER_FILE, program)?;
     let modules = exchanged(rt, folder, input_of(rt.alloc(), built))?;
-    Ok(save_modules(rt, modules, folder))
+    Ok(save_modules(rt, &modules.link, modules.others, folder))
 }

@@ -10,7 +10,9 @@ mod linking;
 mod mapping;
 mod mending;
 mod pages;
+mod renewing;
 mod saving;
+mod wanted;
 
 pub use building::{Modules, build_program, say_fault, show_refused};
 pub use checking::check_all;
@@ -18,3 +20,4 @@ pub use exchanging::exchange_input;
 pub use giving::give_input;
 pub use linking::build_single;
 pub use saving::build_into;
+pub use wanted::Wanted;

@@ -3,11 +3,15 @@
 use crate::building::{Modules, build_found};
 use crate::giving::give_input;
 use crate::mapping::{made_maps, write_maps};
+use crate::renewing::{find_with, holds_kept, kept_for, kept_path, renewed, write_kept_file};
+use crate::wanted::Wanted;
 use anyhow::Result;
 use command_words::{Exit, FAILED};
-use find_files::find_program;
-use m2c::{SaveFault, save};
+use find_files::{Program, text_of_program};
+use m2c::{SaveFault, SourceFile, save};
+use renew_modules::{Kept, Renewal, keep, sums_of};
 use std::alloc::AllocError;
+use std::fs;
 use std::rt::Files;
 use std::thread::Threads;
 use system_streams::OutFolder;
@@ -55,42 +59,43 @@ where
 
 /// Writes modules into this folder, link last, and answers the status. A file that holds the bytes of its module already keeps its
 /// time; if any other is written, link is removed first and written last. If none is, nothing is touched.
-pub fn save_modules<R: Files + Eprint + AllocGlobal>(rt: &R, modules: Modules, out: &str) -> u8 {
-    let link = modules.link;
-    let mut others = modules.others;
+pub fn save_modules<R: Files + Eprint + AllocGlobal>(
+    rt: &R,
+    link: &[u8],
+    modules: Vec<(String, Vec<u8>)>,
+    out: &str,
+) -> u8 {
+    let mut others = modules;
     others.retain(|it| !is_kept(rt, out, it.0.as_str(), &it.1));
-    if others.is_empty() && is_kept(rt, out, LINK, &link) {
+    if others.is_empty() && is_kept(rt, out, LINK, link) {
         return BUILT;
     }
-    save_changed(rt, &link, &others, out)
+    save_changed(rt, link, &others, out)
 }
 
-/// The files of modules in a folder, link first.
-fn made_of<R: AllocGlobal>(
-    rt: &R,
-    modules: &Modules,
-    out: &str,
-) -> Result<Vec<String>, AllocError> {
+/// The files of the modules of these names in a folder, link first.
+fn made_of<R: AllocGlobal>(rt: &R, names: &[&str], out: &str) -> Result<Vec<String>, AllocError> {
     let mut made = Vec::new(rt.alloc());
     made.push(path_of(rt, out, LINK)?)?;
-    for (name, _) in &modules.others {
-        made.push(path_of(rt, out, name.as_str())?)?;
+    for name in names {
+        made.push(path_of(rt, out, name)?)?;
     }
     Ok(made)
 }
 
-/// Writes into this file of which files modules were made, and the file of the input is one of them. That it cannot be written is
-/// reported.
+/// Writes into this file of which files the modules of these names were made, and the file of the input is one of them. That it cannot
+/// be written is reported.
 fn write_made<R: Files + Eprint + AllocGlobal>(
     rt: &R,
     deps: &str,
-    modules: &Modules,
+    files: &[SourceFile],
+    names: &[&str],
     input: &Option<String>,
     out: &str,
 ) -> Result<(), Exit> {
-    let made = made_of(rt, modules, out)?;
+    let made = made_of(rt, names, out)?;
     let mut read = Vec::new(rt.alloc());
-    for file in &modules.files {
+    for file in files {
         read.push(file.name.as_str())?;
     }
     if let Some(input) = input {
@@ -101,34 +106,156 @@ fn write_made<R: Files + Eprint + AllocGlobal>(
     write_depends(rt, deps, &made, &read)
 }
 
-/// Builds the program of this file, with this input, and writes its modules into this folder. Before, it is written into the file
-/// `deps`, if there is one, of which files they were made. Behind them their maps are written, if they are wanted. The status.
-pub fn build_into<R>(
+/// The names of modules in the order in which they start.
+fn names_built<'a, R: AllocGlobal>(
+    rt: &R,
+    modules: &'a Modules,
+) -> Result<Vec<&'a str>, AllocError> {
+    let mut names = Vec::new(rt.alloc());
+    for (name, _) in &modules.others {
+        names.push(name.as_str())?;
+    }
+    Ok(names)
+}
+
+/// The names of modules that were kept in the order in which they start: the program, which stands first, starts last.
+fn names_kept<'a, R: AllocGlobal>(rt: &R, kept: &'a Kept) -> Result<Vec<&'a str>, AllocError> {
+    let mut names = Vec::new(rt.alloc());
+    for body in kept.bodies.iter().skip(1) {
+        names.push(body.name.as_str())?;
+    }
+    if let Some(program) = kept.bodies.first() {
+        names.push(program.name.as_str())?;
+    }
+    Ok(names)
+}
+
+/// Removes link if another module has other bytes than those that were kept, since another build is at work. Whether that is so.
+fn is_crossed<R: Files + AllocGlobal>(rt: &R, kept: &Kept, out: &str) -> Result<bool, AllocError> {
+    if holds_kept(rt, out, kept)? {
+        return Ok(false);
+    }
+    let path = path_of(rt, out, LINK)?;
+    let _ = fs::remove_file(rt, path.as_str());
+    Ok(true)
+}
+
+/// Writes the modules of a program of which only what changed was compiled. The status, or none if another build wrote modules into the
+/// folder in the meantime: then the whole has to be built.
+fn save_renewal<R: Files + Eprint + AllocGlobal>(
+    rt: &R,
+    program: &Program,
+    renewal: Renewal,
+    wanted: &Wanted<'_>,
+    path: &str,
+) -> Result<Option<u8>, Exit> {
+    let Renewal {
+        link,
+        compiled,
+        kept,
+    } = renewal;
+    if let Some(deps) = wanted.deps {
+        let names = names_kept(rt, &kept)?;
+        write_made(
+            rt,
+            deps.as_str(),
+            &program.files,
+            &names,
+            wanted.input,
+            wanted.out,
+        )?;
+    }
+    let is_same = compiled.is_empty() && is_kept(rt, wanted.out, LINK, &link);
+    let status = save_modules(rt, &link, compiled, wanted.out);
+    if status != BUILT {
+        return Ok(Some(status));
+    }
+    if !is_same && is_crossed(rt, &kept, wanted.out)? {
+        return Ok(None);
+    }
+    write_kept_file(rt, path, &kept)?;
+    Ok(Some(status))
+}
+
+/// Writes the modules of a program that was built, and behind link what is kept of it and the maps, if they are wanted. The status.
+fn save_built<R>(
     rt: &R,
     setting: &Setting,
+    program: &str,
+    modules: Modules,
+    wanted: &Wanted<'_>,
     path: &str,
-    input: &Option<String>,
-    out: &str,
-    deps: &Option<String>,
-    is_mapped: bool,
 ) -> Result<u8, Exit>
 where
-    R: Files + Input + Print + Eprint + AllocGlobal + Threads + Sync,
+    R: Files + Eprint + AllocGlobal + Threads + Sync,
 {
-    let mut program = find_program(rt, setting, path)?;
-    give_input(rt, path, input, &mut program)?;
-    let modules = build_found(rt, setting, path, program)?;
-    if let Some(deps) = deps {
-        write_made(rt, deps.as_str(), &modules, input, out)?;
+    if let Some(deps) = wanted.deps {
+        let names = names_built(rt, &modules)?;
+        write_made(
+            rt,
+            deps.as_str(),
+            &modules.files,
+            &names,
+            wanted.input,
+            wanted.out,
+        )?;
     }
-    let maps = if is_mapped {
-        made_maps(rt, setting, path, &modules)?
+    let maps = if wanted.is_mapped {
+        made_maps(rt, setting, program, &modules)?
     } else {
         Vec::new(rt.alloc())
     };
-    let status = save_modules(rt, modules, out);
+    let pages = setting.options.pages;
+    let kept = keep(
+        rt.alloc(),
+        &modules.files,
+        &modules.link,
+        &modules.others,
+        pages,
+    )?;
+    let status = save_modules(rt, &modules.link, modules.others, wanted.out);
     if status == BUILT {
-        write_maps(rt, out, &maps)?;
+        if let Some(kept) = kept {
+            write_kept_file(rt, path, &kept)?;
+        }
+        write_maps(rt, wanted.out, &maps)?;
     }
     Ok(status)
+}
+
+/// The checksums of the texts of a program: these, unless it was given an input.
+fn texts_now<R: AllocGlobal>(
+    rt: &R,
+    program: &Program,
+    input: &Option<String>,
+    texts: Vec<String>,
+) -> Result<Vec<String>, AllocError> {
+    match input {
+        None => Ok(texts),
+        Some(_) => sums_of(rt.alloc(), &program.files),
+    }
+}
+
+/// Builds the program of this file and writes its modules: those alone that changed since the last build, if it kept what it did, and
+/// nothing is out of the ordinary. Before, it is written of which files they were made, and behind them what is kept for the next build.
+/// The status.
+pub fn build_into<R>(rt: &R, setting: &Setting, path: &str, wanted: &Wanted<'_>) -> Result<u8, Exit>
+where
+    R: Files + Input + Print + Eprint + AllocGlobal + Threads + Sync,
+{
+    let (file, text) = text_of_program(rt, path)?;
+    let place = kept_path(rt, file.as_str(), wanted.out)?;
+    let kept = kept_for(rt, setting, wanted, place.as_str())?;
+    let (mut program, texts) = find_with(rt, setting, file.as_str(), text, &kept)?;
+    give_input(rt, path, wanted.input, &mut program)?;
+    if let Some(kept) = kept {
+        let texts = texts_now(rt, &program, wanted.input, texts)?;
+        if let Some(renewal) = renewed(rt, setting, &program, texts, kept, wanted.out)? {
+            if let Some(status) = save_renewal(rt, &program, renewal, wanted, place.as_str())? {
+                return Ok(status);
+            }
+        }
+    }
+    let modules = build_found(rt, setting, path, program)?;
+    save_built(rt, setting, path, modules, wanted, place.as_str())
 }

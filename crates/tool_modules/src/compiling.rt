@@ -6,7 +6,7 @@ use build_jobs::{Read, read_text};
 use command_words::{COMMAND_LINE, Exit};
 use compile_module::{Interface as Needed, Made, compile_module};
 use find_files::{Program, find_definitions, text_of};
-use link_parts::{Interface, Part, Sizes, sum_of};
+use link_parts::{Interface, Part, Sizes, interface_sum, sum_of};
 use m2_emit::ModuleBytes;
 use m2_tree::{Contents, Module};
 use std::alloc::{AllocError, Global};
@@ -25,6 +25,14 @@ fn sum_in(alloc: Global, program: &Program, file: usize) -> Result<String, Alloc
     }
 }
 
+/// The checksum of the tokens of a definition among the files of a program.
+fn tokens_in(alloc: Global, program: &Program, file: usize) -> Result<String, AllocError> {
+    match program.files.get(file) {
+        None => Ok(String::new(alloc)),
+        Some(file) => interface_sum(alloc, &file.bytes),
+    }
+}
+
 /// The definitions that a module was compiled with, and their checksums.
 fn interfaces_of(
     alloc: Global,
@@ -33,7 +41,7 @@ fn interfaces_of(
 ) -> Result<Vec<Interface>, AllocError> {
     let mut interfaces = Vec::new(alloc);
     for it in needed {
-        let sum = sum_in(alloc, program, it.file)?;
+        let sum = tokens_in(alloc, program, it.file)?;
         interfaces.push(Interface { name: it.name, sum })?;
     }
     Ok(interfaces)
