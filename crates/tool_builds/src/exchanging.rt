@@ -73,6 +73,6 @@ where
     let mut program = reader(rt, setting)?;
     give_file(rt, input, &mut program)?;
     let built = build_found(rt, setting, READER_FILE, program)?;
-    let modules = exchanged(rt, folder, input_of(rt.alloc(), built))?;
-    Ok(save_modules(rt, &modules.link, modules.others, folder))
+    let Modules { link, others, .. } = exchanged(rt, folder, input_of(rt.alloc(), built))?;
+    Ok(save_modules(rt, &link, others, folder))
 }

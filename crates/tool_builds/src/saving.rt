@@ -213,7 +213,8 @@ where
         &modules.others,
         pages,
     )?;
-    let status = save_modules(rt, &modules.link, modules.others, wanted.out);
+    let Modules { link, others, .. } = modules;
+    let status = save_modules(rt, &link, others, wanted.out);
     if status == BUILT {
         if let Some(kept) = kept {
             write_kept_file(rt, path, &kept)?;
