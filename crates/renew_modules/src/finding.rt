@@ -5,7 +5,7 @@ use crate::spreading::numbers_of;
 use find_modules::{FindFault, FoundModule, MAX_MODULES, ModuleFolders, Part, Sources, imports_of};
 use indexmap::IndexMap;
 use link_parts::sum_of;
-use m2_tree::{Name, is_console};
+use m2_tree::{MAX_NAME, Name, is_console};
 use std::alloc::{AllocError, Global};
 
 /// The modules that a program imports, directly and through others, and the checksums of its text and of theirs, in the order of the
@@ -113,11 +113,17 @@ fn add_modules<F: ModuleFolders>(
     Ok(())
 }
 
-/// These names as names of modules.
+/// A word as the name of a module. What is kept has no longer one.
+fn name_of(alloc: Global, word: &str) -> Result<Name, AllocError> {
+    let bytes = word.as_bytes();
+    Name::new(alloc, &bytes[..bytes.len().min(MAX_NAME)])
+}
+
+/// Words as names of modules.
 fn names_of(alloc: Global, words: &[String]) -> Result<Vec<Name>, AllocError> {
     let mut names = Vec::new(alloc);
     for word in words {
-        names.push(Name::new(alloc, word.as_bytes())?)?;
+        names.push(name_of(alloc, word.as_str())?)?;
     }
     Ok(names)
 }
