@@ -88,6 +88,6 @@ await commands.get("m2.run")();
 const asked = debuggers.get("configuration").resolveDebugConfiguration(undefined, {});
 const followed = [...debuggers.get("adapter").createDebugAdapterDescriptor().words, asked.request, path.basename(asked.program)];
 const rows = [...shown].flatMap(([file, several]) =>
-  several.map((it) => [path.basename(file), it.range.start.line, it.range.start.character, it.range.end.character, Number(it.code)]));
+  several.map((it) => [path.basename(file), it.range.start.line, it.range.start.character, it.range.end.character, Number(it.code.value ?? it.code)]));
 await client.deactivate();
 process.stdout.write(JSON.stringify({ diagnostics: rows.sort(), errors, ran, followed, definition: found.map(({ parts }) => [path.basename(parts[0].fsPath), parts[1].start.line]) }));
