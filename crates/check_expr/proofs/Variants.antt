@@ -37,7 +37,7 @@ use Rattle.check_const.specs.Parts as constants
 use Rattle.check_operator.specs.declared.computed.Computed.{Computed}
 use Rattle.check_operator.specs.declared.computed.Designated.{Designated}
 use Rattle.check_operator.specs.Signs.{negation}
-use Rattle.check_expr.specs.Meanings.{Meant, Picks, meanings_of, picks, head, item, part, type_of, names_by, with_look, breaches_in_all, look_in, value_standing, constant_factor_in, constant_term_in, constant_pick_in, item_in, of_computed, signed_first, relation, relation_value, first_name, field_at, index_at, as_constant, value_of, factor, term, with_actual, factor_in, term_in, pick_in, actual_in, use_with}
+use Rattle.check_expr.specs.Meanings.{Meant, Picks, meanings_of, picks, head, item, part, type_of, names_by, with_look, breaches_in_all, look_in, value_standing, constant_factor_in, constant_term_in, constant_pick_in, item_in, of_computed, signed_first, relation, relation_value, first_name, field_at, index_at, as_constant, value_of, factor, term, call_in_expression, with_actual, factor_in, term_in, pick_in, actual_in, use_with}
 use Rattle.check_expr.proofs.Layers.{at, at_selector, at_designator, at_item}
 
 pub fold_mapped : {A X Y : Type 0} (f : A → Y → A) (h : X → Y) (a : A) (xs : List X) → fold f a (map h xs) ≡ fold (λ v x. f v (h x)) a xs
@@ -171,7 +171,10 @@ module _ (s : Scope Breach) where
   pub value_Relation : (a : Expr) (o : Operator RelOp) (b : Expr) → value_of least s (meanings_of least (Relation a o b)) ≡ relation least s (meanings_of least a) o (meanings_of least b)
   value_Relation a o b = value_by s (Relation a o b) _ (means_Relation s a o b)
 
-pub ruleset value_rules = (value_Not, value_Bracketed, value_Term, value_Sum, value_Relation)
+  pub value_Call : (d : Designator) (es : List Expr) → value_of least s (meanings_of least (Use d (Some es))) ≡ call_in_expression least s (head least d).fixed.at ((head least d).means s) (map (meanings_of least) es)
+  value_Call d es = value_by s (Use d (Some es)) _ (means_Use s d (Some es))
+
+pub ruleset value_rules = (value_Call, value_Not, value_Bracketed, value_Term, value_Sum, value_Relation)
 
 -- ---- constant expressions
 
@@ -327,6 +330,13 @@ relation_is s e a o b a1 b1 r x y h h1 h2 hx hy hr =
     ∙ ap (λ (c : Expr). constants.relation_value least o (part least c).at (constant least s (part least c)) (part least b1).at (constant least s (part least b1))) h1
     ∙ ap (λ (c : Expr). constants.relation_value least o (part least a).at (constant least s (part least a)) (part least c).at (constant least s (part least c))) h2
     ∙ sym (denotes_Relation s a o b) ∙ ap (λ (e : Expr). (part least e).denotes s) (sym h)
+
+-- NOT stands for its value
+pub not_stands : (s : Scope Breach) (e a : Expr) (p : Pos) (d : Result Designated (Meaningless Breach))
+    → e ≡ Not p a → d ≡ of_computed (value_of least s (meanings_of least e)) → d ≡ (meanings_of least e).means s
+not_stands s e a p d h q =
+    q ∙ ap (λ (e : Expr). of_computed (value_of least s (meanings_of least e))) h ∙ ap of_computed (value_Not s p a) ∙ sym (means_Not s p a)
+    ∙ ap (λ (e : Expr). (meanings_of least e).means s) (sym h)
 
 -- the same of values
 pub relation_by : (s : Scope Breach) (e a : Expr) (o : Operator RelOp) (b a1 b1 : Expr) (v x y : Result Computed Breach)

@@ -2,11 +2,16 @@
 
 ghost use Rattle.std.specs.Prelude.{◌≡◌, [], Ok, IfOk, map};
 ghost use Rattle.std.specs.List.{fold};
-ghost use Rattle.check_scope.specs.Elaborated.{least};
+ghost use Rattle.m2_rule.specs.declared.rule.Rule.TheVariants as rule;
+ghost use Rattle.check_scope.specs.Elaborated.{least, of_sort_of_value, reported_beside, ◌▷◌};
+ghost use Rattle.check_const_ops.specs.Operate as values;
+ghost use Rattle.check_const.specs.Denote.{of_value};
 ghost use Rattle.check_const.specs.Calls.{sort_of};
+ghost use Rattle.check_const.specs.Calls as calls;
+ghost use Rattle.check_const.specs.Parts.{value_at};
 ghost use Rattle.check_const.specs.Parts as constants;
-ghost use Rattle.check_call.specs.Functions.{form_of};
-ghost use Rattle.check_expr.specs.Meanings.{part, meanings_of, picks, head, item, as_constant, value_of, actual_in, look_in, breaches_in_all, wrong_count, routine_called, by_form, call_in_expression, factor_in, term_in, pick_in, constant_factor_in, constant_term_in, item_in};
+ghost use Rattle.check_call.specs.Functions.{form_of, unary_at, bound_at, high_of};
+ghost use Rattle.check_expr.specs.Meanings.{part, meanings_of, picks, head, item, as_constant, of_computed, value_standing, value_of, scalar_named, actual_in, look_in, breaches_in_all, wrong_count, routine_called, by_form, call_in_expression, factor_in, term_in, pick_in, constant_factor_in, constant_term_in, item_in};
 
 use crate::fixed::denotation;
 use crate::pieces::{
@@ -15,13 +20,13 @@ use crate::pieces::{
     unary_of,
 };
 use check_call::{
-    Called, Callee, Form, bound_at, callee_of, conversion_at, form_of, function_of, next_formal,
-    with_argument,
+    Called, Callee, Form, Unary, bound_at, callee_of, conversion_at, form_of, function_of,
+    next_formal, with_argument,
 };
 use check_const::{
-    Denoted, Sort, bound as bound_of, constant_by, conversion_call, element_of, joined_bits,
+    Denoted, Sort, bound as bound_by, constant_by, conversion_call, element_of, joined_bits,
     named_type, of_value, set_of, set_type, sign_place, signed_first as constant_signed, single_of,
-    sort_of, text_of, type_argument, unary as unary_constant, value_at,
+    sort_of, text_of, type_argument, unary as unary_by, value_at,
 };
 use check_const_ops::{
     add_op, constant_operation as combined_constants, mul_op, negation as negated_constant,
@@ -35,15 +40,14 @@ use check_scope::{
     reported_beside,
 };
 use m2_rule::{Breach, Rule};
-use m2_tree::{AddOp, Designator, Expr, Item, MulOp, Operator, Pos, Selector};
+use m2_tree::{AddOp, Designator, Expr, Ident, Item, MulOp, Operator, Pos, Selector};
 use std::alloc::{AllocError, Global};
 use tree_parts::Items;
 use typed_tree::{Argument, CHAR, Formal, Standard, TypeNo, Value};
 
-/// What an expression stands for. Most are a name or a constant, and a function pays at entry for all that it may hold: so
-/// what the others need stands apart.
+/// What an expression stands for.
 #[cycle(body)]
-#[tactic(auto, using(crate::proofs::Variants::variants))]
+#[tactic(auto, using(crate::proofs::Variants::variants, crate::proofs::Variants::value_rules))]
 pub fn stands_for(
     alloc: Global,
     scope: &Scope<Breach>,
@@ -52,77 +56,40 @@ pub fn stands_for(
     ensures { IfOk result (λ d. d ≡ (meanings_of least e.now).means scope.now) }
 {
     match e {
-        Expr::Number(_, _) | Expr::Char(_, _) | Expr::Text(_, _) => itself(alloc, scope, e),
+        Expr::Number(_, _) | Expr::Char(_, _) | Expr::Text(_, _) | Expr::Set(_, _, _) => {
+            itself(alloc, scope, e)
+        }
         Expr::Use(designator, args) => match args {
             None => designation(alloc, scope, designator),
-            Some(_) => composition(alloc, scope, e),
+            Some(_) => value_itself(alloc, scope, e),
         },
-        _ => composition(alloc, scope, e),
+        Expr::Not(_, _)
+        | Expr::Bracketed(_, _)
+        | Expr::Term(_, _)
+        | Expr::Sum(_, _, _)
+        | Expr::Relation(_, _, _) => value_itself(alloc, scope, e),
     }
 }
 
-/// The same, for an expression of any form.
+/// A value that stands for itself.
 #[cycle(body)]
 #[inline(never)]
-#[tactic(auto, using(crate::proofs::Variants::variants))]
-fn composition(
+fn value_itself(
     alloc: Global,
     scope: &Scope<Breach>,
     e: &Expr,
 ) -> Result<Sought<Designated>, AllocError>
-    ensures { IfOk result (λ d. d ≡ (meanings_of least e.now).means scope.now) }
+    ensures { IfOk result
+        (λ d. d ≡ of_computed (value_of least scope.now (meanings_of least e.now))) }
 {
-    match e {
-        Expr::Number(_, _) => itself(alloc, scope, e),
-        Expr::Char(_, _) => itself(alloc, scope, e),
-        Expr::Text(_, _) => itself(alloc, scope, e),
-        Expr::Set(_, _, _) => itself(alloc, scope, e),
-        Expr::Not(at, inner) => {
-            let value = value_of(alloc, scope, inner.get())?;
-            Ok(of_computed(negation(alloc, *at, value)?))
-        }
-        Expr::Bracketed(_, inner) => Ok(of_computed(value_of(alloc, scope, inner.get())?)),
-        Expr::Use(designator, args) => match args {
-            None => designation(alloc, scope, designator),
-            Some(args) => {
-                let callee = designation(alloc, scope, designator)?;
-                let at = first_of(designator);
-                Ok(of_computed(call_in_expression(
-                    alloc,
-                    scope,
-                    at,
-                    callee,
-                    args.get().as_slice(),
-                )?))
-            }
-        },
-        Expr::Term(first, rest) => {
-            let first = first.get();
-            let left = value_of(alloc, scope, first)?;
-            let product = factors(alloc, scope, place_of(first), left, rest.as_slice())?;
-            Ok(of_computed(product))
-        }
-        Expr::Sum(sign, first, rest) => {
-            let first = first.get();
-            let value = value_of(alloc, scope, first)?;
-            let left = signed_first(alloc, *sign, value)?;
-            let at = sign_place(*sign, place_of(first));
-            Ok(of_computed(terms(alloc, scope, at, left, rest.as_slice())?))
-        }
-        Expr::Relation(first, operator, second) => {
-            let first = first.get();
-            let second = second.get();
-            let left = value_of(alloc, scope, first)?;
-            let right = value_of(alloc, scope, second)?;
-            let types = &scope.types;
-            let value = relation_value(alloc, types, first, left, operator, second, right)?;
-            Ok(of_computed(value))
-        }
-    }
+    let value = value_of(alloc, scope, e)?;
+    Ok(of_computed(value))
 }
 
-/// The value of an expression.
+/// The value of an expression. Most are a name or a constant, and a function pays at entry for all that it may hold: so what the
+/// others need stands apart.
 #[cycle(body)]
+#[tactic(auto, using(crate::proofs::Variants::variants))]
 pub fn value_of(
     alloc: Global,
     scope: &Scope<Breach>,
@@ -131,23 +98,64 @@ pub fn value_of(
     ensures { IfOk result (λ v. v ≡ value_of least scope.now (meanings_of least e.now)) }
 {
     match e {
+        Expr::Number(_, _) | Expr::Char(_, _) | Expr::Text(_, _) | Expr::Set(_, _, _) => {
+            constant_value(alloc, scope, e)
+        }
+        Expr::Use(designator, args) => match args {
+            None => name_value(alloc, scope, designator),
+            Some(_) => operation_value(alloc, scope, e),
+        },
         Expr::Not(_, _)
         | Expr::Bracketed(_, _)
         | Expr::Term(_, _)
         | Expr::Sum(_, _, _)
         | Expr::Relation(_, _, _) => operation_value(alloc, scope, e),
-        Expr::Number(_, _)
-        | Expr::Char(_, _)
-        | Expr::Text(_, _)
-        | Expr::Set(_, _, _)
-        | Expr::Use(_, _) => standing_value(alloc, scope, e),
     }
 }
 
-/// The same, of an expression with operators.
+/// The value of a constant that stands for itself.
+#[cycle(body)]
+fn constant_value(
+    alloc: Global,
+    scope: &Scope<Breach>,
+    e: &Expr,
+) -> Result<Elaborated<Computed>, AllocError>
+    ensures { IfOk result (λ v.
+        v
+        ≡ value_standing least scope.now.types (part least e.now).at
+        (as_constant least scope.now (part least e.now))) }
+{
+    match constant_of(alloc, scope, e)? {
+        Err(breach) => Ok(Err(breach)),
+        Ok(value) => Ok(Ok(Computed::Constant(value))),
+    }
+}
+
+/// What a designator stands for, taken as a value.
+#[cycle(body)]
+fn name_value(
+    alloc: Global,
+    scope: &Scope<Breach>,
+    designator: &Designator,
+) -> Result<Elaborated<Computed>, AllocError>
+    ensures { IfOk result (λ v.
+        v
+        ≡ value_standing least scope.now.types (head least designator.now).fixed.at
+        ((head least designator.now).means scope.now)) }
+{
+    let at = first_of(designator);
+    match designation(alloc, scope, designator)? {
+        Ok(designated) => Ok(value_at_place(&scope.types, at, designated)),
+        Err(Meaningless::Broken(breach)) => Ok(Err(breach)),
+        Err(Meaningless::Headless(true, _)) => Ok(report(at, Rule::NoProcedureValue)),
+        Err(Meaningless::Headless(false, breach)) => Ok(Err(breach)),
+    }
+}
+
+/// The value of an expression of any form.
 #[cycle(body)]
 #[inline(never)]
-#[tactic(auto, using(crate::proofs::Variants::value_rules))]
+#[tactic(auto, using(crate::proofs::Variants::variants, crate::proofs::Variants::value_rules))]
 fn operation_value(
     alloc: Global,
     scope: &Scope<Breach>,
@@ -161,6 +169,14 @@ fn operation_value(
             negation(alloc, *at, operand)
         }
         Expr::Bracketed(_, inner) => value_of(alloc, scope, inner.get()),
+        Expr::Use(designator, args) => match args {
+            None => name_value(alloc, scope, designator),
+            Some(args) => {
+                let callee = designation(alloc, scope, designator)?;
+                let at = first_of(designator);
+                call_in_expression(alloc, scope, at, callee, args.get().as_slice())
+            }
+        },
         Expr::Term(front, rest) => {
             let factor = value_of(alloc, scope, front.get())?;
             factors(alloc, scope, place_of(front.get()), factor, rest.as_slice())
@@ -180,29 +196,9 @@ fn operation_value(
             let value = relation_value(alloc, types, a, x, operator, b, y)?;
             Ok(value)
         }
-        Expr::Number(_, _)
-        | Expr::Char(_, _)
-        | Expr::Text(_, _)
-        | Expr::Set(_, _, _)
-        | Expr::Use(_, _) => standing_value(alloc, scope, e),
-    }
-}
-
-/// What an expression stands for, taken as a value.
-#[cycle(body)]
-fn standing_value(
-    alloc: Global,
-    scope: &Scope<Breach>,
-    e: &Expr,
-) -> Result<Elaborated<Computed>, AllocError>
-    ensures { IfOk result (λ v. v ≡ value_of least scope.now (meanings_of least e.now)) }
-{
-    let at = place_of(e);
-    match stands_for(alloc, scope, e)? {
-        Ok(designated) => Ok(value_at_place(&scope.types, at, designated)),
-        Err(Meaningless::Broken(breach)) => Ok(Err(breach)),
-        Err(Meaningless::Headless(true, _)) => Ok(report(at, Rule::NoProcedureValue)),
-        Err(Meaningless::Headless(false, breach)) => Ok(Err(breach)),
+        Expr::Number(_, _) | Expr::Char(_, _) | Expr::Text(_, _) | Expr::Set(_, _, _) => {
+            constant_value(alloc, scope, e)
+        }
     }
 }
 
@@ -448,31 +444,86 @@ fn by_form(
         (form_of standard)) }
 {
     match (form_of(standard), args) {
-        (Form::Unary(function), [arg]) => {
-            let value = value_of(alloc, scope, arg)?;
-            unary_of(alloc, standard, function, place_of(arg), value)
-        }
-        (Form::Bound, [arg]) => {
-            let designated = stands_for(alloc, scope, arg)?;
-            Ok(bound_at(standard, type_at(&scope.types, place_of(arg), designated)))
-        }
+        (Form::Unary(function), [arg]) => unary_value(alloc, scope, standard, function, arg),
+        (Form::Bound, [arg]) => bound_value(alloc, scope, standard, arg),
         (Form::Conversion, [to, arg]) => {
             let designated = stands_for(alloc, scope, to)?;
             let t = type_at(&scope.types, place_of(to), designated);
             let value = value_of(alloc, scope, arg)?;
             conversion_at(alloc, t, place_of(arg), value)
         }
-        (Form::High, [arg]) => {
-            let designated = stands_for(alloc, scope, arg)?;
-            Ok(high_at(place_of(arg), designated))
-        }
-        (Form::Proper, _) => {
-            let rest = breaches_in_all(alloc, scope, args)?;
-            Ok(reported_beside(at, Rule::WrongType, rest))
-        }
+        (Form::High, [arg]) => high_value(alloc, scope, arg),
+        (Form::Proper, _) => no_value(alloc, scope, at, args),
         (Form::Unary(_) | Form::Bound | Form::High, [] | [_, _, ..])
         | (Form::Conversion, [] | [_] | [_, _, _, ..]) => wrong_count(alloc, scope, at, args),
     }
+}
+
+/// The value of a standard function of one argument.
+#[cycle(body)]
+fn unary_value(
+    alloc: Global,
+    scope: &Scope<Breach>,
+    standard: Standard,
+    function: Unary,
+    arg: &Expr,
+) -> Result<Elaborated<Computed>, AllocError>
+    ensures { IfOk result (λ v.
+        v
+        ≡ (value_of least scope.now (meanings_of least arg.now)
+        ▷ unary_at least standard function (part least arg.now).at)) }
+{
+    let value = value_of(alloc, scope, arg)?;
+    unary_of(alloc, standard, function, place_of(arg), value)
+}
+
+/// MAX or MIN of a type.
+#[cycle(body)]
+fn bound_value(
+    alloc: Global,
+    scope: &Scope<Breach>,
+    standard: Standard,
+    arg: &Expr,
+) -> Result<Elaborated<Computed>, AllocError>
+    ensures { IfOk result (λ v.
+        v ≡ bound_at standard (scalar_named least scope.now (meanings_of least arg.now))) }
+{
+    let designated = stands_for(alloc, scope, arg)?;
+    Ok(bound_at(standard, type_at(&scope.types, place_of(arg), designated)))
+}
+
+/// HIGH of an open array.
+#[cycle(body)]
+fn high_value(
+    alloc: Global,
+    scope: &Scope<Breach>,
+    arg: &Expr,
+) -> Result<Elaborated<Computed>, AllocError>
+    ensures { IfOk result (λ v.
+        v
+        ≡ (of_sort_of_value least (part least arg.now).at rule.WrongArgument
+        ((meanings_of least arg.now).means scope.now)
+        ▷ high_of least (part least arg.now).at)) }
+{
+    let designated = stands_for(alloc, scope, arg)?;
+    Ok(high_at(place_of(arg), designated))
+}
+
+/// A standard procedure that has no value, beside what is broken in its arguments.
+#[cycle(body)]
+fn no_value(
+    alloc: Global,
+    scope: &Scope<Breach>,
+    at: Pos,
+    args: &[Expr],
+) -> Result<Elaborated<Computed>, AllocError>
+    ensures { IfOk result (λ v.
+        v
+        ≡ reported_beside least at rule.WrongType
+        (breaches_in_all least scope.now (map (meanings_of least) args.now))) }
+{
+    let rest = breaches_in_all(alloc, scope, args)?;
+    Ok(reported_beside(at, Rule::WrongType, rest))
 }
 
 /// A constant expression that stands for itself.
@@ -501,15 +552,8 @@ fn denotes(
         Expr::Number(_, n) => Ok(Ok(Denoted::Value(Value::Number(i64::from(*n))))),
         Expr::Char(_, code) => Ok(Ok(Denoted::Value(number_value(Some(CHAR), i64::from(*code))))),
         Expr::Text(_, text) => Ok(Ok(Denoted::Value(text_of(alloc, text.as_bytes())?))),
-        Expr::Set(name, _, items) => {
-            let of = set_type(scope, name)?;
-            let bits = elements(alloc, scope, items.as_slice())?;
-            Ok(set_of(of, bits))
-        }
-        Expr::Not(at, inner) => {
-            let value = constant_of(alloc, scope, inner.get())?;
-            Ok(of_value(negated_constant(*at, value)))
-        }
+        Expr::Set(name, _, items) => set_denotation(alloc, scope, name, items.as_slice()),
+        Expr::Not(at, inner) => not_denotation(alloc, scope, *at, inner.get()),
         Expr::Bracketed(_, inner) => Ok(of_value(constant_of(alloc, scope, inner.get())?)),
         Expr::Use(designator, args) => match args {
             None => denotation(scope, designator),
@@ -539,6 +583,41 @@ fn denotes(
             Ok(related_parts(first, left, operator, second, right))
         }
     }
+}
+
+/// What a set of constant elements stands for.
+#[cycle(body)]
+fn set_denotation(
+    alloc: Global,
+    scope: &Scope<Breach>,
+    name: &Option<Ident>,
+    items: &[Item],
+) -> Result<Elaborated<Denoted>, AllocError>
+    ensures { IfOk result (λ d.
+        d
+        ≡ constants.set_of least (constants.set_type least scope.now name.now)
+        (fold (item_in scope.now) (Ok 0) items.now)) }
+{
+    let of = set_type(scope, name)?;
+    let bits = elements(alloc, scope, items)?;
+    Ok(set_of(of, bits))
+}
+
+/// What NOT of a constant stands for.
+#[cycle(body)]
+fn not_denotation(
+    alloc: Global,
+    scope: &Scope<Breach>,
+    at: Pos,
+    inner: &Expr,
+) -> Result<Elaborated<Denoted>, AllocError>
+    ensures { IfOk result (λ d.
+        d
+        ≡ of_value (values.negation least at
+        (constants.constant least scope.now (part least inner.now)))) }
+{
+    let value = constant_of(alloc, scope, inner)?;
+    Ok(of_value(negated_constant(at, value)))
 }
 
 /// The value of a constant expression. What is no constant is 34 at its first token.
@@ -631,15 +710,8 @@ fn by_sort(
         (sort_of standard)) }
 {
     match (sort_of(standard), args) {
-        (Sort::Unary, [argument]) => {
-            let value = constant_of(alloc, scope, argument)?;
-            Ok(unary_constant(standard, value_at(place_of(argument), value)))
-        }
-        (Sort::Bound, [argument]) => {
-            let named = type_named(alloc, scope, argument)?;
-            let t = type_argument(&scope.types, place_of(argument), named);
-            Ok(bound_of(standard, t))
-        }
+        (Sort::Unary, [argument]) => unary_constant(alloc, scope, standard, argument),
+        (Sort::Bound, [argument]) => bound_constant(alloc, scope, standard, argument),
         (Sort::Conversion, [to, argument]) => {
             let named = type_named(alloc, scope, to)?;
             let t = type_argument(&scope.types, place_of(to), named);
@@ -650,6 +722,43 @@ fn by_sort(
         (Sort::Unary | Sort::Bound, [] | [_, _, ..])
         | (Sort::Conversion, [] | [_] | [_, _, _, ..]) => Ok(report(at, Rule::ArgumentCount)),
     }
+}
+
+/// A standard function of a constant.
+#[cycle(body)]
+fn unary_constant(
+    alloc: Global,
+    scope: &Scope<Breach>,
+    standard: Standard,
+    argument: &Expr,
+) -> Result<Elaborated<Value>, AllocError>
+    ensures { IfOk result (λ v.
+        v
+        ≡ calls.unary least standard (value_at (part least argument.now).at
+        (constants.constant least scope.now (part least argument.now)))) }
+{
+    let value = constant_of(alloc, scope, argument)?;
+    Ok(unary_by(standard, value_at(place_of(argument), value)))
+}
+
+/// MAX or MIN of a type.
+#[cycle(body)]
+fn bound_constant(
+    alloc: Global,
+    scope: &Scope<Breach>,
+    standard: Standard,
+    argument: &Expr,
+) -> Result<Elaborated<Value>, AllocError>
+    ensures { IfOk result (λ v.
+        v
+        ≡ calls.bound standard (calls.type_argument least scope.now.types
+        (part least argument.now).at ((part least argument.now).names scope.now))) }
+{
+    let named = type_named(alloc, scope, argument)?;
+    Ok(bound_by(
+        standard,
+        type_argument(&scope.types, place_of(argument), named),
+    ))
 }
 
 /// Factors of a constant expression, from the left.

@@ -2,7 +2,7 @@ use Rattle.std.proofs.Common.{◌≡◌}
 use Rattle.std.proofs.lemmas.Result.{IfOk-weaker}
 use Rattle.check_expr.specs.Meanings.{meanings_of, value_of}
 use Rattle.check_scope.specs.Elaborated.{least}
-use Rattle.check_expr.proofs.Variants.{relation_is, relation_by, not_by, sum_by}
+use Rattle.check_expr.proofs.Variants.{relation_is, relation_by, not_by, sum_by, not_stands}
 use Rattle.check_expr.proofs.body.+body.Goals as goal
 
 pub denotes-returns-in_ok-right-in-Relation : goal.denotes-returns-in_ok-right-in-Relation
@@ -27,3 +27,8 @@ operation_value-returns-in_ok-start-in-Sum t c =
     (λ v q. sum_by c.args.scope.now c.args.e.now c.in-Sum.front _ _ c.in-Sum.sign c.in-Sum.rest _ c.in_ok-term-in-Sum.term c.in_ok-start-in-Sum.start v _ _
     c.in-Sum.is c.get-in-Sum.ensures c.get-in-Sum-2.ensures c.as_slice-in-Sum.ensures c.in_ok-term-in-Sum.ensures c.in_ok-start-in-Sum.ensures
     c.place_of-in-Sum.ensures c.sign_place-place.ensures q) c.terms.ensures
+
+pub stands_for-returns-in-Not : goal.stands_for-returns-in-Not
+stands_for-returns-in-Not t c =
+    IfOk-weaker c.value_itself-in-Not.result _ (λ d. d ≡ (meanings_of least c.args.e.now).means c.args.scope.now)
+    (λ d q. not_stands c.args.scope.now c.args.e.now _ _ d c.in-Not.is q) c.value_itself-in-Not.ensures
