@@ -199,8 +199,8 @@ program print its questions: exercises/adventure is a game of this kind.
 ## m2run
 
 - **4: the program was still running.** It was stopped after as many steps as `--steps` allows, or
-  after 1000000000 without this option. Nothing is printed about it. What the program printed stays
-  printed.
+  after 1000000000 without this option. If the folder has maps (docs/maps.md), standard error says in
+  which statement it was. Else nothing is printed about it. What the program printed stays printed.
 
 After status 4, allow more steps: `m2run DIR --steps 100000000000`. If that does not help, look for
 a loop without end.
@@ -244,8 +244,8 @@ last command.
 - **3: failed.** A module cannot be read (`cannot read M.wasm`) or is not valid (`M: refusal 80`, up
   to 84). Or memory ran out (90), or standard output failed (91).
 - **4: the program was still running.** It was stopped after as many steps as `--steps` allows, or
-  after 1000000000 without this option. Nothing is printed about it. What the program printed stays
-  printed.
+  after 1000000000 without this option. If the folder has maps (docs/maps.md), standard error says in
+  which statement it was. Else nothing is printed about it. What the program printed stays printed.
 
 After status 4, allow more steps: `m2run DIR --steps 100000000000`. If that does not help, look for
 a loop without end.
