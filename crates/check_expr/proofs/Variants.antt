@@ -331,11 +331,12 @@ relation_is s e a o b a1 b1 r x y h h1 h2 hx hy hr =
     ∙ ap (λ (c : Expr). constants.relation_value least o (part least a).at (constant least s (part least a)) (part least c).at (constant least s (part least c))) h2
     ∙ sym (denotes_Relation s a o b) ∙ ap (λ (e : Expr). (part least e).denotes s) (sym h)
 
--- NOT stands for its value
-pub not_stands : (s : Scope Breach) (e a : Expr) (p : Pos) (d : Result Designated (Meaningless Breach))
-    → e ≡ Not p a → d ≡ of_computed (value_of least s (meanings_of least e)) → d ≡ (meanings_of least e).means s
-not_stands s e a p d h q =
-    q ∙ ap (λ (e : Expr). of_computed (value_of least s (meanings_of least e))) h ∙ ap of_computed (value_Not s p a) ∙ sym (means_Not s p a)
+-- what stands for its value, if it is this expression
+pub stands_by : (s : Scope Breach) (e x : Expr) (d : Result Designated (Meaningless Breach)) (v : Result Computed Breach)
+    → (meanings_of least x).means s ≡ of_computed v → value_of least s (meanings_of least x) ≡ v → e ≡ x
+    → d ≡ of_computed (value_of least s (meanings_of least e)) → d ≡ (meanings_of least e).means s
+stands_by s e x d v m w h q =
+    q ∙ ap (λ (e : Expr). of_computed (value_of least s (meanings_of least e))) h ∙ ap of_computed w ∙ sym m
     ∙ ap (λ (e : Expr). (meanings_of least e).means s) (sym h)
 
 -- the same of values

@@ -1,8 +1,8 @@
-use Rattle.std.proofs.Common.{◌≡◌}
+use Rattle.std.proofs.Common.{◌≡◌, inl, inr}
 use Rattle.std.proofs.lemmas.Result.{IfOk-weaker}
 use Rattle.check_expr.specs.Meanings.{meanings_of, value_of}
 use Rattle.check_scope.specs.Elaborated.{least}
-use Rattle.check_expr.proofs.Variants.{relation_is, relation_by, not_by, sum_by, not_stands}
+use Rattle.check_expr.proofs.Variants.{relation_is, relation_by, not_by, sum_by, stands_by, means_Not, means_Bracketed, means_Term, means_Sum, means_Relation, value_Not, value_Bracketed, value_Term, value_Sum, value_Relation}
 use Rattle.check_expr.proofs.body.+body.Goals as goal
 
 pub denotes-returns-in_ok-right-in-Relation : goal.denotes-returns-in_ok-right-in-Relation
@@ -30,5 +30,16 @@ operation_value-returns-in_ok-start-in-Sum t c =
 
 pub stands_for-returns-in-Not : goal.stands_for-returns-in-Not
 stands_for-returns-in-Not t c =
+    let s = c.args.scope.now in
+    let e = c.args.e.now in
     IfOk-weaker c.value_itself-in-Not.result _ (λ d. d ≡ (meanings_of least c.args.e.now).means c.args.scope.now)
-    (λ d q. not_stands c.args.scope.now c.args.e.now _ _ d c.in-Not.is q) c.value_itself-in-Not.ensures
+    (λ d q. elim c.in-Not.is [
+    inl w ↦ stands_by s e _ d _ (means_Not s w.0 w.1) (value_Not s w.0 w.1) w.2 q
+    | inr w ↦ elim w [
+    inl w ↦ stands_by s e _ d _ (means_Bracketed s w.0 w.1) (value_Bracketed s w.0 w.1) w.2 q
+    | inr w ↦ elim w [
+    inl w ↦ stands_by s e _ d _ (means_Term s w.0 w.1) (value_Term s w.0 w.1) w.2 q
+    | inr w ↦ elim w [
+    inl w ↦ stands_by s e _ d _ (means_Sum s w.0 w.1 w.2) (value_Sum s w.0 w.1 w.2) w.3 q
+    | inr w ↦ stands_by s e _ d _ (means_Relation s w.0 w.1 w.2) (value_Relation s w.0 w.1 w.2) w.3 q
+    ] ] ] ]) c.value_itself-in-Not.ensures
