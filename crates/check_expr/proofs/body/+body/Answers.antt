@@ -34,12 +34,15 @@ stands_for-returns-in-Not t c =
     let e = c.args.e.now in
     IfOk-weaker c.value_itself-in-Not.result _ (λ d. d ≡ (meanings_of least c.args.e.now).means c.args.scope.now)
     (λ d q. elim c.in-Not.is [
-    inl w ↦ stands_by s e _ d _ (means_Not s w.0 w.1) (value_Not s w.0 w.1) w.2 q
-    | inr w ↦ elim w [
-    inl w ↦ stands_by s e _ d _ (means_Bracketed s w.0 w.1) (value_Bracketed s w.0 w.1) w.2 q
-    | inr w ↦ elim w [
-    inl w ↦ stands_by s e _ d _ (means_Term s w.0 w.1) (value_Term s w.0 w.1) w.2 q
-    | inr w ↦ elim w [
-    inl w ↦ stands_by s e _ d _ (means_Sum s w.0 w.1 w.2) (value_Sum s w.0 w.1 w.2) w.3 q
-    | inr w ↦ stands_by s e _ d _ (means_Relation s w.0 w.1 w.2) (value_Relation s w.0 w.1 w.2) w.3 q
-    ] ] ] ]) c.value_itself-in-Not.ensures
+      | inl w ↦ stands_by s e _ d _ (means_Not s w.0 w.1) (value_Not s w.0 w.1) w.2 q
+      | inr w ↦ elim w [
+        | inl w ↦ stands_by s e _ d _ (means_Bracketed s w.0 w.1) (value_Bracketed s w.0 w.1) w.2 q
+        | inr w ↦ elim w [
+          | inl w ↦ stands_by s e _ d _ (means_Term s w.0 w.1) (value_Term s w.0 w.1) w.2 q
+          | inr w ↦ elim w [
+            | inl w ↦ stands_by s e _ d _ (means_Sum s w.0 w.1 w.2) (value_Sum s w.0 w.1 w.2) w.3 q
+            | inr w ↦ stands_by s e _ d _ (means_Relation s w.0 w.1 w.2) (value_Relation s w.0 w.1 w.2) w.3 q
+          ]
+        ]
+      ]
+    ]) c.value_itself-in-Not.ensures
