@@ -1,10 +1,10 @@
 //! The files of a program.
 
-use crate::places::{Places, folder_of};
+use crate::places::Places;
 use anyhow::Result;
 use build_jobs::SourceFile;
 use command_words::{Exit, FAILED};
-use find_modules::{FindFault, FoundModule, Part, Sources, find};
+use find_modules::{FindFault, FoundModule, Part, Sources, find, folder_of};
 use m2_rule::Rule;
 use m2_tree::{Lexeme, Name, Refusal, Symbol};
 use propose_mends::importing_program;

@@ -23,7 +23,7 @@ struct Around<'a, R> {
 impl<R: Files + AllocGlobal> ModuleFolders for Around<'_, R> {
     ghost use Rattle.std.specs.Vec.{vec_len};
 
-    ghost count = { λ a. vec_len a.places.folders };
+    ghost count = { λ a. vec_len a.places.folders.fronts };
 
     // Of what a file holds, nothing is known.
     ghost gives = { λ _ _ _ _ _. Unit {0} };

@@ -1,6 +1,6 @@
 //! The folders of the system in which modules are looked for.
 
-use find_modules::{FindFault, ModuleFolders, Part};
+use find_modules::{FindFault, Folders, ModuleFolders, Part};
 use m2_tree::Name;
 use std::alloc::{AllocError, Global};
 use std::io;
@@ -13,33 +13,7 @@ use system_streams::{is_stream, read_text};
 pub struct Places<'a, R> {
     rt: &'a R,
     program: &'a str,
-    /// What stands in front of the names of the files of each folder.
-    pub folders: Vec<String>,
-}
-
-/// What stands in front of the names of a folder's files.
-fn front_of(alloc: Global, folder: &str) -> Result<String, AllocError> {
-    let mut front = String::from_str(alloc, folder)?;
-    if !folder.ends_with('/') {
-        front.push('/')?;
-    }
-    Ok(front)
-}
-
-/// The folder of a file, with the slash behind it.
-pub fn folder_of(path: &str) -> &str {
-    match path.rfind('/') {
-        None => "",
-        Some(at) => path.get(..=at).unwrap_or(""),
-    }
-}
-
-/// The ending of the name of a module's file.
-fn ending_of(part: Part) -> &'static str {
-    match part {
-        Part::Definition => "def",
-        Part::Implementation => "mod",
-    }
+    pub folders: Folders,
 }
 
 /// Why a file gave no text.
@@ -60,48 +34,34 @@ impl<'a, R: Files + AllocGlobal> Places<'a, R> {
         program: &'a str,
         libraries: &[String],
     ) -> Result<Places<'a, R>, AllocError> {
-        let mut folders = Vec::new(rt.alloc());
-        folders.push(String::from_str(rt.alloc(), folder_of(program))?)?;
-        for library in libraries {
-            folders.push(front_of(rt.alloc(), library.as_str())?)?;
-        }
         Ok(Places {
             rt,
             program,
-            folders,
+            folders: Folders::of(rt.alloc(), program, libraries)?,
         })
     }
 
     /// What stands in front of the names of the files of each folder.
     pub fn fronts(&self) -> &[String] {
-        &self.folders
+        &self.folders.fronts
     }
 
     /// The path of a module's file in the folder of this number.
     pub fn path_of(&self, folder: usize, module: &Name, part: Part) -> Result<String, AllocError> {
-        let alloc = self.rt.alloc();
-        let front = match self.folders.get(folder) {
-            None => "",
-            Some(front) => front.as_str(),
-        };
-        let mut path = String::from_str(alloc, front)?;
-        path.push_str(String::from_utf8_lossy(alloc, module.as_bytes())?.as_str())?;
-        path.push('.')?;
-        path.push_str(ending_of(part))?;
-        Ok(path)
+        self.folders.path_of(self.rt.alloc(), folder, module, part)
     }
 }
 
 impl<R: Files + AllocGlobal> ModuleFolders for Places<'_, R> {
     ghost use Rattle.std.specs.Vec.{vec_len};
 
-    ghost count = { λ p. vec_len p.folders };
+    ghost count = { λ p. vec_len p.folders.fronts };
 
     // Of what a file holds, nothing is known.
     ghost gives = { λ _ _ _ _ _. Unit {0} };
 
     fn count(&self) -> usize {
-        self.folders.len()
+        self.folders.fronts.len()
     }
 
     // The program's own file is read already, so it is in no folder.

@@ -6,9 +6,11 @@
 mod folders;
 mod found;
 mod imports;
+mod paths;
 mod search;
 
 pub use folders::{FindFault, ModuleFolders, Part};
 pub use found::{FoundModule, Sources};
 pub use imports::imports_of;
+pub use paths::{Folders, file_ending, folder_of};
 pub use search::{MAX_MODULES, find};

@@ -13,9 +13,10 @@ mod refused;
 mod roots;
 mod view;
 
+pub use find_modules::folder_of;
 pub use folder::{Folder, Setting};
 pub use heads::{Head, head_of, source_of};
-pub use places::{Places, file_ending, folder_of, read_text};
+pub use places::{Places, read_text};
 pub use program::{Program, file_of, program_of, spare_of};
 pub use refused::{Severity, Shown, length_at, refusals_of, shown_of};
 pub use roots::{all_shown, programs_around, programs_with, roots_of};

@@ -1,7 +1,7 @@
 //! Where the modules of a program are looked for.
 
 use crate::folder::Folder;
-use find_modules::{FindFault, ModuleFolders, Part};
+use find_modules::{FindFault, Folders, ModuleFolders, Part};
 use m2_tree::Name;
 use serve_texts::Texts;
 use std::alloc::{AllocError, Global};
@@ -13,32 +13,7 @@ pub struct Places<'a, F> {
     texts: &'a Texts,
     folder: &'a F,
     program: &'a str,
-    fronts: Vec<String>,
-}
-
-/// The folder of a file, with the slash behind it.
-pub fn folder_of(path: &str) -> &str {
-    match path.rfind('/') {
-        None => "",
-        Some(at) => path.get(..=at).unwrap_or(""),
-    }
-}
-
-/// The ending of the name of a module's file, with its point.
-pub fn file_ending(part: Part) -> &'static str {
-    match part {
-        Part::Definition => ".def",
-        Part::Implementation => ".mod",
-    }
-}
-
-/// What stands in front of the names of a folder's files.
-fn front_of(alloc: Global, folder: &str) -> Result<String, AllocError> {
-    let mut front = String::from_str(alloc, folder)?;
-    if !folder.ends_with('/') {
-        front.push('/')?;
-    }
-    Ok(front)
+    folders: Folders,
 }
 
 /// The bytes of the file of this path: as the editor has it, if it is open.
@@ -63,45 +38,36 @@ impl<'a, F: Folder> Places<'a, F> {
         program: &'a str,
         libraries: &[String],
     ) -> Result<Places<'a, F>, AllocError> {
-        let mut fronts = Vec::new(alloc);
-        fronts.push(String::from_str(alloc, folder_of(program))?)?;
-        for library in libraries {
-            fronts.push(front_of(alloc, library.as_str())?)?;
-        }
         Ok(Places {
             alloc,
             texts,
             folder,
             program,
-            fronts,
+            folders: Folders::of(alloc, program, libraries)?,
         })
     }
 
     /// What stands in front of the names of the files of each folder.
     pub fn fronts(&self) -> &[String] {
-        &self.fronts
+        &self.folders.fronts
     }
 
     /// The path of a module's file in the folder of this number.
     pub fn path_of(&self, number: usize, module: &Name, part: Part) -> Result<String, AllocError> {
-        let front = self.fronts.get(number).map_or("", |it| it.as_str());
-        let mut path = String::from_str(self.alloc, front)?;
-        path.push_str(String::from_utf8_lossy(self.alloc, module.as_bytes())?.as_str())?;
-        path.push_str(file_ending(part))?;
-        Ok(path)
+        self.folders.path_of(self.alloc, number, module, part)
     }
 }
 
 impl<F: Folder> ModuleFolders for Places<'_, F> {
     ghost use Rattle.std.specs.Vec.{vec_len};
 
-    ghost count = { λ p. vec_len p.fronts };
+    ghost count = { λ p. vec_len p.folders.fronts };
 
     // Of what a file holds, nothing is known.
     ghost gives = { λ _ _ _ _ _. Unit {0} };
 
     fn count(&self) -> usize {
-        self.fronts.len()
+        self.folders.fronts.len()
     }
 
     // The program's own file is read already, so it is in no folder.

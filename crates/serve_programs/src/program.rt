@@ -2,8 +2,8 @@
 
 use crate::folder::{Folder, Setting};
 use crate::heads::{Head, head_of, imports_of};
-use crate::places::{Places, file_ending, folder_of, read_text};
-use find_modules::{FindFault, FoundModule, Part, Sources, find};
+use crate::places::{Places, read_text};
+use find_modules::{FindFault, FoundModule, Part, Sources, file_ending, find, folder_of};
 use m2_tree::Name;
 use m2c::SourceFile;
 use propose_mends::{free_name, importing_program, program_around};

@@ -2,10 +2,9 @@
 
 use crate::folder::{Folder, Setting};
 use crate::heads::{Head, head_of};
-use crate::places::{file_ending, folder_of};
 use crate::program::{Program, file_of, program_of};
 use crate::refused::{Shown, shown_of};
-use find_modules::Part;
+use find_modules::{Part, file_ending, folder_of};
 use serve_texts::Texts;
 use std::alloc::{AllocError, Global};
 use std::thread::Threads;
