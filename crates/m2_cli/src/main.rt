@@ -24,121 +24,110 @@ use tool_runs::{cost_file, run_file};
 use tool_server::serve_editor;
 use tool_tests::{test_class, test_program};
 use tool_texts::{document_folder, explain, format_all, show_pass};
-use tool_words::{Asked, PROGRAM, read_command_line};
+use tool_words::{
+    Asked, BuildRequest, PROGRAM, RunRequest, TestRequest, TextRequest, read_command_line,
+};
 
-/// Does what was asked for, and answers the status. Lines of standard input may be typed at a terminal. An error if memory or a stream failed.
-fn answer<R, P>(rt: &R, asked: &Asked, out: P, is_typed: bool) -> Result<u8, Exit>
+/// Does what was asked of runs. Lines of standard input may be typed at a terminal.
+fn run<R, P>(rt: &R, request: &RunRequest, out: P, is_typed: bool) -> Result<u8, Exit>
 where
-    R: Files + Input + Env + Print + Eprint + AllocGlobal + Threads + Sync + Clone + Drop,
+    R: Files + Input + Print + Eprint + AllocGlobal + Threads + Sync,
     P: Print + Drop,
 {
-    match asked {
-        Asked::Run {
-            program,
-            input,
-            setting,
-            steps,
-            told,
-        } => run_file(rt, setting, program.as_str(), input, *steps, told, out),
-        Asked::Cost {
+    match request {
+        RunRequest::Run { given, steps, told } => {
+            let program = given.program.as_str();
+            run_file(rt, &given.setting, program, &given.input, *steps, told, out)
+        }
+        RunRequest::Cost {
             program,
             inputs,
             setting,
             steps,
             plot,
         } => cost_file(rt, setting, program.as_str(), inputs, *steps, plot, out),
-        Asked::Debug {
-            program,
-            input,
-            setting,
-            steps,
-        } => debug_file(rt, setting, program.as_str(), input, *steps, is_typed, out),
-        Asked::Adapt { setting, steps } => serve_debugger(rt, setting, *steps, out),
-        Asked::Build {
-            program,
-            input,
-            setting,
+        RunRequest::Debug { given, steps } => {
+            let (setting, program) = (&given.setting, given.program.as_str());
+            debug_file(rt, setting, program, &given.input, *steps, is_typed, out)
+        }
+        RunRequest::Adapt { setting, steps } => serve_debugger(rt, setting, *steps, out),
+    }
+}
+
+/// Does what was asked of builds.
+fn build<R>(rt: &R, request: &BuildRequest) -> Result<u8, Exit>
+where
+    R: Files + Input + Print + Eprint + AllocGlobal + Threads + Sync,
+{
+    match request {
+        BuildRequest::Build {
+            given,
             out,
             deps,
             is_mapped,
-            fresh,
+            is_fresh,
         } => {
             let wanted = Wanted {
-                input,
+                input: &given.input,
                 out: out.as_str(),
                 deps,
                 is_mapped: *is_mapped,
-                is_fresh: *fresh,
+                is_fresh: *is_fresh,
             };
-            build_into(rt, setting, program.as_str(), &wanted)
+            build_into(rt, &given.setting, given.program.as_str(), &wanted)
         }
-        Asked::Compile {
+        BuildRequest::Single { given, host, out } => {
+            let (setting, program) = (&given.setting, given.program.as_str());
+            build_single(rt, setting, program, &given.input, *host, out.as_str())
+        }
+        BuildRequest::Compile {
             file,
             setting,
             out,
             deps,
             from,
         } => compile_file(rt, setting, file.as_str(), out, deps, from),
-        Asked::Link {
+        BuildRequest::Link {
             program,
             out,
             pages,
         } => link_program(rt, program.as_str(), out.as_str(), *pages),
-        Asked::Graph {
+        BuildRequest::Graph {
             program,
             setting,
             drawn,
             out,
         } => show_imports(rt, setting, program.as_str(), *drawn, out.as_str()),
-        Asked::Single {
-            program,
-            input,
-            setting,
-            host,
-            out,
-        } => build_single(rt, setting, program.as_str(), input, *host, out.as_str()),
-        Asked::Input {
+        BuildRequest::Input {
             folder,
             input,
             setting,
         } => exchange_input(rt, setting, folder.as_str(), input.as_str()),
-        Asked::Check {
+    }
+}
+
+/// Does what was asked of texts.
+fn show<R>(rt: &R, request: &TextRequest) -> Result<u8, Exit>
+where
+    R: Files + Input + Print + Eprint + AllocGlobal + Threads + Sync + Clone + Drop,
+{
+    match request {
+        TextRequest::Check {
             programs,
             setting,
             fix,
         } => check_all(rt, setting, programs, *fix),
-        Asked::Test {
-            program,
-            is_class,
-            is_compared,
-            cases,
-            setting,
-            told,
-            steps,
-            bytes,
-        } => {
-            let limits = Limits {
-                steps: *steps,
-                bytes: *bytes as usize,
-            };
-            let (program, cases) = (program.as_str(), cases.as_str());
-            if *is_class {
-                test_class(rt, setting, program, cases, *is_compared, *told, limits)
-            } else {
-                test_program(rt, setting, program, cases, *told, limits)
-            }
-        }
-        Asked::Show {
+        TextRequest::Show {
             pass,
             program,
             setting,
         } => show_pass(rt, setting, *pass, program.as_str()),
-        Asked::Format {
+        TextRequest::Format {
             files,
             layout,
             style,
         } => format_all(rt, *style, files, *layout),
-        Asked::Document {
+        TextRequest::Document {
             folder,
             out,
             is_html,
@@ -147,6 +136,39 @@ where
             let kind = if *is_html { Kind::Html } else { Kind::Markdown };
             document_folder(rt, *style, folder.as_str(), out.as_str(), kind)
         }
+    }
+}
+
+/// Judges a program, or each of a class.
+fn judge<R>(rt: &R, request: &TestRequest) -> Result<u8, Exit>
+where
+    R: Files + Input + Print + Eprint + AllocGlobal + Threads + Sync + Clone + Drop,
+{
+    let limits = Limits {
+        steps: request.steps,
+        bytes: request.bytes as usize,
+    };
+    let (setting, told) = (&request.setting, request.told);
+    let (program, cases) = (request.program.as_str(), request.cases.as_str());
+    if request.is_class {
+        let is_compared = request.is_compared;
+        test_class(rt, setting, program, cases, is_compared, told, limits)
+    } else {
+        test_program(rt, setting, program, cases, told, limits)
+    }
+}
+
+/// Does what was asked for, and answers the status. Lines of standard input may be typed at a terminal. An error if memory or a stream failed.
+fn answer<R, P>(rt: &R, asked: &Asked, out: P, is_typed: bool) -> Result<u8, Exit>
+where
+    R: Files + Input + Env + Print + Eprint + AllocGlobal + Threads + Sync + Clone + Drop,
+    P: Print + Drop,
+{
+    match asked {
+        Asked::Run(request) => run(rt, request, out, is_typed),
+        Asked::Build(request) => build(rt, request),
+        Asked::Text(request) => show(rt, request),
+        Asked::Test(request) => judge(rt, request),
         Asked::Serve { setting } => serve_editor(rt, setting, out),
         Asked::Explain { topic } => Ok(explain(rt, topic.as_str())),
         Asked::New { name, is_class } => Ok(create(rt, name.as_str(), *is_class)?),

@@ -128,20 +128,24 @@ pub struct Setting {
     pub style: Style,
 }
 
-/// What the command line asks for.
+/// A program by the name of its file, the file that it reads, if it reads one, and how it is built.
 #[derive(Drop)]
-pub enum Asked {
-    /// To run the program of this file, for at most this many reductions. It reads this file, or nothing. Behind the run it is
-    /// told what ran.
+pub struct Given {
+    pub program: String,
+    pub input: Option<String>,
+    pub setting: Setting,
+}
+
+/// What is asked of runs. Each makes at most `steps` reductions.
+#[derive(Drop)]
+pub enum RunRequest {
+    /// To run a program, and to tell behind the run what ran.
     Run {
-        program: String,
-        input: Option<String>,
-        setting: Setting,
+        given: Given,
         steps: u64,
         told: Measured,
     },
-    /// To say how many reductions runs of the program of this file take with each of these inputs, each of at most this many, and maybe
-    /// to plot them into a file.
+    /// To say how many reductions the program of this file takes with each of these inputs, and maybe to plot them into a file.
     Cost {
         program: String,
         inputs: Vec<String>,
@@ -149,30 +153,35 @@ pub enum Asked {
         steps: u64,
         plot: Option<String>,
     },
-    /// To go through a run of the program of this file, of at most this many reductions, by commands of standard input. It reads this
-    /// file, or nothing.
+    /// To go through a run of a program by commands of standard input.
     Debug {
-        program: String,
-        input: Option<String>,
-        setting: Setting,
+        given: Given,
         steps: u64,
     },
-    /// To serve an editor that follows runs, each of at most this many reductions, over the standard streams.
+    /// To serve an editor that follows runs over the standard streams.
     Adapt {
         setting: Setting,
         steps: u64,
     },
-    /// To write the modules of the program of this file into a folder. It reads this file, or nothing. Into the file `deps` it is
-    /// written of which files the modules were made. Beside each module its map is written, if this is wanted. A fresh build
-    /// takes nothing of an earlier one.
+}
+
+/// What is asked of builds.
+#[derive(Drop)]
+pub enum BuildRequest {
+    /// To write the modules of a program into a folder. Into the file `deps` it is written of which files the modules were made.
+    /// Beside each module its map is written, if this is wanted. A fresh build takes nothing of an earlier one.
     Build {
-        program: String,
-        input: Option<String>,
-        setting: Setting,
+        given: Given,
         out: String,
         deps: Option<String>,
         is_mapped: bool,
-        fresh: bool,
+        is_fresh: bool,
+    },
+    /// To write a program as one module over a host into the file `out`.
+    Single {
+        given: Given,
+        host: Host,
+        out: String,
     },
     /// To compile the module of this file alone into a folder, or to check a definition. The folder `from` is searched first,
     /// or the file's own. Into the file `deps` it is written of which files the module was made.
@@ -196,37 +205,22 @@ pub enum Asked {
         drawn: Drawn,
         out: String,
     },
-    /// To write the program of this file as one module over a host into the file `out`. It reads the file `input`, or nothing.
-    Single {
-        program: String,
-        input: Option<String>,
-        setting: Setting,
-        host: Host,
-        out: String,
-    },
     /// To give the program that was built into this folder another input, the bytes of this file.
     Input {
         folder: String,
         input: String,
         setting: Setting,
     },
+}
+
+/// What is asked of texts.
+#[derive(Drop)]
+pub enum TextRequest {
     /// To say what is refused of the programs of these files, and maybe to mend them.
     Check {
         programs: Vec<String>,
         setting: Setting,
         fix: Fix,
-    },
-    /// To judge the program of this file by the cases of a folder: each run makes at most so many reductions, and prints at most
-    /// so many bytes. Or to judge each program of a class, whose files this is a pattern of.
-    Test {
-        program: String,
-        is_class: bool,
-        is_compared: bool,
-        cases: String,
-        setting: Setting,
-        told: Told,
-        steps: u64,
-        bytes: u64,
     },
     /// To show what a pass makes of the program of this file.
     Show {
@@ -248,17 +242,33 @@ pub enum Asked {
         is_html: bool,
         style: Style,
     },
+}
+
+/// The judging of the program of this file by the cases of a folder, or of each program of a class, whose files this is a pattern
+/// of. Each run makes at most so many reductions, and prints at most so many bytes.
+#[derive(Drop)]
+pub struct TestRequest {
+    pub program: String,
+    pub is_class: bool,
+    pub is_compared: bool,
+    pub cases: String,
+    pub setting: Setting,
+    pub told: Told,
+    pub steps: u64,
+    pub bytes: u64,
+}
+
+/// What the command line asks for.
+#[derive(Drop)]
+pub enum Asked {
+    Run(RunRequest),
+    Build(BuildRequest),
+    Text(TextRequest),
+    Test(TestRequest),
     /// To serve an editor over the standard streams.
-    Serve {
-        setting: Setting,
-    },
+    Serve { setting: Setting },
     /// To print the page of a topic, or the list of all topics if this is empty.
-    Explain {
-        topic: String,
-    },
+    Explain { topic: String },
     /// To write the files of a new program of this name, or of an exercise with its cases.
-    New {
-        name: String,
-        is_class: bool,
-    },
+    New { name: String, is_class: bool },
 }

@@ -8,7 +8,10 @@ mod libraries;
 mod own_library;
 mod words;
 
-pub use asked::{Asked, Drawn, Fix, Layout, Measured, Pass, Setting, Style, Told};
+pub use asked::{
+    Asked, BuildRequest, Drawn, Fix, Given, Layout, Measured, Pass, RunRequest, Setting, Style,
+    TestRequest, TextRequest, Told,
+};
 pub use words::read_command_line;
 
 /// The name of the program, in front of what it says.

@@ -1,7 +1,10 @@
 //! The words of the command line.
 
 use crate::PROGRAM;
-use crate::asked::{Asked, Drawn, Fix, Layout, Measured, Pass, Setting, Style, Told};
+use crate::asked::{
+    Asked, BuildRequest, Drawn, Fix, Given, Layout, Measured, Pass, RunRequest, Setting, Style,
+    TestRequest, TextRequest, Told,
+};
 use crate::commands::{
     BYTES, CALLGRIND, CASES, CHECK, CLASS, COST, COST_SVG, COVERAGE, DAP, DEPS, DIFF, DIR, EACH,
     FILE, FIX, FLAME, FRESH, FROM, HOST, HTML, INPUT, INPUT_FILE, LCOV, LISTING, MAP, MODULE, OUT,
@@ -134,14 +137,6 @@ where
     file_of(rt, matches, INPUT, "--input")
 }
 
-/// A program, what it reads, and how it is built.
-#[derive(Drop)]
-struct Given {
-    program: String,
-    input: Option<String>,
-    setting: Setting,
-}
-
 /// The program, what it reads, and how it is built. What cannot be had is reported.
 fn given_of<R>(rt: &R, matches: &ArgMatches, colours: bool) -> Result<Given, Exit>
 where
@@ -250,7 +245,7 @@ fn cost_asked<R>(
     matches: &ArgMatches,
     colours: bool,
     inputs: &[&str],
-) -> Result<Asked, Exit>
+) -> Result<RunRequest, Exit>
 where
     R: Files + Env + Eprint + AllocGlobal,
 {
@@ -264,7 +259,7 @@ where
     let program = name_of(rt, matches, FILE, FILE)?;
     let inputs = strings_of(rt.alloc(), inputs)?;
     let (setting, plot) = plotted_of(rt, matches, colours)?;
-    Ok(Asked::Cost {
+    Ok(RunRequest::Cost {
         program,
         inputs,
         setting,
@@ -273,7 +268,7 @@ where
     })
 }
 
-fn run_asked<R>(rt: &R, matches: &ArgMatches, colours: bool) -> Result<Asked, Exit>
+fn run_asked<R>(rt: &R, matches: &ArgMatches, colours: bool) -> Result<RunRequest, Exit>
 where
     R: Files + Env + Eprint + AllocGlobal,
 {
@@ -286,21 +281,10 @@ where
     let steps = steps_of(rt, PROGRAM, matches)?;
     let given = given_of(rt, matches, colours)?;
     let told = measured_of(rt, matches)?;
-    let Given {
-        program,
-        input,
-        setting,
-    } = given;
-    Ok(Asked::Run {
-        program,
-        input,
-        setting,
-        steps,
-        told,
-    })
+    Ok(RunRequest::Run { given, steps, told })
 }
 
-fn debug_asked<R>(rt: &R, matches: &ArgMatches, colours: bool) -> Result<Asked, Exit>
+fn debug_asked<R>(rt: &R, matches: &ArgMatches, colours: bool) -> Result<RunRequest, Exit>
 where
     R: Files + Env + Eprint + AllocGlobal,
 {
@@ -309,7 +293,7 @@ where
         return Err(refuse(rt, "debug takes PROGRAM or --dap, not both"));
     }
     if is_served {
-        return Ok(Asked::Adapt {
+        return Ok(RunRequest::Adapt {
             steps: steps_of(rt, PROGRAM, matches)?,
             setting: setting_of(rt, matches, colours)?,
         });
@@ -318,17 +302,8 @@ where
         return Err(refuse(rt, "debug needs PROGRAM or --dap"));
     }
     let steps = steps_of(rt, PROGRAM, matches)?;
-    let Given {
-        program,
-        input,
-        setting,
-    } = given_of(rt, matches, colours)?;
-    Ok(Asked::Debug {
-        program,
-        input,
-        setting,
-        steps,
-    })
+    let given = given_of(rt, matches, colours)?;
+    Ok(RunRequest::Debug { given, steps })
 }
 
 /// Reports that words of the command line do not go together.
@@ -346,7 +321,7 @@ fn host_of<R: Eprint>(rt: &R, matches: &ArgMatches) -> Result<Host, Exit> {
     }
 }
 
-fn single_asked<R>(rt: &R, matches: &ArgMatches, colours: bool) -> Result<Asked, Exit>
+fn single_asked<R>(rt: &R, matches: &ArgMatches, colours: bool) -> Result<BuildRequest, Exit>
 where
     R: Files + Env + Eprint + AllocGlobal,
 {
@@ -364,22 +339,12 @@ where
     }
     let host = host_of(rt, matches)?;
     let out = name_of(rt, matches, SINGLE, "--single")?;
-    let Given {
-        program,
-        input,
-        setting,
-    } = given_of(rt, matches, colours)?;
-    Ok(Asked::Single {
-        program,
-        input,
-        setting,
-        host,
-        out,
-    })
+    let given = given_of(rt, matches, colours)?;
+    Ok(BuildRequest::Single { given, host, out })
 }
 
 /// Modules in a folder, or one module.
-fn build_asked<R>(rt: &R, matches: &ArgMatches, colours: bool) -> Result<Asked, Exit>
+fn build_asked<R>(rt: &R, matches: &ArgMatches, colours: bool) -> Result<BuildRequest, Exit>
 where
     R: Files + Env + Eprint + AllocGlobal,
 {
@@ -394,19 +359,13 @@ where
     }
     let out = name_of(rt, matches, OUT, "--out")?;
     let deps = file_of(rt, matches, DEPS, "--deps")?;
-    let Given {
-        program,
-        input,
-        setting,
-    } = given_of(rt, matches, colours)?;
-    Ok(Asked::Build {
-        program,
-        input,
-        setting,
+    let given = given_of(rt, matches, colours)?;
+    Ok(BuildRequest::Build {
+        given,
         out,
         deps,
         is_mapped: matches.get_flag(MAP),
-        fresh: matches.get_flag(FRESH),
+        is_fresh: matches.get_flag(FRESH),
     })
 }
 
@@ -424,7 +383,7 @@ fn drawn_of<R: Eprint>(rt: &R, word: &str) -> Option<Drawn> {
     }
 }
 
-fn graph_asked<R>(rt: &R, matches: &ArgMatches, colours: bool) -> Result<Asked, Exit>
+fn graph_asked<R>(rt: &R, matches: &ArgMatches, colours: bool) -> Result<BuildRequest, Exit>
 where
     R: Files + Env + Eprint + AllocGlobal,
 {
@@ -439,7 +398,7 @@ where
     let names = names_of(rt, matches, FILE, OUT, "--out")?;
     let setting = setting_in(rt, matches, style)?;
     let Names { first, second } = names;
-    Ok(Asked::Graph {
+    Ok(BuildRequest::Graph {
         program: first,
         setting,
         drawn,
@@ -469,14 +428,14 @@ where
     Ok((from, setting_of(rt, matches, colours)?))
 }
 
-fn compile_asked<R>(rt: &R, matches: &ArgMatches, colours: bool) -> Result<Asked, Exit>
+fn compile_asked<R>(rt: &R, matches: &ArgMatches, colours: bool) -> Result<BuildRequest, Exit>
 where
     R: Files + Env + Eprint + AllocGlobal,
 {
     let file = name_of(rt, matches, TEXT, TEXT)?;
     let (out, deps) = written_of(rt, matches)?;
     let (from, setting) = searched_of(rt, matches, colours)?;
-    Ok(Asked::Compile {
+    Ok(BuildRequest::Compile {
         file,
         setting,
         out,
@@ -485,28 +444,28 @@ where
     })
 }
 
-fn link_asked<R>(rt: &R, matches: &ArgMatches) -> Result<Asked, Exit>
+fn link_asked<R>(rt: &R, matches: &ArgMatches) -> Result<BuildRequest, Exit>
 where
     R: Eprint + AllocGlobal,
 {
     let names = names_of(rt, matches, MODULE, OUT, "--out")?;
     let pages = pages_of(rt, PROGRAM, matches)?;
     let Names { first, second } = names;
-    Ok(Asked::Link {
+    Ok(BuildRequest::Link {
         program: first,
         out: second,
         pages,
     })
 }
 
-fn input_asked<R>(rt: &R, matches: &ArgMatches, colours: bool) -> Result<Asked, Exit>
+fn input_asked<R>(rt: &R, matches: &ArgMatches, colours: bool) -> Result<BuildRequest, Exit>
 where
     R: Files + Env + Eprint + AllocGlobal,
 {
     let names = names_of(rt, matches, DIR, INPUT_FILE, INPUT_FILE)?;
     let setting = setting_of(rt, matches, colours)?;
     let Names { first, second } = names;
-    Ok(Asked::Input {
+    Ok(BuildRequest::Input {
         folder: first,
         input: second,
         setting,
@@ -524,7 +483,7 @@ fn fix_of(matches: &ArgMatches) -> Fix {
     }
 }
 
-fn check_asked<R>(rt: &R, matches: &ArgMatches, colours: bool) -> Result<Asked, Exit>
+fn check_asked<R>(rt: &R, matches: &ArgMatches, colours: bool) -> Result<TextRequest, Exit>
 where
     R: Files + Env + Eprint + AllocGlobal,
 {
@@ -532,7 +491,7 @@ where
     if !are_named(rt, PROGRAM, FILE, programs) {
         return Err(Exit::Reported(COMMAND_LINE));
     }
-    Ok(Asked::Check {
+    Ok(TextRequest::Check {
         programs: strings_of(rt.alloc(), programs)?,
         setting: setting_of(rt, matches, colours)?,
         fix: fix_of(matches),
@@ -559,7 +518,7 @@ fn bytes_of<R: Eprint>(rt: &R, matches: &ArgMatches) -> Result<u64, Exit> {
     number_option(rt, PROGRAM, BYTES, text, MOST_BYTES).ok_or(Exit::Reported(COMMAND_LINE))
 }
 
-fn test_asked<R>(rt: &R, matches: &ArgMatches) -> Result<Asked, Exit>
+fn test_asked<R>(rt: &R, matches: &ArgMatches) -> Result<TestRequest, Exit>
 where
     R: Files + Env + Eprint + AllocGlobal,
 {
@@ -571,7 +530,7 @@ where
     let names = names_of(rt, matches, FILE, CASES, CASES)?;
     let setting = setting_in(rt, matches, Style::Text)?;
     let Names { first, second } = names;
-    Ok(Asked::Test {
+    Ok(TestRequest {
         program: first,
         is_class: matches.get_flag(EACH),
         is_compared: matches.get_flag(SAME),
@@ -597,21 +556,21 @@ fn pass_of<R: Eprint>(rt: &R, word: &str) -> Option<Pass> {
     }
 }
 
-fn show_asked<R>(rt: &R, matches: &ArgMatches, colours: bool) -> Result<Asked, Exit>
+fn show_asked<R>(rt: &R, matches: &ArgMatches, colours: bool) -> Result<TextRequest, Exit>
 where
     R: Files + Env + Eprint + AllocGlobal,
 {
     let Some(pass) = pass_of(rt, matches.get_str("PASS").unwrap_or("")) else {
         return Err(Exit::Reported(COMMAND_LINE));
     };
-    Ok(Asked::Show {
+    Ok(TextRequest::Show {
         pass,
         program: name_of(rt, matches, FILE, FILE)?,
         setting: setting_of(rt, matches, colours)?,
     })
 }
 
-fn fmt_asked<R>(rt: &R, matches: &ArgMatches, colours: bool) -> Result<Asked, Exit>
+fn fmt_asked<R>(rt: &R, matches: &ArgMatches, colours: bool) -> Result<TextRequest, Exit>
 where
     R: Eprint + AllocGlobal,
 {
@@ -629,14 +588,14 @@ where
     } else {
         Layout::Write
     };
-    Ok(Asked::Format {
+    Ok(TextRequest::Format {
         files: strings_of(rt.alloc(), files)?,
         layout,
         style,
     })
 }
 
-fn doc_asked<R>(rt: &R, matches: &ArgMatches, colours: bool) -> Result<Asked, Exit>
+fn doc_asked<R>(rt: &R, matches: &ArgMatches, colours: bool) -> Result<TextRequest, Exit>
 where
     R: Eprint + AllocGlobal,
 {
@@ -644,7 +603,7 @@ where
         return Err(Exit::Reported(COMMAND_LINE));
     };
     let Names { first, second } = names_of(rt, matches, DIR, OUT, "--out")?;
-    Ok(Asked::Document {
+    Ok(TextRequest::Document {
         folder: first,
         out: second,
         is_html: matches.get_flag(HTML),
@@ -690,21 +649,13 @@ where
     })
 }
 
-/// What a subcommand asks for that takes no program.
-fn other_request<R>(rt: &R, name: &str, matches: &ArgMatches) -> Result<Asked, Exit>
-where
-    R: Files + Env + Eprint + AllocGlobal,
-{
-    match name {
-        "lsp" => lsp_asked(rt, matches),
-        "explain" => explain_asked(rt.alloc(), matches),
-        "new" => new_asked(rt, matches),
-        _ => Err(Exit::Reported(COMMAND_LINE)),
-    }
-}
-
-/// What a subcommand asks for that shows or lays out texts, or else no program.
-fn text_request<R>(rt: &R, name: &str, matches: &ArgMatches, colours: bool) -> Result<Asked, Exit>
+/// What a subcommand asks of texts. The command line has no other subcommands.
+fn text_request<R>(
+    rt: &R,
+    name: &str,
+    matches: &ArgMatches,
+    colours: bool,
+) -> Result<TextRequest, Exit>
 where
     R: Files + Env + Eprint + AllocGlobal,
 {
@@ -713,22 +664,52 @@ where
         "show" => show_asked(rt, matches, colours),
         "fmt" => fmt_asked(rt, matches, colours),
         "doc" => doc_asked(rt, matches, colours),
-        _ => other_request(rt, name, matches),
+        _ => Err(Exit::Reported(COMMAND_LINE)),
     }
 }
 
-/// What a subcommand asks for that builds, or else runs nothing.
-fn build_request<R>(rt: &R, name: &str, matches: &ArgMatches, colours: bool) -> Result<Asked, Exit>
+/// What a subcommand asks for that takes no program, or else of texts.
+fn other_request<R>(rt: &R, name: &str, matches: &ArgMatches, colours: bool) -> Result<Asked, Exit>
 where
     R: Files + Env + Eprint + AllocGlobal,
 {
     match name {
-        "build" => build_asked(rt, matches, colours),
-        "compile" => compile_asked(rt, matches, colours),
-        "link" => link_asked(rt, matches),
-        "graph" => graph_asked(rt, matches, colours),
-        "input" => input_asked(rt, matches, colours),
-        _ => text_request(rt, name, matches, colours),
+        "lsp" => lsp_asked(rt, matches),
+        "explain" => explain_asked(rt.alloc(), matches),
+        "new" => new_asked(rt, matches),
+        _ => Ok(Asked::Text(text_request(rt, name, matches, colours)?)),
+    }
+}
+
+/// What a subcommand asks of builds, if it is one of theirs.
+fn build_request<R>(
+    rt: &R,
+    name: &str,
+    matches: &ArgMatches,
+    colours: bool,
+) -> Result<Option<BuildRequest>, Exit>
+where
+    R: Files + Env + Eprint + AllocGlobal,
+{
+    let request = match name {
+        "build" => build_asked(rt, matches, colours)?,
+        "compile" => compile_asked(rt, matches, colours)?,
+        "link" => link_asked(rt, matches)?,
+        "graph" => graph_asked(rt, matches, colours)?,
+        "input" => input_asked(rt, matches, colours)?,
+        _ => return Ok(None),
+    };
+    Ok(Some(request))
+}
+
+/// What a subcommand asks for that builds, or else runs nothing.
+fn request_of<R>(rt: &R, name: &str, matches: &ArgMatches, colours: bool) -> Result<Asked, Exit>
+where
+    R: Files + Env + Eprint + AllocGlobal,
+{
+    match build_request(rt, name, matches, colours)? {
+        Some(request) => Ok(Asked::Build(request)),
+        None => other_request(rt, name, matches, colours),
     }
 }
 
@@ -739,10 +720,10 @@ where
 {
     match matches.subcommand() {
         None => Err(Exit::Reported(COMMAND_LINE)),
-        Some(("run", inner)) => run_asked(rt, inner, colours),
-        Some(("debug", inner)) => debug_asked(rt, inner, colours),
-        Some(("test", inner)) => test_asked(rt, inner),
-        Some((name, inner)) => build_request(rt, name, inner, colours),
+        Some(("run", inner)) => Ok(Asked::Run(run_asked(rt, inner, colours)?)),
+        Some(("debug", inner)) => Ok(Asked::Run(debug_asked(rt, inner, colours)?)),
+        Some(("test", inner)) => Ok(Asked::Test(test_asked(rt, inner)?)),
+        Some((name, inner)) => request_of(rt, name, inner, colours),
     }
 }
 
