@@ -6,8 +6,9 @@ import tempfile
 from .compilers import compilers
 from .dense_program import dense
 from .large_programs import chain, corpus, imports
-from .processes import FAILED, M2C, M2RUN, TOP, measure
+from .processes import FAILED, M2, M2C, M2RUN, TOP, measure
 from .ratios import ratios
+from .renewals import builds
 from .repeats import repeats
 from .runs import run
 
@@ -16,6 +17,7 @@ COMMANDS = {
     "repeats": (repeats, [(1 << 20, 1 << 20)]),
     "corpus": (corpus, [(64, 511), (300, 900)]),
     "compilers": (compilers, [(64, 511), (300, 900)]),
+    "builds": (builds, [(60, 511), (22, 900)]),
     "dense": (dense, [(2000, 2700)]),
     "chain": (chain, [(500, 511)]),
     "imports": (imports, [(1023, 1024), (500, 1024)]),
@@ -39,7 +41,7 @@ def main(words, usage):
     if not command or not numbers:
         print(usage, file=sys.stderr)
         return 2
-    for program in (M2C, M2RUN):
+    for program in (M2, M2C, M2RUN):
         if not os.path.exists(program):
             print(f"benchmark: {os.path.relpath(program, TOP)} is not there: make build makes it", file=sys.stderr)
             return 1

@@ -6,6 +6,7 @@ import subprocess
 import time
 
 TOP = os.path.dirname(os.path.dirname(os.path.dirname(os.path.abspath(__file__))))
+M2 = f"{TOP}/build/m2"
 M2C = f"{TOP}/build/m2c"
 M2RUN = f"{TOP}/build/m2run"
 ROUNDS = 3
