@@ -1,4 +1,4 @@
--- Assignments, and calls as statements, count no more than what they are made of.
+-- Assignments, and calls as statements, weigh no more than what they are made of.
 use Rattle.std.proofs.Common.{◌≡◌, ℕ, ◌+◌, ◌≤◌, pos, List, [], ◌∷◌, length, Option, Some, None, Result, arith}
 use Rattle.m2_rule.specs.declared.rule.Rule.{Rule}
 use Rattle.m2_rule.specs.declared.rule.Rule.TheVariants as rule
@@ -42,265 +42,234 @@ use Rattle.check_call.specs.declared.effect.Target.TheVariants as target
 use Rattle.check_expr.specs.Meanings.{Meant, formals_of, value_of, breaches_in_all}
 use Rattle.check_expr.specs.Effects.{call_done, routine_done, change_target_in, change_statement, set_in, member_by, halt_statement, put_by, standard_done, callee_statement, call_statement}
 use Rattle.typed_tree.specs.declared.computed.Argument.{Argument}
-use Rattle.law_encoding.specs.Sizes.{arguments}
-use Rattle.law_encoding.specs.TypedSizes.{size_typed, size_place, size_step}
-use Rattle.law_encoding.specs.Counted.{AtMost, fine, size_value, size_designated}
+use Rattle.law_encoding.specs.Counted.{AtMost, fine}
 use Rattle.law_encoding.proofs.Sums.{le_trans, le_of}
-use Rattle.law_encoding.proofs.Typed.{expr_constant, step_assign, step_copy, step_copytext, step_call, step_put, step_change, step_membership, step_halt}
-use Rattle.law_encoding.proofs.Results.{then_most, at_more, reported_most, where_most, both_most, any_most, ahead_most, sort_most, of_heading_most, reported_beside_most}
+use Rattle.law_encoding.proofs.Ways.{Way, ◌⊕⟨◌⟩◌, node, arguments, weight_typed, weight_place, weight_step, weight_value, weight_meant}
+use Rattle.law_encoding.proofs.WaySums.{one_of, one_sum, two_sum, put_sum, assign_sum, copy_sum, text_sum, change_sum, done_sum, both_most}
+use Rattle.law_encoding.proofs.Weighed.{expr_constant, step_assign, step_copy, step_copytext, step_call, step_put, step_change, step_membership, step_halt}
+use Rattle.law_encoding.proofs.Results.{then_most, at_more, reported_most, where_most, reported_beside_most, ahead_most, sort_most, of_heading_most, any_most}
 use Rattle.law_encoding.proofs.Operators.{suited_most}
-use Rattle.law_encoding.proofs.Calls.{size_callee, size_called, call_most, callee_most}
-use Rattle.law_encoding.proofs.Meanings.{FM, AllM, size_list, value_most, actuals_most}
+use Rattle.law_encoding.proofs.Calls.{weight_callee, weight_called, call_most, callee_most}
+use Rattle.law_encoding.proofs.Meanings.{FM, AllM, value_most, weight_list, actuals_most}
 
-module _ (g : Gathers) (s : Scope g.Reported) where
-  abbrev Stmt_ : ℕ → Result TypedStmt g.Reported → Type 0
-  Stmt_ n r = AtMost size_step n r
+module _ (w : Way) where
+  infixl 65 ◌⊕◌
+  abbrev ◌⊕◌ : ℕ → ℕ → ℕ
+  m ⊕ n = m ⊕⟨ w ⟩ n
 
-  abbrev Expr_ : ℕ → Result TypedExpr g.Reported → Type 0
-  Expr_ n r = AtMost size_typed n r
+  module _ (g : Gathers) (s : Scope g.Reported) where
+    abbrev Stmt_ : ℕ → Result TypedStmt g.Reported → Type 0
+    Stmt_ n r = AtMost (weight_step w) n r
 
-  -- ---- assignments
+    abbrev Expr_ : ℕ → Result TypedExpr g.Reported → Type 0
+    Expr_ n r = AtMost (weight_typed w) n r
 
-  abbrev size_target : Target → ℕ
-  size_target (target.Variable t d) = 1 + size_place d
-  size_target target.Open = 0
+    -- ---- assignments
 
-  none_most : (n : ℕ) → 0 ≤ n
-  none_most n = omega arith
+    abbrev weight_target : Target → ℕ
+    weight_target (target.Variable t d) = node w ⊕ weight_place w d
+    weight_target target.Open = 0
 
-  target_of_most : (n : ℕ) (at : Pos) (d : Designated) → size_designated d ≤ n → AtMost size_target n (target_of g at d)
-  target_of_most n at (designated.Variable t d) p = fine (target.Variable t d) p
-  target_of_most n at (designated.Open t slot) p = fine target.Open (none_most n)
-  target_of_most n at (designated.Value x) p = reported_most g at rule.WrongType
-  target_of_most n at (designated.Type t) p = reported_most g at rule.WrongType
-  target_of_most n at (designated.Procedure f) p = reported_most g at rule.WrongType
-  target_of_most n at (designated.Nested f) p = reported_most g at rule.WrongType
-  target_of_most n at (designated.Standard f) p = reported_most g at rule.WrongType
-  target_of_most n at (designated.Module k) p = reported_most g at rule.WrongType
+    target_of_most : (n : ℕ) (at : Pos) (d : Designated) → weight_meant w d ≤ n → AtMost weight_target n (target_of g at d)
+    target_of_most n at (designated.Variable t d) p = fine (target.Variable t d) p
+    target_of_most n at (designated.Open t slot) p = fine target.Open (omega arith)
+    target_of_most n at (designated.Value x) p = reported_most g at rule.WrongType
+    target_of_most n at (designated.Type t) p = reported_most g at rule.WrongType
+    target_of_most n at (designated.Procedure f) p = reported_most g at rule.WrongType
+    target_of_most n at (designated.Nested f) p = reported_most g at rule.WrongType
+    target_of_most n at (designated.Standard f) p = reported_most g at rule.WrongType
+    target_of_most n at (designated.Module k) p = reported_most g at rule.WrongType
 
-  abbrev size_accepted : Accepted → ℕ
-  size_accepted (accepted.Value e) = size_typed e
-  size_accepted (accepted.Whole d) = 1 + size_place d
-  size_accepted (accepted.Text text) = 0
+    abbrev weight_accepted : Accepted → ℕ
+    weight_accepted (accepted.Value e) = weight_typed w e
+    weight_accepted (accepted.Whole d) = node w ⊕ weight_place w d
+    weight_accepted (accepted.Text text) = 0
 
-  text_accepted : (n : ℕ) (broken : Rule) (t : TypeNo) (at : Pos) (v : Value) → AtMost size_accepted n (text_suited g broken s.types t at v)
-  text_accepted n number t at (constant.Number i) = reported_most g at number
-  text_accepted n number t at (constant.Scalar i) = reported_most g at number
-  text_accepted n number t at (constant.Set bits) = reported_most g at number
-  text_accepted n number t at (constant.Text text) = where_most g _ at number (fine (accepted.Text text) (none_most n))
+    text_accepted : (n : ℕ) (broken : Rule) (t : TypeNo) (at : Pos) (v : Value) → AtMost weight_accepted n (text_suited g broken s.types t at v)
+    text_accepted n number t at (constant.Number i) = reported_most g at number
+    text_accepted n number t at (constant.Scalar i) = reported_most g at number
+    text_accepted n number t at (constant.Set bits) = reported_most g at number
+    text_accepted n number t at (constant.Text text) = where_most g _ at number (fine (accepted.Text text) (omega arith))
 
-  whole_accepted : (n : ℕ) (broken : Rule) (t : TypeNo) (at : Pos) (x : Computed) → size_value x ≤ n → AtMost size_accepted n (whole_suited g broken s.types t at x)
-  whole_accepted n number t at (value.Constant v) p = text_accepted n number t at v
-  whole_accepted n number t at (value.Whole u d) p = where_most g _ at number (fine (accepted.Whole d) p)
-  whole_accepted n number t at (value.Scalar u b e) p = reported_most g at number
-  whole_accepted n number t at (value.Set e) p = reported_most g at number
-  whole_accepted n number t at (value.Routine u e) p = reported_most g at number
-  whole_accepted n number t at (value.Procedure f) p = reported_most g at number
-  whole_accepted n number t at value.Untaken p = reported_most g at number
+    whole_accepted : (n : ℕ) (broken : Rule) (t : TypeNo) (at : Pos) (x : Computed) → weight_value w x ≤ n → AtMost weight_accepted n (whole_suited g broken s.types t at x)
+    whole_accepted n number t at (value.Constant v) p = text_accepted n number t at v
+    whole_accepted n number t at (value.Whole u d) p = where_most g _ at number (fine (accepted.Whole d) p)
+    whole_accepted n number t at (value.Scalar u b e) p = reported_most g at number
+    whole_accepted n number t at (value.Set e) p = reported_most g at number
+    whole_accepted n number t at (value.Routine u e) p = reported_most g at number
+    whole_accepted n number t at (value.Procedure f) p = reported_most g at number
+    whole_accepted n number t at value.Untaken p = reported_most g at number
 
-  value_accepted : (n : ℕ) (broken : Rule) (t : TypeNo) (at : Pos) (x : Computed) → size_value x ≤ n → AtMost size_accepted n (of_expr (value_suited g broken s.types t at x))
-  value_accepted n broken t at x p = then_most (suited_most g n broken s.types t at x p) (λ e q. fine (accepted.Value e) q)
+    value_accepted : (n : ℕ) (broken : Rule) (t : TypeNo) (at : Pos) (x : Computed) → weight_value w x ≤ n → AtMost weight_accepted n (of_expr (value_suited g broken s.types t at x))
+    value_accepted n broken t at x p = then_most (suited_most w g n broken s.types t at x p) (λ e q. fine (accepted.Value e) q)
 
-  accepted_in : (n : ℕ) (broken : Rule) (t : TypeNo) (at : Pos) (x : Computed) (c : Class) → size_value x ≤ n → AtMost size_accepted n (suited_in g broken s.types t at x c)
-  accepted_in n number t at x (class.Scalar r) p = value_accepted n number t at x p
-  accepted_in n number t at x class.Set p = value_accepted n number t at x p
-  accepted_in n number t at x class.Procedure p = value_accepted n number t at x p
-  accepted_in n number t at x class.Whole p = whole_accepted n number t at x p
+    accepted_in : (n : ℕ) (broken : Rule) (t : TypeNo) (at : Pos) (x : Computed) (c : Class) → weight_value w x ≤ n → AtMost weight_accepted n (suited_in g broken s.types t at x c)
+    accepted_in n number t at x (class.Scalar r) p = value_accepted n number t at x p
+    accepted_in n number t at x class.Set p = value_accepted n number t at x p
+    accepted_in n number t at x class.Procedure p = value_accepted n number t at x p
+    accepted_in n number t at x class.Whole p = whole_accepted n number t at x p
 
-  accepted_most : (n : ℕ) (broken : Rule) (t : TypeNo) (at : Pos) (x : Computed) → size_value x ≤ n → AtMost size_accepted n (value_for_place g broken s.types t at x)
-  accepted_most n number t at x p = accepted_in n number t at x (class_at s.types t) p
+    accepted_most : (n : ℕ) (broken : Rule) (t : TypeNo) (at : Pos) (x : Computed) → weight_value w x ≤ n → AtMost weight_accepted n (value_for_place g broken s.types t at x)
+    accepted_most n number t at x p = accepted_in n number t at x (class_at s.types t) p
 
-  assign_sum : (a d e n k : ℕ) → a ≡ 1 + d + e → 1 + d ≤ n → e ≤ k → a ≤ n + k
-  assign_sum a d e n k q h l = omega (arith, q, h, l)
+    stored_most : (n k : ℕ) (t : TypeNo) (d : Place) (a : Accepted) → node w ⊕ weight_place w d ≤ n → weight_accepted a ≤ k → weight_step w (store_statement t d a) ≤ n ⊕ k
+    stored_most n k t d (accepted.Value e) p q = assign_sum w _ _ _ n k (step_assign w d t e) p q
+    stored_most n k t d (accepted.Whole from) p q = copy_sum w _ _ _ n k (step_copy w d from t) p q
+    stored_most n k t d (accepted.Text text) p q = text_sum w _ _ n k (step_copytext w d t text) p
 
-  copy_sum : (a d e n k : ℕ) → a ≡ 1 + d + e → 1 + d ≤ n → 1 + e ≤ k → a ≤ n + k
-  copy_sum a d e n k q h l = omega (arith, q, h, l)
+    assigned_to_most : (n : ℕ) (a : Target) (at : Pos) (x : Computed) → weight_target a ⊕ weight_value w x ≤ n → Stmt_ n (assignment_to g s.types a at x)
+    assigned_to_most n target.Open at x p = reported_most g at rule.NotAssignable
+    assigned_to_most n (target.Variable t d) at x p =
+        then_most (accepted_most (weight_value w x) rule.NotAssignable t at x (omega arith)) (λ a k. fine (store_statement t d a) (le_trans _ _ n (stored_most (node w ⊕ weight_place w d) (weight_value w x) t d a (omega arith) k) p))
 
-  text_sum : (a d n k : ℕ) → a ≡ 1 + d → 1 + d ≤ n → a ≤ n + k
-  text_sum a d n k q h = omega (arith, q, h)
+    pub assignment_most : (n k : ℕ) (d : Meant g.Reported) (at : Pos) (x : Meant g.Reported) → FM w g s n d → FM w g s k x → Stmt_ (n ⊕ k) (assignment_of g s.types (target_at g d.fixed.at (d.means s)) at (value_of g s x))
+    assignment_most n k d at x p q =
+        then_most (both_most g w (then_most (sort_most g d.fixed.at rule.WrongType p) (λ e l. target_of_most n d.fixed.at e l)) (value_most w g s k x q)) (λ v l. assigned_to_most (n ⊕ k) v.0 at v.1 l)
 
-  stored_most : (n k : ℕ) (t : TypeNo) (d : Place) (a : Accepted) → 1 + size_place d ≤ n → size_accepted a ≤ k → size_step (store_statement t d a) ≤ n + k
-  stored_most n k t d (accepted.Value e) p q = assign_sum _ _ _ n k (step_assign d t e) p q
-  stored_most n k t d (accepted.Whole from) p q = copy_sum _ _ _ n k (step_copy d from t) p q
-  stored_most n k t d (accepted.Text text) p q = text_sum _ _ n k (step_copytext d t text) p
+    -- ---- INC and DEC
 
-  itself_most : (n : ℕ) → n ≤ n
-  itself_most n = omega arith
+    abbrev weight_variable : TypeNo × Place → ℕ
+    weight_variable v = node w ⊕ weight_place w v.1
 
-  both_sum : (a b c n : ℕ) → c ≤ a + b → a + b ≤ n → c ≤ n
-  both_sum a b c n h l = omega (arith, h, l)
+    changed_as_most : (n : ℕ) (at : Pos) (t : TypeNo) (d : Place) (c : Class) → node w ⊕ weight_place w d ≤ n → AtMost weight_variable n (change_target_as g at t d c)
+    changed_as_most n at t d (class.Scalar r) p = fine (t, d) p
+    changed_as_most n at t d class.Set p = reported_most g at rule.NoVariable
+    changed_as_most n at t d class.Procedure p = reported_most g at rule.NoVariable
+    changed_as_most n at t d class.Whole p = reported_most g at rule.NoVariable
 
-  assigned_to_most : (n : ℕ) (a : Target) (at : Pos) (x : Computed) → size_target a + size_value x ≤ n → Stmt_ n (assignment_to g s.types a at x)
-  assigned_to_most n target.Open at x p = reported_most g at rule.NotAssignable
-  assigned_to_most n (target.Variable t d) at x p =
-      then_most (accepted_most (size_value x) rule.NotAssignable t at x (itself_most _)) (λ a k. fine (store_statement t d a) (both_sum _ _ _ n (stored_most (1 + size_place d) (size_value x) t d a (itself_most _) k) p))
+    changed_most : (n : ℕ) (at : Pos) (d : Designated) → weight_meant w d ≤ n → AtMost weight_variable n (change_target g s.types at d)
+    changed_most n at (designated.Variable t d) p = changed_as_most n at t d (class_at s.types t) p
+    changed_most n at (designated.Value x) p = reported_most g at rule.NoVariable
+    changed_most n at (designated.Open t slot) p = reported_most g at rule.NoVariable
+    changed_most n at (designated.Type t) p = reported_most g at rule.NoVariable
+    changed_most n at (designated.Procedure f) p = reported_most g at rule.NoVariable
+    changed_most n at (designated.Nested f) p = reported_most g at rule.NoVariable
+    changed_most n at (designated.Standard f) p = reported_most g at rule.NoVariable
+    changed_most n at (designated.Module k) p = reported_most g at rule.NoVariable
 
-  pub assignment_most : (n k : ℕ) (d : Meant g.Reported) (at : Pos) (x : Meant g.Reported) → FM g s n d → FM g s k x → Stmt_ (n + k) (assignment_of g s.types (target_at g d.fixed.at (d.means s)) at (value_of g s x))
-  assignment_most n k d at x p q =
-      then_most (both_most g (then_most (sort_most g d.fixed.at rule.WrongType p) (λ e l. target_of_most n d.fixed.at e l)) (value_most g s k x q)) (λ v l. assigned_to_most (n + k) v.0 at v.1 l)
+    known_amount_most : (n : ℕ) (at : Pos) (o : Option Ordinal) → node w ≤ n → Expr_ n (known_amount g at o)
+    known_amount_most n at None l = reported_most g at rule.WrongArgument
+    known_amount_most n at (Some a) l = fine (expr.Constant (type_of_number a.number a.sort) a.number) (le_trans _ (node w) n (le_of _ (node w) (expr_constant w (type_of_number a.number a.sort) a.number)) l)
 
-  -- ---- INC and DEC
+    amount_most : (n : ℕ) (at : Pos) (x : Computed) → weight_value w x ≤ n → Expr_ n (amount g at x)
+    amount_most n at (value.Constant v) p = known_amount_most n at (whole_number v) p
+    amount_most n at (value.Scalar t b e) p = where_most g _ at rule.WrongArgument (fine e p)
+    amount_most n at (value.Set e) p = reported_most g at rule.WrongArgument
+    amount_most n at (value.Routine t e) p = reported_most g at rule.WrongArgument
+    amount_most n at (value.Procedure f) p = reported_most g at rule.WrongArgument
+    amount_most n at (value.Whole t d) p = reported_most g at rule.WrongArgument
+    amount_most n at value.Untaken p = reported_most g at rule.WrongArgument
 
-  abbrev size_variable : TypeNo × Place → ℕ
-  size_variable v = 1 + size_place v.1
+    change_by_most : (n k : ℕ) (o : Change) {v : Result (TypeNo × Place) g.Reported} {e : Result TypedExpr g.Reported} → AtMost weight_variable n v → Expr_ k e → Stmt_ (node w ⊕ (n ⊕ k)) (change_by g o v e)
+    change_by_most n k o p q = then_most (both_most g w p q) (λ v l. fine (step.Change o v.0.1 v.0.0 v.1) (change_sum w _ _ _ (n ⊕ k) (step_change w o v.0.1 v.0.0 v.1) l))
 
-  changed_as_most : (n : ℕ) (at : Pos) (t : TypeNo) (d : Place) (c : Class) → 1 + size_place d ≤ n → AtMost size_variable n (change_target_as g at t d c)
-  changed_as_most n at t d (class.Scalar r) p = fine (t, d) p
-  changed_as_most n at t d class.Set p = reported_most g at rule.NoVariable
-  changed_as_most n at t d class.Procedure p = reported_most g at rule.NoVariable
-  changed_as_most n at t d class.Whole p = reported_most g at rule.NoVariable
+    changed_in_most : (n : ℕ) (v : Meant g.Reported) → FM w g s n v → AtMost weight_variable n (change_target_in g s v)
+    changed_in_most n v p = then_most (sort_most g v.fixed.at rule.NoVariable p) (λ d k. changed_most n v.fixed.at d k)
 
-  changed_most : (n : ℕ) (at : Pos) (d : Designated) → size_designated d ≤ n → AtMost size_variable n (change_target g s.types at d)
-  changed_most n at (designated.Variable t d) p = changed_as_most n at t d (class_at s.types t) p
-  changed_most n at (designated.Value x) p = reported_most g at rule.NoVariable
-  changed_most n at (designated.Open t slot) p = reported_most g at rule.NoVariable
-  changed_most n at (designated.Type t) p = reported_most g at rule.NoVariable
-  changed_most n at (designated.Procedure f) p = reported_most g at rule.NoVariable
-  changed_most n at (designated.Nested f) p = reported_most g at rule.NoVariable
-  changed_most n at (designated.Standard f) p = reported_most g at rule.NoVariable
-  changed_most n at (designated.Module k) p = reported_most g at rule.NoVariable
+    changed_by_most : (k : ℕ) (ns : List ℕ) (at : Pos) (o : Change) (args : List (Meant g.Reported)) → AllM w g s ns args → Stmt_ (node w ⊕ (k ⊕ arguments w ns)) (change_statement g s at o args)
+    changed_by_most k ns at o [] all = reported_beside_most g at rule.ArgumentCount (breaches_in_all g s [])
+    changed_by_most k [] at o (v ∷ []) all = absurd all
+    changed_by_most k (n ∷ m ∷ ns) at o (v ∷ []) all = absurd all.1
+    changed_by_most k (n ∷ []) at o (v ∷ []) all =
+        at_more (one_sum w k n []) (change_by_most n (node w) o (changed_in_most n v all.0) (fine (expr.Constant cardinal (pos 1)) (le_of _ (node w) (expr_constant w cardinal (pos 1)))))
+    changed_by_most k [] at o (v ∷ x ∷ []) all = absurd all
+    changed_by_most k (n ∷ []) at o (v ∷ x ∷ []) all = absurd all.1
+    changed_by_most k (n ∷ m ∷ ns) at o (v ∷ x ∷ []) all =
+        at_more (two_sum w k n m ns) (change_by_most n m o (changed_in_most n v all.0) (then_most (value_most w g s m x all.1.0) (λ y l. amount_most m x.fixed.at y l)))
+    changed_by_most k ns at o (v ∷ n ∷ x ∷ xs) all = reported_beside_most g at rule.ArgumentCount _
 
-  known_amount_most : (n : ℕ) (at : Pos) (o : Option Ordinal) → 1 ≤ n → Expr_ n (known_amount g at o)
-  known_amount_most n at None l = reported_most g at rule.WrongArgument
-  known_amount_most n at (Some a) l = fine (expr.Constant (type_of_number a.number a.sort) a.number) (le_trans _ 1 n (le_of _ 1 (expr_constant (type_of_number a.number a.sort) a.number)) l)
+    -- ---- INCL and EXCL
 
-  amount_most : (n : ℕ) (at : Pos) (x : Computed) → size_value x ≤ n → Expr_ n (amount g at x)
-  amount_most n at (value.Constant v) p = known_amount_most n at (whole_number v) p
-  amount_most n at (value.Scalar t b e) p = where_most g _ at rule.WrongArgument (fine e p)
-  amount_most n at (value.Set e) p = reported_most g at rule.WrongArgument
-  amount_most n at (value.Routine t e) p = reported_most g at rule.WrongArgument
-  amount_most n at (value.Procedure f) p = reported_most g at rule.WrongArgument
-  amount_most n at (value.Whole t d) p = reported_most g at rule.WrongArgument
-  amount_most n at value.Untaken p = reported_most g at rule.WrongArgument
+    abbrev weight_set : Place → ℕ
+    weight_set d = node w ⊕ weight_place w d
 
-  change_sum : (a d e n : ℕ) → a ≡ 2 + d + e → 1 + d + e ≤ n → a ≤ 1 + n
-  change_sum a d e n q l = omega (arith, q, l)
+    set_as_most : (n : ℕ) (at : Pos) (d : Place) (c : Class) → node w ⊕ weight_place w d ≤ n → AtMost weight_set n (set_as g at d c)
+    set_as_most n at d class.Set p = fine d p
+    set_as_most n at d (class.Scalar r) p = reported_most g at rule.NoVariable
+    set_as_most n at d class.Procedure p = reported_most g at rule.NoVariable
+    set_as_most n at d class.Whole p = reported_most g at rule.NoVariable
 
-  change_by_most : (n k : ℕ) (o : Change) {v : Result (TypeNo × Place) g.Reported} {e : Result TypedExpr g.Reported} → AtMost size_variable n v → Expr_ k e → Stmt_ (1 + (n + k)) (change_by g o v e)
-  change_by_most n k o p q = then_most (both_most g p q) (λ v l. fine (step.Change o v.0.1 v.0.0 v.1) (change_sum _ _ _ (n + k) (step_change o v.0.1 v.0.0 v.1) l))
+    set_variable_most : (n : ℕ) (at : Pos) (d : Designated) → weight_meant w d ≤ n → AtMost weight_set n (set_variable g s.types at d)
+    set_variable_most n at (designated.Variable t d) p = set_as_most n at d (class_at s.types t) p
+    set_variable_most n at (designated.Value x) p = reported_most g at rule.NoVariable
+    set_variable_most n at (designated.Open t slot) p = reported_most g at rule.NoVariable
+    set_variable_most n at (designated.Type t) p = reported_most g at rule.NoVariable
+    set_variable_most n at (designated.Procedure f) p = reported_most g at rule.NoVariable
+    set_variable_most n at (designated.Nested f) p = reported_most g at rule.NoVariable
+    set_variable_most n at (designated.Standard f) p = reported_most g at rule.NoVariable
+    set_variable_most n at (designated.Module k) p = reported_most g at rule.NoVariable
 
-  changed_in_most : (n : ℕ) (v : Meant g.Reported) → FM g s n v → AtMost size_variable n (change_target_in g s v)
-  changed_in_most n v p = then_most (sort_most g v.fixed.at rule.NoVariable p) (λ d k. changed_most n v.fixed.at d k)
+    element_known_most : (n : ℕ) (at : Pos) (o : Option Ordinal) → node w ≤ n → Expr_ n (element_known g at o)
+    element_known_most n at None l = reported_most g at rule.WrongArgument
+    element_known_most n at (Some a) l = where_most g _ at rule.OutOfRange (fine (expr.Constant (type_of_number a.number a.sort) a.number) (le_trans _ (node w) n (le_of _ (node w) (expr_constant w (type_of_number a.number a.sort) a.number)) l))
 
-  one_sum : (k n : ℕ) → 1 + (n + 1) ≤ 1 + (k + (1 + n + 0))
-  one_sum k n = omega arith
+    element_most : (n : ℕ) (at : Pos) (x : Computed) → weight_value w x ≤ n → Expr_ n (set_element g at x)
+    element_most n at (value.Constant v) p = element_known_most n at (whole_number v) p
+    element_most n at (value.Scalar t b e) p = where_most g _ at rule.WrongArgument (fine e p)
+    element_most n at (value.Set e) p = reported_most g at rule.WrongArgument
+    element_most n at (value.Routine t e) p = reported_most g at rule.WrongArgument
+    element_most n at (value.Procedure f) p = reported_most g at rule.WrongArgument
+    element_most n at (value.Whole t d) p = reported_most g at rule.WrongArgument
+    element_most n at value.Untaken p = reported_most g at rule.WrongArgument
 
-  two_sum : (k n m a : ℕ) → 1 + (n + m) ≤ 1 + (k + (1 + n + (1 + m + a)))
-  two_sum k n m a = omega arith
+    membership_most : (n k : ℕ) (o : Membership) {d : Result Place g.Reported} {e : Result TypedExpr g.Reported} → AtMost weight_set n d → Expr_ k e → Stmt_ (node w ⊕ (n ⊕ k)) (membership_of g o d e)
+    membership_most n k o p q = then_most (both_most g w p q) (λ v l. fine (step.Membership o v.0 v.1) (change_sum w _ _ _ (n ⊕ k) (step_membership w o v.0 v.1) l))
 
-  changed_by_most : (k : ℕ) (ns : List ℕ) (at : Pos) (o : Change) (args : List (Meant g.Reported)) → AllM g s ns args → Stmt_ (1 + (k + arguments ns)) (change_statement g s at o args)
-  changed_by_most k ns at o [] all = reported_beside_most g at rule.ArgumentCount (breaches_in_all g s [])
-  changed_by_most k [] at o (v ∷ []) all = absurd all
-  changed_by_most k (n ∷ m ∷ ns) at o (v ∷ []) all = absurd all.1
-  changed_by_most k (n ∷ []) at o (v ∷ []) all =
-      at_more (one_sum k n) (change_by_most n 1 o (changed_in_most n v all.0) (fine (expr.Constant cardinal (pos 1)) (le_of _ 1 (expr_constant cardinal (pos 1)))))
-  changed_by_most k [] at o (v ∷ x ∷ []) all = absurd all
-  changed_by_most k (n ∷ []) at o (v ∷ x ∷ []) all = absurd all.1
-  changed_by_most k (n ∷ m ∷ ns) at o (v ∷ x ∷ []) all =
-      at_more (two_sum k n m (arguments ns)) (change_by_most n m o (changed_in_most n v all.0) (then_most (value_most g s m x all.1.0) (λ y l. amount_most m x.fixed.at y l)))
-  changed_by_most k ns at o (v ∷ n ∷ x ∷ xs) all = reported_beside_most g at rule.ArgumentCount _
+    set_in_most : (n : ℕ) (v : Meant g.Reported) → FM w g s n v → AtMost weight_set n (set_in g s v)
+    set_in_most n v p = then_most (sort_most g v.fixed.at rule.NoVariable p) (λ d k. set_variable_most n v.fixed.at d k)
 
-  -- ---- INCL and EXCL
+    member_by_most : (k : ℕ) (ns : List ℕ) (at : Pos) (o : Membership) (args : List (Meant g.Reported)) → AllM w g s ns args → Stmt_ (node w ⊕ (k ⊕ arguments w ns)) (member_by g s at o args)
+    member_by_most k ns at o [] all = reported_beside_most g at rule.ArgumentCount (breaches_in_all g s [])
+    member_by_most k ns at o (v ∷ []) all = reported_beside_most g at rule.ArgumentCount _
+    member_by_most k [] at o (v ∷ x ∷ []) all = absurd all
+    member_by_most k (n ∷ []) at o (v ∷ x ∷ []) all = absurd all.1
+    member_by_most k (n ∷ m ∷ ns) at o (v ∷ x ∷ []) all =
+        at_more (two_sum w k n m ns) (membership_most n m o (set_in_most n v all.0) (then_most (value_most w g s m x all.1.0) (λ y l. element_most m x.fixed.at y l)))
+    member_by_most k ns at o (v ∷ n ∷ x ∷ xs) all = reported_beside_most g at rule.ArgumentCount _
 
-  abbrev size_set : Place → ℕ
-  size_set d = 1 + size_place d
+    -- ---- HALT and Put
 
-  set_as_most : (n : ℕ) (at : Pos) (d : Place) (c : Class) → 1 + size_place d ≤ n → AtMost size_set n (set_as g at d c)
-  set_as_most n at d class.Set p = fine d p
-  set_as_most n at d (class.Scalar r) p = reported_most g at rule.NoVariable
-  set_as_most n at d class.Procedure p = reported_most g at rule.NoVariable
-  set_as_most n at d class.Whole p = reported_most g at rule.NoVariable
+    halted_most : (n : ℕ) (at : Pos) (args : List (Meant g.Reported)) → Stmt_ (node w ⊕ n) (halt_statement g s at args)
+    halted_most n at [] = fine step.Halt (one_of w _ n (step_halt w))
+    halted_most n at (x ∷ xs) = reported_beside_most g at rule.ArgumentCount _
 
-  set_variable_most : (n : ℕ) (at : Pos) (d : Designated) → size_designated d ≤ n → AtMost size_set n (set_variable g s.types at d)
-  set_variable_most n at (designated.Variable t d) p = set_as_most n at d (class_at s.types t) p
-  set_variable_most n at (designated.Value x) p = reported_most g at rule.NoVariable
-  set_variable_most n at (designated.Open t slot) p = reported_most g at rule.NoVariable
-  set_variable_most n at (designated.Type t) p = reported_most g at rule.NoVariable
-  set_variable_most n at (designated.Procedure f) p = reported_most g at rule.NoVariable
-  set_variable_most n at (designated.Nested f) p = reported_most g at rule.NoVariable
-  set_variable_most n at (designated.Standard f) p = reported_most g at rule.NoVariable
-  set_variable_most n at (designated.Module k) p = reported_most g at rule.NoVariable
+    put_by_most : (k : ℕ) (ns : List ℕ) (at : Pos) (args : List (Meant g.Reported)) → AllM w g s ns args → Stmt_ (node w ⊕ (k ⊕ arguments w ns)) (put_by g s at args)
+    put_by_most k ns at [] all = reported_beside_most g at rule.ArgumentCount (breaches_in_all g s [])
+    put_by_most k [] at (x ∷ []) all = absurd all
+    put_by_most k (n ∷ ns) at (x ∷ []) all =
+        then_most (value_most w g s n x all.0) (λ v l. then_most (suited_most w g n rule.WrongArgument s.types char x.fixed.at v l) (λ e q. fine (step.Put e) (put_sum w _ _ k n ns (step_put w e) q)))
+    put_by_most k ns at (x ∷ y ∷ xs) all = reported_beside_most g at rule.ArgumentCount _
 
-  element_known_most : (n : ℕ) (at : Pos) (o : Option Ordinal) → 1 ≤ n → Expr_ n (element_known g at o)
-  element_known_most n at None l = reported_most g at rule.WrongArgument
-  element_known_most n at (Some a) l = where_most g _ at rule.OutOfRange (fine (expr.Constant (type_of_number a.number a.sort) a.number) (le_trans _ 1 n (le_of _ 1 (expr_constant (type_of_number a.number a.sort) a.number)) l))
+    standard_most : (k : ℕ) (ns : List ℕ) (at : Pos) (args : List (Meant g.Reported)) (f : Standard) → AllM w g s ns args → Stmt_ (node w ⊕ (k ⊕ arguments w ns)) (standard_done g s at args f)
+    standard_most k ns at args Abs all = reported_beside_most g at rule.WrongType _
+    standard_most k ns at args Cap all = reported_beside_most g at rule.WrongType _
+    standard_most k ns at args Chr all = reported_beside_most g at rule.WrongType _
+    standard_most k ns at args High all = reported_beside_most g at rule.WrongType _
+    standard_most k ns at args Max all = reported_beside_most g at rule.WrongType _
+    standard_most k ns at args Min all = reported_beside_most g at rule.WrongType _
+    standard_most k ns at args Odd all = reported_beside_most g at rule.WrongType _
+    standard_most k ns at args Ord all = reported_beside_most g at rule.WrongType _
+    standard_most k ns at args Val all = reported_beside_most g at rule.WrongType _
+    standard_most k ns at args Inc all = changed_by_most k ns at Increase args all
+    standard_most k ns at args Dec all = changed_by_most k ns at Decrease args all
+    standard_most k ns at args Incl all = member_by_most k ns at Include args all
+    standard_most k ns at args Excl all = member_by_most k ns at Exclude args all
+    standard_most k ns at args Halt all = halted_most (k ⊕ arguments w ns) at args
+    standard_most k ns at args Put all = put_by_most k ns at args all
 
-  element_most : (n : ℕ) (at : Pos) (x : Computed) → size_value x ≤ n → Expr_ n (set_element g at x)
-  element_most n at (value.Constant v) p = element_known_most n at (whole_number v) p
-  element_most n at (value.Scalar t b e) p = where_most g _ at rule.WrongArgument (fine e p)
-  element_most n at (value.Set e) p = reported_most g at rule.WrongArgument
-  element_most n at (value.Routine t e) p = reported_most g at rule.WrongArgument
-  element_most n at (value.Procedure f) p = reported_most g at rule.WrongArgument
-  element_most n at (value.Whole t d) p = reported_most g at rule.WrongArgument
-  element_most n at value.Untaken p = reported_most g at rule.WrongArgument
+    -- ---- calls
 
-  membership_most : (n k : ℕ) (o : Membership) {d : Result Place g.Reported} {e : Result TypedExpr g.Reported} → AtMost size_set n d → Expr_ k e → Stmt_ (1 + (n + k)) (membership_of g o d e)
-  membership_most n k o p q = then_most (both_most g p q) (λ v l. fine (step.Membership o v.0 v.1) (change_sum _ _ _ (n + k) (step_membership o v.0 v.1) l))
+    call_done_most : (k n : ℕ) (c : Callee) {args : Result (List Argument) g.Reported} → weight_callee w c ≤ k → AtMost (weight_list w g s) (0 ⊕ n) args → Stmt_ (node w ⊕ (k ⊕ n)) (call_done c args)
+    call_done_most k n c l p = then_most p (λ xs q. fine (step.Call (call_by xs c)) (done_sum w _ _ _ _ k n (step_call w (call_by xs c)) (call_most w c xs) l q))
 
-  set_in_most : (n : ℕ) (v : Meant g.Reported) → FM g s n v → AtMost size_set n (set_in g s v)
-  set_in_most n v p = then_most (sort_most g v.fixed.at rule.NoVariable p) (λ d k. set_variable_most n v.fixed.at d k)
+    routine_most : (k : ℕ) (ns : List ℕ) (at : Pos) (t : TypeNo) (c : Callee) (args : List (Meant g.Reported)) → weight_callee w c ≤ k → AllM w g s ns args → Stmt_ (node w ⊕ (k ⊕ arguments w ns)) (routine_done g s at t c args)
+    routine_most k ns at t c args l all =
+        ahead_most g (breaches_in_all g s args) (any_most (proper_of g at (signature_at s.types t) (length args)))
+        (λ r h. call_done_most k (arguments w ns) c l (actuals_most w g s ns args (formals_of (signature_at s.types t)) all))
 
-  member_by_most : (k : ℕ) (ns : List ℕ) (at : Pos) (o : Membership) (args : List (Meant g.Reported)) → AllM g s ns args → Stmt_ (1 + (k + arguments ns)) (member_by g s at o args)
-  member_by_most k ns at o [] all = reported_beside_most g at rule.ArgumentCount (breaches_in_all g s [])
-  member_by_most k ns at o (v ∷ []) all = reported_beside_most g at rule.ArgumentCount _
-  member_by_most k [] at o (v ∷ x ∷ []) all = absurd all
-  member_by_most k (n ∷ []) at o (v ∷ x ∷ []) all = absurd all.1
-  member_by_most k (n ∷ m ∷ ns) at o (v ∷ x ∷ []) all =
-      at_more (two_sum k n m (arguments ns)) (membership_most n m o (set_in_most n v all.0) (then_most (value_most g s m x all.1.0) (λ y l. element_most m x.fixed.at y l)))
-  member_by_most k ns at o (v ∷ n ∷ x ∷ xs) all = reported_beside_most g at rule.ArgumentCount _
+    done_as_most : (k : ℕ) (ns : List ℕ) (at : Pos) (args : List (Meant g.Reported)) (x : Called) → weight_called w x ≤ k → AllM w g s ns args → Stmt_ (node w ⊕ (k ⊕ arguments w ns)) (callee_statement g s at args x)
+    done_as_most k ns at args (called.Routine t c) p all = routine_most k ns at t c args p all
+    done_as_most k ns at args (called.Standard f) p all = standard_most k ns at args f all
 
-  -- ---- HALT and Put
-
-  one_of : (a n : ℕ) → a ≡ 1 → a ≤ 1 + n
-  one_of a n e = omega (arith, e)
-
-  halted_most : (n : ℕ) (at : Pos) (args : List (Meant g.Reported)) → Stmt_ (1 + n) (halt_statement g s at args)
-  halted_most n at [] = fine step.Halt (one_of _ n step_halt)
-  halted_most n at (x ∷ xs) = reported_beside_most g at rule.ArgumentCount _
-
-  put_sum : (a e k n b : ℕ) → a ≡ 1 + e → e ≤ n → a ≤ 1 + (k + (1 + n + b))
-  put_sum a e k n b q l = omega (arith, q, l)
-
-  put_by_most : (k : ℕ) (ns : List ℕ) (at : Pos) (args : List (Meant g.Reported)) → AllM g s ns args → Stmt_ (1 + (k + arguments ns)) (put_by g s at args)
-  put_by_most k ns at [] all = reported_beside_most g at rule.ArgumentCount (breaches_in_all g s [])
-  put_by_most k [] at (x ∷ []) all = absurd all
-  put_by_most k (n ∷ ns) at (x ∷ []) all =
-      then_most (value_most g s n x all.0) (λ v l. then_most (suited_most g n rule.WrongArgument s.types char x.fixed.at v l) (λ e q. fine (step.Put e) (put_sum _ _ k n (arguments ns) (step_put e) q)))
-  put_by_most k ns at (x ∷ y ∷ xs) all = reported_beside_most g at rule.ArgumentCount _
-
-  standard_most : (k : ℕ) (ns : List ℕ) (at : Pos) (args : List (Meant g.Reported)) (f : Standard) → AllM g s ns args → Stmt_ (1 + (k + arguments ns)) (standard_done g s at args f)
-  standard_most k ns at args Abs all = reported_beside_most g at rule.WrongType _
-  standard_most k ns at args Cap all = reported_beside_most g at rule.WrongType _
-  standard_most k ns at args Chr all = reported_beside_most g at rule.WrongType _
-  standard_most k ns at args High all = reported_beside_most g at rule.WrongType _
-  standard_most k ns at args Max all = reported_beside_most g at rule.WrongType _
-  standard_most k ns at args Min all = reported_beside_most g at rule.WrongType _
-  standard_most k ns at args Odd all = reported_beside_most g at rule.WrongType _
-  standard_most k ns at args Ord all = reported_beside_most g at rule.WrongType _
-  standard_most k ns at args Val all = reported_beside_most g at rule.WrongType _
-  standard_most k ns at args Inc all = changed_by_most k ns at Increase args all
-  standard_most k ns at args Dec all = changed_by_most k ns at Decrease args all
-  standard_most k ns at args Incl all = member_by_most k ns at Include args all
-  standard_most k ns at args Excl all = member_by_most k ns at Exclude args all
-  standard_most k ns at args Halt all = halted_most (k + arguments ns) at args
-  standard_most k ns at args Put all = put_by_most k ns at args all
-
-  -- ---- calls
-
-  call_sum : (a c b l k n : ℕ) → a ≡ c → c ≡ b + l → b ≤ k → l ≤ 0 + n → a ≤ 1 + (k + n)
-  call_sum a c b l k n e f h i = omega (arith, e, f, h, i)
-
-  call_done_most : (k n : ℕ) (c : Callee) {args : Result (List Argument) g.Reported} → size_callee c ≤ k → AtMost (size_list g s) (0 + n) args → Stmt_ (1 + (k + n)) (call_done c args)
-  call_done_most k n c l p = then_most p (λ xs q. fine (step.Call (call_by xs c)) (call_sum _ _ _ _ k n (step_call (call_by xs c)) (call_most c xs) l q))
-
-  routine_most : (k : ℕ) (ns : List ℕ) (at : Pos) (t : TypeNo) (c : Callee) (args : List (Meant g.Reported)) → size_callee c ≤ k → AllM g s ns args → Stmt_ (1 + (k + arguments ns)) (routine_done g s at t c args)
-  routine_most k ns at t c args l all =
-      ahead_most g (breaches_in_all g s args) (any_most (proper_of g at (signature_at s.types t) (length args)))
-      (λ r h. call_done_most k (arguments ns) c l (actuals_most g s ns args (formals_of (signature_at s.types t)) all))
-
-  done_as_most : (k : ℕ) (ns : List ℕ) (at : Pos) (args : List (Meant g.Reported)) (x : Called) → size_called x ≤ k → AllM g s ns args → Stmt_ (1 + (k + arguments ns)) (callee_statement g s at args x)
-  done_as_most k ns at args (called.Routine t c) p all = routine_most k ns at t c args p all
-  done_as_most k ns at args (called.Standard f) p all = standard_most k ns at args f all
-
-  pub done_most : (k : ℕ) (ns : List ℕ) (d : Meant g.Reported) (args : List (Meant g.Reported)) → FM g s k d → AllM g s ns args → Stmt_ (1 + (k + arguments ns)) (call_statement g s d args)
-  done_most k ns d args p all = ahead_most g (breaches_in_all g s args) (then_most (of_heading_most p) (λ e q. callee_most g s.types k d.fixed.at e q)) (λ x q. done_as_most k ns d.fixed.at args x q all)
+    pub done_most : (k : ℕ) (ns : List ℕ) (d : Meant g.Reported) (args : List (Meant g.Reported)) → FM w g s k d → AllM w g s ns args → Stmt_ (node w ⊕ (k ⊕ arguments w ns)) (call_statement g s d args)
+    done_most k ns d args p all = ahead_most g (breaches_in_all g s args) (then_most (of_heading_most p) (λ e q. callee_most w g s.types k d.fixed.at e q)) (λ x q. done_as_most k ns d.fixed.at args x q all)

@@ -1,5 +1,5 @@
--- Operators, components and what places take count no more than what they are made of.
-use Rattle.std.proofs.Common.{◌≡◌, ℕ, ◌+◌, ◌≤◌, pos, Bool, List, [], ◌∷◌, ◌++◌, Option, Some, None, Result, refl, ap, ◌∙◌, arith}
+-- Operators, components and what places take weigh no more than what they are made of.
+use Rattle.std.proofs.Common.{◌≡◌, ℕ, ◌≤◌, pos, Bool, List, [], ◌∷◌, ◌++◌, Option, Some, None, Result, refl, arith}
 use Rattle.std.specs.Prelude.{not, ◌&&◌}
 use Rattle.m2_rule.specs.declared.rule.Rule.{Rule}
 use Rattle.m2_rule.specs.declared.rule.Rule.TheVariants as rule
@@ -57,334 +57,292 @@ use Rattle.check_operator.specs.declared.side.Side.{Side}
 use Rattle.check_operator.specs.declared.side.Side.TheVariants as side
 use Rattle.typed_tree.specs.declared.computed.TypedExpr.{out-TypedExpr}
 use Rattle.typed_tree.specs.declared.computed.Argument.TheOpen as layer
-use Rattle.law_encoding.specs.Sizes.{sum_of}
-use Rattle.law_encoding.specs.TypedSizes.{size_typed, size_place, size_component, size_link}
-use Rattle.law_encoding.specs.Counted.{AtMost, fine, size_value, size_designated}
-use Rattle.law_encoding.proofs.Sums.{total_map, le_trans, le_of, sum_append}
-use Rattle.law_encoding.proofs.Typed.{at_expr, component_field, component_element, component_openelement, place_sum, link_arithmetic, link_and, link_or, link_combine, expr_constant, expr_procedure, expr_plus, expr_negate, expr_chain, expr_compare, expr_not, expr_include, expr_in}
-use Rattle.law_encoding.proofs.Results.{then_most, reported_most, where_most, both_most, any_most}
-
--- ---- chains and components
-
--- a chain by its parts
-same_size : (e a : TypedExpr) (links : List Link) → out-TypedExpr e ≡ layer.Chain a links → size_typed e ≡ 1 + size_typed a + sum_of size_link links
-same_size e a links h = at_expr e (layer.Chain a links) h ∙ ap (λ n. 1 + size_typed a + n) (total_map size_link links)
-
-one_link : (n e l : ℕ) → n ≡ 1 + e + (l + 0) → n ≤ 1 + e + l
-one_link n e l h = omega (arith, h)
-
-chain_of_one : (e : TypedExpr) (l : Link) → size_typed (expr.Chain e (l ∷ [])) ≤ 1 + size_typed e + size_link l
-chain_of_one e l = one_link _ _ _ (expr_chain e (l ∷ []))
-
-longer : (n e a s l k : ℕ) → n ≡ 1 + a + s → s ≡ k + (l + 0) → e ≡ 1 + a + k → n ≤ 1 + e + l
-longer n e a s l k h i j = omega (arith, h, i, j)
-
-linked_by : (x : TypedExpr-F Argument Call Component Link TypedExpr Place) (e : TypedExpr) (l : Link) → out-TypedExpr e ≡ x → size_typed (linked_to x e l) ≤ 1 + size_typed e + size_link l
-linked_by (layer.Chain a links) e l h =
-    longer _ _ (size_typed a) _ (size_link l) (sum_of size_link links) (expr_chain a (links ++ l ∷ [])) (sum_append size_link links (l ∷ [])) (same_size e a links h)
-linked_by (layer.Constant t n) e l h = chain_of_one e l
-linked_by (layer.Load t d) e l h = chain_of_one e l
-linked_by (layer.Procedure f) e l h = chain_of_one e l
-linked_by (layer.Plus t x) e l h = chain_of_one e l
-linked_by (layer.Negate x) e l h = chain_of_one e l
-linked_by (layer.Compare o a b) e l h = chain_of_one e l
-linked_by (layer.Not x) e l h = chain_of_one e l
-linked_by (layer.Include o a b) e l h = chain_of_one e l
-linked_by (layer.In a b) e l h = chain_of_one e l
-linked_by (layer.Abs t x) e l h = chain_of_one e l
-linked_by (layer.Cap x) e l h = chain_of_one e l
-linked_by (layer.Chr x) e l h = chain_of_one e l
-linked_by (layer.Odd x) e l h = chain_of_one e l
-linked_by (layer.Ord x) e l h = chain_of_one e l
-linked_by (layer.Val t x) e l h = chain_of_one e l
-linked_by (layer.High slot) e l h = chain_of_one e l
-linked_by (layer.Call t c) e l h = chain_of_one e l
-
-pub linked_most : (e : TypedExpr) (l : Link) → size_typed (link_operand e l) ≤ 1 + size_typed e + size_link l
-linked_most e l = linked_by (out-TypedExpr e) e l refl
-
-behind_step : (n d s c k : ℕ) → n ≡ 1 + s → s ≡ k + (c + 0) → d ≡ 1 + k → n ≡ d + c
-behind_step n d s c k h i j = omega (arith, h, i, j)
-
-pub behind_size : (d : Place) (c : Component) → size_place (behind d c) ≡ size_place d + size_component c
-behind_size d c = behind_step _ _ _ _ (sum_of size_component d.components) (place_sum (behind d c)) (sum_append size_component d.components (c ∷ [])) (place_sum d)
-
-pub rooted_size : (r : Root) → size_place (root_place r) ≡ 1
-rooted_size r = place_sum (root_place r) ∙ plus_none where
-  plus_none : 1 + 0 ≡ 1
-  plus_none = refl
-
--- ---- sides
-
-abbrev pub size_amount : Amount → ℕ
-size_amount (Known a) = 1
-size_amount (Run b e) = size_typed e
-
-abbrev pub size_side : Option Side → ℕ
-size_side None = 0
-size_side (Some (side.Scalar a)) = size_amount a
-size_side (Some (side.Set e)) = size_typed e
-size_side (Some (side.Routine t e)) = size_typed e
-size_side (Some (side.Procedure f)) = 1
-
-constant_most : (o : Option Operand) → size_side (constant_side o) ≤ 1
-constant_most None = omega arith
-constant_most (Some (operand.Scalar a)) = omega arith
-constant_most (Some (operand.Set bits)) = le_of _ 1 (expr_constant bitset (pos bits))
-
-pub side_most : (x : Computed) → size_side (side_of x) ≤ size_value x
-side_most (value.Constant v) = constant_most (operand_of v)
-side_most (value.Scalar t b e) = omega arith
-side_most (value.Set e) = omega arith
-side_most (value.Routine t e) = omega arith
-side_most (value.Procedure f) = omega arith
-side_most (value.Whole t d) = omega arith
-side_most value.Untaken = omega arith
-
-run_most : (t : TypeNo) (a : Amount) → size_typed (run_of t a) ≤ size_amount a
-run_most t (Known a) = le_of _ 1 (expr_constant t a.number)
-run_most t (Run b e) = omega arith
-
-module _ (g : Gathers) where
-  abbrev Value_ : ℕ → Result Computed g.Reported → Type 0
-  Value_ n r = AtMost size_value n r
-
-  pub of_value_most : (n : ℕ) (r : Result Value g.Reported) → 1 ≤ n → Value_ n (of_value r)
-  of_value_most n r l = then_most (any_most r) (λ x h. fine (value.Constant x) l)
-
-  -- ---- signs
-
-  more : (a b n : ℕ) → a ≡ 1 + b → b ≤ n → a ≤ 1 + n
-  more a b n e l = omega (arith, e, l)
-
-  one_at_least : (n : ℕ) → 1 ≤ 1 + n
-  one_at_least n = omega arith
-
-  signed_scalar_most : (n : ℕ) (o : Sign) (at : Pos) (b : TypeNo) (e : TypedExpr) → size_typed e ≤ n → Value_ (1 + n) (signed_scalar g o at b e)
-  signed_scalar_most n sign.Plus at b e p = where_most g (not (is_numeric b)) at rule.WrongType (fine (value.Scalar b b (expr.Plus b e)) (more _ _ n (expr_plus b e) p))
-  signed_scalar_most n sign.Minus at b e p = where_most g (not (is_integer b)) at rule.WrongType (fine (value.Scalar b b (expr.Negate e)) (more _ _ n (expr_negate e) p))
-
-  signed_value_most : (n : ℕ) (o : Sign) (at : Pos) (x : Computed) → size_value x ≤ n → Value_ (1 + n) (signed_value g o at x)
-  signed_value_most n o at (value.Constant v) p = of_value_most (1 + n) _ (one_at_least n)
-  signed_value_most n o at (value.Scalar t b e) p = signed_scalar_most n o at b e p
-  signed_value_most n o at (value.Set e) p = reported_most g at rule.WrongType
-  signed_value_most n o at (value.Routine t e) p = reported_most g at rule.WrongType
-  signed_value_most n o at (value.Procedure f) p = reported_most g at rule.WrongType
-  signed_value_most n o at (value.Whole t d) p = reported_most g at rule.WrongType
-  signed_value_most n o at value.Untaken p = reported_most g at rule.WrongType
-
-  pub signed_most : (n : ℕ) (o : Sign) (at : Pos) {x : Result Computed g.Reported} → Value_ n x → Value_ (1 + n) (with_sign g o at x)
-  signed_most n o at h = then_most h (λ x p. signed_value_most n o at x p)
-
-  negated_value_most : (n : ℕ) (at : Pos) (x : Computed) → size_value x ≤ n → Value_ (1 + n) (negated_value g at x)
-  negated_value_most n at (value.Constant v) p = of_value_most (1 + n) _ (one_at_least n)
-  negated_value_most n at (value.Scalar t b e) p = where_most g (not (are_same b boolean)) at rule.WrongType (fine (truth_of (expr.Not e)) (more _ _ n (expr_not e) p))
-  negated_value_most n at (value.Set e) p = reported_most g at rule.WrongType
-  negated_value_most n at (value.Routine t e) p = reported_most g at rule.WrongType
-  negated_value_most n at (value.Procedure f) p = reported_most g at rule.WrongType
-  negated_value_most n at (value.Whole t d) p = reported_most g at rule.WrongType
-  negated_value_most n at value.Untaken p = reported_most g at rule.WrongType
-
-  pub negated_most : (n : ℕ) (at : Pos) {x : Result Computed g.Reported} → Value_ n x → Value_ (1 + n) (negation g at x)
-  negated_most n at h = then_most h (λ x p. negated_value_most n at x p)
-
-  -- ---- operators
-
-  join : (a x y l n : ℕ) → a ≤ 1 + x + l → l ≡ 1 + y → x + y ≤ n → a ≤ 2 + n
-  join a x y l n p e h = omega (arith, p, e, h)
-
-  pair : (a x y n : ℕ) → a ≡ 1 + x + y → x + y ≤ n → a ≤ 2 + n
-  pair a x y n e h = omega (arith, e, h)
-
-  built_most : (n : ℕ) (t : TypeNo) (x y : TypedExpr) (o : Step) → size_typed x + size_typed y ≤ n → size_value (step_result t x y o) ≤ 2 + n
-  built_most n t x y (step.Arithmetic o) p = join _ _ _ _ n (linked_most x (link.Arithmetic o t y)) (link_arithmetic o t y) p
-  built_most n t x y step.And p = join _ _ _ _ n (linked_most x (link.And y)) (link_and y) p
-  built_most n t x y step.Or p = join _ _ _ _ n (linked_most x (link.Or y)) (link_or y) p
-  built_most n t x y (step.Compare c) p = pair _ _ _ n (expr_compare c x y) p
-
-  both_less : (a b c d n : ℕ) → a ≤ b → c ≤ d → b + d ≤ n → a + c ≤ n
-  both_less a b c d n h k l = omega (arith, h, k, l)
-
-  first_less : (a b c n : ℕ) → a ≤ b → b + c ≤ n → a + c ≤ n
-  first_less a b c n h l = omega (arith, h, l)
-
-  stepped_most : (n : ℕ) (at : Pos) (sort : Option TypeNo) (a b : Amount) (o : Option Step) → size_amount a + size_amount b ≤ n → Value_ (2 + n) (step_or_refusal g at sort a b o)
-  stepped_most n at sort a b None p = reported_most g at rule.WrongType
-  stepped_most n at sort a b (Some o) p =
-      fine (step_result (or_cardinal sort) (run_of (or_cardinal sort) a) (run_of (or_cardinal sort) b) o)
-      (built_most n (or_cardinal sort) (run_of (or_cardinal sort) a) (run_of (or_cardinal sort) b) o (both_less _ _ _ _ n (run_most (or_cardinal sort) a) (run_most (or_cardinal sort) b) p))
-
-  amounts_most : (n : ℕ) (op : BinaryOp) (spot at : Pos) (a : Amount) (at' : Pos) (b : Amount) (o : Option (Option TypeNo)) → size_amount a + size_amount b ≤ n → Value_ (2 + n) (on_amounts g op spot at a at' b o)
-  amounts_most n op spot at a at' b None p = reported_most g spot rule.WrongType
-  amounts_most n op spot at a at' b (Some sort) p = then_most (any_most (fitting_both g op spot sort at a at' b)) (λ f h. stepped_most n spot sort a b (step_of op) p)
-
-  member_most : (n : ℕ) (op : BinaryOp) (spot at : Pos) (a : Amount) (s : TypedExpr) → size_amount a + size_typed s ≤ n → Value_ (2 + n) (member g op spot at a s)
-  member_most n op spot at a s p =
-      where_most g (not (is_in op && is_number (sort_of a))) spot rule.WrongType (then_most (any_most (element_fits g at a))
-      (λ f h. fine (truth_of (expr.In (run_of (or_cardinal (sort_of a)) a) s))
-      (pair _ _ _ n (expr_in (run_of (or_cardinal (sort_of a)) a) s) (first_less _ _ _ n (run_most (or_cardinal (sort_of a)) a) p))))
-
-  set_built_most : (n : ℕ) (x y : TypedExpr) (o : SetStep) → size_typed x + size_typed y ≤ n → size_value (set_built x y o) ≤ 2 + n
-  set_built_most n x y (set_step.Combine o) p = join _ _ _ _ n (linked_most x (link.Combine o y)) (link_combine o y) p
-  set_built_most n x y (set_step.Compare c) p = pair _ _ _ n (expr_compare c x y) p
-  set_built_most n x y (set_step.Include i) p = pair _ _ _ n (expr_include i x y) p
-
-  sets_most : (n : ℕ) (at : Pos) (x y : TypedExpr) (o : Option SetStep) → size_typed x + size_typed y ≤ n → Value_ (2 + n) (on_sets g at x y o)
-  sets_most n at x y None p = reported_most g at rule.WrongType
-  sets_most n at x y (Some o) p = fine (set_built x y o) (set_built_most n x y o p)
-
-  scalar_most : (n : ℕ) (op : BinaryOp) (spot at : Pos) (a : Amount) (at' : Pos) (y : Option Side) → size_amount a + size_side y ≤ n → Value_ (2 + n) (with_scalar g op spot at a at' y)
-  scalar_most n op spot at a at' None p = reported_most g spot rule.WrongType
-  scalar_most n op spot at a at' (Some (side.Scalar b)) p = amounts_most n op spot at a at' b (common (sort_of a) (sort_of b)) p
-  scalar_most n op spot at a at' (Some (side.Set s)) p = member_most n op spot at a s p
-  scalar_most n op spot at a at' (Some (side.Routine t e)) p = reported_most g spot rule.WrongType
-  scalar_most n op spot at a at' (Some (side.Procedure f)) p = reported_most g spot rule.WrongType
-
-  with_set_most : (n : ℕ) (op : BinaryOp) (spot : Pos) (x : TypedExpr) (y : Option Side) → size_typed x + size_side y ≤ n → Value_ (2 + n) (with_set g op spot x (set_in y))
-  with_set_most n op spot x None p = reported_most g spot rule.WrongType
-  with_set_most n op spot x (Some (side.Scalar b)) p = reported_most g spot rule.WrongType
-  with_set_most n op spot x (Some (side.Set s)) p = sets_most n spot x s (set_step_of op) p
-  with_set_most n op spot x (Some (side.Routine t e)) p = reported_most g spot rule.WrongType
-  with_set_most n op spot x (Some (side.Procedure f)) p = reported_most g spot rule.WrongType
-
-  procedures_most : (n : ℕ) (at : Pos) (fit : Bool) (x y : TypedExpr) (o : Option Comparison) → size_typed x + size_typed y ≤ n → Value_ (2 + n) (on_procedures g at fit x y o)
-  procedures_most n at fit x y None p = reported_most g at rule.WrongType
-  procedures_most n at fit x y (Some c) p = where_most g (not fit) at rule.WrongType (fine (truth_of (expr.Compare c x y)) (pair _ _ _ n (expr_compare c x y) p))
-
-  abbrev size_partner : Option (Bool × TypedExpr) → ℕ
-  size_partner None = 0
-  size_partner (Some p) = size_typed p.1
-
-  partner_most : (types : Types) (t : TypeNo) (y : Option Side) → size_partner (partner_of types t y) ≤ size_side y
-  partner_most types t None = omega arith
-  partner_most types t (Some (side.Scalar b)) = omega arith
-  partner_most types t (Some (side.Set s)) = omega arith
-  partner_most types t (Some (side.Routine u e)) = omega arith
-  partner_most types t (Some (side.Procedure f)) = le_of _ 1 (expr_procedure f)
-
-  routine_most : (types : Types) (f : Procedure) (y : Option Side) → size_partner (routine_of types f y) ≤ size_side y
-  routine_most types f None = omega arith
-  routine_most types f (Some (side.Scalar b)) = omega arith
-  routine_most types f (Some (side.Set s)) = omega arith
-  routine_most types f (Some (side.Routine u e)) = omega arith
-  routine_most types f (Some (side.Procedure h)) = omega arith
-
-  with_partner_most : (n : ℕ) (at : Pos) (x : TypedExpr) (c : Option Comparison) (o : Option (Bool × TypedExpr)) → size_typed x + size_partner o ≤ n → Value_ (2 + n) (with_partner g at x c o)
-  with_partner_most n at x c None p = reported_most g at rule.WrongType
-  with_partner_most n at x c (Some o) p = procedures_most n at o.0 x o.1 c p
-
-  second_less : (a b c n : ℕ) → b ≤ c → a + c ≤ n → a + b ≤ n
-  second_less a b c n h l = omega (arith, h, l)
-
-  known_less : (a b c n : ℕ) → a ≡ 1 → b ≤ c → 1 + c ≤ n → a + b ≤ n
-  known_less a b c n e h l = omega (arith, e, h, l)
-
-  between_most : (n : ℕ) (types : Types) (op : BinaryOp) (spot at : Pos) (x : Option Side) (at' : Pos) (y : Option Side) → size_side x + size_side y ≤ n → Value_ (2 + n) (between g types op spot at x at' y)
-  between_most n types op spot at None at' y p = reported_most g spot rule.WrongType
-  between_most n types op spot at (Some (side.Scalar a)) at' y p = scalar_most n op spot at a at' y p
-  between_most n types op spot at (Some (side.Set e)) at' y p = with_set_most n op spot e y p
-  between_most n types op spot at (Some (side.Routine t e)) at' y p = with_partner_most n spot e (equality_of op) (partner_of types t y) (second_less _ _ _ n (partner_most types t y) p)
-  between_most n types op spot at (Some (side.Procedure f)) at' y p =
-      with_partner_most n spot (expr.Procedure f) (equality_of op) (routine_of types f y) (known_less _ _ _ n (expr_procedure f) (routine_most types f y) p)
-
-  two_at_least : (n : ℕ) → 1 ≤ 2 + n
-  two_at_least n = omega arith
-
-  known_most : (n : ℕ) (types : Types) (op : BinaryOp) (spot at : Pos) (x : Computed) (at' : Pos) (y : Computed) (a b : Option Operand) → size_value x + size_value y ≤ n → Value_ (2 + n) (by_known g types op spot at x at' y a b)
-  known_most n types op spot at x at' y None b p = between_most n types op spot at (side_of x) at' (side_of y) (both_less _ _ _ _ n (side_most x) (side_most y) p)
-  known_most n types op spot at x at' y (Some a) None p = between_most n types op spot at (side_of x) at' (side_of y) (both_less _ _ _ _ n (side_most x) (side_most y) p)
-  known_most n types op spot at x at' y (Some a) (Some b) p = of_value_most (2 + n) _ (two_at_least n)
-
-  pub combined_most : (n k : ℕ) (types : Types) (op : BinaryOp) (spot at : Pos) {x : Result Computed g.Reported} (at' : Pos) {y : Result Computed g.Reported} → Value_ n x → Value_ k y → Value_ (2 + (n + k)) (operation_between g types op spot at x at' y)
-  combined_most n k types op spot at at' p q = then_most (both_most g p q) (λ v h. known_most (n + k) types op spot at v.0 at' v.1 (known_of v.0) (known_of v.1) h)
-
-  -- ---- what places take
-
-  abbrev Expr_ : ℕ → Result TypedExpr g.Reported → Type 0
-  Expr_ n r = AtMost size_typed n r
-
-  scalar_suited_most : (n : ℕ) (broken : Rule) (t : TypeNo) (s : Range) (at : Pos) (x : Option Side) → size_side x ≤ n → Expr_ n (scalar_suited g broken t s at x)
-  scalar_suited_most n broken t s at None p = reported_most g at broken
-  scalar_suited_most n broken t s at (Some (side.Scalar (Known a))) p = where_most g _ at broken (where_most g _ at rule.OutOfRange (fine (expr.Constant t a.number) (le_trans _ 1 n (le_of _ 1 (expr_constant t a.number)) p)))
-  scalar_suited_most n broken t s at (Some (side.Scalar (Run b e))) p = where_most g _ at broken (fine e p)
-  scalar_suited_most n broken t s at (Some (side.Set e)) p = reported_most g at broken
-  scalar_suited_most n broken t s at (Some (side.Routine u e)) p = reported_most g at broken
-  scalar_suited_most n broken t s at (Some (side.Procedure f)) p = reported_most g at broken
-
-  set_suited_most : (n : ℕ) (broken : Rule) (at : Pos) (x : Option Side) → size_side x ≤ n → Expr_ n (set_suited g broken at x)
-  set_suited_most n broken at None p = reported_most g at broken
-  set_suited_most n broken at (Some (side.Scalar a)) p = reported_most g at broken
-  set_suited_most n broken at (Some (side.Set e)) p = fine e p
-  set_suited_most n broken at (Some (side.Routine u e)) p = reported_most g at broken
-  set_suited_most n broken at (Some (side.Procedure f)) p = reported_most g at broken
-
-  procedure_suited_most : (n : ℕ) (broken : Rule) (types : Types) (t : TypeNo) (at : Pos) (x : Option Side) → size_side x ≤ n → Expr_ n (procedure_suited g broken types t at x)
-  procedure_suited_most n broken types t at None p = reported_most g at broken
-  procedure_suited_most n broken types t at (Some (side.Scalar a)) p = reported_most g at broken
-  procedure_suited_most n broken types t at (Some (side.Set e)) p = reported_most g at broken
-  procedure_suited_most n broken types t at (Some (side.Routine u e)) p = where_most g _ at broken (fine e p)
-  procedure_suited_most n broken types t at (Some (side.Procedure f)) p = where_most g _ at broken (fine (expr.Procedure f) (le_trans _ 1 n (le_of _ 1 (expr_procedure f)) p))
-
-  value_in_most : (n : ℕ) (broken : Rule) (types : Types) (t : TypeNo) (at : Pos) (x : Option Side) (c : Class) → size_side x ≤ n → Expr_ n (value_in g broken types t at x c)
-  value_in_most n broken types t at x (class.Scalar s) p = scalar_suited_most n broken t s at x p
-  value_in_most n broken types t at x class.Set p = set_suited_most n broken at x p
-  value_in_most n broken types t at x class.Procedure p = procedure_suited_most n broken types t at x p
-  value_in_most n broken types t at x class.Whole p = reported_most g at broken
-
-  pub suited_most : (n : ℕ) (broken : Rule) (types : Types) (t : TypeNo) (at : Pos) (x : Computed) → size_value x ≤ n → Expr_ n (value_suited g broken types t at x)
-  suited_most n broken types t at x p = value_in_most n broken types t at (side_of x) (class_at types t) (le_trans _ _ n (side_most x) p)
-
-  -- ---- components
-
-  abbrev Designated_ : ℕ → Result Designated g.Reported → Type 0
-  Designated_ n r = AtMost size_designated n r
-
-  one_component : (a d c n : ℕ) → a ≡ d + c → c ≡ 1 → 1 + d ≤ n → 1 + a ≤ 1 + n
-  one_component a d c n e f l = omega (arith, e, f, l)
-
-  pub field_most : (n : ℕ) (types : Types) (at : Pos) (name : Ident) (d : Designated) → size_designated d ≤ n → Designated_ (1 + n) (field g types at name d)
-  field_most n types at name (designated.Variable t d) p =
-      then_most (any_most (record_field g at name (fields_at types t)))
-      (λ f h. fine (designated.Variable f.1 (behind d (part.Field t f.0))) (one_component _ _ _ n (behind_size d (part.Field t f.0)) (component_field t f.0) p))
-  field_most n types at name (designated.Value x) p = reported_most g at rule.WrongType
-  field_most n types at name (designated.Open t slot) p = reported_most g at rule.WrongType
-  field_most n types at name (designated.Type t) p = reported_most g at rule.WrongType
-  field_most n types at name (designated.Procedure f) p = reported_most g at rule.WrongType
-  field_most n types at name (designated.Nested f) p = reported_most g at rule.WrongType
-  field_most n types at name (designated.Standard f) p = reported_most g at rule.WrongType
-  field_most n types at name (designated.Module k) p = reported_most g at rule.WrongType
-
-  abbrev size_subscripted : Subscripted → ℕ
-  size_subscripted (indexes.Array t i e d) = 1 + size_place d
-  size_subscripted (indexes.Open t slot) = 2
-
-  array_most : (n : ℕ) (at : Pos) (t : TypeNo) (d : Place) (o : Option (TypeNo × TypeNo)) → 1 + size_place d ≤ n → AtMost size_subscripted n (array_indexed g at t d o)
-  array_most n at t d None p = reported_most g at rule.WrongType
-  array_most n at t d (Some a) p = fine (indexes.Array t a.0 a.1 d) p
-
-  indices_most : (n : ℕ) (types : Types) (at : Pos) (d : Designated) → size_designated d ≤ n → AtMost size_subscripted n (indices g types at d)
-  indices_most n types at (designated.Variable t d) p = array_most n at t d (array_at types t) p
-  indices_most n types at (designated.Open t slot) p = fine (indexes.Open t slot) p
-  indices_most n types at (designated.Value x) p = reported_most g at rule.WrongType
-  indices_most n types at (designated.Type t) p = reported_most g at rule.WrongType
-  indices_most n types at (designated.Procedure f) p = reported_most g at rule.WrongType
-  indices_most n types at (designated.Nested f) p = reported_most g at rule.WrongType
-  indices_most n types at (designated.Standard f) p = reported_most g at rule.WrongType
-  indices_most n types at (designated.Module k) p = reported_most g at rule.WrongType
-
-  element_sum : (a d c x s n k : ℕ) → a ≡ d + c → c ≡ 1 + x → 1 + d ≡ s → s + k ≤ n → x ≤ k → 1 + a ≤ 1 + n
-  element_sum a d c x s n k e f q l h = omega (arith, e, f, q, l, h)
-
-  open_sum : (a d c x n k : ℕ) → a ≡ d + c → c ≡ 1 + x → d ≡ 1 → 2 + k ≤ n → x ≤ k → 1 + a ≤ 1 + n
-  open_sum a d c x n k e f q l h = omega (arith, e, f, q, l, h)
-
-  picked_most : (n k : ℕ) (x : TypedExpr) (a : Subscripted) → size_typed x ≤ k → size_subscripted a + k ≤ n → size_designated (element_of_array x a) ≤ 1 + n
-  picked_most n k x (indexes.Array t i e d) p q = element_sum _ _ _ _ _ n k (behind_size d (part.Element t x)) (component_element t x) refl q p
-  picked_most n k x (indexes.Open t slot) p q =
-      open_sum _ _ _ _ n k (behind_size (root_place (root.Open slot)) (part.OpenElement slot t x)) (component_openelement slot t x) (rooted_size (root.Open slot)) q p
-
-  pub indexed_most : (n k : ℕ) (types : Types) (at : Pos) {d : Result Designated g.Reported} (at' : Pos) {x : Result Computed g.Reported} → Designated_ n d → Value_ k x
-      → Designated_ (1 + (n + k)) (element_at_index g types (d ▷ indices g types at) at' x)
-  indexed_most n k types at at' p q =
-      then_most (both_most g (then_most p (λ d h. indices_most n types at d h)) q)
-      (λ v h. then_most (suited_most (size_value v.1) rule.NotAssignable types (index_type v.0) at' v.1 (omega arith)) (λ e l. fine (element_of_array e v.0) (picked_most (n + k) (size_value v.1) e v.0 l h)))
+use Rattle.law_encoding.specs.Counted.{AtMost, fine}
+use Rattle.law_encoding.proofs.Sums.{le_trans, le_of}
+use Rattle.law_encoding.proofs.Ways.{Way, ◌⊕⟨◌⟩◌, node, up, operand, all_of, weight_root, weight_typed, weight_place, weight_component, weight_link, weight_value, weight_meant}
+use Rattle.law_encoding.proofs.WaySums.{none_of, one_alone, all_pushed, more, one_at_least, one_link, longer, behind_step, rooted_step, one_component, element_sum, open_sum, operand_less, join, pair, operands_less, first_less, second_less, known_less, both_most}
+use Rattle.law_encoding.proofs.Weighed.{chain_weight, component_field, component_element, component_openelement, place_sum, link_arithmetic, link_and, link_or, link_combine, expr_constant, expr_procedure, expr_plus, expr_negate, expr_chain, expr_compare, expr_not, expr_include, expr_in}
+use Rattle.law_encoding.proofs.Results.{then_most, at_mapped, reported_most, where_most, any_most}
+
+module _ (w : Way) where
+  infixl 65 ◌⊕◌
+  abbrev ◌⊕◌ : ℕ → ℕ → ℕ
+  m ⊕ n = m ⊕⟨ w ⟩ n
+
+  -- ---- chains and components
+
+  -- a chain by its parts
+  chain_of_one : (e : TypedExpr) (l : Link) → weight_typed w (expr.Chain e (l ∷ [])) ≤ node w ⊕ weight_typed w e ⊕ weight_link w l
+  chain_of_one e l = one_link w _ _ _ _ (expr_chain w e (l ∷ [])) (one_alone w (weight_link w) l)
+
+  linked_by : (x : TypedExpr-F Argument Call Component Link TypedExpr Place) (e : TypedExpr) (l : Link) → out-TypedExpr e ≡ x → weight_typed w (linked_to x e l) ≤ node w ⊕ weight_typed w e ⊕ weight_link w l
+  linked_by (layer.Chain a links) e l h =
+      longer w _ _ (weight_typed w a) _ (weight_link w l) (all_of w (weight_link w) links) (expr_chain w a (links ++ l ∷ [])) (all_pushed w (weight_link w) links l) (chain_weight w e a links h)
+  linked_by (layer.Constant t n) e l h = chain_of_one e l
+  linked_by (layer.Load t d) e l h = chain_of_one e l
+  linked_by (layer.Procedure f) e l h = chain_of_one e l
+  linked_by (layer.Plus t x) e l h = chain_of_one e l
+  linked_by (layer.Negate x) e l h = chain_of_one e l
+  linked_by (layer.Compare o a b) e l h = chain_of_one e l
+  linked_by (layer.Not x) e l h = chain_of_one e l
+  linked_by (layer.Include o a b) e l h = chain_of_one e l
+  linked_by (layer.In a b) e l h = chain_of_one e l
+  linked_by (layer.Abs t x) e l h = chain_of_one e l
+  linked_by (layer.Cap x) e l h = chain_of_one e l
+  linked_by (layer.Chr x) e l h = chain_of_one e l
+  linked_by (layer.Odd x) e l h = chain_of_one e l
+  linked_by (layer.Ord x) e l h = chain_of_one e l
+  linked_by (layer.Val t x) e l h = chain_of_one e l
+  linked_by (layer.High slot) e l h = chain_of_one e l
+  linked_by (layer.Call t c) e l h = chain_of_one e l
+
+  pub linked_most : (e : TypedExpr) (l : Link) → weight_typed w (link_operand e l) ≤ node w ⊕ weight_typed w e ⊕ weight_link w l
+  linked_most e l = linked_by (out-TypedExpr e) e l refl
+
+  pub behind_weight : (d : Place) (c : Component) → weight_place w (behind d c) ≡ weight_place w d ⊕ weight_component w c
+  behind_weight d c = behind_step w (weight_root w d.root) _ _ _ _ (all_of w (weight_component w) d.components) (place_sum w (behind d c)) (all_pushed w (weight_component w) d.components c) (place_sum w d)
+
+  pub rooted_weight : (r : Root) → weight_place w (root_place r) ≡ node w ⊕ weight_root w r
+  rooted_weight r = rooted_step w _ (weight_root w r) _ (place_sum w (root_place r)) (none_of w (weight_component w))
+
+  -- ---- sides
+
+  abbrev pub weight_amount : Amount → ℕ
+  weight_amount (Known a) = node w
+  weight_amount (Run b e) = weight_typed w e
+
+  abbrev pub weight_side : Option Side → ℕ
+  weight_side None = 0
+  weight_side (Some (side.Scalar a)) = weight_amount a
+  weight_side (Some (side.Set e)) = weight_typed w e
+  weight_side (Some (side.Routine t e)) = weight_typed w e
+  weight_side (Some (side.Procedure f)) = node w
+
+  constant_most : (o : Option Operand) → weight_side (constant_side o) ≤ node w
+  constant_most None = omega arith
+  constant_most (Some (operand.Scalar a)) = omega arith
+  constant_most (Some (operand.Set bits)) = le_of _ (node w) (expr_constant w bitset (pos bits))
+
+  pub side_most : (x : Computed) → weight_side (side_of x) ≤ weight_value w x
+  side_most (value.Constant v) = constant_most (operand_of v)
+  side_most (value.Scalar t b e) = omega arith
+  side_most (value.Set e) = omega arith
+  side_most (value.Routine t e) = omega arith
+  side_most (value.Procedure f) = omega arith
+  side_most (value.Whole t d) = omega arith
+  side_most value.Untaken = omega arith
+
+  run_most : (t : TypeNo) (a : Amount) → weight_typed w (run_of t a) ≤ weight_amount a
+  run_most t (Known a) = le_of _ (node w) (expr_constant w t a.number)
+  run_most t (Run b e) = omega arith
+
+  module _ (g : Gathers) where
+    abbrev Value_ : ℕ → Result Computed g.Reported → Type 0
+    Value_ n r = AtMost (weight_value w) n r
+
+    pub of_value_most : (n : ℕ) (r : Result Value g.Reported) → node w ≤ n → Value_ n (of_value r)
+    of_value_most n r l = then_most (any_most r) (λ x h. fine (value.Constant x) l)
+
+    -- ---- signs
+
+    signed_scalar_most : (n : ℕ) (o : Sign) (at : Pos) (b : TypeNo) (e : TypedExpr) → weight_typed w e ≤ n → Value_ (node w ⊕ n) (signed_scalar g o at b e)
+    signed_scalar_most n sign.Plus at b e p = where_most g (not (is_numeric b)) at rule.WrongType (fine (value.Scalar b b (expr.Plus b e)) (more w _ _ n (expr_plus w b e) p))
+    signed_scalar_most n sign.Minus at b e p = where_most g (not (is_integer b)) at rule.WrongType (fine (value.Scalar b b (expr.Negate e)) (more w _ _ n (expr_negate w e) p))
+
+    signed_value_most : (n : ℕ) (o : Sign) (at : Pos) (x : Computed) → weight_value w x ≤ n → Value_ (node w ⊕ n) (signed_value g o at x)
+    signed_value_most n o at (value.Constant v) p = of_value_most (node w ⊕ n) _ (one_at_least w n)
+    signed_value_most n o at (value.Scalar t b e) p = signed_scalar_most n o at b e p
+    signed_value_most n o at (value.Set e) p = reported_most g at rule.WrongType
+    signed_value_most n o at (value.Routine t e) p = reported_most g at rule.WrongType
+    signed_value_most n o at (value.Procedure f) p = reported_most g at rule.WrongType
+    signed_value_most n o at (value.Whole t d) p = reported_most g at rule.WrongType
+    signed_value_most n o at value.Untaken p = reported_most g at rule.WrongType
+
+    pub signed_most : (n : ℕ) (o : Sign) (at : Pos) {x : Result Computed g.Reported} → Value_ n x → Value_ (node w ⊕ n) (with_sign g o at x)
+    signed_most n o at h = then_most h (λ x p. signed_value_most n o at x p)
+
+    negated_value_most : (n : ℕ) (at : Pos) (x : Computed) → weight_value w x ≤ n → Value_ (node w ⊕ n) (negated_value g at x)
+    negated_value_most n at (value.Constant v) p = of_value_most (node w ⊕ n) _ (one_at_least w n)
+    negated_value_most n at (value.Scalar t b e) p = where_most g (not (are_same b boolean)) at rule.WrongType (fine (truth_of (expr.Not e)) (more w _ _ n (expr_not w e) p))
+    negated_value_most n at (value.Set e) p = reported_most g at rule.WrongType
+    negated_value_most n at (value.Routine t e) p = reported_most g at rule.WrongType
+    negated_value_most n at (value.Procedure f) p = reported_most g at rule.WrongType
+    negated_value_most n at (value.Whole t d) p = reported_most g at rule.WrongType
+    negated_value_most n at value.Untaken p = reported_most g at rule.WrongType
+
+    pub negated_most : (n : ℕ) (at : Pos) {x : Result Computed g.Reported} → Value_ n x → Value_ (node w ⊕ n) (negation g at x)
+    negated_most n at h = then_most h (λ x p. negated_value_most n at x p)
+
+    -- ---- operators
+
+    built_most : (n : ℕ) (t : TypeNo) (x y : TypedExpr) (o : Step) → weight_typed w x ⊕ operand w (weight_typed w y) ≤ n → weight_value w (step_result t x y o) ≤ node w ⊕ n
+    built_most n t x y (step.Arithmetic o) p = join w _ _ _ _ n (linked_most x (link.Arithmetic o t y)) (link_arithmetic w o t y) p
+    built_most n t x y step.And p = join w _ _ _ _ n (linked_most x (link.And y)) (link_and w y) p
+    built_most n t x y step.Or p = join w _ _ _ _ n (linked_most x (link.Or y)) (link_or w y) p
+    built_most n t x y (step.Compare c) p = pair w _ _ _ n (expr_compare w c x y) p
+
+    stepped_most : (n : ℕ) (at : Pos) (sort : Option TypeNo) (a b : Amount) (o : Option Step) → weight_amount a ⊕ operand w (weight_amount b) ≤ n → Value_ (node w ⊕ n) (step_or_refusal g at sort a b o)
+    stepped_most n at sort a b None p = reported_most g at rule.WrongType
+    stepped_most n at sort a b (Some o) p =
+        fine (step_result (or_cardinal sort) (run_of (or_cardinal sort) a) (run_of (or_cardinal sort) b) o)
+        (built_most n (or_cardinal sort) (run_of (or_cardinal sort) a) (run_of (or_cardinal sort) b) o (operands_less w _ _ _ _ n (run_most (or_cardinal sort) a) (run_most (or_cardinal sort) b) p))
+
+    amounts_most : (n : ℕ) (op : BinaryOp) (spot at : Pos) (a : Amount) (at' : Pos) (b : Amount) (o : Option (Option TypeNo)) → weight_amount a ⊕ operand w (weight_amount b) ≤ n → Value_ (node w ⊕ n) (on_amounts g op spot at a at' b o)
+    amounts_most n op spot at a at' b None p = reported_most g spot rule.WrongType
+    amounts_most n op spot at a at' b (Some sort) p = then_most (any_most (fitting_both g op spot sort at a at' b)) (λ f h. stepped_most n spot sort a b (step_of op) p)
+
+    member_most : (n : ℕ) (op : BinaryOp) (spot at : Pos) (a : Amount) (s : TypedExpr) → weight_amount a ⊕ operand w (weight_typed w s) ≤ n → Value_ (node w ⊕ n) (member g op spot at a s)
+    member_most n op spot at a s p =
+        where_most g (not (is_in op && is_number (sort_of a))) spot rule.WrongType (then_most (any_most (element_fits g at a))
+        (λ f h. fine (truth_of (expr.In (run_of (or_cardinal (sort_of a)) a) s))
+        (pair w _ _ _ n (expr_in w (run_of (or_cardinal (sort_of a)) a) s) (first_less w _ _ _ n (run_most (or_cardinal (sort_of a)) a) p))))
+
+    set_built_most : (n : ℕ) (x y : TypedExpr) (o : SetStep) → weight_typed w x ⊕ operand w (weight_typed w y) ≤ n → weight_value w (set_built x y o) ≤ node w ⊕ n
+    set_built_most n x y (set_step.Combine o) p = join w _ _ _ _ n (linked_most x (link.Combine o y)) (link_combine w o y) p
+    set_built_most n x y (set_step.Compare c) p = pair w _ _ _ n (expr_compare w c x y) p
+    set_built_most n x y (set_step.Include i) p = pair w _ _ _ n (expr_include w i x y) p
+
+    sets_most : (n : ℕ) (at : Pos) (x y : TypedExpr) (o : Option SetStep) → weight_typed w x ⊕ operand w (weight_typed w y) ≤ n → Value_ (node w ⊕ n) (on_sets g at x y o)
+    sets_most n at x y None p = reported_most g at rule.WrongType
+    sets_most n at x y (Some o) p = fine (set_built x y o) (set_built_most n x y o p)
+
+    scalar_most : (n : ℕ) (op : BinaryOp) (spot at : Pos) (a : Amount) (at' : Pos) (y : Option Side) → weight_amount a ⊕ operand w (weight_side y) ≤ n → Value_ (node w ⊕ n) (with_scalar g op spot at a at' y)
+    scalar_most n op spot at a at' None p = reported_most g spot rule.WrongType
+    scalar_most n op spot at a at' (Some (side.Scalar b)) p = amounts_most n op spot at a at' b (common (sort_of a) (sort_of b)) p
+    scalar_most n op spot at a at' (Some (side.Set s)) p = member_most n op spot at a s p
+    scalar_most n op spot at a at' (Some (side.Routine t e)) p = reported_most g spot rule.WrongType
+    scalar_most n op spot at a at' (Some (side.Procedure f)) p = reported_most g spot rule.WrongType
+
+    with_set_most : (n : ℕ) (op : BinaryOp) (spot : Pos) (x : TypedExpr) (y : Option Side) → weight_typed w x ⊕ operand w (weight_side y) ≤ n → Value_ (node w ⊕ n) (with_set g op spot x (set_in y))
+    with_set_most n op spot x None p = reported_most g spot rule.WrongType
+    with_set_most n op spot x (Some (side.Scalar b)) p = reported_most g spot rule.WrongType
+    with_set_most n op spot x (Some (side.Set s)) p = sets_most n spot x s (set_step_of op) p
+    with_set_most n op spot x (Some (side.Routine t e)) p = reported_most g spot rule.WrongType
+    with_set_most n op spot x (Some (side.Procedure f)) p = reported_most g spot rule.WrongType
+
+    procedures_most : (n : ℕ) (at : Pos) (fit : Bool) (x y : TypedExpr) (o : Option Comparison) → weight_typed w x ⊕ operand w (weight_typed w y) ≤ n → Value_ (node w ⊕ n) (on_procedures g at fit x y o)
+    procedures_most n at fit x y None p = reported_most g at rule.WrongType
+    procedures_most n at fit x y (Some c) p = where_most g (not fit) at rule.WrongType (fine (truth_of (expr.Compare c x y)) (pair w _ _ _ n (expr_compare w c x y) p))
+
+    abbrev weight_partner : Option (Bool × TypedExpr) → ℕ
+    weight_partner None = 0
+    weight_partner (Some p) = weight_typed w p.1
+
+    partner_most : (types : Types) (t : TypeNo) (y : Option Side) → weight_partner (partner_of types t y) ≤ weight_side y
+    partner_most types t None = omega arith
+    partner_most types t (Some (side.Scalar b)) = omega arith
+    partner_most types t (Some (side.Set s)) = omega arith
+    partner_most types t (Some (side.Routine u e)) = omega arith
+    partner_most types t (Some (side.Procedure f)) = le_of _ (node w) (expr_procedure w f)
+
+    routine_most : (types : Types) (f : Procedure) (y : Option Side) → weight_partner (routine_of types f y) ≤ weight_side y
+    routine_most types f None = omega arith
+    routine_most types f (Some (side.Scalar b)) = omega arith
+    routine_most types f (Some (side.Set s)) = omega arith
+    routine_most types f (Some (side.Routine u e)) = omega arith
+    routine_most types f (Some (side.Procedure h)) = omega arith
+
+    with_partner_most : (n : ℕ) (at : Pos) (x : TypedExpr) (c : Option Comparison) (o : Option (Bool × TypedExpr)) → weight_typed w x ⊕ operand w (weight_partner o) ≤ n → Value_ (node w ⊕ n) (with_partner g at x c o)
+    with_partner_most n at x c None p = reported_most g at rule.WrongType
+    with_partner_most n at x c (Some o) p = procedures_most n at o.0 x o.1 c p
+
+    between_most : (n : ℕ) (types : Types) (op : BinaryOp) (spot at : Pos) (x : Option Side) (at' : Pos) (y : Option Side) → weight_side x ⊕ operand w (weight_side y) ≤ n → Value_ (node w ⊕ n) (between g types op spot at x at' y)
+    between_most n types op spot at None at' y p = reported_most g spot rule.WrongType
+    between_most n types op spot at (Some (side.Scalar a)) at' y p = scalar_most n op spot at a at' y p
+    between_most n types op spot at (Some (side.Set e)) at' y p = with_set_most n op spot e y p
+    between_most n types op spot at (Some (side.Routine t e)) at' y p = with_partner_most n spot e (equality_of op) (partner_of types t y) (second_less w _ _ _ n (partner_most types t y) p)
+    between_most n types op spot at (Some (side.Procedure f)) at' y p =
+        with_partner_most n spot (expr.Procedure f) (equality_of op) (routine_of types f y) (known_less w _ _ _ n (expr_procedure w f) (routine_most types f y) p)
+
+    known_most : (n : ℕ) (types : Types) (op : BinaryOp) (spot at : Pos) (x : Computed) (at' : Pos) (y : Computed) (a b : Option Operand) → weight_value w x ⊕ operand w (weight_value w y) ≤ n → Value_ (node w ⊕ n) (by_known g types op spot at x at' y a b)
+    known_most n types op spot at x at' y None b p = between_most n types op spot at (side_of x) at' (side_of y) (operands_less w _ _ _ _ n (side_most x) (side_most y) p)
+    known_most n types op spot at x at' y (Some a) None p = between_most n types op spot at (side_of x) at' (side_of y) (operands_less w _ _ _ _ n (side_most x) (side_most y) p)
+    known_most n types op spot at x at' y (Some a) (Some b) p = of_value_most (node w ⊕ n) _ (one_at_least w n)
+
+    pub combined_most : (n k : ℕ) (types : Types) (op : BinaryOp) (spot at : Pos) {x : Result Computed g.Reported} (at' : Pos) {y : Result Computed g.Reported} → Value_ n x → Value_ k y
+        → Value_ (node w ⊕ (n ⊕ operand w k)) (operation_between g types op spot at x at' y)
+    combined_most n k types op spot at at' p q =
+        then_most (both_most g w p (at_mapped (λ x l. operand_less w (weight_value w x) k l) q))
+        (λ v h. known_most (n ⊕ operand w k) types op spot at v.0 at' v.1 (known_of v.0) (known_of v.1) h)
+
+    -- ---- what places take
+
+    abbrev Expr_ : ℕ → Result TypedExpr g.Reported → Type 0
+    Expr_ n r = AtMost (weight_typed w) n r
+
+    scalar_suited_most : (n : ℕ) (broken : Rule) (t : TypeNo) (s : Range) (at : Pos) (x : Option Side) → weight_side x ≤ n → Expr_ n (scalar_suited g broken t s at x)
+    scalar_suited_most n broken t s at None p = reported_most g at broken
+    scalar_suited_most n broken t s at (Some (side.Scalar (Known a))) p = where_most g _ at broken (where_most g _ at rule.OutOfRange (fine (expr.Constant t a.number) (le_trans _ (node w) n (le_of _ (node w) (expr_constant w t a.number)) p)))
+    scalar_suited_most n broken t s at (Some (side.Scalar (Run b e))) p = where_most g _ at broken (fine e p)
+    scalar_suited_most n broken t s at (Some (side.Set e)) p = reported_most g at broken
+    scalar_suited_most n broken t s at (Some (side.Routine u e)) p = reported_most g at broken
+    scalar_suited_most n broken t s at (Some (side.Procedure f)) p = reported_most g at broken
+
+    set_suited_most : (n : ℕ) (broken : Rule) (at : Pos) (x : Option Side) → weight_side x ≤ n → Expr_ n (set_suited g broken at x)
+    set_suited_most n broken at None p = reported_most g at broken
+    set_suited_most n broken at (Some (side.Scalar a)) p = reported_most g at broken
+    set_suited_most n broken at (Some (side.Set e)) p = fine e p
+    set_suited_most n broken at (Some (side.Routine u e)) p = reported_most g at broken
+    set_suited_most n broken at (Some (side.Procedure f)) p = reported_most g at broken
+
+    procedure_suited_most : (n : ℕ) (broken : Rule) (types : Types) (t : TypeNo) (at : Pos) (x : Option Side) → weight_side x ≤ n → Expr_ n (procedure_suited g broken types t at x)
+    procedure_suited_most n broken types t at None p = reported_most g at broken
+    procedure_suited_most n broken types t at (Some (side.Scalar a)) p = reported_most g at broken
+    procedure_suited_most n broken types t at (Some (side.Set e)) p = reported_most g at broken
+    procedure_suited_most n broken types t at (Some (side.Routine u e)) p = where_most g _ at broken (fine e p)
+    procedure_suited_most n broken types t at (Some (side.Procedure f)) p = where_most g _ at broken (fine (expr.Procedure f) (le_trans _ (node w) n (le_of _ (node w) (expr_procedure w f)) p))
+
+    value_in_most : (n : ℕ) (broken : Rule) (types : Types) (t : TypeNo) (at : Pos) (x : Option Side) (c : Class) → weight_side x ≤ n → Expr_ n (value_in g broken types t at x c)
+    value_in_most n broken types t at x (class.Scalar s) p = scalar_suited_most n broken t s at x p
+    value_in_most n broken types t at x class.Set p = set_suited_most n broken at x p
+    value_in_most n broken types t at x class.Procedure p = procedure_suited_most n broken types t at x p
+    value_in_most n broken types t at x class.Whole p = reported_most g at broken
+
+    pub suited_most : (n : ℕ) (broken : Rule) (types : Types) (t : TypeNo) (at : Pos) (x : Computed) → weight_value w x ≤ n → Expr_ n (value_suited g broken types t at x)
+    suited_most n broken types t at x p = value_in_most n broken types t at (side_of x) (class_at types t) (le_trans _ _ n (side_most x) p)
+
+    -- ---- components
+
+    abbrev Designated_ : ℕ → Result Designated g.Reported → Type 0
+    Designated_ n r = AtMost (weight_meant w) n r
+
+    pub field_most : (n : ℕ) (types : Types) (at : Pos) (name : Ident) (d : Designated) → weight_meant w d ≤ n → Designated_ (node w ⊕ n) (field g types at name d)
+    field_most n types at name (designated.Variable t d) p =
+        then_most (any_most (record_field g at name (fields_at types t)))
+        (λ f h. fine (designated.Variable f.1 (behind d (part.Field t f.0))) (one_component w _ _ _ n (behind_weight d (part.Field t f.0)) (component_field w t f.0) p))
+    field_most n types at name (designated.Value x) p = reported_most g at rule.WrongType
+    field_most n types at name (designated.Open t slot) p = reported_most g at rule.WrongType
+    field_most n types at name (designated.Type t) p = reported_most g at rule.WrongType
+    field_most n types at name (designated.Procedure f) p = reported_most g at rule.WrongType
+    field_most n types at name (designated.Nested f) p = reported_most g at rule.WrongType
+    field_most n types at name (designated.Standard f) p = reported_most g at rule.WrongType
+    field_most n types at name (designated.Module k) p = reported_most g at rule.WrongType
+
+    abbrev weight_subscripted : Subscripted → ℕ
+    weight_subscripted (indexes.Array t i e d) = node w ⊕ weight_place w d
+    weight_subscripted (indexes.Open t slot) = node w ⊕ (node w ⊕ up w slot.up)
+
+    array_most : (n : ℕ) (at : Pos) (t : TypeNo) (d : Place) (o : Option (TypeNo × TypeNo)) → node w ⊕ weight_place w d ≤ n → AtMost weight_subscripted n (array_indexed g at t d o)
+    array_most n at t d None p = reported_most g at rule.WrongType
+    array_most n at t d (Some a) p = fine (indexes.Array t a.0 a.1 d) p
+
+    indices_most : (n : ℕ) (types : Types) (at : Pos) (d : Designated) → weight_meant w d ≤ n → AtMost weight_subscripted n (indices g types at d)
+    indices_most n types at (designated.Variable t d) p = array_most n at t d (array_at types t) p
+    indices_most n types at (designated.Open t slot) p = fine (indexes.Open t slot) p
+    indices_most n types at (designated.Value x) p = reported_most g at rule.WrongType
+    indices_most n types at (designated.Type t) p = reported_most g at rule.WrongType
+    indices_most n types at (designated.Procedure f) p = reported_most g at rule.WrongType
+    indices_most n types at (designated.Nested f) p = reported_most g at rule.WrongType
+    indices_most n types at (designated.Standard f) p = reported_most g at rule.WrongType
+    indices_most n types at (designated.Module k) p = reported_most g at rule.WrongType
+
+    picked_most : (n k : ℕ) (x : TypedExpr) (a : Subscripted) → weight_typed w x ≤ k → weight_subscripted a ⊕ k ≤ n → weight_meant w (element_of_array x a) ≤ node w ⊕ n
+    picked_most n k x (indexes.Array t i e d) p q = element_sum w _ _ _ _ _ n k (behind_weight d (part.Element t x)) (component_element w t x) refl q p
+    picked_most n k x (indexes.Open t slot) p q =
+        open_sum w slot.up _ _ _ _ n k (behind_weight (root_place (root.Open slot)) (part.OpenElement slot t x)) (component_openelement w slot t x) (rooted_weight (root.Open slot)) q p
+
+    pub indexed_most : (n k : ℕ) (types : Types) (at : Pos) {d : Result Designated g.Reported} (at' : Pos) {x : Result Computed g.Reported} → Designated_ n d → Value_ k x
+        → Designated_ (node w ⊕ (n ⊕ k)) (element_at_index g types (d ▷ indices g types at) at' x)
+    indexed_most n k types at at' p q =
+        then_most (both_most g w (then_most p (λ d h. indices_most n types at d h)) q)
+        (λ v h. then_most (suited_most (weight_value w v.1) rule.NotAssignable types (index_type v.0) at' v.1 (omega arith)) (λ e l. fine (element_of_array e v.0) (picked_most (n ⊕ k) (weight_value w v.1) e v.0 l h)))

@@ -55,10 +55,11 @@ use Rattle.law_encoding.specs.ProcedureNesting.{procedures_decl, procedures_bloc
 use Rattle.law_encoding.specs.ProcedureLevels.{level_of, greatest_level}
 use Rattle.law_encoding.proofs.Deepest.{deepest_append, deepest_map, deepest_set}
 use Rattle.law_encoding.proofs.Results.{then_most, any_most}
-use Rattle.law_encoding.proofs.DeepResults.{both_most}
+use Rattle.law_encoding.proofs.Ways.{by_depth}
+use Rattle.law_encoding.proofs.WaySums.{both_most}
 use Rattle.law_encoding.proofs.KeptImports.{imports_keep}
 use Rattle.law_encoding.proofs.NestedProcedures.{all_decl, all_block, at_decl, at_block}
-use Rattle.law_encoding.proofs.OutwardBlocks.{statements_near, walked_near}
+use Rattle.law_encoding.proofs.Bounds.{body_near, walked_near}
 
 module _ (most : ℕ) where
   -- ---- the bodies so far
@@ -301,7 +302,7 @@ module _ (most : ℕ) where
         → AtMost greatest_level most (of_walk g elaborates modules s own m b)
     levels_walk modules s own m b o l one few =
         let c = walk_body g elaborates modules (procedure_ends (out-Block b).decls) s m b in
-        then_most (both_most g (any_most c.0.so_far) (any_most c.1)) (λ p q. fine (typed_module c.0.scope modules own m c.0.bodies p.1) (walks_low modules s m b o l one few).0)
+        then_most (both_most g by_depth (any_most c.0.so_far) (any_most c.1)) (λ p q. fine (typed_module c.0.scope modules own m c.0.bodies p.1) (walks_low modules s m b o l one few).0)
 
     levels_implementation : (m : Module) (o : Option Table) (tables : List Table) (b : Block) → 1 ≤ most → procedures_block b ≤ most → AtMost greatest_level most (of_implementation g elaborates m o tables b)
     levels_implementation m None tables b one few = broken _
@@ -352,7 +353,7 @@ module _ (most : ℕ) where
           let beyond = walked_near g elaborates near ends modules s m (out-Block b).decls in
           let firsts = routines_near c.0.bodies.procedures (first_of _ _ 0 beyond) (first_of _ _ most low.0) in
           let seconds = routines_near c.0.bodies.locals (second_of _ _ 0 beyond) (second_of _ _ most low.0) in
-          then_most (both_most g (any_most c.0.so_far) (statements_near g elaborates near c.0.scope None (out-Block b).body))
+          then_most (both_most g by_depth (any_most c.0.so_far) (body_near g elaborates near c.0.scope None (out-Block b).body))
           (λ p q. fine (typed_module c.0.scope modules own m c.0.bodies p.1) (all_near _ _ _ firsts seconds (body_none (outward_body p.1) c.0.scope.level q low.1)))
 
       near_implementation : (m : Module) (o : Option Table) (tables : List Table) (b : Block) → 1 ≤ most → procedures_block b ≤ most → AtMost outward_bodies most (of_implementation g elaborates m o tables b)

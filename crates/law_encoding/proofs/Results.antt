@@ -1,14 +1,14 @@
 -- Results that count at most so many.
-use Rattle.std.proofs.Common.{ℕ, ◌+◌, ◌≤◌, Bool, true, false, Result, Ok, Err, arith}
+use Rattle.std.proofs.Common.{ℕ, ◌≤◌, Bool, true, false, Result, Ok, Err, arith}
 use Rattle.m2_rule.specs.RuleNumber.{number_of}
 use Rattle.m2_rule.specs.declared.rule.Rule.{Rule}
 use Rattle.m2_rule.specs.declared.rule.Rule.TheVariants as rule
 use Rattle.m2_tree.specs.declared.pos.Pos.{Pos}
-use Rattle.check_scope.specs.Elaborated.{Gathers, report, reported_where, ◌▷◌, both, refusal_beside, reported_beside, ahead, of_sort, of_heading, of_value, of_sort_of_value, plain}
+use Rattle.check_scope.specs.Elaborated.{Gathers, report, reported_where, ◌▷◌, refusal_beside, reported_beside, ahead, of_sort, of_heading, of_value, of_sort_of_value, plain}
 use Rattle.check_scope.specs.declared.meaningless.Meaningless.{Meaningless}
 use Rattle.check_scope.specs.declared.meaningless.Meaningless.TheVariants.{Broken, Headless}
 use Rattle.law_encoding.specs.Counted.{AtMost, fine, broken}
-use Rattle.law_encoding.proofs.Sums.{le_sum, le_trans}
+use Rattle.law_encoding.proofs.Sums.{le_trans}
 
 module _ {A B T : Type 0} where
   pub then_most : {f : A → ℕ} {n : ℕ} {h : B → ℕ} {k : ℕ} {r : Result A T} {q : A → Result B T} → AtMost f n r → ((x : A) → f x ≤ n → AtMost h k (q x)) → AtMost h k (r ▷ q)
@@ -31,13 +31,6 @@ module _ (g : Gathers) where
   pub where_most : {A : Type 0} {f : A → ℕ} {n : ℕ} (q : Bool) (at : Pos) (k : Rule) {r : Result A g.Reported} → AtMost f n r → AtMost f n (reported_where g q at k r)
   where_most true at k h = broken _
   where_most false at k h = h
-
-  pub both_most : {A B : Type 0} {f : A → ℕ} {h : B → ℕ} {n k : ℕ} {a : Result A g.Reported} {b : Result B g.Reported} → AtMost f n a → AtMost h k b
-      → AtMost (λ (x : A × B). f x.0 + h x.1) (n + k) (both g a b)
-  both_most {f = f} {h = h} {n = n} {k = k} (fine x p) (fine y q) = fine (x, y) (le_sum (f x) n (h y) k p q)
-  both_most (fine x p) (broken e) = broken e
-  both_most (broken e) (fine y q) = broken e
-  both_most (broken e) (broken f) = broken (g.join e f)
 
   pub refused_most : {A : Type 0} {f : A → ℕ} {n : ℕ} (e : g.Reported) (rest : Result (Unit {0}) g.Reported) → AtMost f n (refusal_beside g {A = A} e rest)
   refused_most e (Ok x) = broken e

@@ -4,7 +4,6 @@ pub mod Small
 pub mod Counted
 pub mod Nesting
 pub mod TypedNesting
-pub mod Depths
 pub mod CodeNesting
 pub mod Nested
 pub mod CodeBytes

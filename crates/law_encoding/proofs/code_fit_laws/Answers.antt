@@ -2,9 +2,7 @@ use Rattle.law_encoding.proofs.CodeFits.{code_fits}
 use Rattle.law_encoding.proofs.EncodedBytes.{code_short}
 use Rattle.law_encoding.proofs.FunctionsFit.{bodies_fit, module_has_room}
 use Rattle.check_scope.specs.Elaborated.{least, every}
-use Rattle.check_body.specs.Checks.{elaborate_body}
-use Rattle.law_encoding.proofs.Statements.{statements_most}
-use Rattle.law_encoding.proofs.Blocks.{module_most}
+use Rattle.law_encoding.proofs.Bounds.{modules_small}
 use Rattle.law_encoding.proofs.Bounded.{bounded}
 use Rattle.law_encoding.proofs.BodyModules.{body_has_room}
 use Rattle.law_encoding.proofs.FewLocals.{functions_few, accepted_few}
@@ -26,10 +24,10 @@ pub returns-clause-locals : goal.returns-clause-locals
 returns-clause-locals c = λ m. functions_few m
 
 pub returns-clause-least_locals : goal.returns-clause-least_locals
-returns-clause-least_locals c = λ text ts m l h d number own tables. accepted_few (bounded least text ts m l h d (module_most least (elaborate_body least) (λ s r xs. statements_most least s _ xs) number m own tables))
+returns-clause-least_locals c = λ text ts m l h d number own tables. accepted_few (bounded least text ts m l h d (modules_small least number m own tables))
 
 pub returns-clause-every_locals : goal.returns-clause-every_locals
-returns-clause-every_locals c = λ text ts m l h d number own tables. accepted_few (bounded every text ts m l h d (module_most every (elaborate_body every) (λ s r xs. statements_most every s _ xs) number m own tables))
+returns-clause-every_locals c = λ text ts m l h d number own tables. accepted_few (bounded every text ts m l h d (modules_small every number m own tables))
 
 pub returns-clause-body_modules : goal.returns-clause-body_modules
 returns-clause-body_modules c = λ m h. body_has_room m h

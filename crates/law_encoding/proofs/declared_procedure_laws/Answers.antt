@@ -1,7 +1,7 @@
 use Rattle.check_scope.specs.Elaborated.{least, every}
 use Rattle.check_body.specs.Checks.{elaborate_body}
 use Rattle.law_well_formed.proofs.Induction.{elaborated_formed}
-use Rattle.law_encoding.proofs.Statements.{statements_most}
+use Rattle.law_encoding.proofs.Bounds.{statements_small}
 use Rattle.law_encoding.proofs.DeclaredProcedures.{procedures_declared}
 use Rattle.law_encoding.proofs.DistinctExports.{tables_once}
 use Rattle.law_encoding.proofs.ModuleCounts.{module_few}
@@ -20,7 +20,7 @@ pub returns-clause-every_tables : goal.returns-clause-every_tables
 returns-clause-every_tables c = λ number m tables. tables_once every number m tables
 
 pub returns-clause-least_counts : goal.returns-clause-least_counts
-returns-clause-least_counts c = λ number m own tables once. module_few least (elaborate_body least) (elaborated_formed least) (λ s r xs. statements_most least s _ xs) number m own tables once
+returns-clause-least_counts c = λ number m own tables once. module_few least (elaborate_body least) (elaborated_formed least) (λ s r xs. statements_small least s _ xs) number m own tables once
 
 pub returns-clause-every_counts : goal.returns-clause-every_counts
-returns-clause-every_counts c = λ number m own tables once. module_few every (elaborate_body every) (elaborated_formed every) (λ s r xs. statements_most every s _ xs) number m own tables once
+returns-clause-every_counts c = λ number m own tables once. module_few every (elaborate_body every) (elaborated_formed every) (λ s r xs. statements_small every s _ xs) number m own tables once
