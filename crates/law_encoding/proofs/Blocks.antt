@@ -41,12 +41,12 @@ use Rattle.law_encoding.specs.TypedNesting.{depth_body, depth_bodies}
 use Rattle.law_encoding.specs.Outward.{outward_body}
 use Rattle.law_encoding.specs.Short.{beyond_routines}
 use Rattle.law_encoding.specs.Counted.{AtMost, fine, broken}
-use Rattle.law_encoding.proofs.Sums.{le_of, le_trans, total_map}
-use Rattle.law_encoding.proofs.Deepest.{deepest_map, deepest_set}
+use Rattle.law_encoding.proofs.Sums.{le_of, le_trans}
+use Rattle.law_encoding.proofs.Deepest.{deepest_set}
 use Rattle.law_encoding.proofs.Variants as sized
 use Rattle.law_encoding.proofs.DeepTrees as deep
 use Rattle.law_encoding.proofs.Ways.{Way, by_size, by_depth, by_distance, ◌⊕⟨◌⟩◌, all_of, total_of}
-use Rattle.law_encoding.proofs.WaySums.{none_of, all_pushed, no_more, sum_again, none_left, all_again, both_most}
+use Rattle.law_encoding.proofs.WaySums.{none_of, all_pushed, no_more, sum_again, none_left, all_again, total_all, both_most}
 use Rattle.law_encoding.proofs.Results.{then_most, at_more, any_most}
 
 -- ---- what blocks weigh
@@ -148,11 +148,6 @@ module_sum : (w : Way) (t : TypedModule) (level n : ℕ) → all_of w (weight_ro
 module_sum by_size t level n h = omega (arith, h)
 module_sum by_depth t level n h = omega (arith, h)
 module_sum (by_distance far) t level n h = omega (arith, h)
-
-total_all : {A : Type 0} (w : Way) (f : A → ℕ) (xs : List A) → total_of w (map f xs) ≡ all_of w f xs
-total_all by_size f xs = total_map f xs
-total_all by_depth f xs = deepest_map f xs
-total_all (by_distance far) f xs = deepest_map f xs
 
 -- ---- the bodies so far
 

@@ -24,7 +24,8 @@ use Rattle.def_scheme.specs.Exprs.{Part, Linked, Numbered, complement, empty_cod
 use Rattle.law_encoding.specs.Sizes.{total}
 use Rattle.law_encoding.specs.TypedSizes.{size_typed, size_place, size_component, size_link, size_call, size_passed}
 use Rattle.law_encoding.specs.TypedSizes as sizes
-use Rattle.law_encoding.proofs.Typed as typed
+use Rattle.law_encoding.proofs.Ways.{by_size}
+use Rattle.law_encoding.proofs.Weighed as typed
 
 -- at most so many locals of each sort
 pub record Grows (n : ℕ) (x : Coded) : Type 0 where
@@ -274,7 +275,7 @@ module _ (numbered : Numbered) where
   two : (n : ℕ) → 1 ≤ 2 + n
   two n = omega arith
 
-  argument_grows : (y : Argument-F SA SC SK SL SE SP) → Grows (sizes.argument_layer (typed.sizes_argument (bare_argument y))) (argument_layer (opened_argument (bare_argument y)))
+  argument_grows : (y : Argument-F SA SC SK SL SE SP) → Grows (sizes.argument_layer (typed.weights_argument by_size (bare_argument y))) (argument_layer (opened_argument (bare_argument y)))
   argument_grows (layer.Value t e) = grows_more (size_typed e.0) _ (one_more _) (then_setting (size_typed e.0) _ e.1)
   argument_grows (layer.Place d) = grows_more (size_place d.0) _ (one_more _) (then_plain (size_place d.0) _ d.1)
   argument_grows (layer.Array t d) = grows_more (size_place d.0) _ (one_more _) (then_setting (size_place d.0) _ d.1)
@@ -287,7 +288,7 @@ module _ (numbered : Numbered) where
   abbrev top : Setting → List Instr
   top s = LocalGet (top_local s) ∷ []
 
-  call_grows : (y : Call-F SA SC SK SL SE SP) → Grows (sizes.call_layer (typed.sizes_call (bare_call y))) (call_layer numbered (opened_call (bare_call y)))
+  call_grows : (y : Call-F SA SC SK SL SE SP) → Grows (sizes.call_layer (typed.weights_call by_size (bare_call y))) (call_layer numbered (opened_call (bare_call y)))
   call_grows (layer.Module f args) = grows_more _ _ (one_more _) (setting_then _ top (then_setting _ (λ s. module_call numbered s.home f) (args_grow args)))
   call_grows (layer.Nested f args) = grows_more _ _ (one_more _) (setting_then _ top (plain_then _ (link_code numbered f.up) (then_setting _ (λ s. nested_call numbered s.home f) (args_grow args))))
   call_grows (layer.Variable t d args) =
@@ -297,12 +298,12 @@ module _ (numbered : Numbered) where
       (number_grows (total (map size_passed (map (λ (e : SA). e.0) args)))
       (λ n. plain_then _ (LocalSet n ∷ []) (setting_then _ top (then_setting _ (λ s. LocalGet n ∷ wrap_word ∷ indirect numbered s.home.types t ∷ []) (args_grow args)))))))
 
-  component_grows : (y : Component-F SA SC SK SL SE SP) → Grows (sizes.component_layer (typed.sizes_component (bare_component y))) (component_layer (opened_component (bare_component y)))
+  component_grows : (y : Component-F SA SC SK SL SE SP) → Grows (sizes.component_layer (typed.weights_component by_size (bare_component y))) (component_layer (opened_component (bare_component y)))
   component_grows (layer.Field t k) = setting_grows 1 (λ s. plain_grows 1 _)
   component_grows (layer.Element t i) = grows_more (size_typed i.0) _ (one_more _) (then_setting (size_typed i.0) _ i.1)
   component_grows (layer.OpenElement slot t i) = grows_more (size_typed i.0) _ (one_more _) (then_setting (size_typed i.0) _ i.1)
 
-  link_grows : (y : Link-F SA SC SK SL SE SP) → Grows (sizes.link_layer (typed.sizes_link (bare_link y))) (link_layer (opened_link (bare_link y))).code
+  link_grows : (y : Link-F SA SC SK SL SE SP) → Grows (sizes.link_layer (typed.weights_link by_size (bare_link y))) (link_layer (opened_link (bare_link y))).code
   link_grows (layer.Arithmetic o t b) = grows_more (size_typed b.0) _ (one_more _) (then_setting (size_typed b.0) _ b.1)
   link_grows (layer.And b) =
       grows_more (size_typed b.0) _ (one_more _) (plain_then (size_typed b.0) (wrap_word ∷ []) (within_grows (size_typed b.0) 1 (λ code. chosen_number code (I64Const 0 ∷ []) ∷ []) b.1))
@@ -313,7 +314,7 @@ module _ (numbered : Numbered) where
   pair_sum : (n k : ℕ) → n + k ≤ 1 + n + k
   pair_sum n k = omega arith
 
-  expr_grows : (y : TypedExpr-F SA SC SK SL SE SP) → Grows (sizes.expr_layer (typed.sizes_expr (bare_expr y))) (expr_layer (opened_expr (bare_expr y))).code
+  expr_grows : (y : TypedExpr-F SA SC SK SL SE SP) → Grows (sizes.expr_layer (typed.weights_expr by_size (bare_expr y))) (expr_layer (opened_expr (bare_expr y))).code
   expr_grows (layer.Constant t n) = plain_grows 1 _
   expr_grows (layer.Load t d) = grows_more (size_place d.0) _ (one_more _) (then_setting (size_place d.0) _ d.1)
   expr_grows (layer.Procedure f) = setting_grows 1 (λ s. plain_grows 1 _)
@@ -336,44 +337,44 @@ module _ (numbered : Numbered) where
   root_sum : (n : ℕ) → 0 + n ≤ 1 + n
   root_sum n = omega arith
 
-  place_grows : (y : Place-F SA SC SK SL SE SP) → Grows (sizes.place_layer (typed.sizes_place (bare_place y))) (place_layer (opened_place (bare_place y)))
+  place_grows : (y : Place-F SA SC SK SL SE SP) → Grows (sizes.place_layer (typed.weights_place by_size (bare_place y))) (place_layer (opened_place (bare_place y)))
   place_grows y = grows_more _ _ (root_sum _) (both_grow 0 _ (root_grows 0 y.root) (all_grow _ _ (all_components y.components)))
 
   step_argument : (x : Argument-F Argument Call Component Link TypedExpr Place) (y : Argument-F SA SC SK SL SE SP) → bare_argument y ≡ x → PA (roll-Argument x)
   step_argument x y q =
       let e = out-roll-Argument x ∙ sym q in
-      subst (λ (n : ℕ). Grows n (of_argument (roll-Argument x))) (sym (typed.at_argument (roll-Argument x) (bare_argument y) e))
-      (subst (Grows (sizes.argument_layer (typed.sizes_argument (bare_argument y)))) (sym (at_argument (roll-Argument x) (bare_argument y) e)) (argument_grows y))
+      subst (λ (n : ℕ). Grows n (of_argument (roll-Argument x))) (sym (typed.at_argument by_size (roll-Argument x) (bare_argument y) e))
+      (subst (Grows (sizes.argument_layer (typed.weights_argument by_size (bare_argument y)))) (sym (at_argument (roll-Argument x) (bare_argument y) e)) (argument_grows y))
 
   step_call : (x : Call-F Argument Call Component Link TypedExpr Place) (y : Call-F SA SC SK SL SE SP) → bare_call y ≡ x → PC (roll-Call x)
   step_call x y q =
       let e = out-roll-Call x ∙ sym q in
-      subst (λ (n : ℕ). Grows n (call_code numbered (roll-Call x))) (sym (typed.at_call (roll-Call x) (bare_call y) e))
-      (subst (Grows (sizes.call_layer (typed.sizes_call (bare_call y)))) (sym (at_call (roll-Call x) (bare_call y) e)) (call_grows y))
+      subst (λ (n : ℕ). Grows n (call_code numbered (roll-Call x))) (sym (typed.at_call by_size (roll-Call x) (bare_call y) e))
+      (subst (Grows (sizes.call_layer (typed.weights_call by_size (bare_call y)))) (sym (at_call (roll-Call x) (bare_call y) e)) (call_grows y))
 
   step_component : (x : Component-F Argument Call Component Link TypedExpr Place) (y : Component-F SA SC SK SL SE SP) → bare_component y ≡ x → PK (roll-Component x)
   step_component x y q =
       let e = out-roll-Component x ∙ sym q in
-      subst (λ (n : ℕ). Grows n (of_component (roll-Component x))) (sym (typed.at_component (roll-Component x) (bare_component y) e))
-      (subst (Grows (sizes.component_layer (typed.sizes_component (bare_component y)))) (sym (at_component (roll-Component x) (bare_component y) e)) (component_grows y))
+      subst (λ (n : ℕ). Grows n (of_component (roll-Component x))) (sym (typed.at_component by_size (roll-Component x) (bare_component y) e))
+      (subst (Grows (sizes.component_layer (typed.weights_component by_size (bare_component y)))) (sym (at_component (roll-Component x) (bare_component y) e)) (component_grows y))
 
   step_link : (x : Link-F Argument Call Component Link TypedExpr Place) (y : Link-F SA SC SK SL SE SP) → bare_link y ≡ x → PL (roll-Link x)
   step_link x y q =
       let e = out-roll-Link x ∙ sym q in
-      subst (λ (n : ℕ). Grows n (of_link (roll-Link x)).code) (sym (typed.at_link (roll-Link x) (bare_link y) e))
-      (subst (λ (z : Linked). Grows (sizes.link_layer (typed.sizes_link (bare_link y))) z.code) (sym (at_link (roll-Link x) (bare_link y) e)) (link_grows y))
+      subst (λ (n : ℕ). Grows n (of_link (roll-Link x)).code) (sym (typed.at_link by_size (roll-Link x) (bare_link y) e))
+      (subst (λ (z : Linked). Grows (sizes.link_layer (typed.weights_link by_size (bare_link y))) z.code) (sym (at_link (roll-Link x) (bare_link y) e)) (link_grows y))
 
   step_expr : (x : TypedExpr-F Argument Call Component Link TypedExpr Place) (y : TypedExpr-F SA SC SK SL SE SP) → bare_expr y ≡ x → PE (roll-TypedExpr x)
   step_expr x y q =
       let e = out-roll-TypedExpr x ∙ sym q in
-      subst (λ (n : ℕ). Grows n (expr_part numbered (roll-TypedExpr x)).code) (sym (typed.at_expr (roll-TypedExpr x) (bare_expr y) e))
-      (subst (λ (z : Part). Grows (sizes.expr_layer (typed.sizes_expr (bare_expr y))) z.code) (sym (at_expr (roll-TypedExpr x) (bare_expr y) e)) (expr_grows y))
+      subst (λ (n : ℕ). Grows n (expr_part numbered (roll-TypedExpr x)).code) (sym (typed.at_expr by_size (roll-TypedExpr x) (bare_expr y) e))
+      (subst (λ (z : Part). Grows (sizes.expr_layer (typed.weights_expr by_size (bare_expr y))) z.code) (sym (at_expr (roll-TypedExpr x) (bare_expr y) e)) (expr_grows y))
 
   step_place : (x : Place-F Argument Call Component Link TypedExpr Place) (y : Place-F SA SC SK SL SE SP) → bare_place y ≡ x → PP (roll-Place x)
   step_place x y q =
       let e = out-roll-Place x ∙ sym q in
-      subst (λ (n : ℕ). Grows n (place_code numbered (roll-Place x))) (sym (typed.at_place (roll-Place x) (bare_place y) e))
-      (subst (Grows (sizes.place_layer (typed.sizes_place (bare_place y)))) (sym (at_place (roll-Place x) (bare_place y) e)) (place_grows y))
+      subst (λ (n : ℕ). Grows n (place_code numbered (roll-Place x))) (sym (typed.at_place by_size (roll-Place x) (bare_place y) e))
+      (subst (Grows (sizes.place_layer (typed.weights_place by_size (bare_place y)))) (sym (at_place (roll-Place x) (bare_place y) e)) (place_grows y))
 
   pub expr_counts : (e : TypedExpr) → PE e
   expr_counts = ind-TypedExpr PA PC PK PL PE PP step_argument step_call step_component step_link step_expr step_place

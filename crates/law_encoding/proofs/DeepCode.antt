@@ -25,7 +25,8 @@ use Rattle.law_encoding.specs.Nesting.{◌⊔◌, deepest}
 use Rattle.law_encoding.specs.CodeNesting.{levels_in, levels}
 use Rattle.law_encoding.specs.TypedNesting.{depth_typed, depth_place, depth_component, depth_link, depth_call, depth_passed}
 use Rattle.law_encoding.specs.TypedNesting as nesting
-use Rattle.law_encoding.proofs.DeepTyped as typed
+use Rattle.law_encoding.proofs.Ways.{by_depth}
+use Rattle.law_encoding.proofs.Weighed as typed
 use Rattle.law_encoding.proofs.Levels.{levels_cons, levels_append, levels_none, else_levels, none_most, Low, low_flat, low_next, low_one, gets, sets, amount, computes, Flat, flat_end, ◌▹◌, flat_both}
 use Rattle.law_encoding.proofs.FlatCode.{flat_raised, flat_checked, flat_loaded, flat_in_type, flat_taken, flat_slot, flat_kept, flat_open, flat_high, flat_element, flat_open_element, flat_global, flat_with, flat_arithmetic, flat_complement, flat_set, flat_empty, flat_ord, flat_procedure, flat_text, flat_link, flat_module_call, flat_nested_call, flat_value_call}
 
@@ -293,7 +294,7 @@ module _ (numbered : Numbered) where
   links_nest [] = plain_nests 0 flat_end
   links_nest (x ∷ xs) = both_nest (depth_link x.0) _ x.1 (links_nest xs)
 
-  argument_nests : (y : Argument-F SA SC SK SL SE SP) → Nests (nesting.argument_layer (typed.depths_argument (bare_argument y))) (argument_layer (opened_argument (bare_argument y)))
+  argument_nests : (y : Argument-F SA SC SK SL SE SP) → Nests (nesting.argument_layer (typed.weights_argument by_depth (bare_argument y))) (argument_layer (opened_argument (bare_argument y)))
   argument_nests (layer.Value t e) = nests_more (depth_typed e.0) _ (one_more _) (then_setting (depth_typed e.0) (λ s. flat_taken s.home.types t _ _) e.1)
   argument_nests (layer.Place d) = nests_more (depth_place d.0) _ (one_more _) (then_plain (depth_place d.0) (computes _ ▹ flat_end) d.1)
   argument_nests (layer.Array t d) = nests_more (depth_place d.0) _ (one_more _) (then_setting (depth_place d.0) (λ s. computes _ ▹ amount _ ▹ flat_end) d.1)
@@ -306,7 +307,7 @@ module _ (numbered : Numbered) where
   flat_top : (s : Setting) → Flat (LocalGet (top_local s) ∷ [])
   flat_top s = gets _ ▹ flat_end
 
-  call_nests : (y : Call-F SA SC SK SL SE SP) → Nests (nesting.call_layer (typed.depths_call (bare_call y))) (call_layer numbered (opened_call (bare_call y)))
+  call_nests : (y : Call-F SA SC SK SL SE SP) → Nests (nesting.call_layer (typed.weights_call by_depth (bare_call y))) (call_layer numbered (opened_call (bare_call y)))
   call_nests (layer.Module f args) = nests_more _ _ (one_more _) (setting_then _ flat_top (then_setting _ (λ s. flat_module_call numbered s.home f) (args_nest args)))
   call_nests (layer.Nested f args) = nests_more _ _ (one_more _) (setting_then _ flat_top (plain_then _ (flat_link numbered f.up) (then_setting _ (λ s. flat_nested_call numbered s.home f) (args_nest args))))
   call_nests (layer.Variable t d args) =
@@ -316,12 +317,12 @@ module _ (numbered : Numbered) where
       (number_nests (deepest (map depth_passed (map (λ (e : SA). e.0) args)))
       (λ n. plain_then _ (sets n ▹ flat_end) (setting_then _ flat_top (then_setting _ (λ s. flat_value_call numbered s.home.types n t) (args_nest args)))))))
 
-  component_nests : (y : Component-F SA SC SK SL SE SP) → Nests (nesting.component_layer (typed.depths_component (bare_component y))) (component_layer (opened_component (bare_component y)))
+  component_nests : (y : Component-F SA SC SK SL SE SP) → Nests (nesting.component_layer (typed.weights_component by_depth (bare_component y))) (component_layer (opened_component (bare_component y)))
   component_nests (layer.Field t k) = setting_nests 1 (λ s. plain_nests 1 (flat_raised _))
   component_nests (layer.Element t i) = nests_more (depth_typed i.0) _ (one_more _) (then_setting (depth_typed i.0) (λ s. flat_element s.home.types t) i.1)
   component_nests (layer.OpenElement slot t i) = nests_more (depth_typed i.0) _ (one_more _) (then_setting (depth_typed i.0) (λ s. flat_open_element s slot t) i.1)
 
-  link_nests : (y : Link-F SA SC SK SL SE SP) → Nests (nesting.link_layer (typed.depths_link (bare_link y))) (link_layer (opened_link (bare_link y))).code
+  link_nests : (y : Link-F SA SC SK SL SE SP) → Nests (nesting.link_layer (typed.weights_link by_depth (bare_link y))) (link_layer (opened_link (bare_link y))).code
   link_nests (layer.Arithmetic o t b) = nests_more (depth_typed b.0) _ (one_level _) (then_setting (depth_typed b.0) (λ s. flat_arithmetic s.home.types o t) b.1)
   link_nests (layer.And b) =
       plain_then (1 + depth_typed b.0) (computes _ ▹ flat_end) (within_nests (depth_typed b.0) (1 + depth_typed b.0) 1 (λ code. chosen_number code (I64Const 0 ∷ []) ∷ []) (and_wraps (depth_typed b.0)) b.1)
@@ -332,7 +333,7 @@ module _ (numbered : Numbered) where
   pair_sum : (n k : ℕ) → n ⊔ k ≤ 1 ⊔ n ⊔ k
   pair_sum n k = omega arith
 
-  expr_nests : (y : TypedExpr-F SA SC SK SL SE SP) → Nests (nesting.expr_layer (typed.depths_expr (bare_expr y))) (expr_layer (opened_expr (bare_expr y))).code
+  expr_nests : (y : TypedExpr-F SA SC SK SL SE SP) → Nests (nesting.expr_layer (typed.weights_expr by_depth (bare_expr y))) (expr_layer (opened_expr (bare_expr y))).code
   expr_nests (layer.Constant t n) = plain_nests 1 (amount _ ▹ flat_end)
   expr_nests (layer.Load t d) = nests_more (depth_place d.0) _ (one_more _) (then_setting (depth_place d.0) (λ s. flat_loaded s.home.types t) d.1)
   expr_nests (layer.Procedure f) = setting_nests 1 (λ s. plain_nests 1 (flat_procedure s.home f))
@@ -355,44 +356,44 @@ module _ (numbered : Numbered) where
   root_sum : (n : ℕ) → 0 ⊔ n ≤ 1 ⊔ n
   root_sum n = omega arith
 
-  place_nests : (y : Place-F SA SC SK SL SE SP) → Nests (nesting.place_layer (typed.depths_place (bare_place y))) (place_layer (opened_place (bare_place y)))
+  place_nests : (y : Place-F SA SC SK SL SE SP) → Nests (nesting.place_layer (typed.weights_place by_depth (bare_place y))) (place_layer (opened_place (bare_place y)))
   place_nests y = nests_more _ _ (root_sum _) (both_nest 0 _ (root_nests 0 y.root) (all_nest _ _ (all_components y.components)))
 
   step_argument : (x : Argument-F Argument Call Component Link TypedExpr Place) (y : Argument-F SA SC SK SL SE SP) → bare_argument y ≡ x → PA (roll-Argument x)
   step_argument x y q =
       let e = out-roll-Argument x ∙ sym q in
-      subst (λ (n : ℕ). Nests n (of_argument (roll-Argument x))) (sym (typed.at_argument (roll-Argument x) (bare_argument y) e))
-      (subst (Nests (nesting.argument_layer (typed.depths_argument (bare_argument y)))) (sym (at_argument (roll-Argument x) (bare_argument y) e)) (argument_nests y))
+      subst (λ (n : ℕ). Nests n (of_argument (roll-Argument x))) (sym (typed.at_argument by_depth (roll-Argument x) (bare_argument y) e))
+      (subst (Nests (nesting.argument_layer (typed.weights_argument by_depth (bare_argument y)))) (sym (at_argument (roll-Argument x) (bare_argument y) e)) (argument_nests y))
 
   step_call : (x : Call-F Argument Call Component Link TypedExpr Place) (y : Call-F SA SC SK SL SE SP) → bare_call y ≡ x → PC (roll-Call x)
   step_call x y q =
       let e = out-roll-Call x ∙ sym q in
-      subst (λ (n : ℕ). Nests n (call_code numbered (roll-Call x))) (sym (typed.at_call (roll-Call x) (bare_call y) e))
-      (subst (Nests (nesting.call_layer (typed.depths_call (bare_call y)))) (sym (at_call (roll-Call x) (bare_call y) e)) (call_nests y))
+      subst (λ (n : ℕ). Nests n (call_code numbered (roll-Call x))) (sym (typed.at_call by_depth (roll-Call x) (bare_call y) e))
+      (subst (Nests (nesting.call_layer (typed.weights_call by_depth (bare_call y)))) (sym (at_call (roll-Call x) (bare_call y) e)) (call_nests y))
 
   step_component : (x : Component-F Argument Call Component Link TypedExpr Place) (y : Component-F SA SC SK SL SE SP) → bare_component y ≡ x → PK (roll-Component x)
   step_component x y q =
       let e = out-roll-Component x ∙ sym q in
-      subst (λ (n : ℕ). Nests n (of_component (roll-Component x))) (sym (typed.at_component (roll-Component x) (bare_component y) e))
-      (subst (Nests (nesting.component_layer (typed.depths_component (bare_component y)))) (sym (at_component (roll-Component x) (bare_component y) e)) (component_nests y))
+      subst (λ (n : ℕ). Nests n (of_component (roll-Component x))) (sym (typed.at_component by_depth (roll-Component x) (bare_component y) e))
+      (subst (Nests (nesting.component_layer (typed.weights_component by_depth (bare_component y)))) (sym (at_component (roll-Component x) (bare_component y) e)) (component_nests y))
 
   step_link : (x : Link-F Argument Call Component Link TypedExpr Place) (y : Link-F SA SC SK SL SE SP) → bare_link y ≡ x → PL (roll-Link x)
   step_link x y q =
       let e = out-roll-Link x ∙ sym q in
-      subst (λ (n : ℕ). Nests n (of_link (roll-Link x)).code) (sym (typed.at_link (roll-Link x) (bare_link y) e))
-      (subst (λ (z : Linked). Nests (nesting.link_layer (typed.depths_link (bare_link y))) z.code) (sym (at_link (roll-Link x) (bare_link y) e)) (link_nests y))
+      subst (λ (n : ℕ). Nests n (of_link (roll-Link x)).code) (sym (typed.at_link by_depth (roll-Link x) (bare_link y) e))
+      (subst (λ (z : Linked). Nests (nesting.link_layer (typed.weights_link by_depth (bare_link y))) z.code) (sym (at_link (roll-Link x) (bare_link y) e)) (link_nests y))
 
   step_expr : (x : TypedExpr-F Argument Call Component Link TypedExpr Place) (y : TypedExpr-F SA SC SK SL SE SP) → bare_expr y ≡ x → PE (roll-TypedExpr x)
   step_expr x y q =
       let e = out-roll-TypedExpr x ∙ sym q in
-      subst (λ (n : ℕ). Nests n (expr_part numbered (roll-TypedExpr x)).code) (sym (typed.at_expr (roll-TypedExpr x) (bare_expr y) e))
-      (subst (λ (z : Part). Nests (nesting.expr_layer (typed.depths_expr (bare_expr y))) z.code) (sym (at_expr (roll-TypedExpr x) (bare_expr y) e)) (expr_nests y))
+      subst (λ (n : ℕ). Nests n (expr_part numbered (roll-TypedExpr x)).code) (sym (typed.at_expr by_depth (roll-TypedExpr x) (bare_expr y) e))
+      (subst (λ (z : Part). Nests (nesting.expr_layer (typed.weights_expr by_depth (bare_expr y))) z.code) (sym (at_expr (roll-TypedExpr x) (bare_expr y) e)) (expr_nests y))
 
   step_place : (x : Place-F Argument Call Component Link TypedExpr Place) (y : Place-F SA SC SK SL SE SP) → bare_place y ≡ x → PP (roll-Place x)
   step_place x y q =
       let e = out-roll-Place x ∙ sym q in
-      subst (λ (n : ℕ). Nests n (place_code numbered (roll-Place x))) (sym (typed.at_place (roll-Place x) (bare_place y) e))
-      (subst (Nests (nesting.place_layer (typed.depths_place (bare_place y)))) (sym (at_place (roll-Place x) (bare_place y) e)) (place_nests y))
+      subst (λ (n : ℕ). Nests n (place_code numbered (roll-Place x))) (sym (typed.at_place by_depth (roll-Place x) (bare_place y) e))
+      (subst (Nests (nesting.place_layer (typed.weights_place by_depth (bare_place y)))) (sym (at_place (roll-Place x) (bare_place y) e)) (place_nests y))
 
   pub expr_levels : (e : TypedExpr) → PE e
   expr_levels = ind-TypedExpr PA PC PK PL PE PP step_argument step_call step_component step_link step_expr step_place

@@ -21,7 +21,8 @@ use Rattle.law_encoding.specs.Nesting.{◌⊔◌, deepest, case_levels, if_level
 use Rattle.law_encoding.specs.CodeNesting.{levels}
 use Rattle.law_encoding.specs.TypedNesting.{depth_typed, depth_place, depth_call, depth_step, depth_arm, depth_body}
 use Rattle.law_encoding.specs.TypedNesting as nesting
-use Rattle.law_encoding.proofs.DeepTyped as typed
+use Rattle.law_encoding.proofs.Ways.{by_depth}
+use Rattle.law_encoding.proofs.Weighed as typed
 use Rattle.law_encoding.proofs.Levels.{levels_append, block_levels, if_levels as if_nests, else_levels, gets, sets, tees, amount, address, calls, computes, jumps, jumps_if, goes_back, none_most, Flat, flat_end, ◌▹◌, flat_both}
 use Rattle.law_encoding.proofs.Levels.{loop_levels as loop_nests}
 use Rattle.law_encoding.proofs.FlatCode.{flat_fault, flat_checked, flat_loaded, flat_stored, flat_in_type, flat_taken, flat_tests, flat_dispatch, flat_changed, flat_with_member, flat_copied}
@@ -285,7 +286,7 @@ module _ (numbered : Numbered) where
   with_sum : (d b : ℕ) → d ⊔ b ≤ 1 ⊔ d ⊔ b
   with_sum d b = omega arith
 
-  step_nests : (y : TypedStmt-F SS SA) → Nests (nesting.step_layer (typed.depths_step (bare_step y))) (step_layer numbered (opened_step (bare_step y)))
+  step_nests : (y : TypedStmt-F SS SA) → Nests (nesting.step_layer (typed.weights_step by_depth (bare_step y))) (step_layer numbered (opened_step (bare_step y)))
   step_nests (layer.Assign d t e) =
       nests_more (depth_place d ⊔ depth_typed e) _ (two_sum _ _)
       (both_nest (depth_place d) (depth_typed e) (place_levels numbered d) (then_setting (depth_typed e) (λ s. flat_stored s.home.types t) (then_setting (depth_typed e) (λ s. flat_taken s.home.types t _ _) (expr_levels numbered e))))
@@ -321,20 +322,20 @@ module _ (numbered : Numbered) where
       nests_more (depth_place d ⊔ count body) _ (with_sum _ _)
       (both_nest (depth_place d) (count body) (place_levels numbered d) (address_nests (count body) (λ w. plain_then (count body) (sets w ▹ flat_end) (under_nests (count body) w (body_nests body)))))
 
-  arm_nests : (y : TypedArm-F SS SA) → Nests (nesting.arm_layer (typed.depths_arm (bare_arm y))) (arm_layer numbered (opened_arm (bare_arm y))).code
+  arm_nests : (y : TypedArm-F SS SA) → Nests (nesting.arm_layer (typed.weights_arm by_depth (bare_arm y))) (arm_layer numbered (opened_arm (bare_arm y))).code
   arm_nests y = body_nests y.body
 
   step_step : (x : TypedStmt-F TypedStmt TypedArm) (y : TypedStmt-F SS SA) → bare_step y ≡ x → PS (roll-TypedStmt x)
   step_step x y q =
       let e = out-roll-TypedStmt x ∙ sym q in
-      subst (λ (n : ℕ). Nests n (step_code numbered (roll-TypedStmt x))) (sym (typed.at_step (roll-TypedStmt x) (bare_step y) e))
-      (subst (Nests (nesting.step_layer (typed.depths_step (bare_step y)))) (sym (at_step (roll-TypedStmt x) (bare_step y) e)) (step_nests y))
+      subst (λ (n : ℕ). Nests n (step_code numbered (roll-TypedStmt x))) (sym (typed.at_step by_depth (roll-TypedStmt x) (bare_step y) e))
+      (subst (Nests (nesting.step_layer (typed.weights_step by_depth (bare_step y)))) (sym (at_step (roll-TypedStmt x) (bare_step y) e)) (step_nests y))
 
   step_arm : (x : TypedArm-F TypedStmt TypedArm) (y : TypedArm-F SS SA) → bare_arm y ≡ x → PA (roll-TypedArm x)
   step_arm x y q =
       let e = out-roll-TypedArm x ∙ sym q in
-      subst (λ (n : ℕ). Nests n (of_arm (roll-TypedArm x)).code) (sym (typed.at_arm (roll-TypedArm x) (bare_arm y) e))
-      (subst (λ (z : Arm). Nests (nesting.arm_layer (typed.depths_arm (bare_arm y))) z.code) (sym (at_arm (roll-TypedArm x) (bare_arm y) e)) (arm_nests y))
+      subst (λ (n : ℕ). Nests n (of_arm (roll-TypedArm x)).code) (sym (typed.at_arm by_depth (roll-TypedArm x) (bare_arm y) e))
+      (subst (λ (z : Arm). Nests (nesting.arm_layer (typed.weights_arm by_depth (bare_arm y))) z.code) (sym (at_arm (roll-TypedArm x) (bare_arm y) e)) (arm_nests y))
 
   pub step_levels : (x : TypedStmt) → PS x
   step_levels = ind-TypedStmt PS PA step_step step_arm

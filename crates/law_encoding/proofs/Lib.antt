@@ -1,7 +1,6 @@
 pub mod Sums
 pub mod Variants
 pub mod Weights
-pub mod Typed
 pub mod Results
 pub mod Ways
 pub mod WaySums
@@ -23,14 +22,12 @@ pub mod TableCalls
 pub mod TableSteps
 pub mod Deepest
 pub mod DeepTrees
-pub mod DeepTyped
 pub mod DeepTexts
 pub mod Levels
 pub mod FlatCode
 pub mod DeepCode
 pub mod DeepCodeSteps
 pub mod DeepFunctions
-pub mod OutwardTyped
 pub mod CodeLengths
 pub mod ShortCode
 pub mod ShortTrees

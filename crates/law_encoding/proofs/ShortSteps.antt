@@ -25,8 +25,8 @@ use Rattle.law_encoding.specs.CodeBytes.{bytes}
 use Rattle.law_encoding.specs.Short.{unit_bytes}
 use Rattle.law_encoding.specs.Outward.{outward_typed, outward_place, outward_step, outward_arm, outward_body}
 use Rattle.law_encoding.specs.Outward as outward
-use Rattle.law_encoding.proofs.Typed as typed
-use Rattle.law_encoding.proofs.OutwardTyped as outwards
+use Rattle.law_encoding.proofs.Ways.{by_size, by_distance}
+use Rattle.law_encoding.proofs.Weighed as typed
 use Rattle.law_encoding.proofs.CodeLengths.{bytes_append, block_bytes, loop_bytes, if_bytes, else_bytes, gets, sets, tees, amount, address, calls, computes, jumps, jumps_if, goes_back, Short, short_end, ◌▹◌, short_both}
 use Rattle.law_encoding.proofs.ShortCode.{IsNear, short_fault, short_checked, short_loaded, short_stored, short_in_type, short_taken, short_tests, short_dispatch, short_changed, short_with_member, short_copied}
 use Rattle.law_encoding.proofs.ShortTrees.{Costs, Wraps, AllCost, plain_costs, both_cost, settles, costs_more, extra_costs, within_costs, setting_costs, number_costs, address_costs, text_costs, all_cost, then_plain, then_setting, plain_then, alone, first_near, second_near, own, expr_short, place_short, call_short}
@@ -302,7 +302,7 @@ module _ (numbered : Numbered) where
   one_alone : 1 + 0 ≤ 1
   one_alone = omega arith
 
-  step_costs : (y : TypedStmt-F SS SA) → IsNear (outward.step_layer (outwards.outwards_step (bare_step y))) → Costs (sizes.step_layer (typed.sizes_step (bare_step y))) 0 (step_layer numbered (opened_step (bare_step y)))
+  step_costs : (y : TypedStmt-F SS SA) → IsNear (outward.step_layer (typed.weights_step (by_distance 0) (bare_step y))) → Costs (sizes.step_layer (typed.weights_step by_size (bare_step y))) 0 (step_layer numbered (opened_step (bare_step y)))
   step_costs (layer.Assign d t e) h =
       settles 1 refl (two_sum (size_place d) (size_typed e))
       (both_cost (place_short numbered d (first_near _ _ h)) (then_setting (λ s. short_stored s.home.types t) (then_setting (λ s. short_taken s.home.types t _ _) (expr_short numbered e (second_near (outward_place d) _ h)))))
@@ -353,22 +353,22 @@ module _ (numbered : Numbered) where
   itself : (n : ℕ) → n ≤ n
   itself n = omega arith
 
-  arm_costs : (y : TypedArm-F SS SA) → IsNear (outward.arm_layer (outwards.outwards_arm (bare_arm y))) → ArmCosts (sizes.arm_layer (typed.sizes_arm (bare_arm y))) (arm_layer numbered (opened_arm (bare_arm y)))
+  arm_costs : (y : TypedArm-F SS SA) → IsNear (outward.arm_layer (typed.weights_arm (by_distance 0) (bare_arm y))) → ArmCosts (sizes.arm_layer (typed.weights_arm by_size (bare_arm y))) (arm_layer numbered (opened_arm (bare_arm y)))
   arm_costs y h = record { count = count y.body; costs = body_costs y.body h; room = itself (1 + length y.labels + count y.body) }
 
   step_step : (x : TypedStmt-F TypedStmt TypedArm) (y : TypedStmt-F SS SA) → bare_step y ≡ x → PS (roll-TypedStmt x)
   step_step x y q h =
       let e = out-roll-TypedStmt x ∙ sym q in
-      subst (λ (n : ℕ). Costs n 0 (step_code numbered (roll-TypedStmt x))) (sym (typed.at_step (roll-TypedStmt x) (bare_step y) e))
-      (subst (λ (z : Coded). Costs (sizes.step_layer (typed.sizes_step (bare_step y))) 0 z) (sym (at_step (roll-TypedStmt x) (bare_step y) e))
-      (step_costs y (subst IsNear (outwards.at_step (roll-TypedStmt x) (bare_step y) e) h)))
+      subst (λ (n : ℕ). Costs n 0 (step_code numbered (roll-TypedStmt x))) (sym (typed.at_step by_size (roll-TypedStmt x) (bare_step y) e))
+      (subst (λ (z : Coded). Costs (sizes.step_layer (typed.weights_step by_size (bare_step y))) 0 z) (sym (at_step (roll-TypedStmt x) (bare_step y) e))
+      (step_costs y (subst IsNear (typed.at_step (by_distance 0) (roll-TypedStmt x) (bare_step y) e) h)))
 
   step_arm : (x : TypedArm-F TypedStmt TypedArm) (y : TypedArm-F SS SA) → bare_arm y ≡ x → PA (roll-TypedArm x)
   step_arm x y q h =
       let e = out-roll-TypedArm x ∙ sym q in
-      subst (λ (n : ℕ). ArmCosts n (of_arm (roll-TypedArm x))) (sym (typed.at_arm (roll-TypedArm x) (bare_arm y) e))
-      (subst (ArmCosts (sizes.arm_layer (typed.sizes_arm (bare_arm y)))) (sym (at_arm (roll-TypedArm x) (bare_arm y) e))
-      (arm_costs y (subst IsNear (outwards.at_arm (roll-TypedArm x) (bare_arm y) e) h)))
+      subst (λ (n : ℕ). ArmCosts n (of_arm (roll-TypedArm x))) (sym (typed.at_arm by_size (roll-TypedArm x) (bare_arm y) e))
+      (subst (ArmCosts (sizes.arm_layer (typed.weights_arm by_size (bare_arm y)))) (sym (at_arm (roll-TypedArm x) (bare_arm y) e))
+      (arm_costs y (subst IsNear (typed.at_arm (by_distance 0) (roll-TypedArm x) (bare_arm y) e) h)))
 
   pub step_short : (x : TypedStmt) → PS x
   step_short = ind-TypedStmt PS PA step_step step_arm

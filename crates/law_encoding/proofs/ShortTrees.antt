@@ -25,13 +25,13 @@ use Rattle.def_scheme.specs.Exprs.{Part, Linked, Numbered, chosen_number, absolu
 use Rattle.law_encoding.specs.Sizes.{total}
 use Rattle.law_encoding.specs.TypedSizes.{size_typed, size_place, size_component, size_link, size_call, size_passed}
 use Rattle.law_encoding.specs.TypedSizes as sizes
-use Rattle.law_encoding.proofs.Typed as typed
+use Rattle.law_encoding.proofs.Ways.{by_size, by_distance}
+use Rattle.law_encoding.proofs.Weighed as typed
 use Rattle.law_encoding.specs.Nesting.{◌⊔◌, deepest}
 use Rattle.law_encoding.specs.CodeBytes.{bytes_in, bytes}
 use Rattle.law_encoding.specs.Short.{unit_bytes}
 use Rattle.law_encoding.specs.Outward.{outward_typed, outward_place, outward_component, outward_link, outward_call, outward_passed, outward_root}
 use Rattle.law_encoding.specs.Outward as outward
-use Rattle.law_encoding.proofs.OutwardTyped as outwards
 use Rattle.law_encoding.proofs.CodeLengths.{bytes_cons, bytes_append, bytes_none, else_bytes, gets, sets, amount, computes, Short, short_end, ◌▹◌, short_both, short_if}
 use Rattle.law_encoding.proofs.ShortCode.{IsNear, short_raised, short_checked, short_loaded, short_in_type, short_taken, short_slot, short_kept, short_open, short_high, short_element, short_open_element, short_global, short_with, short_arithmetic, short_complement, short_set, short_empty, short_ord, short_procedure, short_text, short_link, short_module_call, short_nested_call, short_value_call}
 
@@ -334,7 +334,7 @@ module _ (numbered : Numbered) where
   one_alone : 1 + 0 ≤ 1
   one_alone = omega arith
 
-  argument_costs : (y : Argument-F SA SC SK SL SE SP) → IsNear (outward.argument_layer (outwards.outwards_argument (bare_argument y))) → Costs (sizes.argument_layer (typed.sizes_argument (bare_argument y))) 0 (argument_layer (opened_argument (bare_argument y)))
+  argument_costs : (y : Argument-F SA SC SK SL SE SP) → IsNear (outward.argument_layer (typed.weights_argument (by_distance 0) (bare_argument y))) → Costs (sizes.argument_layer (typed.weights_argument by_size (bare_argument y))) 0 (argument_layer (opened_argument (bare_argument y)))
   argument_costs (layer.Value t e) h = settles 1 refl (own (size_typed e.0)) (then_setting (λ s. short_taken s.home.types t _ _) (e.1 h))
   argument_costs (layer.Place d) h = settles 1 refl (own (size_place d.0)) (then_plain (computes _ ▹ short_end) (d.1 h))
   argument_costs (layer.Array t d) h = settles 1 refl (own (size_place d.0)) (then_setting (λ s. computes _ ▹ amount _ ▹ short_end) (d.1 h))
@@ -347,7 +347,7 @@ module _ (numbered : Numbered) where
   short_top : (s : Setting) → Short 6 (LocalGet (top_local s) ∷ [])
   short_top s = gets _ ▹ short_end
 
-  call_costs : (y : Call-F SA SC SK SL SE SP) → IsNear (outward.call_layer (outwards.outwards_call (bare_call y))) → Costs (sizes.call_layer (typed.sizes_call (bare_call y))) 0 (call_layer numbered (opened_call (bare_call y)))
+  call_costs : (y : Call-F SA SC SK SL SE SP) → IsNear (outward.call_layer (typed.weights_call (by_distance 0) (bare_call y))) → Costs (sizes.call_layer (typed.weights_call by_size (bare_call y))) 0 (call_layer numbered (opened_call (bare_call y)))
   call_costs (layer.Module f args) h = settles 1 refl (own _) (setting_then short_top (then_setting (λ s. short_module_call numbered s.home f) (args_cost args h)))
   call_costs (layer.Nested f args) h =
       settles 1 refl (own _)
@@ -358,12 +358,12 @@ module _ (numbered : Numbered) where
       (plain_then (short_checked (pos 1) (pos 4294967295) 7)
       (number_costs (λ n. plain_then (sets n ▹ short_end) (setting_then short_top (then_setting (λ s. short_value_call numbered s.home.types n t) (args_cost args (second_near (outward_place d.0) _ h))))))))
 
-  component_costs : (y : Component-F SA SC SK SL SE SP) → IsNear (outward.component_layer (outwards.outwards_component (bare_component y))) → Costs (sizes.component_layer (typed.sizes_component (bare_component y))) 0 (component_layer (opened_component (bare_component y)))
+  component_costs : (y : Component-F SA SC SK SL SE SP) → IsNear (outward.component_layer (typed.weights_component (by_distance 0) (bare_component y))) → Costs (sizes.component_layer (typed.weights_component by_size (bare_component y))) 0 (component_layer (opened_component (bare_component y)))
   component_costs (layer.Field t k) h = settles 1 refl one_alone (setting_costs (λ s. plain_costs (short_raised _)))
   component_costs (layer.Element t i) h = settles 1 refl (own (size_typed i.0)) (then_setting (λ s. short_element s.home.types t) (i.1 h))
   component_costs (layer.OpenElement slot t i) h = settles 1 refl (own (size_typed i.0)) (then_setting (λ s. short_open_element s slot t (first_near _ _ h)) (i.1 (second_near slot.up _ h)))
 
-  link_costs : (y : Link-F SA SC SK SL SE SP) → IsNear (outward.link_layer (outwards.outwards_link (bare_link y))) → Costs (sizes.link_layer (typed.sizes_link (bare_link y))) 0 (link_layer (opened_link (bare_link y))).code
+  link_costs : (y : Link-F SA SC SK SL SE SP) → IsNear (outward.link_layer (typed.weights_link (by_distance 0) (bare_link y))) → Costs (sizes.link_layer (typed.weights_link by_size (bare_link y))) 0 (link_layer (opened_link (bare_link y))).code
   link_costs (layer.Arithmetic o t b) h = settles 1 refl (own (size_typed b.0)) (then_setting (λ s. short_arithmetic s.home.types o t) (b.1 h))
   link_costs (layer.And b) h = settles 1 refl (own (size_typed b.0)) (plain_then (computes _ ▹ short_end) (within_costs 15 1 (λ code. chosen_number code (I64Const 0 ∷ []) ∷ []) and_wraps (b.1 h)))
   link_costs (layer.Or b) h = settles 1 refl (own (size_typed b.0)) (plain_then (computes _ ▹ short_end) (within_costs 15 1 (λ code. chosen_number (I64Const 1 ∷ []) code ∷ []) or_wraps (b.1 h)))
@@ -372,7 +372,7 @@ module _ (numbered : Numbered) where
   pair_sum : (n k : ℕ) → 1 + (n + k) ≤ 1 + n + k
   pair_sum n k = omega arith
 
-  expr_costs : (y : TypedExpr-F SA SC SK SL SE SP) → IsNear (outward.expr_layer (outwards.outwards_expr (bare_expr y))) → Costs (sizes.expr_layer (typed.sizes_expr (bare_expr y))) 0 (expr_layer (opened_expr (bare_expr y))).code
+  expr_costs : (y : TypedExpr-F SA SC SK SL SE SP) → IsNear (outward.expr_layer (typed.weights_expr (by_distance 0) (bare_expr y))) → Costs (sizes.expr_layer (typed.weights_expr by_size (bare_expr y))) 0 (expr_layer (opened_expr (bare_expr y))).code
   expr_costs (layer.Constant t n) h = settles 1 refl one_alone (plain_costs (amount _ ▹ short_end))
   expr_costs (layer.Load t d) h = settles 1 refl (own (size_place d.0)) (then_setting (λ s. short_loaded s.home.types t) (d.1 h))
   expr_costs (layer.Procedure f) h = settles 1 refl one_alone (setting_costs (λ s. plain_costs (short_procedure s.home f)))
@@ -397,50 +397,50 @@ module _ (numbered : Numbered) where
   root_sum : (n : ℕ) → 1 + (0 + n) ≤ 1 + n
   root_sum n = omega arith
 
-  place_costs : (y : Place-F SA SC SK SL SE SP) → IsNear (outward.place_layer (outwards.outwards_place (bare_place y))) → Costs (sizes.place_layer (typed.sizes_place (bare_place y))) 0 (place_layer (opened_place (bare_place y)))
+  place_costs : (y : Place-F SA SC SK SL SE SP) → IsNear (outward.place_layer (typed.weights_place (by_distance 0) (bare_place y))) → Costs (sizes.place_layer (typed.weights_place by_size (bare_place y))) 0 (place_layer (opened_place (bare_place y)))
   place_costs y h = settles 1 refl (root_sum _) (both_cost (root_costs y.root (first_near _ _ h)) (all_cost _ _ (all_components y.components (second_near (outward_root y.root) _ h))))
 
   step_argument : (x : Argument-F Argument Call Component Link TypedExpr Place) (y : Argument-F SA SC SK SL SE SP) → bare_argument y ≡ x → PA (roll-Argument x)
   step_argument x y q h =
       let e = out-roll-Argument x ∙ sym q in
-      subst (λ (n : ℕ). Costs n 0 (of_argument (roll-Argument x))) (sym (typed.at_argument (roll-Argument x) (bare_argument y) e))
-      (subst (λ (z : Coded). Costs (sizes.argument_layer (typed.sizes_argument (bare_argument y))) 0 z) (sym (at_argument (roll-Argument x) (bare_argument y) e))
-      (argument_costs y (subst IsNear (outwards.at_argument (roll-Argument x) (bare_argument y) e) h)))
+      subst (λ (n : ℕ). Costs n 0 (of_argument (roll-Argument x))) (sym (typed.at_argument by_size (roll-Argument x) (bare_argument y) e))
+      (subst (λ (z : Coded). Costs (sizes.argument_layer (typed.weights_argument by_size (bare_argument y))) 0 z) (sym (at_argument (roll-Argument x) (bare_argument y) e))
+      (argument_costs y (subst IsNear (typed.at_argument (by_distance 0) (roll-Argument x) (bare_argument y) e) h)))
 
   step_call : (x : Call-F Argument Call Component Link TypedExpr Place) (y : Call-F SA SC SK SL SE SP) → bare_call y ≡ x → PC (roll-Call x)
   step_call x y q h =
       let e = out-roll-Call x ∙ sym q in
-      subst (λ (n : ℕ). Costs n 0 (call_code numbered (roll-Call x))) (sym (typed.at_call (roll-Call x) (bare_call y) e))
-      (subst (λ (z : Coded). Costs (sizes.call_layer (typed.sizes_call (bare_call y))) 0 z) (sym (at_call (roll-Call x) (bare_call y) e))
-      (call_costs y (subst IsNear (outwards.at_call (roll-Call x) (bare_call y) e) h)))
+      subst (λ (n : ℕ). Costs n 0 (call_code numbered (roll-Call x))) (sym (typed.at_call by_size (roll-Call x) (bare_call y) e))
+      (subst (λ (z : Coded). Costs (sizes.call_layer (typed.weights_call by_size (bare_call y))) 0 z) (sym (at_call (roll-Call x) (bare_call y) e))
+      (call_costs y (subst IsNear (typed.at_call (by_distance 0) (roll-Call x) (bare_call y) e) h)))
 
   step_component : (x : Component-F Argument Call Component Link TypedExpr Place) (y : Component-F SA SC SK SL SE SP) → bare_component y ≡ x → PK (roll-Component x)
   step_component x y q h =
       let e = out-roll-Component x ∙ sym q in
-      subst (λ (n : ℕ). Costs n 0 (of_component (roll-Component x))) (sym (typed.at_component (roll-Component x) (bare_component y) e))
-      (subst (λ (z : Coded). Costs (sizes.component_layer (typed.sizes_component (bare_component y))) 0 z) (sym (at_component (roll-Component x) (bare_component y) e))
-      (component_costs y (subst IsNear (outwards.at_component (roll-Component x) (bare_component y) e) h)))
+      subst (λ (n : ℕ). Costs n 0 (of_component (roll-Component x))) (sym (typed.at_component by_size (roll-Component x) (bare_component y) e))
+      (subst (λ (z : Coded). Costs (sizes.component_layer (typed.weights_component by_size (bare_component y))) 0 z) (sym (at_component (roll-Component x) (bare_component y) e))
+      (component_costs y (subst IsNear (typed.at_component (by_distance 0) (roll-Component x) (bare_component y) e) h)))
 
   step_link : (x : Link-F Argument Call Component Link TypedExpr Place) (y : Link-F SA SC SK SL SE SP) → bare_link y ≡ x → PL (roll-Link x)
   step_link x y q h =
       let e = out-roll-Link x ∙ sym q in
-      subst (λ (n : ℕ). Costs n 0 (of_link (roll-Link x)).code) (sym (typed.at_link (roll-Link x) (bare_link y) e))
-      (subst (λ (z : Linked). Costs (sizes.link_layer (typed.sizes_link (bare_link y))) 0 z.code) (sym (at_link (roll-Link x) (bare_link y) e))
-      (link_costs y (subst IsNear (outwards.at_link (roll-Link x) (bare_link y) e) h)))
+      subst (λ (n : ℕ). Costs n 0 (of_link (roll-Link x)).code) (sym (typed.at_link by_size (roll-Link x) (bare_link y) e))
+      (subst (λ (z : Linked). Costs (sizes.link_layer (typed.weights_link by_size (bare_link y))) 0 z.code) (sym (at_link (roll-Link x) (bare_link y) e))
+      (link_costs y (subst IsNear (typed.at_link (by_distance 0) (roll-Link x) (bare_link y) e) h)))
 
   step_expr : (x : TypedExpr-F Argument Call Component Link TypedExpr Place) (y : TypedExpr-F SA SC SK SL SE SP) → bare_expr y ≡ x → PE (roll-TypedExpr x)
   step_expr x y q h =
       let e = out-roll-TypedExpr x ∙ sym q in
-      subst (λ (n : ℕ). Costs n 0 (expr_part numbered (roll-TypedExpr x)).code) (sym (typed.at_expr (roll-TypedExpr x) (bare_expr y) e))
-      (subst (λ (z : Part). Costs (sizes.expr_layer (typed.sizes_expr (bare_expr y))) 0 z.code) (sym (at_expr (roll-TypedExpr x) (bare_expr y) e))
-      (expr_costs y (subst IsNear (outwards.at_expr (roll-TypedExpr x) (bare_expr y) e) h)))
+      subst (λ (n : ℕ). Costs n 0 (expr_part numbered (roll-TypedExpr x)).code) (sym (typed.at_expr by_size (roll-TypedExpr x) (bare_expr y) e))
+      (subst (λ (z : Part). Costs (sizes.expr_layer (typed.weights_expr by_size (bare_expr y))) 0 z.code) (sym (at_expr (roll-TypedExpr x) (bare_expr y) e))
+      (expr_costs y (subst IsNear (typed.at_expr (by_distance 0) (roll-TypedExpr x) (bare_expr y) e) h)))
 
   step_place : (x : Place-F Argument Call Component Link TypedExpr Place) (y : Place-F SA SC SK SL SE SP) → bare_place y ≡ x → PP (roll-Place x)
   step_place x y q h =
       let e = out-roll-Place x ∙ sym q in
-      subst (λ (n : ℕ). Costs n 0 (place_code numbered (roll-Place x))) (sym (typed.at_place (roll-Place x) (bare_place y) e))
-      (subst (λ (z : Coded). Costs (sizes.place_layer (typed.sizes_place (bare_place y))) 0 z) (sym (at_place (roll-Place x) (bare_place y) e))
-      (place_costs y (subst IsNear (outwards.at_place (roll-Place x) (bare_place y) e) h)))
+      subst (λ (n : ℕ). Costs n 0 (place_code numbered (roll-Place x))) (sym (typed.at_place by_size (roll-Place x) (bare_place y) e))
+      (subst (λ (z : Coded). Costs (sizes.place_layer (typed.weights_place by_size (bare_place y))) 0 z) (sym (at_place (roll-Place x) (bare_place y) e))
+      (place_costs y (subst IsNear (typed.at_place (by_distance 0) (roll-Place x) (bare_place y) e) h)))
 
   pub expr_short : (e : TypedExpr) → PE e
   expr_short = ind-TypedExpr PA PC PK PL PE PP step_argument step_call step_component step_link step_expr step_place

@@ -19,7 +19,8 @@ use Rattle.def_scheme.specs.Steps.{Arm, block, loop, block_loop, leaving, under,
 use Rattle.law_encoding.specs.Sizes.{total}
 use Rattle.law_encoding.specs.TypedSizes.{size_typed, size_place, size_call, size_step, size_arm, size_body}
 use Rattle.law_encoding.specs.TypedSizes as sizes
-use Rattle.law_encoding.proofs.Typed as typed
+use Rattle.law_encoding.proofs.Ways.{by_size}
+use Rattle.law_encoding.proofs.Weighed as typed
 use Rattle.law_encoding.proofs.Counts.{Grows, AllGrow, plain_grows, both_grow, grows_more, within_grows, setting_grows, number_grows, address_grows, text_grows, all_grow, then_plain, then_setting, plain_then, expr_counts, place_counts, call_counts}
 
 -- ---- blocks
@@ -211,7 +212,7 @@ module _ (numbered : Numbered) where
   with_sum : (d b : ℕ) → d + (1 + b) ≤ 1 + d + b
   with_sum d b = omega arith
 
-  step_grows : (y : TypedStmt-F SS SA) → Grows (sizes.step_layer (typed.sizes_step (bare_step y))) (step_layer numbered (opened_step (bare_step y)))
+  step_grows : (y : TypedStmt-F SS SA) → Grows (sizes.step_layer (typed.weights_step by_size (bare_step y))) (step_layer numbered (opened_step (bare_step y)))
   step_grows (layer.Assign d t e) =
       grows_more (size_place d + size_typed e) _ (two_sum _ _)
       (both_grow (size_place d) (size_typed e) (place_counts numbered d) (then_setting (size_typed e) (λ s. store_code s.home.types t) (then_setting (size_typed e) _ (expr_counts numbered e))))
@@ -251,20 +252,20 @@ module _ (numbered : Numbered) where
   arm_more : (l b : ℕ) → b ≤ 1 + l + b
   arm_more l b = omega arith
 
-  arm_grows : (y : TypedArm-F SS SA) → Grows (sizes.arm_layer (typed.sizes_arm (bare_arm y))) (arm_layer numbered (opened_arm (bare_arm y))).code
+  arm_grows : (y : TypedArm-F SS SA) → Grows (sizes.arm_layer (typed.weights_arm by_size (bare_arm y))) (arm_layer numbered (opened_arm (bare_arm y))).code
   arm_grows y = grows_more (count y.body) _ (arm_more (length y.labels) (count y.body)) (body_grows y.body)
 
   step_step : (x : TypedStmt-F TypedStmt TypedArm) (y : TypedStmt-F SS SA) → bare_step y ≡ x → PS (roll-TypedStmt x)
   step_step x y q =
       let e = out-roll-TypedStmt x ∙ sym q in
-      subst (λ (n : ℕ). Grows n (step_code numbered (roll-TypedStmt x))) (sym (typed.at_step (roll-TypedStmt x) (bare_step y) e))
-      (subst (Grows (sizes.step_layer (typed.sizes_step (bare_step y)))) (sym (at_step (roll-TypedStmt x) (bare_step y) e)) (step_grows y))
+      subst (λ (n : ℕ). Grows n (step_code numbered (roll-TypedStmt x))) (sym (typed.at_step by_size (roll-TypedStmt x) (bare_step y) e))
+      (subst (Grows (sizes.step_layer (typed.weights_step by_size (bare_step y)))) (sym (at_step (roll-TypedStmt x) (bare_step y) e)) (step_grows y))
 
   step_arm : (x : TypedArm-F TypedStmt TypedArm) (y : TypedArm-F SS SA) → bare_arm y ≡ x → PA (roll-TypedArm x)
   step_arm x y q =
       let e = out-roll-TypedArm x ∙ sym q in
-      subst (λ (n : ℕ). Grows n (of_arm (roll-TypedArm x)).code) (sym (typed.at_arm (roll-TypedArm x) (bare_arm y) e))
-      (subst (λ (z : Arm). Grows (sizes.arm_layer (typed.sizes_arm (bare_arm y))) z.code) (sym (at_arm (roll-TypedArm x) (bare_arm y) e)) (arm_grows y))
+      subst (λ (n : ℕ). Grows n (of_arm (roll-TypedArm x)).code) (sym (typed.at_arm by_size (roll-TypedArm x) (bare_arm y) e))
+      (subst (λ (z : Arm). Grows (sizes.arm_layer (typed.weights_arm by_size (bare_arm y))) z.code) (sym (at_arm (roll-TypedArm x) (bare_arm y) e)) (arm_grows y))
 
   pub step_counts : (x : TypedStmt) → PS x
   step_counts = ind-TypedStmt PS PA step_step step_arm

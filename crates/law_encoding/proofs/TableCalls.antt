@@ -15,7 +15,8 @@ use Rattle.def_scheme.specs.Signatures as sign
 use Rattle.law_encoding.specs.Sizes.{total}
 use Rattle.law_encoding.specs.TypedSizes.{size_typed, size_place, size_component, size_link, size_call, size_passed}
 use Rattle.law_encoding.specs.TypedSizes as sizes
-use Rattle.law_encoding.proofs.Typed as typed
+use Rattle.law_encoding.proofs.Ways.{by_size}
+use Rattle.law_encoding.proofs.Weighed as typed
 
 -- ---- lists
 
@@ -188,30 +189,30 @@ module _ (m : TypedModule) where
   few_links : (xs : List SL) → length (concatenation (map of_link (map (λ (e : SL). e.0) xs))) ≤ total (map size_link (map (λ (e : SL). e.0) xs))
   few_links xs = all_few _ _ (all_links xs)
 
-  argument_few : (y : Argument-F SA SC SK SL SE SP) → length (sign.argument_layer m (opened_argument (bare_argument y))) ≤ sizes.argument_layer (typed.sizes_argument (bare_argument y))
+  argument_few : (y : Argument-F SA SC SK SL SE SP) → length (sign.argument_layer m (opened_argument (bare_argument y))) ≤ sizes.argument_layer (typed.weights_argument by_size (bare_argument y))
   argument_few (layer.Value t e) = one_more _ _ e.1
   argument_few (layer.Place d) = one_more _ _ d.1
   argument_few (layer.Array t d) = one_more _ _ d.1
   argument_few (layer.Open slot) = none_of 2
   argument_few (layer.Text text) = none_of 1
 
-  call_few : (y : Call-F SA SC SK SL SE SP) → length (sign.call_layer m (opened_call (bare_call y))) ≤ sizes.call_layer (typed.sizes_call (bare_call y))
+  call_few : (y : Call-F SA SC SK SL SE SP) → length (sign.call_layer m (opened_call (bare_call y))) ≤ sizes.call_layer (typed.weights_call by_size (bare_call y))
   call_few (layer.Module f args) = swapped _ _ (both_few _ _ _ 1 (few_args args) (at_most_one (is_own m f.home) (of_heading m.types f.heading)))
   call_few (layer.Nested f args) = one_more _ _ (few_args args)
   call_few (layer.Variable t d args) = call_sum _ (size_place d.0) _ (both_few _ _ (size_place d.0) _ d.1 (both_few _ _ _ 1 (few_args args) (at_most_one false (of_heading m.types t))))
 
-  component_few : (y : Component-F SA SC SK SL SE SP) → length (sign.component_layer m (opened_component (bare_component y))) ≤ sizes.component_layer (typed.sizes_component (bare_component y))
+  component_few : (y : Component-F SA SC SK SL SE SP) → length (sign.component_layer m (opened_component (bare_component y))) ≤ sizes.component_layer (typed.weights_component by_size (bare_component y))
   component_few (layer.Field t k) = none_of 1
   component_few (layer.Element t i) = one_more _ _ i.1
   component_few (layer.OpenElement slot t i) = one_more _ _ i.1
 
-  link_few : (y : Link-F SA SC SK SL SE SP) → length (sign.link_layer m (opened_link (bare_link y))) ≤ sizes.link_layer (typed.sizes_link (bare_link y))
+  link_few : (y : Link-F SA SC SK SL SE SP) → length (sign.link_layer m (opened_link (bare_link y))) ≤ sizes.link_layer (typed.weights_link by_size (bare_link y))
   link_few (layer.Arithmetic o t b) = one_more _ _ b.1
   link_few (layer.And b) = one_more _ _ b.1
   link_few (layer.Or b) = one_more _ _ b.1
   link_few (layer.Combine o b) = one_more _ _ b.1
 
-  expr_few : (y : TypedExpr-F SA SC SK SL SE SP) → length (sign.expr_layer m (opened_expr (bare_expr y))) ≤ sizes.expr_layer (typed.sizes_expr (bare_expr y))
+  expr_few : (y : TypedExpr-F SA SC SK SL SE SP) → length (sign.expr_layer m (opened_expr (bare_expr y))) ≤ sizes.expr_layer (typed.weights_expr by_size (bare_expr y))
   expr_few (layer.Constant t n) = none_of 1
   expr_few (layer.Load t d) = one_more _ _ d.1
   expr_few (layer.Procedure f) = none_of 1
@@ -231,44 +232,44 @@ module _ (m : TypedModule) where
   expr_few (layer.High slot) = none_of 1
   expr_few (layer.Call t c) = one_more _ _ c.1
 
-  place_few : (y : Place-F SA SC SK SL SE SP) → length (sign.place_layer m (opened_place (bare_place y))) ≤ sizes.place_layer (typed.sizes_place (bare_place y))
+  place_few : (y : Place-F SA SC SK SL SE SP) → length (sign.place_layer m (opened_place (bare_place y))) ≤ sizes.place_layer (typed.weights_place by_size (bare_place y))
   place_few y = one_more _ _ (few_components y.components)
 
   step_argument : (x : Argument-F Argument Call Component Link TypedExpr Place) (y : Argument-F SA SC SK SL SE SP) → bare_argument y ≡ x → PA (roll-Argument x)
   step_argument x y q =
       let e = out-roll-Argument x ∙ sym q in
-      subst (λ (n : ℕ). length (of_argument (roll-Argument x)) ≤ n) (sym (typed.at_argument (roll-Argument x) (bare_argument y) e))
-      (subst (λ (z : Signatures). length z ≤ sizes.argument_layer (typed.sizes_argument (bare_argument y))) (sym (at_argument (roll-Argument x) (bare_argument y) e)) (argument_few y))
+      subst (λ (n : ℕ). length (of_argument (roll-Argument x)) ≤ n) (sym (typed.at_argument by_size (roll-Argument x) (bare_argument y) e))
+      (subst (λ (z : Signatures). length z ≤ sizes.argument_layer (typed.weights_argument by_size (bare_argument y))) (sym (at_argument (roll-Argument x) (bare_argument y) e)) (argument_few y))
 
   step_call : (x : Call-F Argument Call Component Link TypedExpr Place) (y : Call-F SA SC SK SL SE SP) → bare_call y ≡ x → PC (roll-Call x)
   step_call x y q =
       let e = out-roll-Call x ∙ sym q in
-      subst (λ (n : ℕ). length (of_call m (roll-Call x)) ≤ n) (sym (typed.at_call (roll-Call x) (bare_call y) e))
-      (subst (λ (z : Signatures). length z ≤ sizes.call_layer (typed.sizes_call (bare_call y))) (sym (at_call (roll-Call x) (bare_call y) e)) (call_few y))
+      subst (λ (n : ℕ). length (of_call m (roll-Call x)) ≤ n) (sym (typed.at_call by_size (roll-Call x) (bare_call y) e))
+      (subst (λ (z : Signatures). length z ≤ sizes.call_layer (typed.weights_call by_size (bare_call y))) (sym (at_call (roll-Call x) (bare_call y) e)) (call_few y))
 
   step_component : (x : Component-F Argument Call Component Link TypedExpr Place) (y : Component-F SA SC SK SL SE SP) → bare_component y ≡ x → PK (roll-Component x)
   step_component x y q =
       let e = out-roll-Component x ∙ sym q in
-      subst (λ (n : ℕ). length (of_component (roll-Component x)) ≤ n) (sym (typed.at_component (roll-Component x) (bare_component y) e))
-      (subst (λ (z : Signatures). length z ≤ sizes.component_layer (typed.sizes_component (bare_component y))) (sym (at_component (roll-Component x) (bare_component y) e)) (component_few y))
+      subst (λ (n : ℕ). length (of_component (roll-Component x)) ≤ n) (sym (typed.at_component by_size (roll-Component x) (bare_component y) e))
+      (subst (λ (z : Signatures). length z ≤ sizes.component_layer (typed.weights_component by_size (bare_component y))) (sym (at_component (roll-Component x) (bare_component y) e)) (component_few y))
 
   step_link : (x : Link-F Argument Call Component Link TypedExpr Place) (y : Link-F SA SC SK SL SE SP) → bare_link y ≡ x → PL (roll-Link x)
   step_link x y q =
       let e = out-roll-Link x ∙ sym q in
-      subst (λ (n : ℕ). length (of_link (roll-Link x)) ≤ n) (sym (typed.at_link (roll-Link x) (bare_link y) e))
-      (subst (λ (z : Signatures). length z ≤ sizes.link_layer (typed.sizes_link (bare_link y))) (sym (at_link (roll-Link x) (bare_link y) e)) (link_few y))
+      subst (λ (n : ℕ). length (of_link (roll-Link x)) ≤ n) (sym (typed.at_link by_size (roll-Link x) (bare_link y) e))
+      (subst (λ (z : Signatures). length z ≤ sizes.link_layer (typed.weights_link by_size (bare_link y))) (sym (at_link (roll-Link x) (bare_link y) e)) (link_few y))
 
   step_expr : (x : TypedExpr-F Argument Call Component Link TypedExpr Place) (y : TypedExpr-F SA SC SK SL SE SP) → bare_expr y ≡ x → PE (roll-TypedExpr x)
   step_expr x y q =
       let e = out-roll-TypedExpr x ∙ sym q in
-      subst (λ (n : ℕ). length (of_expr m (roll-TypedExpr x)) ≤ n) (sym (typed.at_expr (roll-TypedExpr x) (bare_expr y) e))
-      (subst (λ (z : Signatures). length z ≤ sizes.expr_layer (typed.sizes_expr (bare_expr y))) (sym (at_expr (roll-TypedExpr x) (bare_expr y) e)) (expr_few y))
+      subst (λ (n : ℕ). length (of_expr m (roll-TypedExpr x)) ≤ n) (sym (typed.at_expr by_size (roll-TypedExpr x) (bare_expr y) e))
+      (subst (λ (z : Signatures). length z ≤ sizes.expr_layer (typed.weights_expr by_size (bare_expr y))) (sym (at_expr (roll-TypedExpr x) (bare_expr y) e)) (expr_few y))
 
   step_place : (x : Place-F Argument Call Component Link TypedExpr Place) (y : Place-F SA SC SK SL SE SP) → bare_place y ≡ x → PP (roll-Place x)
   step_place x y q =
       let e = out-roll-Place x ∙ sym q in
-      subst (λ (n : ℕ). length (of_place m (roll-Place x)) ≤ n) (sym (typed.at_place (roll-Place x) (bare_place y) e))
-      (subst (λ (z : Signatures). length z ≤ sizes.place_layer (typed.sizes_place (bare_place y))) (sym (at_place (roll-Place x) (bare_place y) e)) (place_few y))
+      subst (λ (n : ℕ). length (of_place m (roll-Place x)) ≤ n) (sym (typed.at_place by_size (roll-Place x) (bare_place y) e))
+      (subst (λ (z : Signatures). length z ≤ sizes.place_layer (typed.weights_place by_size (bare_place y))) (sym (at_place (roll-Place x) (bare_place y) e)) (place_few y))
 
   pub expr_calls : (e : TypedExpr) → PE e
   expr_calls = ind-TypedExpr PA PC PK PL PE PP step_argument step_call step_component step_link step_expr step_place

@@ -9,7 +9,8 @@ use Rattle.def_scheme.specs.Signatures as sign
 use Rattle.law_encoding.specs.Sizes.{total}
 use Rattle.law_encoding.specs.TypedSizes.{size_typed, size_place, size_call, size_step, size_arm}
 use Rattle.law_encoding.specs.TypedSizes as sizes
-use Rattle.law_encoding.proofs.Typed as typed
+use Rattle.law_encoding.proofs.Ways.{by_size}
+use Rattle.law_encoding.proofs.Weighed as typed
 use Rattle.law_encoding.proofs.TableCalls.{AllFew, both_few, all_few, one_more, expr_calls, place_calls, call_calls}
 
 two_sum : (a n k : ℕ) → a ≤ n + k → a ≤ 1 + n + k
@@ -86,7 +87,7 @@ module _ (m : TypedModule) where
   few_arms : (xs : List SA) → length (concatenation (map of_arm (map (λ (e : SA). e.0) xs))) ≤ total (map size_arm (map (λ (e : SA). e.0) xs))
   few_arms xs = all_few _ _ (all_arms xs)
 
-  step_few : (y : TypedStmt-F SS SA) → length (sign.step_layer m (opened_step (bare_step y))) ≤ sizes.step_layer (typed.sizes_step (bare_step y))
+  step_few : (y : TypedStmt-F SS SA) → length (sign.step_layer m (opened_step (bare_step y))) ≤ sizes.step_layer (typed.weights_step by_size (bare_step y))
   step_few (layer.Assign d t e) = two_sum _ _ _ (both_few _ _ (size_place d) (size_typed e) (place_calls m d) (expr_calls m e))
   step_few (layer.Copy to from t) = two_sum _ _ _ (both_few _ _ (size_place to) (size_place from) (place_calls m to) (place_calls m from))
   step_few (layer.CopyText d t text) = one_more _ _ (place_calls m d)
@@ -110,20 +111,20 @@ module _ (m : TypedModule) where
       (both_few _ _ (size_place d) _ (place_calls m d) (both_few _ _ (size_typed start) _ (expr_calls m start) (both_few _ _ (size_typed limit) (count body) (expr_calls m limit) (few_steps body))))
   step_few (layer.With d body) = two_sum _ _ _ (both_few _ _ (size_place d) (count body) (place_calls m d) (few_steps body))
 
-  arm_few : (y : TypedArm-F SS SA) → length (sign.arm_layer m (opened_arm (bare_arm y))) ≤ sizes.arm_layer (typed.sizes_arm (bare_arm y))
+  arm_few : (y : TypedArm-F SS SA) → length (sign.arm_layer m (opened_arm (bare_arm y))) ≤ sizes.arm_layer (typed.weights_arm by_size (bare_arm y))
   arm_few y = arm_sum _ (length y.labels) _ (few_steps y.body)
 
   step_step : (x : TypedStmt-F TypedStmt TypedArm) (y : TypedStmt-F SS SA) → bare_step y ≡ x → PS (roll-TypedStmt x)
   step_step x y q =
       let e = out-roll-TypedStmt x ∙ sym q in
-      subst (λ (n : ℕ). length (of_step m (roll-TypedStmt x)) ≤ n) (sym (typed.at_step (roll-TypedStmt x) (bare_step y) e))
-      (subst (λ (z : Signatures). length z ≤ sizes.step_layer (typed.sizes_step (bare_step y))) (sym (at_step (roll-TypedStmt x) (bare_step y) e)) (step_few y))
+      subst (λ (n : ℕ). length (of_step m (roll-TypedStmt x)) ≤ n) (sym (typed.at_step by_size (roll-TypedStmt x) (bare_step y) e))
+      (subst (λ (z : Signatures). length z ≤ sizes.step_layer (typed.weights_step by_size (bare_step y))) (sym (at_step (roll-TypedStmt x) (bare_step y) e)) (step_few y))
 
   step_arm : (x : TypedArm-F TypedStmt TypedArm) (y : TypedArm-F SS SA) → bare_arm y ≡ x → PA (roll-TypedArm x)
   step_arm x y q =
       let e = out-roll-TypedArm x ∙ sym q in
-      subst (λ (n : ℕ). length (of_arm (roll-TypedArm x)) ≤ n) (sym (typed.at_arm (roll-TypedArm x) (bare_arm y) e))
-      (subst (λ (z : Signatures). length z ≤ sizes.arm_layer (typed.sizes_arm (bare_arm y))) (sym (at_arm (roll-TypedArm x) (bare_arm y) e)) (arm_few y))
+      subst (λ (n : ℕ). length (of_arm (roll-TypedArm x)) ≤ n) (sym (typed.at_arm by_size (roll-TypedArm x) (bare_arm y) e))
+      (subst (λ (z : Signatures). length z ≤ sizes.arm_layer (typed.weights_arm by_size (bare_arm y))) (sym (at_arm (roll-TypedArm x) (bare_arm y) e)) (arm_few y))
 
   pub step_calls : (x : TypedStmt) → PS x
   step_calls = ind-TypedStmt PS PA step_step step_arm

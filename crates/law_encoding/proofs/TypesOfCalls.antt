@@ -28,7 +28,8 @@ use Rattle.law_encoding.specs.Sizes.{sum_of}
 use Rattle.law_encoding.specs.TypedSizes.{size_typed, size_place, size_component, size_link, size_call, size_passed, size_step, size_arm, size_body}
 use Rattle.law_encoding.specs.FunctionTypes.{type_counts, types_count}
 use Rattle.law_encoding.proofs.Sums.{sum_append}
-use Rattle.law_encoding.proofs.Typed as typed
+use Rattle.law_encoding.proofs.Ways.{by_size}
+use Rattle.law_encoding.proofs.Weighed as typed
 use Rattle.law_encoding.proofs.TableCalls.{of_argument, of_component, of_link, at_argument, at_call, at_component, at_link, at_expr, at_place}
 use Rattle.law_encoding.proofs.TableSteps.{of_arm, at_step, at_arm}
 
@@ -58,13 +59,13 @@ two a n k h = omega (arith, h)
 change : (a n k : ℕ) → a ≤ 2 * (n + k) → a ≤ 2 * (2 + n + k)
 change a n k h = omega (arith, h)
 
-sides : (a n k o : ℕ) → a ≤ 2 * (n + (k + o)) → a ≤ 2 * (1 + n + k + o)
+sides : (a n k o : ℕ) → a ≤ 2 * (n + (k + o)) → a ≤ 2 * (1 + (n + k + o))
 sides a n k o h = omega (arith, h)
 
-cases : (a n k o : ℕ) → a ≤ 2 * (n + (k + o)) → a ≤ 2 * (6 + n + k + o)
+cases : (a n k o : ℕ) → a ≤ 2 * (n + (k + o)) → a ≤ 2 * (6 + (n + k + o))
 cases a n k o h = omega (arith, h)
 
-course : (a d s l b : ℕ) → a ≤ 2 * (d + (s + (l + b))) → a ≤ 2 * (1 + 5 * d + s + l + b)
+course : (a d s l b : ℕ) → a ≤ 2 * (d + (s + (l + b))) → a ≤ 2 * (1 + (5 * d + s + l + b))
 course a d s l b h = omega (arith, h)
 
 arm : (a l b : ℕ) → a ≤ 2 * b → a ≤ 2 * (1 + l + b)
@@ -103,57 +104,57 @@ heading_by false args s n h = heading_sum _ (types_count args) s.arguments n (su
 module _ (m : TypedModule) (w : ℕ) where
   mutual
     pub expr_types : (e : TypedExpr) → IsExpr m w e → Few (of_expr m e) (size_typed e)
-    expr_types _ (Constant t v) = carry (at_expr m (expr.Constant t v) (layer.Constant t v) (expr.outs-Constant t v)) (typed.expr_constant t v) (none 1)
-    expr_types _ (Load t d s x) = carry (at_expr m (expr.Load t d) (layer.Load t d) (expr.outs-Load t d)) (typed.expr_load t d) (one _ (size_place d) (place_types d x))
-    expr_types _ (ProcedureValue f p) = carry (at_expr m (expr.Procedure f) (layer.Procedure f) (expr.outs-Procedure f)) (typed.expr_procedure f) (none 1)
-    expr_types _ (Plus t e x) = carry (at_expr m (expr.Plus t e) (layer.Plus t e) (expr.outs-Plus t e)) (typed.expr_plus t e) (one _ (size_typed e) (expr_types e x))
-    expr_types _ (Negate e x) = carry (at_expr m (expr.Negate e) (layer.Negate e) (expr.outs-Negate e)) (typed.expr_negate e) (one _ (size_typed e) (expr_types e x))
-    expr_types _ (Not e x) = carry (at_expr m (expr.Not e) (layer.Not e) (expr.outs-Not e)) (typed.expr_not e) (one _ (size_typed e) (expr_types e x))
-    expr_types _ (Abs t e x) = carry (at_expr m (expr.Abs t e) (layer.Abs t e) (expr.outs-Abs t e)) (typed.expr_abs t e) (one _ (size_typed e) (expr_types e x))
-    expr_types _ (Cap e x) = carry (at_expr m (expr.Cap e) (layer.Cap e) (expr.outs-Cap e)) (typed.expr_cap e) (one _ (size_typed e) (expr_types e x))
-    expr_types _ (Chr e x) = carry (at_expr m (expr.Chr e) (layer.Chr e) (expr.outs-Chr e)) (typed.expr_chr e) (one _ (size_typed e) (expr_types e x))
-    expr_types _ (Odd e x) = carry (at_expr m (expr.Odd e) (layer.Odd e) (expr.outs-Odd e)) (typed.expr_odd e) (one _ (size_typed e) (expr_types e x))
-    expr_types _ (Ord e x) = carry (at_expr m (expr.Ord e) (layer.Ord e) (expr.outs-Ord e)) (typed.expr_ord e) (one _ (size_typed e) (expr_types e x))
-    expr_types _ (Val t e x) = carry (at_expr m (expr.Val t e) (layer.Val t e) (expr.outs-Val t e)) (typed.expr_val t e) (one _ (size_typed e) (expr_types e x))
-    expr_types _ (Chain e ls x xs) = carry (at_expr m (expr.Chain e ls) (layer.Chain e ls) (expr.outs-Chain e ls)) (typed.expr_chain e ls) (two _ (size_typed e) (sum_of size_link ls) (both (of_expr m e) _ (size_typed e) _ (expr_types e x) (links_types ls xs)))
-    expr_types _ (Compare o e f x y) = carry (at_expr m (expr.Compare o e f) (layer.Compare o e f) (expr.outs-Compare o e f)) (typed.expr_compare o e f) (two _ (size_typed e) (size_typed f) (both (of_expr m e) (of_expr m f) (size_typed e) (size_typed f) (expr_types e x) (expr_types f y)))
-    expr_types _ (Include o e f x y) = carry (at_expr m (expr.Include o e f) (layer.Include o e f) (expr.outs-Include o e f)) (typed.expr_include o e f) (two _ (size_typed e) (size_typed f) (both (of_expr m e) (of_expr m f) (size_typed e) (size_typed f) (expr_types e x) (expr_types f y)))
-    expr_types _ (In e f x y) = carry (at_expr m (expr.In e f) (layer.In e f) (expr.outs-In e f)) (typed.expr_in e f) (two _ (size_typed e) (size_typed f) (both (of_expr m e) (of_expr m f) (size_typed e) (size_typed f) (expr_types e x) (expr_types f y)))
-    expr_types _ (High slot) = carry (at_expr m (expr.High slot) (layer.High slot) (expr.outs-High slot)) (typed.expr_high slot) (none 1)
-    expr_types _ (FunctionCall t c x) = carry (at_expr m (expr.Call t c) (layer.Call t c) (expr.outs-Call t c)) (typed.expr_call t c) (one _ (size_call c) (call_types c true x))
+    expr_types _ (Constant t v) = carry (at_expr m (expr.Constant t v) (layer.Constant t v) (expr.outs-Constant t v)) (typed.expr_constant by_size t v) (none 1)
+    expr_types _ (Load t d s x) = carry (at_expr m (expr.Load t d) (layer.Load t d) (expr.outs-Load t d)) (typed.expr_load by_size t d) (one _ (size_place d) (place_types d x))
+    expr_types _ (ProcedureValue f p) = carry (at_expr m (expr.Procedure f) (layer.Procedure f) (expr.outs-Procedure f)) (typed.expr_procedure by_size f) (none 1)
+    expr_types _ (Plus t e x) = carry (at_expr m (expr.Plus t e) (layer.Plus t e) (expr.outs-Plus t e)) (typed.expr_plus by_size t e) (one _ (size_typed e) (expr_types e x))
+    expr_types _ (Negate e x) = carry (at_expr m (expr.Negate e) (layer.Negate e) (expr.outs-Negate e)) (typed.expr_negate by_size e) (one _ (size_typed e) (expr_types e x))
+    expr_types _ (Not e x) = carry (at_expr m (expr.Not e) (layer.Not e) (expr.outs-Not e)) (typed.expr_not by_size e) (one _ (size_typed e) (expr_types e x))
+    expr_types _ (Abs t e x) = carry (at_expr m (expr.Abs t e) (layer.Abs t e) (expr.outs-Abs t e)) (typed.expr_abs by_size t e) (one _ (size_typed e) (expr_types e x))
+    expr_types _ (Cap e x) = carry (at_expr m (expr.Cap e) (layer.Cap e) (expr.outs-Cap e)) (typed.expr_cap by_size e) (one _ (size_typed e) (expr_types e x))
+    expr_types _ (Chr e x) = carry (at_expr m (expr.Chr e) (layer.Chr e) (expr.outs-Chr e)) (typed.expr_chr by_size e) (one _ (size_typed e) (expr_types e x))
+    expr_types _ (Odd e x) = carry (at_expr m (expr.Odd e) (layer.Odd e) (expr.outs-Odd e)) (typed.expr_odd by_size e) (one _ (size_typed e) (expr_types e x))
+    expr_types _ (Ord e x) = carry (at_expr m (expr.Ord e) (layer.Ord e) (expr.outs-Ord e)) (typed.expr_ord by_size e) (one _ (size_typed e) (expr_types e x))
+    expr_types _ (Val t e x) = carry (at_expr m (expr.Val t e) (layer.Val t e) (expr.outs-Val t e)) (typed.expr_val by_size t e) (one _ (size_typed e) (expr_types e x))
+    expr_types _ (Chain e ls x xs) = carry (at_expr m (expr.Chain e ls) (layer.Chain e ls) (expr.outs-Chain e ls)) (typed.expr_chain by_size e ls) (two _ (size_typed e) (sum_of size_link ls) (both (of_expr m e) _ (size_typed e) _ (expr_types e x) (links_types ls xs)))
+    expr_types _ (Compare o e f x y) = carry (at_expr m (expr.Compare o e f) (layer.Compare o e f) (expr.outs-Compare o e f)) (typed.expr_compare by_size o e f) (two _ (size_typed e) (size_typed f) (both (of_expr m e) (of_expr m f) (size_typed e) (size_typed f) (expr_types e x) (expr_types f y)))
+    expr_types _ (Include o e f x y) = carry (at_expr m (expr.Include o e f) (layer.Include o e f) (expr.outs-Include o e f)) (typed.expr_include by_size o e f) (two _ (size_typed e) (size_typed f) (both (of_expr m e) (of_expr m f) (size_typed e) (size_typed f) (expr_types e x) (expr_types f y)))
+    expr_types _ (In e f x y) = carry (at_expr m (expr.In e f) (layer.In e f) (expr.outs-In e f)) (typed.expr_in by_size e f) (two _ (size_typed e) (size_typed f) (both (of_expr m e) (of_expr m f) (size_typed e) (size_typed f) (expr_types e x) (expr_types f y)))
+    expr_types _ (High slot) = carry (at_expr m (expr.High slot) (layer.High slot) (expr.outs-High slot)) (typed.expr_high by_size slot) (none 1)
+    expr_types _ (FunctionCall t c x) = carry (at_expr m (expr.Call t c) (layer.Call t c) (expr.outs-Call t c)) (typed.expr_call by_size t c) (one _ (size_call c) (call_types c true x))
 
     links_types : (ls : List Link) → AreLinks m w ls → Few (concatenation (map (of_link m) ls)) (sum_of size_link ls)
     links_types _ no_links = none 0
     links_types _ (more_links x xs y ys) = both (of_link m x) _ (size_link x) (sum_of size_link xs) (link_types x y) (links_types xs ys)
 
     link_types : (x : Link) → IsLink m w x → Few (of_link m x) (size_link x)
-    link_types _ (Operated o t e x) = carry (at_link m (link.Arithmetic o t e) (layer.Arithmetic o t e) (link.outs-Arithmetic o t e)) (typed.link_arithmetic o t e) (one _ (size_typed e) (expr_types e x))
-    link_types _ (AndOf e x) = carry (at_link m (link.And e) (layer.And e) (link.outs-And e)) (typed.link_and e) (one _ (size_typed e) (expr_types e x))
-    link_types _ (OrOf e x) = carry (at_link m (link.Or e) (layer.Or e) (link.outs-Or e)) (typed.link_or e) (one _ (size_typed e) (expr_types e x))
-    link_types _ (Combine o e x) = carry (at_link m (link.Combine o e) (layer.Combine o e) (link.outs-Combine o e)) (typed.link_combine o e) (one _ (size_typed e) (expr_types e x))
+    link_types _ (Operated o t e x) = carry (at_link m (link.Arithmetic o t e) (layer.Arithmetic o t e) (link.outs-Arithmetic o t e)) (typed.link_arithmetic by_size o t e) (one _ (size_typed e) (expr_types e x))
+    link_types _ (AndOf e x) = carry (at_link m (link.And e) (layer.And e) (link.outs-And e)) (typed.link_and by_size e) (one _ (size_typed e) (expr_types e x))
+    link_types _ (OrOf e x) = carry (at_link m (link.Or e) (layer.Or e) (link.outs-Or e)) (typed.link_or by_size e) (one _ (size_typed e) (expr_types e x))
+    link_types _ (Combine o e x) = carry (at_link m (link.Combine o e) (layer.Combine o e) (link.outs-Combine o e)) (typed.link_combine by_size o e) (one _ (size_typed e) (expr_types e x))
 
     pub place_types : (d : Place) → IsPlace m w d → Few (of_place m d) (size_place d)
-    place_types _ (Designator d r xs) = carry (at_place m d (out-Place d) refl) (typed.place_sum d) (one _ (sum_of size_component d.components) (components_types d.components xs))
+    place_types _ (Designator d r xs) = carry (at_place m d (out-Place d) refl) (typed.place_sum by_size d) (one _ (sum_of size_component d.components) (components_types d.components xs))
 
     components_types : (cs : List Component) → AreComponents m w cs → Few (concatenation (map (of_component m) cs)) (sum_of size_component cs)
     components_types _ no_components = none 0
     components_types _ (more_components x xs y ys) = both (of_component m x) _ (size_component x) (sum_of size_component xs) (component_types x y) (components_types xs ys)
 
     component_types : (x : Component) → IsComponent m w x → Few (of_component m x) (size_component x)
-    component_types _ (FieldOf t n) = carry (at_component m (component.Field t n) (layer.Field t n) (component.outs-Field t n)) (typed.component_field t n) (none 1)
-    component_types _ (Element t i x) = carry (at_component m (component.Element t i) (layer.Element t i) (component.outs-Element t i)) (typed.component_element t i) (one _ (size_typed i) (expr_types i x))
-    component_types _ (OpenElement slot t i x) = carry (at_component m (component.OpenElement slot t i) (layer.OpenElement slot t i) (component.outs-OpenElement slot t i)) (typed.component_openelement slot t i) (one _ (size_typed i) (expr_types i x))
+    component_types _ (FieldOf t n) = carry (at_component m (component.Field t n) (layer.Field t n) (component.outs-Field t n)) (typed.component_field by_size t n) (none 1)
+    component_types _ (Element t i x) = carry (at_component m (component.Element t i) (layer.Element t i) (component.outs-Element t i)) (typed.component_element by_size t i) (one _ (size_typed i) (expr_types i x))
+    component_types _ (OpenElement slot t i x) = carry (at_component m (component.OpenElement slot t i) (layer.OpenElement slot t i) (component.outs-OpenElement slot t i)) (typed.component_openelement by_size slot t i) (one _ (size_typed i) (expr_types i x))
 
     pub call_types : (c : Call) (r : Bool) → IsCall m w c r → Few (of_call m c) (size_call c)
     call_types _ _ (OfModule f xs r p e ys) =
-        carry (at_call m (call.Module f xs) (layer.Module f xs) (call.outs-Module f xs)) (typed.call_module f xs)
+        carry (at_call m (call.Module f xs) (layer.Module f xs) (call.outs-Module f xs)) (typed.call_module by_size f xs)
         (heading_by (is_own m f.home) (concatenation (map (of_argument m) xs)) (of_heading m.types f.heading) (sum_of size_passed xs) (arguments_types xs (formals_of m.types f.heading) ys))
     call_types _ _ (OfProcedure f xs r p e ys) =
-        carry (at_call m (call.Nested f xs) (layer.Nested f xs) (call.outs-Nested f xs)) (typed.call_nested f xs) (args_alone _ (all_arguments (formals_of m.types f.heading)) (sum_of size_passed xs) (arguments_types xs (formals_of m.types f.heading) ys))
+        carry (at_call m (call.Nested f xs) (layer.Nested f xs) (call.outs-Nested f xs)) (typed.call_nested by_size f xs) (args_alone _ (all_arguments (formals_of m.types f.heading)) (sum_of size_passed xs) (arguments_types xs (formals_of m.types f.heading) ys))
     call_types _ _ (OfVariable t d xs r s x e ys) =
         let args = concatenation (map (of_argument m) xs) in
         let heading = of_heading m.types t ∷ [] in
-        carry (at_call m (call.Variable t d xs) (layer.Variable t d xs) (call.outs-Variable t d xs)) (typed.call_variable t d xs)
+        carry (at_call m (call.Variable t d xs) (layer.Variable t d xs) (call.outs-Variable t d xs)) (typed.call_variable by_size t d xs)
         (variable_sum _ (types_count (of_place m d)) _ (types_count args) (all_arguments (formals_of m.types t)) (size_place d) (sum_of size_passed xs) (sum_append type_counts (of_place m d) (args ++ heading)) (sum_append type_counts args heading)
         (place_types d x) (arguments_types xs (formals_of m.types t) ys))
 
@@ -164,37 +165,37 @@ module _ (m : TypedModule) (w : ℕ) where
         (argument_types x f.is_open y) (arguments_types xs fs ys)
 
     argument_types : (x : Argument) (q : Bool) → IsArgument m w x q → types_count (of_argument m x) + (if q then 2 else 1) ≤ 2 * size_passed x
-    argument_types _ _ (Value t e x) = along 1 (at_argument m (argument.Value t e) (layer.Value t e) (argument.outs-Value t e)) (typed.argument_value t e) (with_one _ (size_typed e) (expr_types e x))
-    argument_types _ _ (Actual d x) = along 1 (at_argument m (argument.Place d) (layer.Place d) (argument.outs-Place d)) (typed.argument_place d) (with_one _ (size_place d) (place_types d x))
-    argument_types _ _ (ActualArray t d x) = along 2 (at_argument m (argument.Array t d) (layer.Array t d) (argument.outs-Array t d)) (typed.argument_array t d) (with_two _ (size_place d) (place_types d x))
-    argument_types _ _ (Open slot) = along 2 (at_argument m (argument.Open slot) (layer.Open slot) (argument.outs-Open slot)) (typed.argument_open slot) (omega arith)
-    argument_types _ _ (Text text) = along 2 (at_argument m (argument.Text text) (layer.Text text) (argument.outs-Text text)) (typed.argument_text text) (omega arith)
+    argument_types _ _ (Value t e x) = along 1 (at_argument m (argument.Value t e) (layer.Value t e) (argument.outs-Value t e)) (typed.argument_value by_size t e) (with_one _ (size_typed e) (expr_types e x))
+    argument_types _ _ (Actual d x) = along 1 (at_argument m (argument.Place d) (layer.Place d) (argument.outs-Place d)) (typed.argument_place by_size d) (with_one _ (size_place d) (place_types d x))
+    argument_types _ _ (ActualArray t d x) = along 2 (at_argument m (argument.Array t d) (layer.Array t d) (argument.outs-Array t d)) (typed.argument_array by_size t d) (with_two _ (size_place d) (place_types d x))
+    argument_types _ _ (Open slot) = along 2 (at_argument m (argument.Open slot) (layer.Open slot) (argument.outs-Open slot)) (typed.argument_open by_size slot) (omega arith)
+    argument_types _ _ (Text text) = along 2 (at_argument m (argument.Text text) (layer.Text text) (argument.outs-Text text)) (typed.argument_text by_size text) (omega arith)
 
 -- ---- statements
 
 module _ (m : TypedModule) (gives : Bool) where
   mutual
     pub step_types : (w : ℕ) (l : Bool) (x : TypedStmt) → IsStmt m gives w l x → Few (of_step m x) (size_step x)
-    step_types _ _ _ (Assign w l d t e s x y) = carry (at_step m (stmt.Assign d t e) (step.Assign d t e) (stmt.outs-Assign d t e)) (typed.step_assign d t e) (two _ (size_place d) (size_typed e) (both (of_place m d) (of_expr m e) (size_place d) (size_typed e) (place_types m w d x) (expr_types m w e y)))
-    step_types _ _ _ (Copy w l to from t x y) = carry (at_step m (stmt.Copy to from t) (step.Copy to from t) (stmt.outs-Copy to from t)) (typed.step_copy to from t) (two _ (size_place to) (size_place from) (both (of_place m to) (of_place m from) (size_place to) (size_place from) (place_types m w to x) (place_types m w from y)))
-    step_types _ _ _ (CopyText w l d t text x) = carry (at_step m (stmt.CopyText d t text) (step.CopyText d t text) (stmt.outs-CopyText d t text)) (typed.step_copytext d t text) (one _ (size_place d) (place_types m w d x))
-    step_types _ _ _ (ProcedureCall w l c x) = carry (at_step m (stmt.Call c) (step.Call c) (stmt.outs-Call c)) (typed.step_call c) (call_types m w c false x)
-    step_types _ _ _ (Put w l e x) = carry (at_step m (stmt.Put e) (step.Put e) (stmt.outs-Put e)) (typed.step_put e) (one _ (size_typed e) (expr_types m w e x))
-    step_types _ _ _ (Changed w l o d t e s x y) = carry (at_step m (stmt.Change o d t e) (step.Change o d t e) (stmt.outs-Change o d t e)) (typed.step_change o d t e) (change _ (size_place d) (size_typed e) (both (of_place m d) (of_expr m e) (size_place d) (size_typed e) (place_types m w d x) (expr_types m w e y)))
-    step_types _ _ _ (Member w l o d e x y) = carry (at_step m (stmt.Membership o d e) (step.Membership o d e) (stmt.outs-Membership o d e)) (typed.step_membership o d e) (change _ (size_place d) (size_typed e) (both (of_place m d) (of_expr m e) (size_place d) (size_typed e) (place_types m w d x) (expr_types m w e y)))
-    step_types _ _ _ (Halt w l) = carry (at_step m stmt.Halt step.Halt stmt.outs-Halt) typed.step_halt (none 1)
-    step_types _ _ _ (If w l e body _ x y (no_others _ _)) = carry (at_step m (stmt.If e body None) (step.If e body None) (stmt.outs-If e body None)) (typed.step_if e body None) (sides _ (size_typed e) (size_body body) 0 (both (of_expr m e) ((concatenation (map (of_step m) body)) ++ []) (size_typed e) ((size_body body) + 0) (expr_types m w e x) (both (concatenation (map (of_step m) body)) [] (size_body body) 0 (body_types w l body y) (none 0))))
-    step_types _ _ _ (If w l e body _ x y (others _ _ xs z)) = carry (at_step m (stmt.If e body (Some xs)) (step.If e body (Some xs)) (stmt.outs-If e body (Some xs))) (typed.step_if e body (Some xs)) (sides _ (size_typed e) (size_body body) (size_body xs) (both (of_expr m e) ((concatenation (map (of_step m) body)) ++ concatenation (map (of_step m) xs)) (size_typed e) ((size_body body) + size_body xs) (expr_types m w e x) (both (concatenation (map (of_step m) body)) (concatenation (map (of_step m) xs)) (size_body body) (size_body xs) (body_types w l body y) (body_types w l xs z))))
-    step_types _ _ _ (Case w l e arms _ x y (no_others _ _)) = carry (at_step m (stmt.Case e arms None) (step.Case e arms None) (stmt.outs-Case e arms None)) (typed.step_case e arms None) (cases _ (size_typed e) (sum_of size_arm arms) 0 (both (of_expr m e) ((concatenation (map (of_arm m) arms)) ++ []) (size_typed e) ((sum_of size_arm arms) + 0) (expr_types m w e x) (both (concatenation (map (of_arm m) arms)) [] (sum_of size_arm arms) 0 (arms_types w l arms y) (none 0))))
-    step_types _ _ _ (Case w l e arms _ x y (others _ _ xs z)) = carry (at_step m (stmt.Case e arms (Some xs)) (step.Case e arms (Some xs)) (stmt.outs-Case e arms (Some xs))) (typed.step_case e arms (Some xs)) (cases _ (size_typed e) (sum_of size_arm arms) (size_body xs) (both (of_expr m e) ((concatenation (map (of_arm m) arms)) ++ concatenation (map (of_step m) xs)) (size_typed e) ((sum_of size_arm arms) + size_body xs) (expr_types m w e x) (both (concatenation (map (of_arm m) arms)) (concatenation (map (of_step m) xs)) (sum_of size_arm arms) (size_body xs) (arms_types w l arms y) (body_types w l xs z))))
-    step_types _ _ _ (While w l e body x y) = carry (at_step m (stmt.While e body) (step.While e body) (stmt.outs-While e body)) (typed.step_while e body) (two _ (size_typed e) (size_body body) (both (of_expr m e) (concatenation (map (of_step m) body)) (size_typed e) (size_body body) (expr_types m w e x) (body_types w l body y)))
-    step_types _ _ _ (Repeat w l body e y x) = carry (at_step m (stmt.Repeat body e) (step.Repeat body e) (stmt.outs-Repeat body e)) (typed.step_repeat body e) (two _ (size_body body) (size_typed e) (both (concatenation (map (of_step m) body)) (of_expr m e) (size_body body) (size_typed e) (body_types w l body y) (expr_types m w e x)))
-    step_types _ _ _ (Loop w l body y) = carry (at_step m (stmt.Loop body) (step.Loop body) (stmt.outs-Loop body)) (typed.step_loop body) (one _ (size_body body) (body_types w true body y))
-    step_types _ _ _ (Exit w) = carry (at_step m stmt.Exit step.Exit stmt.outs-Exit) typed.step_exit (none 1)
-    step_types _ _ _ (Return w l q) = carry (at_step m stmt.Return step.Return stmt.outs-Return) typed.step_return (none 1)
-    step_types _ _ _ (Give w l t e q x) = carry (at_step m (stmt.Give t e) (step.Give t e) (stmt.outs-Give t e)) (typed.step_give t e) (one _ (size_typed e) (expr_types m w e x))
-    step_types _ _ _ (For w l d t start limit by body s x y z v) = carry (at_step m (stmt.For d t start limit by body) (step.For d t start limit by body) (stmt.outs-For d t start limit by body)) (typed.step_for d t start limit by body) (course _ (size_place d) (size_typed start) (size_typed limit) (size_body body) (both (of_place m d) (of_expr m start ++ (of_expr m limit ++ concatenation (map (of_step m) body))) (size_place d) (size_typed start + (size_typed limit + size_body body)) (place_types m w d x) (both (of_expr m start) (of_expr m limit ++ concatenation (map (of_step m) body)) (size_typed start) (size_typed limit + size_body body) (expr_types m w start y) (both (of_expr m limit) (concatenation (map (of_step m) body)) (size_typed limit) (size_body body) (expr_types m w limit z) (body_types w l body v)))))
-    step_types _ _ _ (With w l d body x y) = carry (at_step m (stmt.With d body) (step.With d body) (stmt.outs-With d body)) (typed.step_with d body) (two _ (size_place d) (size_body body) (both (of_place m d) (concatenation (map (of_step m) body)) (size_place d) (size_body body) (place_types m w d x) (body_types (suc w) l body y)))
+    step_types _ _ _ (Assign w l d t e s x y) = carry (at_step m (stmt.Assign d t e) (step.Assign d t e) (stmt.outs-Assign d t e)) (typed.step_assign by_size d t e) (two _ (size_place d) (size_typed e) (both (of_place m d) (of_expr m e) (size_place d) (size_typed e) (place_types m w d x) (expr_types m w e y)))
+    step_types _ _ _ (Copy w l to from t x y) = carry (at_step m (stmt.Copy to from t) (step.Copy to from t) (stmt.outs-Copy to from t)) (typed.step_copy by_size to from t) (two _ (size_place to) (size_place from) (both (of_place m to) (of_place m from) (size_place to) (size_place from) (place_types m w to x) (place_types m w from y)))
+    step_types _ _ _ (CopyText w l d t text x) = carry (at_step m (stmt.CopyText d t text) (step.CopyText d t text) (stmt.outs-CopyText d t text)) (typed.step_copytext by_size d t text) (one _ (size_place d) (place_types m w d x))
+    step_types _ _ _ (ProcedureCall w l c x) = carry (at_step m (stmt.Call c) (step.Call c) (stmt.outs-Call c)) (typed.step_call by_size c) (call_types m w c false x)
+    step_types _ _ _ (Put w l e x) = carry (at_step m (stmt.Put e) (step.Put e) (stmt.outs-Put e)) (typed.step_put by_size e) (one _ (size_typed e) (expr_types m w e x))
+    step_types _ _ _ (Changed w l o d t e s x y) = carry (at_step m (stmt.Change o d t e) (step.Change o d t e) (stmt.outs-Change o d t e)) (typed.step_change by_size o d t e) (change _ (size_place d) (size_typed e) (both (of_place m d) (of_expr m e) (size_place d) (size_typed e) (place_types m w d x) (expr_types m w e y)))
+    step_types _ _ _ (Member w l o d e x y) = carry (at_step m (stmt.Membership o d e) (step.Membership o d e) (stmt.outs-Membership o d e)) (typed.step_membership by_size o d e) (change _ (size_place d) (size_typed e) (both (of_place m d) (of_expr m e) (size_place d) (size_typed e) (place_types m w d x) (expr_types m w e y)))
+    step_types _ _ _ (Halt w l) = carry (at_step m stmt.Halt step.Halt stmt.outs-Halt) (typed.step_halt by_size) (none 1)
+    step_types _ _ _ (If w l e body _ x y (no_others _ _)) = carry (at_step m (stmt.If e body None) (step.If e body None) (stmt.outs-If e body None)) (typed.step_if by_size e body None) (sides _ (size_typed e) (size_body body) 0 (both (of_expr m e) ((concatenation (map (of_step m) body)) ++ []) (size_typed e) ((size_body body) + 0) (expr_types m w e x) (both (concatenation (map (of_step m) body)) [] (size_body body) 0 (body_types w l body y) (none 0))))
+    step_types _ _ _ (If w l e body _ x y (others _ _ xs z)) = carry (at_step m (stmt.If e body (Some xs)) (step.If e body (Some xs)) (stmt.outs-If e body (Some xs))) (typed.step_if by_size e body (Some xs)) (sides _ (size_typed e) (size_body body) (size_body xs) (both (of_expr m e) ((concatenation (map (of_step m) body)) ++ concatenation (map (of_step m) xs)) (size_typed e) ((size_body body) + size_body xs) (expr_types m w e x) (both (concatenation (map (of_step m) body)) (concatenation (map (of_step m) xs)) (size_body body) (size_body xs) (body_types w l body y) (body_types w l xs z))))
+    step_types _ _ _ (Case w l e arms _ x y (no_others _ _)) = carry (at_step m (stmt.Case e arms None) (step.Case e arms None) (stmt.outs-Case e arms None)) (typed.step_case by_size e arms None) (cases _ (size_typed e) (sum_of size_arm arms) 0 (both (of_expr m e) ((concatenation (map (of_arm m) arms)) ++ []) (size_typed e) ((sum_of size_arm arms) + 0) (expr_types m w e x) (both (concatenation (map (of_arm m) arms)) [] (sum_of size_arm arms) 0 (arms_types w l arms y) (none 0))))
+    step_types _ _ _ (Case w l e arms _ x y (others _ _ xs z)) = carry (at_step m (stmt.Case e arms (Some xs)) (step.Case e arms (Some xs)) (stmt.outs-Case e arms (Some xs))) (typed.step_case by_size e arms (Some xs)) (cases _ (size_typed e) (sum_of size_arm arms) (size_body xs) (both (of_expr m e) ((concatenation (map (of_arm m) arms)) ++ concatenation (map (of_step m) xs)) (size_typed e) ((sum_of size_arm arms) + size_body xs) (expr_types m w e x) (both (concatenation (map (of_arm m) arms)) (concatenation (map (of_step m) xs)) (sum_of size_arm arms) (size_body xs) (arms_types w l arms y) (body_types w l xs z))))
+    step_types _ _ _ (While w l e body x y) = carry (at_step m (stmt.While e body) (step.While e body) (stmt.outs-While e body)) (typed.step_while by_size e body) (one _ (size_typed e + size_body body) (both (of_expr m e) (concatenation (map (of_step m) body)) (size_typed e) (size_body body) (expr_types m w e x) (body_types w l body y)))
+    step_types _ _ _ (Repeat w l body e y x) = carry (at_step m (stmt.Repeat body e) (step.Repeat body e) (stmt.outs-Repeat body e)) (typed.step_repeat by_size body e) (one _ (size_body body + size_typed e) (both (concatenation (map (of_step m) body)) (of_expr m e) (size_body body) (size_typed e) (body_types w l body y) (expr_types m w e x)))
+    step_types _ _ _ (Loop w l body y) = carry (at_step m (stmt.Loop body) (step.Loop body) (stmt.outs-Loop body)) (typed.step_loop by_size body) (one _ (size_body body) (body_types w true body y))
+    step_types _ _ _ (Exit w) = carry (at_step m stmt.Exit step.Exit stmt.outs-Exit) (typed.step_exit by_size) (none 1)
+    step_types _ _ _ (Return w l q) = carry (at_step m stmt.Return step.Return stmt.outs-Return) (typed.step_return by_size) (none 1)
+    step_types _ _ _ (Give w l t e q x) = carry (at_step m (stmt.Give t e) (step.Give t e) (stmt.outs-Give t e)) (typed.step_give by_size t e) (one _ (size_typed e) (expr_types m w e x))
+    step_types _ _ _ (For w l d t start limit by body s x y z v) = carry (at_step m (stmt.For d t start limit by body) (step.For d t start limit by body) (stmt.outs-For d t start limit by body)) (typed.step_for by_size d t start limit by body) (course _ (size_place d) (size_typed start) (size_typed limit) (size_body body) (both (of_place m d) (of_expr m start ++ (of_expr m limit ++ concatenation (map (of_step m) body))) (size_place d) (size_typed start + (size_typed limit + size_body body)) (place_types m w d x) (both (of_expr m start) (of_expr m limit ++ concatenation (map (of_step m) body)) (size_typed start) (size_typed limit + size_body body) (expr_types m w start y) (both (of_expr m limit) (concatenation (map (of_step m) body)) (size_typed limit) (size_body body) (expr_types m w limit z) (body_types w l body v)))))
+    step_types _ _ _ (With w l d body x y) = carry (at_step m (stmt.With d body) (step.With d body) (stmt.outs-With d body)) (typed.step_with by_size d body) (two _ (size_place d) (size_body body) (both (of_place m d) (concatenation (map (of_step m) body)) (size_place d) (size_body body) (place_types m w d x) (body_types (suc w) l body y)))
 
     pub body_types : (w : ℕ) (l : Bool) (xs : List TypedStmt) → AreStmts m gives w l xs → Few (concatenation (map (of_step m) xs)) (size_body xs)
     body_types _ _ _ (no_stmts w l) = none 0
@@ -203,4 +204,4 @@ module _ (m : TypedModule) (gives : Bool) where
     arms_types : (w : ℕ) (l : Bool) (xs : List TypedArm) → AreArms m gives w l xs → Few (concatenation (map (of_arm m) xs)) (sum_of size_arm xs)
     arms_types _ _ _ (no_arms w l) = none 0
     arms_types _ _ _ (more_arms w l x xs y ys) =
-        both (of_arm m x) _ (size_arm x) (sum_of size_arm xs) (carry (at_arm m x (out-TypedArm x) refl) (typed.arm_sum x) (arm _ (length x.labels) (size_body x.body) (body_types w l x.body y))) (arms_types w l xs ys)
+        both (of_arm m x) _ (size_arm x) (sum_of size_arm xs) (carry (at_arm m x (out-TypedArm x) refl) (typed.arm_sum by_size x) (arm _ (length x.labels) (size_body x.body) (body_types w l x.body y))) (arms_types w l xs ys)

@@ -1,9 +1,10 @@
 -- What sums of weights come to, in each of the three ways.
 use Rattle.std.proofs.Common.{◌≡◌, ℕ, ◌+◌, ◌*◌, ◌≤◌, List, [], ◌∷◌, ◌++◌, Result, refl, arith}
+use Rattle.std.specs.Prelude.{map}
 use Rattle.check_scope.specs.Elaborated.{Gathers, both}
 use Rattle.law_encoding.specs.Counted.{AtMost, fine, broken}
-use Rattle.law_encoding.proofs.Sums.{sum_append}
-use Rattle.law_encoding.proofs.Deepest.{deepest_append}
+use Rattle.law_encoding.proofs.Sums.{total_map, sum_append}
+use Rattle.law_encoding.proofs.Deepest.{deepest_map, deepest_append}
 use Rattle.law_encoding.proofs.Ways.{Way, by_size, by_depth, by_distance, ◌⊕⟨◌⟩◌, node, up, operand, second, in_if, in_case, in_loop, control, labels, all_of, total_of, arguments}
 
 -- ---- lists
@@ -42,6 +43,11 @@ pub all_again : (w : Way) (k n : ℕ) (ns : List ℕ) → k ⊕⟨ w ⟩ n ⊕�
 all_again by_size k n ns = omega arith
 all_again by_depth k n ns = omega arith
 all_again (by_distance level) k n ns = omega arith
+
+pub total_all : {A : Type 0} (w : Way) (f : A → ℕ) (xs : List A) → total_of w (map f xs) ≡ all_of w f xs
+total_all by_size f xs = total_map f xs
+total_all by_depth f xs = deepest_map f xs
+total_all (by_distance level) f xs = deepest_map f xs
 
 -- ---- arguments of standard functions and procedures
 
