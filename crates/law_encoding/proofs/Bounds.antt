@@ -1,5 +1,5 @@
 -- What the one proof says in each of the three ways.
-use Rattle.std.proofs.Common.{◌≡◌, ℕ, ◌+◌, ◌≤◌, List, [], ◌∷◌, Option, Some, None, Result, refl, arith}
+use Rattle.std.proofs.Common.{◌≡◌, ℕ, ◌+◌, ◌≤◌, List, [], ◌∷◌, Option, None, Result, refl, arith}
 use Rattle.std.specs.Prelude.{◌-◌}
 use Rattle.m2_tree.specs.declared.expr.Expr.{Expr}
 use Rattle.m2_tree.specs.declared.expr.Designator.{Designator}
@@ -81,47 +81,62 @@ as_far level [] = omega arith
 as_far level (x ∷ xs) = omega (arith, as_far level xs)
 
 module _ (g : Gathers) where
-  pub meanings_small : (s : Scope g.Reported) (e : Expr) → AtMost size_designated (size_expr e) ((meanings_of g e).means s)
+  pub meanings_small : (s : Scope g.Reported) (e : Expr) → AtMost size_designated (size_expr e)
+      ((meanings_of g e).means s)
   meanings_small s e = at_mapped (λ x l. omega (arith, l, meant_size x)) (meant_most by_size g s tt e)
 
-  pub heads_small : (s : Scope g.Reported) (d : Designator) → AtMost size_designated (1 + size_designator d) ((head g d).means s)
+  pub heads_small : (s : Scope g.Reported) (d : Designator) → AtMost size_designated (1 + size_designator d)
+      ((head g d).means s)
   heads_small s d = at_mapped (λ x l. omega (arith, l, meant_size x)) (head_most by_size g s tt d)
 
   pub meanings_near : (s : Scope g.Reported) (e : Expr) → AtMost outward_designated s.level ((meanings_of g e).means s)
-  meanings_near s e = at_mapped (λ x l. omega (arith, l, meant_far s.level x)) (meant_most (by_distance s.level) g s (omega arith) e)
+  meanings_near s e = at_mapped (λ x l. omega (arith, l, meant_far s.level x))
+      (meant_most (by_distance s.level) g s (omega arith) e)
 
   -- ---- statements
 
-  pub statements_small : (s : Scope g.Reported) (a : Around g.Reported) (xs : List Stmt) → AtMost size_body (size_stmts xs) (statements g s a xs)
+  pub statements_small : (s : Scope g.Reported) (a : Around g.Reported) (xs : List Stmt)
+      → AtMost size_body (size_stmts xs) (statements g s a xs)
   statements_small s a xs = statements_most by_size g s a tt xs
 
-  pub statements_shallow : (s : Scope g.Reported) (a : Around g.Reported) (xs : List Stmt) → AtMost depth_body (depth_stmts xs) (statements g s a xs)
+  pub statements_shallow : (s : Scope g.Reported) (a : Around g.Reported) (xs : List Stmt)
+      → AtMost depth_body (depth_stmts xs) (statements g s a xs)
   statements_shallow s a xs = statements_most by_depth g s a tt xs
 
-  pub statements_near : (s : Scope g.Reported) (a : Around g.Reported) (xs : List Stmt) → AtMost outward_body s.level (statements g s a xs)
+  pub statements_near : (s : Scope g.Reported) (a : Around g.Reported) (xs : List Stmt)
+      → AtMost outward_body s.level (statements g s a xs)
   statements_near s a xs = at_more (as_far s.level xs) (statements_most (by_distance s.level) g s a (omega arith) xs)
 
   -- ---- modules
 
-  pub modules_small : (number : ℕ) (m : Module) (own : Option Table) (tables : List Table) → AtMost size_bodies (size_module m) (body_module g number m own tables)
+  pub modules_small : (number : ℕ) (m : Module) (own : Option Table) (tables : List Table)
+      → AtMost size_bodies (size_module m) (body_module g number m own tables)
   modules_small = blocks.module_most by_size g (elaborate_body g) (λ s r xs. statements_small s _ xs)
 
-  pub modules_shallow : (number : ℕ) (m : Module) (own : Option Table) (tables : List Table) → AtMost depth_bodies (depth_module m) (body_module g number m own tables)
+  pub modules_shallow : (number : ℕ) (m : Module) (own : Option Table) (tables : List Table)
+      → AtMost depth_bodies (depth_module m) (body_module g number m own tables)
   modules_shallow = blocks.module_most by_depth g (elaborate_body g) (λ s r xs. statements_shallow s _ xs)
 
-  module _ (elaborates : Elaborates g.Reported) (near : (s : Scope g.Reported) (r : Option (Result TypeNo g.Reported)) (xs : List Stmt) → AtMost outward_body s.level (elaborates s r xs)) where
+  module _ (elaborates : Elaborates g.Reported) (near : (s : Scope g.Reported) (r : Option (Result TypeNo g.Reported))
+      (xs : List Stmt) → AtMost outward_body s.level (elaborates s r xs)) where
     -- how much further outwards than it stands deep
-    beyond : (s : Scope g.Reported) (r : Option (Result TypeNo g.Reported)) (xs : List Stmt) → AtMost (λ (xs : List TypedStmt). outward_body xs - s.level) 0 (elaborates s r xs)
+    beyond : (s : Scope g.Reported) (r : Option (Result TypeNo g.Reported)) (xs : List Stmt)
+        → AtMost (λ (xs : List TypedStmt). outward_body xs - s.level) 0 (elaborates s r xs)
     beyond s r xs = at_mapped (λ x l. omega (arith, l)) (near s r xs)
 
-    pub body_near : (s : Scope g.Reported) (r : Option (Result TypeNo g.Reported)) (body : Option (List Stmt)) → AtMost outward_body s.level (statements_of elaborates s r body)
-    body_near s r body = at_mapped (λ x l. omega (arith, l)) (blocks.statements_most (by_distance 0) g elaborates beyond s r body)
+    pub body_near : (s : Scope g.Reported) (r : Option (Result TypeNo g.Reported)) (body : Option (List Stmt))
+        → AtMost outward_body s.level (statements_of elaborates s r body)
+    body_near s r body = at_mapped (λ x l. omega (arith, l)) (blocks.statements_most (by_distance 0) g elaborates beyond
+        s r body)
 
     pub walked_near : (ends : List ℕ) (modules : List (List ℕ × ℕ)) (s : Scope g.Reported) (m : Module) (ds : List Decl)
         → let w = begun_module g modules ends s m ds in
         let rs = (bodies_checked g elaborates ends None w.1 w.0 ds).bodies in
         deepest_of beyond_routine rs.procedures ⊔ deepest_of beyond_routine rs.locals ≤ 0
-    walked_near ends modules s m ds = omega (arith, blocks.walked_bodies (by_distance 0) g elaborates beyond ends modules s m ds, as_far 0 ds)
+    walked_near ends modules s m ds = omega (arith, blocks.walked_bodies (by_distance 0) g elaborates beyond ends
+        modules s m ds, as_far 0 ds)
 
-  pub modules_near : (number : ℕ) (m : Module) (own : Option Table) (tables : List Table) → AtMost beyond_routines 0 (body_module g number m own tables)
-  modules_near = blocks.module_most (by_distance 0) g (elaborate_body g) (beyond (elaborate_body g) (λ s r xs. statements_near s _ xs))
+  pub modules_near : (number : ℕ) (m : Module) (own : Option Table) (tables : List Table)
+      → AtMost beyond_routines 0 (body_module g number m own tables)
+  modules_near = blocks.module_most (by_distance 0) g (elaborate_body g)
+      (beyond (elaborate_body g) (λ s r xs. statements_near s _ xs))

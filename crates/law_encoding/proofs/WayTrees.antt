@@ -20,12 +20,14 @@ use Rattle.m2_tree.specs.declared.stmt.Stmt.{Stmt, Stmt-F, out-Stmt}
 use Rattle.m2_tree.specs.declared.stmt.Arm.{Arm, Arm-F, out-Arm}
 use Rattle.law_encoding.specs.Sizes.{sum_of, size_expr, size_selector, size_designator, size_stmt, size_rest, size_arm}
 use Rattle.law_encoding.specs.Sizes as size
-use Rattle.law_encoding.specs.Nesting.{◌⊔◌, deepest_of, deepest, depth_expr, depth_selector, depth_designator, depth_stmt, depth_rest, depth_arm}
+use Rattle.law_encoding.specs.Nesting.{◌⊔◌, deepest_of, deepest, depth_expr, depth_selector, depth_designator}
+use Rattle.law_encoding.specs.Nesting.{depth_stmt, depth_rest, depth_arm}
 use Rattle.law_encoding.specs.Nesting as nesting
 use Rattle.law_encoding.proofs.Variants.{size_label}
 use Rattle.law_encoding.proofs.Variants as sized
 use Rattle.law_encoding.proofs.DeepTrees as deep
-use Rattle.law_encoding.proofs.Ways.{Way, by_size, by_depth, by_distance, ◌⊕⟨◌⟩◌, node, up, operand, second, control, in_if, in_case, in_loop, labels, total_of, arguments, operands}
+use Rattle.law_encoding.proofs.Ways.{Way, by_size, by_depth, by_distance, ◌⊕⟨◌⟩◌, node, up, operand, control, in_if}
+use Rattle.law_encoding.proofs.Ways.{in_case, in_loop, labels, total_of, arguments, operands}
 
 -- ---- what a name weighs by itself
 
@@ -55,12 +57,14 @@ global_name by_size n h = omega (arith, h)
 global_name by_depth n h = omega (arith, h)
 global_name (by_distance far) n h = omega (arith, h)
 
-pub field_name : (w : Way) (n d c : ℕ) → n ≡ d ⊕⟨ w ⟩ c → d ≡ node w ⊕⟨ w ⟩ up w 0 → c ≡ node w → node w ⊕⟨ w ⟩ n ≤ base w
+pub field_name : (w : Way) (n d c : ℕ) → n ≡ d ⊕⟨ w ⟩ c → d ≡ node w ⊕⟨ w ⟩ up w 0 → c ≡ node w
+    → node w ⊕⟨ w ⟩ n ≤ base w
 field_name by_size n d c h i j = omega (arith, h, i, j)
 field_name by_depth n d c h i j = omega (arith, h, i, j)
 field_name (by_distance far) n d c h i j = omega (arith, h, i, j)
 
-pub local_name : (w : Way) (level own n : ℕ) → IsNear w level → n ≡ node w ⊕⟨ w ⟩ up w (level - own) → node w ⊕⟨ w ⟩ n ≤ base w
+pub local_name : (w : Way) (level own n : ℕ) → IsNear w level → n ≡ node w ⊕⟨ w ⟩ up w (level - own)
+    → node w ⊕⟨ w ⟩ n ≤ base w
 local_name by_size level own n h i = omega (arith, i)
 local_name by_depth level own n h i = omega (arith, i)
 local_name (by_distance far) level own n h i = omega (arith, h, i)
@@ -86,7 +90,8 @@ global_control by_size n h = omega (arith, h)
 global_control by_depth n h = omega (arith, h)
 global_control (by_distance far) n h = omega (arith, h)
 
-pub local_control : (w : Way) (level own n : ℕ) → IsNear w level → n ≡ node w ⊕⟨ w ⟩ up w (level - own) → control w n ≤ control_base w
+pub local_control : (w : Way) (level own n : ℕ) → IsNear w level → n ≡ node w ⊕⟨ w ⟩ up w (level - own)
+    → control w n ≤ control_base w
 local_control by_size level own n h i = omega (arith, i)
 local_control by_depth level own n h i = omega (arith, i)
 local_control (by_distance far) level own n h i = omega (arith, h, i)
@@ -137,17 +142,20 @@ designator_form by_size y = size.designator_layer (sized.sizes_designator y)
 designator_form by_depth y = nesting.designator_layer (deep.depths_designator y)
 designator_form (by_distance level) y = level
 
-pub expr_opened : (w : Way) (e : Expr) (y : Expr-F Expr Selector Designator Item) → out-Expr e ≡ y → bound_expr w e ≡ expr_form w y
+pub expr_opened : (w : Way) (e : Expr) (y : Expr-F Expr Selector Designator Item) → out-Expr e ≡ y
+    → bound_expr w e ≡ expr_form w y
 expr_opened by_size e y h = sized.at e y h
 expr_opened by_depth e y h = deep.at e y h
 expr_opened (by_distance level) e y h = refl
 
-pub selector_opened : (w : Way) (s : Selector) (y : Selector-F Expr Selector Designator Item) → out-Selector s ≡ y → bound_selector w s ≡ selector_form w y
+pub selector_opened : (w : Way) (s : Selector) (y : Selector-F Expr Selector Designator Item) → out-Selector s ≡ y
+    → bound_selector w s ≡ selector_form w y
 selector_opened by_size s y h = sized.at_selector s y h
 selector_opened by_depth s y h = deep.at_selector s y h
 selector_opened (by_distance level) s y h = refl
 
-pub designator_opened : (w : Way) (d : Designator) (y : Designator-F Expr Selector Designator Item) → out-Designator d ≡ y → bound_designator w d ≡ designator_form w y
+pub designator_opened : (w : Way) (d : Designator) (y : Designator-F Expr Selector Designator Item)
+    → out-Designator d ≡ y → bound_designator w d ≡ designator_form w y
 designator_opened by_size d y h = sized.at_designator d y h
 designator_opened by_depth d y h = deep.at_designator d y h
 designator_opened (by_distance level) d y h = refl
@@ -161,11 +169,13 @@ all_as_far : {A : Type 0} (level : ℕ) (xs : List A) → deepest (map (λ (x : 
 all_as_far level [] = omega arith
 all_as_far level (x ∷ xs) = omega (arith, all_as_far level xs)
 
-arguments_as_far : {A : Type 0} (level : ℕ) (xs : List A) → arguments (by_distance level) (map (λ (x : A). level) xs) ≤ level
+arguments_as_far : {A : Type 0} (level : ℕ) (xs : List A) → arguments (by_distance level) (map (λ (x : A). level) xs)
+    ≤ level
 arguments_as_far level [] = omega arith
 arguments_as_far level (x ∷ xs) = omega (arith, arguments_as_far level xs)
 
-operands_as_far : {O A : Type 0} (level : ℕ) (xs : List (O × A)) → operands (by_distance level) (map (λ (x : O × A). (x.0, level)) xs) ≤ level
+operands_as_far : {O A : Type 0} (level : ℕ) (xs : List (O × A))
+    → operands (by_distance level) (map (λ (x : O × A). (x.0, level)) xs) ≤ level
 operands_as_far level [] = omega arith
 operands_as_far level (x ∷ xs) = omega (arith, operands_as_far level xs)
 
@@ -190,7 +200,8 @@ of_text by_size at t = omega arith
 of_text by_depth at t = omega arith
 of_text (by_distance far) at t = omega arith
 
-pub of_set : (w : Way) (name : Option Ident) (at : Pos) (items : List Item) → node w ≤ expr_form w (layer.Set name at items)
+pub of_set : (w : Way) (name : Option Ident) (at : Pos) (items : List Item)
+    → node w ≤ expr_form w (layer.Set name at items)
 of_set by_size name at items = omega arith
 of_set by_depth name at items = omega arith
 of_set (by_distance far) name at items = omega arith
@@ -210,37 +221,44 @@ of_name by_size d = omega arith
 of_name by_depth d = omega arith
 of_name (by_distance far) d = omega arith
 
-pub of_call : (w : Way) (d : Designator) (es : List Expr) → node w ⊕⟨ w ⟩ (node w ⊕⟨ w ⟩ bound_designator w d ⊕⟨ w ⟩ bound_arguments w es) ≤ expr_form w (layer.Use d (Some es))
+pub of_call : (w : Way) (d : Designator) (es : List Expr) → node w ⊕⟨ w ⟩ (node w ⊕⟨ w ⟩ bound_designator w d
+    ⊕⟨ w ⟩ bound_arguments w es) ≤ expr_form w (layer.Use d (Some es))
 of_call by_size d es = omega arith
 of_call by_depth d es = omega arith
 of_call (by_distance far) d es = omega (arith, arguments_as_far far es)
 
-pub of_term : (w : Way) (e : Expr) (xs : List (Operator MulOp × Expr)) → bound_expr w e ⊕⟨ w ⟩ bound_operands w xs ≤ expr_form w (layer.Term e xs)
+pub of_term : (w : Way) (e : Expr) (xs : List (Operator MulOp × Expr))
+    → bound_expr w e ⊕⟨ w ⟩ bound_operands w xs ≤ expr_form w (layer.Term e xs)
 of_term by_size e xs = omega arith
 of_term by_depth e xs = omega arith
 of_term (by_distance far) e xs = omega (arith, operands_as_far far xs)
 
-pub of_sum : (w : Way) (o : Option (Operator Sign)) (e : Expr) (xs : List (Operator AddOp × Expr)) → node w ⊕⟨ w ⟩ bound_expr w e ⊕⟨ w ⟩ bound_operands w xs ≤ expr_form w (layer.Sum o e xs)
+pub of_sum : (w : Way) (o : Option (Operator Sign)) (e : Expr) (xs : List (Operator AddOp × Expr))
+    → node w ⊕⟨ w ⟩ bound_expr w e ⊕⟨ w ⟩ bound_operands w xs ≤ expr_form w (layer.Sum o e xs)
 of_sum by_size o e xs = omega arith
 of_sum by_depth o e xs = omega arith
 of_sum (by_distance far) o e xs = omega (arith, operands_as_far far xs)
 
-pub of_relation : (w : Way) (a : Expr) (o : Operator RelOp) (b : Expr) → node w ⊕⟨ w ⟩ (bound_expr w a ⊕⟨ w ⟩ operand w (bound_expr w b)) ≤ expr_form w (layer.Relation a o b)
+pub of_relation : (w : Way) (a : Expr) (o : Operator RelOp) (b : Expr)
+    → node w ⊕⟨ w ⟩ (bound_expr w a ⊕⟨ w ⟩ operand w (bound_expr w b)) ≤ expr_form w (layer.Relation a o b)
 of_relation by_size a o b = omega arith
 of_relation by_depth a o b = omega arith
 of_relation (by_distance far) a o b = omega arith
 
-pub of_field : (w : Way) (k : ℕ) (at : Pos) (name : Ident) → node w ⊕⟨ w ⟩ k ≤ k ⊕⟨ w ⟩ selector_form w (layer.Field at name)
+pub of_field : (w : Way) (k : ℕ) (at : Pos) (name : Ident) → node w ⊕⟨ w ⟩ k ≤ k ⊕⟨ w ⟩ selector_form w
+    (layer.Field at name)
 of_field by_size k at name = omega arith
 of_field by_depth k at name = omega arith
 of_field (by_distance far) k at name = omega arith
 
-pub of_index : (w : Way) (k : ℕ) (at : Pos) (e : Expr) → node w ⊕⟨ w ⟩ (k ⊕⟨ w ⟩ bound_expr w e) ≤ k ⊕⟨ w ⟩ selector_form w (layer.Index at e)
+pub of_index : (w : Way) (k : ℕ) (at : Pos) (e : Expr) → node w ⊕⟨ w ⟩ (k ⊕⟨ w ⟩ bound_expr w e) ≤ k
+    ⊕⟨ w ⟩ selector_form w (layer.Index at e)
 of_index by_size k at e = omega arith
 of_index by_depth k at e = omega arith
 of_index (by_distance far) k at e = omega arith
 
-pub of_selectors : (w : Way) (d : Designator-F Expr Selector Designator Item) → base w ⊕⟨ w ⟩ total_of w (map (bound_selector w) d.selectors) ≤ node w ⊕⟨ w ⟩ designator_form w d
+pub of_selectors : (w : Way) (d : Designator-F Expr Selector Designator Item)
+    → base w ⊕⟨ w ⟩ total_of w (map (bound_selector w) d.selectors) ≤ node w ⊕⟨ w ⟩ designator_form w d
 of_selectors by_size d = omega arith
 of_selectors by_depth d = omega arith
 of_selectors (by_distance far) d = omega (arith, all_as_far far d.selectors)
@@ -303,42 +321,52 @@ of_return by_depth at (Some e) = omega arith
 of_return (by_distance far) at None = omega arith
 of_return (by_distance far) at (Some e) = omega arith
 
-pub of_assign : (w : Way) (d : Designator) (e : Expr) → node w ⊕⟨ w ⟩ bound_designator w d ⊕⟨ w ⟩ bound_expr w e ≤ stmt_form w (rlayer.Assign d e)
+pub of_assign : (w : Way) (d : Designator) (e : Expr) → node w ⊕⟨ w ⟩ bound_designator w d ⊕⟨ w ⟩ bound_expr w e
+    ≤ stmt_form w (rlayer.Assign d e)
 of_assign by_size d e = omega arith
 of_assign by_depth d e = omega arith
 of_assign (by_distance far) d e = omega arith
 
-pub of_plain_call : (w : Way) (d : Designator) → node w ⊕⟨ w ⟩ (node w ⊕⟨ w ⟩ bound_designator w d ⊕⟨ w ⟩ arguments w []) ≤ stmt_form w (rlayer.Call d None)
+pub of_plain_call : (w : Way) (d : Designator) → node w ⊕⟨ w ⟩ (node w ⊕⟨ w ⟩ bound_designator w d ⊕⟨ w ⟩ arguments w
+    []) ≤ stmt_form w (rlayer.Call d None)
 of_plain_call by_size d = omega arith
 of_plain_call by_depth d = omega arith
 of_plain_call (by_distance far) d = omega arith
 
-pub of_call_with : (w : Way) (d : Designator) (es : List Expr) → node w ⊕⟨ w ⟩ (node w ⊕⟨ w ⟩ bound_designator w d ⊕⟨ w ⟩ bound_arguments w es) ≤ stmt_form w (rlayer.Call d (Some es))
+pub of_call_with : (w : Way) (d : Designator) (es : List Expr)
+    → node w ⊕⟨ w ⟩ (node w ⊕⟨ w ⟩ bound_designator w d ⊕⟨ w ⟩ bound_arguments w es) ≤ stmt_form w
+    (rlayer.Call d (Some es))
 of_call_with by_size d es = omega (arith, sized.arguments_map es)
 of_call_with by_depth d es = omega (arith, deep.arguments_map es)
 of_call_with (by_distance far) d es = omega (arith, arguments_as_far far es)
 
-pub of_if : (w : Way) (c : Expr) (body : List Stmt) (rest : Rest) → in_if w (bound_expr w c ⊕⟨ w ⟩ bound_stmts w body ⊕⟨ w ⟩ bound_rest w rest) ≤ stmt_form w (rlayer.If c body rest)
+pub of_if : (w : Way) (c : Expr) (body : List Stmt) (rest : Rest)
+    → in_if w (bound_expr w c ⊕⟨ w ⟩ bound_stmts w body ⊕⟨ w ⟩ bound_rest w rest) ≤ stmt_form w (rlayer.If c body rest)
 of_if by_size c body rest = omega arith
 of_if by_depth c body rest = omega arith
 of_if (by_distance far) c body rest = omega (arith, all_as_far far body)
 
-pub of_case : (w : Way) (e : Expr) (arms : List Arm) → in_case w (bound_expr w e ⊕⟨ w ⟩ total_of w (map (bound_arm w) arms) ⊕⟨ w ⟩ 0) ≤ stmt_form w (rlayer.Case e arms None)
+pub of_case : (w : Way) (e : Expr) (arms : List Arm) → in_case w
+    (bound_expr w e ⊕⟨ w ⟩ total_of w (map (bound_arm w) arms) ⊕⟨ w ⟩ 0) ≤ stmt_form w (rlayer.Case e arms None)
 of_case by_size e arms = omega arith
 of_case by_depth e arms = omega arith
 of_case (by_distance far) e arms = omega (arith, all_as_far far arms)
 
-pub of_case_else : (w : Way) (e : Expr) (arms : List Arm) (body : List Stmt) → in_case w (bound_expr w e ⊕⟨ w ⟩ total_of w (map (bound_arm w) arms) ⊕⟨ w ⟩ bound_stmts w body) ≤ stmt_form w (rlayer.Case e arms (Some body))
+pub of_case_else : (w : Way) (e : Expr) (arms : List Arm) (body : List Stmt)
+    → in_case w (bound_expr w e ⊕⟨ w ⟩ total_of w (map (bound_arm w) arms) ⊕⟨ w ⟩ bound_stmts w body) ≤ stmt_form w
+    (rlayer.Case e arms (Some body))
 of_case_else by_size e arms body = omega arith
 of_case_else by_depth e arms body = omega arith
 of_case_else (by_distance far) e arms body = omega (arith, all_as_far far arms, all_as_far far body)
 
-pub of_while : (w : Way) (c : Expr) (body : List Stmt) → in_loop w (bound_expr w c ⊕⟨ w ⟩ bound_stmts w body) ≤ stmt_form w (rlayer.While c body)
+pub of_while : (w : Way) (c : Expr) (body : List Stmt) → in_loop w (bound_expr w c ⊕⟨ w ⟩ bound_stmts w body)
+    ≤ stmt_form w (rlayer.While c body)
 of_while by_size c body = omega arith
 of_while by_depth c body = omega arith
 of_while (by_distance far) c body = omega (arith, all_as_far far body)
 
-pub of_repeat : (w : Way) (body : List Stmt) (c : Expr) → in_if w (bound_stmts w body ⊕⟨ w ⟩ bound_expr w c) ≤ stmt_form w (rlayer.Repeat body c)
+pub of_repeat : (w : Way) (body : List Stmt) (c : Expr) → in_if w (bound_stmts w body ⊕⟨ w ⟩ bound_expr w c) ≤ stmt_form
+    w (rlayer.Repeat body c)
 of_repeat by_size body c = omega arith
 of_repeat by_depth body c = omega arith
 of_repeat (by_distance far) body c = omega (arith, all_as_far far body)
@@ -353,17 +381,22 @@ of_exit by_size at = omega arith
 of_exit by_depth at = omega arith
 of_exit (by_distance far) at = omega arith
 
-pub of_for : (w : Way) (name : Ident) (start limit : Expr) (by : Option Expr) (body : List Stmt) → in_loop w (control_base w ⊕⟨ w ⟩ bound_expr w start ⊕⟨ w ⟩ bound_expr w limit ⊕⟨ w ⟩ bound_stmts w body) ≤ stmt_form w (rlayer.For name start limit by body)
+pub of_for : (w : Way) (name : Ident) (start limit : Expr) (by : Option Expr) (body : List Stmt)
+    → in_loop w (control_base w ⊕⟨ w ⟩ bound_expr w start ⊕⟨ w ⟩ bound_expr w limit ⊕⟨ w ⟩ bound_stmts w body)
+    ≤ stmt_form w (rlayer.For name start limit by body)
 of_for by_size name start limit by body = omega arith
 of_for by_depth name start limit by body = omega arith
 of_for (by_distance far) name start limit by body = omega (arith, all_as_far far body)
 
-pub of_with : (w : Way) (d : Designator) (body : List Stmt) → node w ⊕⟨ w ⟩ bound_designator w d ⊕⟨ w ⟩ bound_stmts w body ≤ stmt_form w (rlayer.With d body)
+pub of_with : (w : Way) (d : Designator) (body : List Stmt) → node w ⊕⟨ w ⟩ bound_designator w d ⊕⟨ w ⟩ bound_stmts w
+    body ≤ stmt_form w (rlayer.With d body)
 of_with by_size d body = omega arith
 of_with by_depth d body = omega arith
 of_with (by_distance far) d body = omega (arith, all_as_far far body)
 
-pub of_elsif : (w : Way) (c : Expr) (body : List Stmt) (rest : Rest) → in_if w (bound_expr w c ⊕⟨ w ⟩ bound_stmts w body ⊕⟨ w ⟩ bound_rest w rest) ≤ rest_form w (rlayer.Elsif c body rest)
+pub of_elsif : (w : Way) (c : Expr) (body : List Stmt) (rest : Rest)
+    → in_if w (bound_expr w c ⊕⟨ w ⟩ bound_stmts w body ⊕⟨ w ⟩ bound_rest w rest) ≤ rest_form w
+    (rlayer.Elsif c body rest)
 of_elsif by_size c body rest = omega arith
 of_elsif by_depth c body rest = omega arith
 of_elsif (by_distance far) c body rest = omega (arith, all_as_far far body)
@@ -373,7 +406,8 @@ of_else by_size body = omega arith
 of_else by_depth body = omega arith
 of_else (by_distance far) body = omega (arith, all_as_far far body)
 
-pub of_arm : (w : Way) (a : Arm-F Rest Stmt Arm) → labels w (0 + sum_of size_label a.labels) ⊕⟨ w ⟩ bound_stmts w a.body ≤ arm_form w a
+pub of_arm : (w : Way) (a : Arm-F Rest Stmt Arm) → labels w (0 + sum_of size_label a.labels) ⊕⟨ w ⟩ bound_stmts w a.body
+    ≤ arm_form w a
 of_arm by_size a = omega arith
 of_arm by_depth a = omega arith
 of_arm (by_distance far) a = omega (arith, all_as_far far a.body)

@@ -1,10 +1,6 @@
 -- Three ways to weigh what the checker makes and the trees that it is made of: how large they are, how deep they nest, and how
 -- many procedures outwards they go. The bounds of all three have one proof.
-use Rattle.std.proofs.Common.{◌≡◌, ℕ, ◌+◌, ◌*◌, ◌≤◌, List, Option, Some, None}
-use Rattle.m2_tree.specs.declared.expr.Expr.{Expr, Expr-F}
-use Rattle.m2_tree.specs.declared.expr.Selector.{Selector, Selector-F}
-use Rattle.m2_tree.specs.declared.expr.Designator.{Designator, Designator-F}
-use Rattle.m2_tree.specs.declared.expr.Item.{Item}
+use Rattle.std.proofs.Common.{ℕ, ◌+◌, ◌*◌, List, Option, Some, None}
 use Rattle.typed_tree.specs.declared.computed.Argument.{Argument}
 use Rattle.typed_tree.specs.declared.computed.Call.{Call}
 use Rattle.typed_tree.specs.declared.computed.Component.{Component}
@@ -20,9 +16,12 @@ use Rattle.check_operator.specs.declared.computed.Designated.{Designated}
 use Rattle.check_operator.specs.declared.computed.Designated.TheVariants as designated
 use Rattle.law_encoding.specs.Sizes.{sum_of, total}
 use Rattle.law_encoding.specs.Nesting.{◌⊔◌, deepest_of, deepest}
-use Rattle.law_encoding.specs.TypedSizes.{size_typed, size_place, size_component, size_link, size_call, size_passed, size_step, size_arm, size_body}
-use Rattle.law_encoding.specs.TypedNesting.{depth_typed, depth_place, depth_component, depth_link, depth_call, depth_passed, depth_step, depth_arm, depth_body}
-use Rattle.law_encoding.specs.Outward.{outward_root, outward_typed, outward_place, outward_component, outward_link, outward_call, outward_passed, outward_step, outward_arm, outward_body}
+use Rattle.law_encoding.specs.TypedSizes.{size_typed, size_place, size_component, size_link, size_call, size_passed}
+use Rattle.law_encoding.specs.TypedSizes.{size_step, size_arm}
+use Rattle.law_encoding.specs.TypedNesting.{depth_typed, depth_place, depth_component, depth_link, depth_call}
+use Rattle.law_encoding.specs.TypedNesting.{depth_passed, depth_step, depth_arm}
+use Rattle.law_encoding.specs.Outward.{outward_root, outward_typed, outward_place, outward_component, outward_link}
+use Rattle.law_encoding.specs.Outward.{outward_call, outward_passed, outward_step, outward_arm}
 
 pub data Way : Type 0 where
   by_size : Way
