@@ -1,5 +1,5 @@
--- The bodies of all procedures weigh no more than the declarations that they stand in, by induction over blocks. None goes further
--- outwards than its procedure stands deep.
+-- The bodies of all procedures weigh no more than the declarations that they stand in allow, by induction over blocks. None
+-- goes further outwards than its procedure stands deep.
 use Rattle.std.proofs.Common.{map, ◌≡◌, ℕ, zero, suc, ◌+◌, ◌≤◌, Bool, true, false, List, [], ◌∷◌, ◌++◌, length, Option}
 use Rattle.std.proofs.Common.{Some, None, Result, refl, sym, ap, subst, ◌∙◌, arith}
 use Rattle.std.specs.Prelude.{cond, slice_set, ◌==◌, ◌-◌}
@@ -152,8 +152,9 @@ of_module by_size m = omega arith
 of_module by_depth m = omega arith
 of_module (by_distance far) m = omega arith
 
-module_sum : (w : Way) (t : TypedModule) (level n : ℕ) → all_of w (weight_routine w) t.procedures ⊕⟨ w ⟩ all_of w
-    (weight_routine w) t.locals ⊕⟨ w ⟩ body_at w level t.body ≤ n → weight_bodies w t ≤ n
+module_sum : (w : Way) (t : TypedModule) (level n : ℕ)
+    → all_of w (weight_routine w) t.procedures ⊕⟨ w ⟩ all_of w (weight_routine w) t.locals ⊕⟨ w ⟩ body_at w level t.body
+    ≤ n → weight_bodies w t ≤ n
 module_sum by_size t level n h = omega (arith, h)
 module_sum by_depth t level n h = omega (arith, h)
 module_sum (by_distance far) t level n h = omega (arith, h)
@@ -187,10 +188,10 @@ second_filled (by_distance far) a b c d n m h i j = omega (arith, h, i, j)
 
 filled_most : (w : Way) (n m : ℕ) (rs : Bodies) (k : Which) (r : Routine) → so_far w rs ≤ n → weight_routine w r ≤ m
     → so_far w (put_routine rs k r) ≤ n ⊕⟨ w ⟩ m
-filled_most w n m rs (which.Module k) r p q = first_filled w _ _ _ _ n m (set_most w (weight_routine w) rs.procedures k
-    r) p q
-filled_most w n m rs (which.Local k) r p q = second_filled w _ _ _ _ n m (set_most w (weight_routine w) rs.locals k r) p
-    q
+filled_most w n m rs (which.Module k) r p q =
+    first_filled w _ _ _ _ n m (set_most w (weight_routine w) rs.procedures k r) p q
+filled_most w n m rs (which.Local k) r p q =
+    second_filled w _ _ _ _ n m (set_most w (weight_routine w) rs.locals k r) p q
 
 begun_sum : (w : Way) (a b c e n : ℕ) → b ≡ c ⊕⟨ w ⟩ e → e ≡ 0 → a ⊕⟨ w ⟩ c ≤ n → a ⊕⟨ w ⟩ b ≤ n
 begun_sum by_size a b c e n h i j = omega (arith, h, i, j)
@@ -256,13 +257,13 @@ module _ (way : Way) where
         → AtMost (body_at way s.level) m body
         → so_far way (with_routine s name around formals o body rs) ≤ n ⊕ m
     with_routine_most n m s name around formals None rs p q = kept way n m _ p
-    with_routine_most n m s name around formals (Some k) rs p (fine xs q) = filled_most way n m rs k.which
-        (routine s name k around formals xs) p q
+    with_routine_most n m s name around formals (Some k) rs p (fine xs q) =
+        filled_most way n m rs k.which (routine s name k around formals xs) p q
     with_routine_most n m s name around formals (Some k) rs p (broken e) = kept way n m _ p
 
     pub statements_most : (s : Scope g.Reported) (returns : Option (Result TypeNo g.Reported))
-        (body : Option (List Stmt)) → AtMost (body_at way s.level) (bound_body way body)
-        (statements_of elaborates s returns body)
+        (body : Option (List Stmt))
+        → AtMost (body_at way s.level) (bound_body way body) (statements_of elaborates s returns body)
     statements_most s returns None = fine [] (omega (arith, no_body way s.level))
     statements_most s returns (Some xs) = small s returns xs
 
@@ -297,8 +298,8 @@ module _ (way : Way) where
 
     bodies_most : (around : Option Which) (seen : List ℕ) (ns : List ℕ) (xs : List (Steps g.Reported))
         (st : Walk g.Reported × ℕ) (k : ℕ) → so_far way st.0.bodies ≤ k → AllAdd ns xs
-        → so_far way (fold (with_body (λ (x : Steps g.Reported). checked_by x around) seen) st xs).0.bodies ≤ k
-        ⊕ total_of way ns
+        → so_far way (fold (with_body (λ (x : Steps g.Reported). checked_by x around) seen) st xs).0.bodies
+        ≤ k ⊕ total_of way ns
     bodies_most around seen [] [] st k p all = le_trans _ k _ p (none_left way k)
     bodies_most around seen [] (x ∷ xs) st k p all = absurd all
     bodies_most around seen (n ∷ ns) [] st k p all = absurd all
@@ -351,21 +352,21 @@ module _ (way : Way) where
           (block_layer g elaborates ends) e ∙ ap (λ (y : Block-F Decl Block). block_layer g elaborates ends
           (opened_block y)) h
 
-      all_add : (xs : List SD) → AllAdd (map (bound_decl way) (map (λ (x : SD). x.0) xs))
-          (map steps_of (map (λ (x : SD). x.0) xs))
+      all_add : (xs : List SD)
+          → AllAdd (map (bound_decl way) (map (λ (x : SD). x.0) xs)) (map steps_of (map (λ (x : SD). x.0) xs))
       all_add [] = tt
       all_add (x ∷ xs) = (x.1, all_add xs)
 
-      decl_most : (y : Decl-F SD SB) → Adds (decl_form way (bare y))
-          (steps_layer g elaborates ends (opened (bare y))).checks
+      decl_most : (y : Decl-F SD SB)
+          → Adds (decl_form way (bare y)) (steps_layer g elaborates ends (opened (bare y))).checks
       decl_most (layer.Constants cs) around seen w k p = kept way k _ _ p
       decl_most (layer.Types ts) around seen w k p = kept way k _ _ p
       decl_most (layer.Variables vs) around seen w k p = kept way k _ _ p
-      decl_most (layer.Procedure h b) around seen w k p = of_procedure way _ k h b.0
-          (procedure_most (bound_block way b.0) h (block_of b.0) ends b.1 around seen w k p)
+      decl_most (layer.Procedure h b) around seen w k p =
+          of_procedure way _ k h b.0 (procedure_most (bound_block way b.0) h (block_of b.0) ends b.1 around seen w k p)
 
-      block_most : (y : Block-F SD SB) → AddsBlock (block_form way (bare_block y))
-          (block_layer g elaborates ends (opened_block (bare_block y)))
+      block_most : (y : Block-F SD SB)
+          → AddsBlock (block_form way (bare_block y)) (block_layer g elaborates ends (opened_block (bare_block y)))
       block_most y around returns w k p =
           let ds = map steps_of (map (λ (x : SD). x.0) y.decls) in
           let ns = map (bound_decl way) (map (λ (x : SD). x.0) y.decls) in
@@ -396,8 +397,8 @@ module _ (way : Way) where
 
       written_most : (around : Option Which) (seen : List ℕ) (ds : List Decl) (st : Walk g.Reported × ℕ) (k : ℕ)
           → so_far way st.0.bodies ≤ k
-          → so_far way (fold (with_body (λ (d : Decl). checks_decl g elaborates ends d around) seen) st ds).0.bodies ≤ k
-          ⊕ all_of way (bound_decl way) ds
+          → so_far way (fold (with_body (λ (d : Decl). checks_decl g elaborates ends d around) seen) st ds).0.bodies
+          ≤ k ⊕ all_of way (bound_decl way) ds
       written_most around seen [] st k p = le_trans _ k _ p (no_more way (bound_decl way) k)
       written_most around seen (d ∷ ds) st k p =
           le_trans _ _ _ (written_most around seen ds (with_body (λ (d : Decl). checks_decl g elaborates ends d around)
@@ -440,8 +441,8 @@ module _ (way : Way) where
     contents_most : (number : ℕ) (m : Module) (own : Option Table) (tables : List Table) (c : Contents)
         → AtMost (weight_bodies way) (bound_contents way c) (of_contents g elaborates number m own tables c)
     contents_most number m own tables (contents.Definition defs) = broken _
-    contents_most number m own tables (contents.Implementation b) = at_more (of_implementation_block way b)
-        (of_implementation_most m own tables b)
+    contents_most number m own tables (contents.Implementation b) =
+        at_more (of_implementation_block way b) (of_implementation_most m own tables b)
     contents_most number m own tables (contents.Program b) = at_more (of_program way b) (of_walk_most _ _ None m b)
 
     pub module_most : (number : ℕ) (m : Module) (own : Option Table) (tables : List Table)

@@ -81,17 +81,17 @@ as_far level [] = omega arith
 as_far level (x ∷ xs) = omega (arith, as_far level xs)
 
 module _ (g : Gathers) where
-  pub meanings_small : (s : Scope g.Reported) (e : Expr) → AtMost size_designated (size_expr e)
-      ((meanings_of g e).means s)
+  pub meanings_small : (s : Scope g.Reported) (e : Expr)
+      → AtMost size_designated (size_expr e) ((meanings_of g e).means s)
   meanings_small s e = at_mapped (λ x l. omega (arith, l, meant_size x)) (meant_most by_size g s tt e)
 
-  pub heads_small : (s : Scope g.Reported) (d : Designator) → AtMost size_designated (1 + size_designator d)
-      ((head g d).means s)
+  pub heads_small : (s : Scope g.Reported) (d : Designator)
+      → AtMost size_designated (1 + size_designator d) ((head g d).means s)
   heads_small s d = at_mapped (λ x l. omega (arith, l, meant_size x)) (head_most by_size g s tt d)
 
   pub meanings_near : (s : Scope g.Reported) (e : Expr) → AtMost outward_designated s.level ((meanings_of g e).means s)
-  meanings_near s e = at_mapped (λ x l. omega (arith, l, meant_far s.level x))
-      (meant_most (by_distance s.level) g s (omega arith) e)
+  meanings_near s e =
+      at_mapped (λ x l. omega (arith, l, meant_far s.level x)) (meant_most (by_distance s.level) g s (omega arith) e)
 
   -- ---- statements
 
@@ -126,15 +126,15 @@ module _ (g : Gathers) where
 
     pub body_near : (s : Scope g.Reported) (r : Option (Result TypeNo g.Reported)) (body : Option (List Stmt))
         → AtMost outward_body s.level (statements_of elaborates s r body)
-    body_near s r body = at_mapped (λ x l. omega (arith, l)) (blocks.statements_most (by_distance 0) g elaborates beyond
-        s r body)
+    body_near s r body =
+        at_mapped (λ x l. omega (arith, l)) (blocks.statements_most (by_distance 0) g elaborates beyond s r body)
 
     pub walked_near : (ends : List ℕ) (modules : List (List ℕ × ℕ)) (s : Scope g.Reported) (m : Module) (ds : List Decl)
         → let w = begun_module g modules ends s m ds in
         let rs = (bodies_checked g elaborates ends None w.1 w.0 ds).bodies in
         deepest_of beyond_routine rs.procedures ⊔ deepest_of beyond_routine rs.locals ≤ 0
-    walked_near ends modules s m ds = omega (arith, blocks.walked_bodies (by_distance 0) g elaborates beyond ends
-        modules s m ds, as_far 0 ds)
+    walked_near ends modules s m ds =
+        omega (arith, blocks.walked_bodies (by_distance 0) g elaborates beyond ends modules s m ds, as_far 0 ds)
 
   pub modules_near : (number : ℕ) (m : Module) (own : Option Table) (tables : List Table)
       → AtMost beyond_routines 0 (body_module g number m own tables)

@@ -63,8 +63,8 @@ module _ (w : Way) where
   weight_called (called.Routine h c) = weight_callee c
   weight_called (called.Standard f) = 0
 
-  pub call_most : (c : Callee) (xs : List Argument) → weight_call w (call_by xs c) ≡ weight_callee c ⊕ all_of w
-      (weight_passed w) xs
+  pub call_most : (c : Callee) (xs : List Argument)
+      → weight_call w (call_by xs c) ≡ weight_callee c ⊕ all_of w (weight_passed w) xs
   call_most (callee.Module f) xs = call_module w f xs
   call_most (callee.Nested f) xs = call_nested w f xs
   call_most (callee.Variable t d) xs = call_variable w t d xs
@@ -93,8 +93,8 @@ module _ (w : Way) where
     pub taken_most : (n : ℕ) (at : Pos) (d : Designated) → weight_meant w d ≤ n
         → AtMost (weight_value w) n (value_at_place g types at d)
     taken_most n at (designated.Value x) p = fine x p
-    taken_most n at (designated.Variable t d) p = fine (variable_value types t d)
-        (loaded_as_most n t d (class_at types t) p)
+    taken_most n at (designated.Variable t d) p =
+        fine (variable_value types t d) (loaded_as_most n t d (class_at types t) p)
     taken_most n at (designated.Open t slot) p = fine value.Untaken (omega arith)
     taken_most n at (designated.Type t) p = reported_most g at rule.WrongType
     taken_most n at (designated.Procedure f) p = fine (value.Procedure f) (one_of_two w n p)
@@ -110,8 +110,8 @@ module _ (w : Way) where
     variable_most : (n : ℕ) (t : TypeNo) (at : Pos) (d : Designated) → weight_meant w d ≤ n
         → Passed_ (node w ⊕ n) (variable_passed g t at d)
     variable_most n t at (designated.Value x) p = reported_most g at rule.NoVariable
-    variable_most n t at (designated.Variable u d) p = where_most g _ at rule.NoVariable
-        (fine (argument.Place d) (under w _ _ n (argument_place w d) p))
+    variable_most n t at (designated.Variable u d) p =
+        where_most g _ at rule.NoVariable (fine (argument.Place d) (under w _ _ n (argument_place w d) p))
     variable_most n t at (designated.Open u slot) p = reported_most g at rule.NoVariable
     variable_most n t at (designated.Type u) p = reported_most g at rule.NoVariable
     variable_most n t at (designated.Procedure f) p = reported_most g at rule.NoVariable
@@ -122,10 +122,10 @@ module _ (w : Way) where
     open_most : (n : ℕ) (t : TypeNo) (at : Pos) (d : Designated) → weight_meant w d ≤ n
         → Passed_ (node w ⊕ n) (open_passed g types t at d)
     open_most n t at (designated.Value x) p = reported_most g at rule.NoVariable
-    open_most n t at (designated.Variable u d) p = where_most g _ at rule.NoVariable
-        (fine (argument.Array u d) (under w _ _ n (argument_array w u d) p))
-    open_most n t at (designated.Open u slot) p = where_most g _ at rule.NoVariable
-        (fine (argument.Open slot) (under w _ _ n (argument_open w slot) p))
+    open_most n t at (designated.Variable u d) p =
+        where_most g _ at rule.NoVariable (fine (argument.Array u d) (under w _ _ n (argument_array w u d) p))
+    open_most n t at (designated.Open u slot) p =
+        where_most g _ at rule.NoVariable (fine (argument.Open slot) (under w _ _ n (argument_open w slot) p))
     open_most n t at (designated.Type u) p = reported_most g at rule.NoVariable
     open_most n t at (designated.Procedure f) p = reported_most g at rule.NoVariable
     open_most n t at (designated.Nested f) p = reported_most g at rule.NoVariable
@@ -133,8 +133,8 @@ module _ (w : Way) where
     open_most n t at (designated.Module k) p = reported_most g at rule.NoVariable
 
     text_argument_most : (n : ℕ) (t : TypeNo) (at : Pos) (v : Value) → Passed_ (node w ⊕ n) (text_argument g t at v)
-    text_argument_most n t at (constant.Text text) = where_most g _ at rule.WrongArgument
-        (fine (argument.Text text) (one_of w _ n (argument_text w text)))
+    text_argument_most n t at (constant.Text text) =
+        where_most g _ at rule.WrongArgument (fine (argument.Text text) (one_of w _ n (argument_text w text)))
     text_argument_most n t at (constant.Number i) = reported_most g at rule.WrongArgument
     text_argument_most n t at (constant.Scalar s) = reported_most g at rule.WrongArgument
     text_argument_most n t at (constant.Set bits) = reported_most g at rule.WrongArgument
@@ -151,10 +151,10 @@ module _ (w : Way) where
     open_value_most : (n : ℕ) (t : TypeNo) (at : Pos) (d : Designated) → weight_meant w d ≤ n
         → Passed_ (node w ⊕ n) (open_value g types t at d)
     open_value_most n t at (designated.Value x) p = text_most n t at x
-    open_value_most n t at (designated.Variable u d) p = where_most g _ at rule.WrongArgument
-        (fine (argument.Array u d) (under w _ _ n (argument_array w u d) p))
-    open_value_most n t at (designated.Open u slot) p = where_most g _ at rule.WrongArgument
-        (fine (argument.Open slot) (under w _ _ n (argument_open w slot) p))
+    open_value_most n t at (designated.Variable u d) p =
+        where_most g _ at rule.WrongArgument (fine (argument.Array u d) (under w _ _ n (argument_array w u d) p))
+    open_value_most n t at (designated.Open u slot) p =
+        where_most g _ at rule.WrongArgument (fine (argument.Open slot) (under w _ _ n (argument_open w slot) p))
     open_value_most n t at (designated.Type u) p = reported_most g at rule.WrongType
     open_value_most n t at (designated.Procedure f) p = reported_most g at rule.WrongArgument
     open_value_most n t at (designated.Nested f) p = reported_most g at rule.NoProcedureValue
@@ -164,8 +164,8 @@ module _ (w : Way) where
     whole_most : (n : ℕ) (t : TypeNo) (at : Pos) (d : Designated) → weight_meant w d ≤ n
         → Passed_ (node w ⊕ n) (whole_passed g t at d)
     whole_most n t at (designated.Value x) p = reported_most g at rule.WrongArgument
-    whole_most n t at (designated.Variable u d) p = where_most g _ at rule.WrongArgument
-        (fine (argument.Place d) (under w _ _ n (argument_place w d) p))
+    whole_most n t at (designated.Variable u d) p =
+        where_most g _ at rule.WrongArgument (fine (argument.Place d) (under w _ _ n (argument_place w d) p))
     whole_most n t at (designated.Open u slot) p = reported_most g at rule.WrongArgument
     whole_most n t at (designated.Type u) p = reported_most g at rule.WrongType
     whole_most n t at (designated.Procedure f) p = reported_most g at rule.WrongArgument
@@ -256,13 +256,13 @@ module _ (w : Way) where
 
     pub conversion_most : (n : ℕ) (to : Result (TypeNo × Range) g.Reported) (at : Pos) {x : Result Computed g.Reported}
         → AtMost (weight_value w) n x → AtMost (weight_value w) (node w ⊕ n) (conversion_at g to at x)
-    conversion_most n to at p = then_most (both_most g w (any_most to) p) (λ v h. converted_most n v.0.0 v.0.1 at v.1
-        (second_part w _ n h))
+    conversion_most n to at p =
+        then_most (both_most g w (any_most to) p) (λ v h. converted_most n v.0.0 v.0.1 at v.1 (second_part w _ n h))
 
     pub high_most : (n : ℕ) (at : Pos) (d : Designated) → weight_meant w d ≤ n
         → AtMost (weight_value w) (node w ⊕ n) (high_of g at d)
-    high_most n at (designated.Open t slot) p = fine (value.Scalar cardinal cardinal (expr.High slot))
-        (high_sum w _ _ n (expr_high w slot) p)
+    high_most n at (designated.Open t slot) p =
+        fine (value.Scalar cardinal cardinal (expr.High slot)) (high_sum w _ _ n (expr_high w slot) p)
     high_most n at (designated.Value x) p = reported_most g at rule.WrongArgument
     high_most n at (designated.Variable t d) p = reported_most g at rule.WrongArgument
     high_most n at (designated.Type t) p = reported_most g at rule.WrongType

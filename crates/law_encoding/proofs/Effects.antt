@@ -99,8 +99,8 @@ module _ (w : Way) where
     text_accepted n number t at (constant.Number i) = reported_most g at number
     text_accepted n number t at (constant.Scalar i) = reported_most g at number
     text_accepted n number t at (constant.Set bits) = reported_most g at number
-    text_accepted n number t at (constant.Text text) = where_most g _ at number
-        (fine (accepted.Text text) (omega arith))
+    text_accepted n number t at (constant.Text text) =
+        where_most g _ at number (fine (accepted.Text text) (omega arith))
 
     whole_accepted : (n : ℕ) (broken : Rule) (t : TypeNo) (at : Pos) (x : Computed) → weight_value w x ≤ n
         → AtMost weight_accepted n (whole_suited g broken s.types t at x)
@@ -114,8 +114,8 @@ module _ (w : Way) where
 
     value_accepted : (n : ℕ) (broken : Rule) (t : TypeNo) (at : Pos) (x : Computed) → weight_value w x ≤ n
         → AtMost weight_accepted n (of_expr (value_suited g broken s.types t at x))
-    value_accepted n broken t at x p = then_most (suited_most w g n broken s.types t at x p)
-        (λ e q. fine (accepted.Value e) q)
+    value_accepted n broken t at x p =
+        then_most (suited_most w g n broken s.types t at x p) (λ e q. fine (accepted.Value e) q)
 
     accepted_in : (n : ℕ) (broken : Rule) (t : TypeNo) (at : Pos) (x : Computed) (c : Class) → weight_value w x ≤ n
         → AtMost weight_accepted n (suited_in g broken s.types t at x c)
@@ -143,8 +143,8 @@ module _ (w : Way) where
         t d a (omega arith) k) p))
 
     pub assignment_most : (n k : ℕ) (d : Meant g.Reported) (at : Pos) (x : Meant g.Reported) → FM w g s n d
-        → FM w g s k x → Stmt_ (n ⊕ k) (assignment_of g s.types (target_at g d.fixed.at (d.means s)) at
-        (value_of g s x))
+        → FM w g s k x
+        → Stmt_ (n ⊕ k) (assignment_of g s.types (target_at g d.fixed.at (d.means s)) at (value_of g s x))
     assignment_most n k d at x p q =
         then_most (both_most g w (then_most (sort_most g d.fixed.at rule.WrongType p)
         (λ e l. target_of_most n d.fixed.at e l)) (value_most w g s k x q)) (λ v l. assigned_to_most (n ⊕ k) v.0 at v.1
@@ -308,16 +308,16 @@ module _ (w : Way) where
         (done_sum w _ _ _ _ k n (step_call w (call_by xs c)) (call_most w c xs) l q))
 
     routine_most : (k : ℕ) (ns : List ℕ) (at : Pos) (t : TypeNo) (c : Callee) (args : List (Meant g.Reported))
-        → weight_callee w c ≤ k → AllM w g s ns args → Stmt_ (node w ⊕ (k ⊕ arguments w ns))
-        (routine_done g s at t c args)
+        → weight_callee w c ≤ k → AllM w g s ns args
+        → Stmt_ (node w ⊕ (k ⊕ arguments w ns)) (routine_done g s at t c args)
     routine_most k ns at t c args l all =
         ahead_most g (breaches_in_all g s args) (any_most (proper_of g at (signature_at s.types t) (length args)))
         (λ r h. call_done_most k (arguments w ns) c l (actuals_most w g s ns args (formals_of (signature_at s.types t))
         all))
 
     done_as_most : (k : ℕ) (ns : List ℕ) (at : Pos) (args : List (Meant g.Reported)) (x : Called)
-        → weight_called w x ≤ k → AllM w g s ns args → Stmt_ (node w ⊕ (k ⊕ arguments w ns))
-        (callee_statement g s at args x)
+        → weight_called w x ≤ k → AllM w g s ns args
+        → Stmt_ (node w ⊕ (k ⊕ arguments w ns)) (callee_statement g s at args x)
     done_as_most k ns at args (called.Routine t c) p all = routine_most k ns at t c args p all
     done_as_most k ns at args (called.Standard f) p all = standard_most k ns at args f all
 

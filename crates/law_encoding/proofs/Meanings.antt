@@ -1,4 +1,5 @@
--- What expressions and designators mean weighs no more than they do: a lemma for each construct, and then the induction.
+-- What expressions and designators mean weighs no more than they allow: a lemma for each construct, and then the
+-- induction.
 use Rattle.std.proofs.Common.{map, ◌≡◌, ℕ, ◌≤◌, Bool, true, false, List, [], ◌∷◌, ◌++◌, length, Option, Some, None}
 use Rattle.std.proofs.Common.{Result, Ok, sym, ap, subst, ◌∙◌, arith}
 use Rattle.std.specs.Prelude.{cond}
@@ -200,8 +201,8 @@ module _ (w : Way) where
     conversion_all k ns at (t ∷ []) all = reported_beside_most g at rule.ArgumentCount _
     conversion_all k [] at (t ∷ x ∷ []) all = absurd all
     conversion_all k (m ∷ []) at (t ∷ x ∷ []) all = absurd all.1
-    conversion_all k (m ∷ n ∷ ns) at (t ∷ x ∷ []) all = at_more (second_one w k m n ns)
-        (conversion_most w g s.types n _ x.fixed.at (value_most n x all.1.0))
+    conversion_all k (m ∷ n ∷ ns) at (t ∷ x ∷ []) all =
+        at_more (second_one w k m n ns) (conversion_most w g s.types n _ x.fixed.at (value_most n x all.1.0))
     conversion_all k ns at (t ∷ x ∷ y ∷ xs) all = reported_beside_most g at rule.ArgumentCount _
 
     high_all : (k : ℕ) (ns : List ℕ) (at : Pos) (args : List (Meant g.Reported)) → AllM ns args
@@ -274,8 +275,8 @@ module _ (w : Way) where
     picks_most k [] [] d l p all = at_more (none_left w k) p
     picks_most k [] (x ∷ ps) d l p all = absurd all
     picks_most k (n ∷ ns) [] d l p all = absurd all
-    picks_most k (n ∷ ns) (x ∷ ps) d l p all = at_more (all_again w k n ns)
-        (picks_most (k ⊕ n) ns ps (x.picks s d) (base_still w k n l) (all.0 k d l p) all.1)
+    picks_most k (n ∷ ns) (x ∷ ps) d l p all =
+        at_more (all_again w k n ns) (picks_most (k ⊕ n) ns ps (x.picks s d) (base_still w k n l) (all.0 k d l p) all.1)
 
   module _ (g : Gathers) (s : Scope g.Reported) (near : IsNear w s.level) where
     -- ---- names
@@ -289,8 +290,8 @@ module _ (w : Way) where
     pub by_meaning : (at : Pos) (x : Meaning) → Designated_ g s (base w) (designated_by g s.level at x)
     by_meaning at (meaning.Constant v) = fine (designated.Value (value.Constant v)) (constant_name w)
     by_meaning at (meaning.Type t n) = fine (designated.Type t) (omega arith)
-    by_meaning at (meaning.Variable v) = fine (designated.Variable v.of (root_place (root.Global v)))
-        (global_name w _ (rooted_weight w (root.Global v)))
+    by_meaning at (meaning.Variable v) =
+        fine (designated.Variable v.of (root_place (root.Global v))) (global_name w _ (rooted_weight w (root.Global v)))
     by_meaning at (meaning.Local v) = fine (local_by s.level v v.kind) (local_most v v.kind)
     by_meaning at (meaning.Field f) =
         fine _ (field_name w _ _ _ (behind_weight w (root_place (root.With f.with)) (part.Field f.whole f.number))
@@ -306,8 +307,8 @@ module _ (w : Way) where
 
     field_of_most : (n : ℕ) (at : Pos) (name : Ident) (d : Designated) → base w ≤ n → weight_meant w d ≤ n
         → Designated_ g s (node w ⊕ n) (field_of g s at name d)
-    field_of_most n at name (designated.Module k) l p = at_more (base_again w n l)
-        (then_most (any_most _) (λ x q. by_meaning name.pos x))
+    field_of_most n at name (designated.Module k) l p =
+        at_more (base_again w n l) (then_most (any_most _) (λ x q. by_meaning name.pos x))
     field_of_most n at name (designated.Value x) l p = field_most w g n s.types at name (designated.Value x) p
     field_of_most n at name (designated.Variable t d) l p = field_most w g n s.types at name (designated.Variable t d) p
     field_of_most n at name (designated.Open t slot) l p = field_most w g n s.types at name (designated.Open t slot) p
@@ -342,8 +343,8 @@ module _ (w : Way) where
     abbrev SI : Type 0
     SI = (e : Item) × PI e
 
-    abbrev opened : Expr-F Expr Selector Designator Item → Expr-F (Meant g.Reported) (Picks g.Reported)
-        (Meant g.Reported) (Adds g.Reported)
+    abbrev opened : Expr-F Expr Selector Designator Item
+        → Expr-F (Meant g.Reported) (Picks g.Reported) (Meant g.Reported) (Adds g.Reported)
     opened x = map-Expr Expr Selector Designator Item (Meant g.Reported) (Picks g.Reported) (Meant g.Reported)
         (Adds g.Reported) (meanings_of g) (picks g) (head g) (item g) x
 
@@ -382,12 +383,12 @@ module _ (w : Way) where
     bare x = map-Expr SE SS SD SI Expr Selector Designator Item (λ e. e.0) (λ e. e.0) (λ e. e.0) (λ e. e.0) x
 
     abbrev bare_selector : Selector-F SE SS SD SI → Selector-F Expr Selector Designator Item
-    bare_selector x = map-Selector SE SS SD SI Expr Selector Designator Item (λ e. e.0) (λ e. e.0) (λ e. e.0) (λ e. e.0)
-        x
+    bare_selector x =
+        map-Selector SE SS SD SI Expr Selector Designator Item (λ e. e.0) (λ e. e.0) (λ e. e.0) (λ e. e.0) x
 
     abbrev bare_designator : Designator-F SE SS SD SI → Designator-F Expr Selector Designator Item
-    bare_designator x = map-Designator SE SS SD SI Expr Selector Designator Item (λ e. e.0) (λ e. e.0) (λ e. e.0)
-        (λ e. e.0) x
+    bare_designator x =
+        map-Designator SE SS SD SI Expr Selector Designator Item (λ e. e.0) (λ e. e.0) (λ e. e.0) (λ e. e.0) x
 
     all_terms : {O : Type 0} (xs : List (Operator O × SE))
         → AllT g s (map (λ (x : Operator O × Expr). (x.0, bound_expr w x.1))
@@ -396,8 +397,8 @@ module _ (w : Way) where
     all_terms [] = tt
     all_terms (x ∷ xs) = (x.1.1, all_terms xs)
 
-    all_args : (xs : List SE) → AllM g s (map (bound_expr w) (map (λ (e : SE). e.0) xs))
-        (map (meanings_of g) (map (λ (e : SE). e.0) xs))
+    all_args : (xs : List SE)
+        → AllM g s (map (bound_expr w) (map (λ (e : SE). e.0) xs)) (map (meanings_of g) (map (λ (e : SE). e.0) xs))
     all_args [] = tt
     all_args (x ∷ xs) = (x.1, all_args xs)
 
@@ -410,18 +411,18 @@ module _ (w : Way) where
     counted y = expr_form w (bare y)
 
     expr_most : (y : Expr-F SE SS SD SI) → FM g s (counted y) (expr_layer g (opened (bare y)))
-    expr_most (layer.Number p n) = constant_meant g s _ (expr_layer g (opened (bare (layer.Number p n)))).fixed
-        (of_number w p n)
-    expr_most (layer.Char p n) = constant_meant g s _ (expr_layer g (opened (bare (layer.Char p n)))).fixed
-        (of_char w p n)
-    expr_most (layer.Text p t) = constant_meant g s _ (expr_layer g (opened (bare (layer.Text p t)))).fixed
-        (of_text w p t)
-    expr_most (layer.Set q p items) = constant_meant g s _ (expr_layer g (opened (bare (layer.Set q p items)))).fixed
-        (of_set w q p _)
+    expr_most (layer.Number p n) =
+        constant_meant g s _ (expr_layer g (opened (bare (layer.Number p n)))).fixed (of_number w p n)
+    expr_most (layer.Char p n) =
+        constant_meant g s _ (expr_layer g (opened (bare (layer.Char p n)))).fixed (of_char w p n)
+    expr_most (layer.Text p t) =
+        constant_meant g s _ (expr_layer g (opened (bare (layer.Text p t)))).fixed (of_text w p t)
+    expr_most (layer.Set q p items) =
+        constant_meant g s _ (expr_layer g (opened (bare (layer.Set q p items)))).fixed (of_set w q p _)
     expr_most (layer.Not p e) = computed_most g s _ (at_more (of_not w p e.0)
         (negated_most w g (bound_expr w e.0) p (value_most g s _ (meanings_of g e.0) e.1)))
-    expr_most (layer.Bracketed p e) = computed_most g s _ (at_more (of_brackets w p e.0)
-        (value_most g s _ (meanings_of g e.0) e.1))
+    expr_most (layer.Bracketed p e) =
+        computed_most g s _ (at_more (of_brackets w p e.0) (value_most g s _ (meanings_of g e.0) e.1))
     expr_most (layer.Use d None) = at_more (of_name w d.0) d.1
     expr_most (layer.Use d (Some es)) =
         computed_most g s _ (at_more (of_call w d.0 (map (λ (e : SE). e.0) es))
@@ -441,15 +442,16 @@ module _ (w : Way) where
     expr_most (layer.Relation e o f) = computed_most g s _ (at_more (of_relation w e.0 o f.0)
         (relation_most g s (bound_expr w e.0) (bound_expr w f.0) (meanings_of g e.0) o (meanings_of g f.0) e.1 f.1))
 
-    selector_most : (y : Selector-F SE SS SD SI) → FP g s (selector_form w (bare_selector y))
-        (selector_layer g (opened_selector (bare_selector y)))
+    selector_most : (y : Selector-F SE SS SD SI)
+        → FP g s (selector_form w (bare_selector y)) (selector_layer g (opened_selector (bare_selector y)))
     selector_most (layer.Field p name) = λ k d l q. at_more (of_field w k p name)
         (plain_most (then_most (sort_most g p rule.WrongType q) (λ x h. field_of_most k p name x l h)))
     selector_most (layer.Index p e) = λ k d l q. at_more (of_index w k p e.0)
         (plain_most (indexed_most w g k (bound_expr w e.0) s.types p (meanings_of g e.0).fixed.at
         (sort_most g p rule.WrongType q) (value_most g s _ (meanings_of g e.0) e.1)))
 
-    designator_most : (y : Designator-F SE SS SD SI) → FM g s (node w ⊕ designator_form w (bare_designator y))
+    designator_most : (y : Designator-F SE SS SD SI)
+        → FM g s (node w ⊕ designator_form w (bare_designator y))
         (designator_layer g (opened_designator (bare_designator y)))
     designator_most y =
         at_more (of_selectors w (bare_designator y))

@@ -82,8 +82,8 @@ module _ (w : Way) where
   -- ---- chains and components
 
   -- a chain by its parts
-  chain_of_one : (e : TypedExpr) (l : Link) → weight_typed w (expr.Chain e (l ∷ [])) ≤ node w ⊕ weight_typed w e
-      ⊕ weight_link w l
+  chain_of_one : (e : TypedExpr) (l : Link) → weight_typed w (expr.Chain e (l ∷ [])) ≤ node w ⊕ weight_typed w
+      e ⊕ weight_link w l
   chain_of_one e l = one_link w _ _ _ _ (expr_chain w e (l ∷ [])) (one_alone w (weight_link w) l)
 
   linked_by : (x : TypedExpr-F Argument Call Component Link TypedExpr Place) (e : TypedExpr) (l : Link)
@@ -109,8 +109,8 @@ module _ (w : Way) where
   linked_by (layer.High slot) e l h = chain_of_one e l
   linked_by (layer.Call t c) e l h = chain_of_one e l
 
-  pub linked_most : (e : TypedExpr) (l : Link) → weight_typed w (link_operand e l) ≤ node w ⊕ weight_typed w e
-      ⊕ weight_link w l
+  pub linked_most : (e : TypedExpr) (l : Link) → weight_typed w (link_operand e l) ≤ node w ⊕ weight_typed w
+      e ⊕ weight_link w l
   linked_most e l = linked_by (out-TypedExpr e) e l refl
 
   pub behind_weight : (d : Place) (c : Component) → weight_place w (behind d c) ≡ weight_place w d ⊕ weight_component w
@@ -201,8 +201,8 @@ module _ (w : Way) where
 
     built_most : (n : ℕ) (t : TypeNo) (x y : TypedExpr) (o : Step) → weight_typed w x ⊕ operand w (weight_typed w y) ≤ n
         → weight_value w (step_result t x y o) ≤ node w ⊕ n
-    built_most n t x y (step.Arithmetic o) p = join w _ _ _ _ n (linked_most x (link.Arithmetic o t y))
-        (link_arithmetic w o t y) p
+    built_most n t x y (step.Arithmetic o) p =
+        join w _ _ _ _ n (linked_most x (link.Arithmetic o t y)) (link_arithmetic w o t y) p
     built_most n t x y step.And p = join w _ _ _ _ n (linked_most x (link.And y)) (link_and w y) p
     built_most n t x y step.Or p = join w _ _ _ _ n (linked_most x (link.Or y)) (link_or w y) p
     built_most n t x y (step.Compare c) p = pair w _ _ _ n (expr_compare w c x y) p
@@ -233,8 +233,8 @@ module _ (w : Way) where
 
     set_built_most : (n : ℕ) (x y : TypedExpr) (o : SetStep) → weight_typed w x ⊕ operand w (weight_typed w y) ≤ n
         → weight_value w (set_built x y o) ≤ node w ⊕ n
-    set_built_most n x y (set_step.Combine o) p = join w _ _ _ _ n (linked_most x (link.Combine o y))
-        (link_combine w o y) p
+    set_built_most n x y (set_step.Combine o) p =
+        join w _ _ _ _ n (linked_most x (link.Combine o y)) (link_combine w o y) p
     set_built_most n x y (set_step.Compare c) p = pair w _ _ _ n (expr_compare w c x y) p
     set_built_most n x y (set_step.Include i) p = pair w _ _ _ n (expr_include w i x y) p
 
@@ -246,8 +246,8 @@ module _ (w : Way) where
     scalar_most : (n : ℕ) (op : BinaryOp) (spot at : Pos) (a : Amount) (at' : Pos) (y : Option Side)
         → weight_amount a ⊕ operand w (weight_side y) ≤ n → Value_ (node w ⊕ n) (with_scalar g op spot at a at' y)
     scalar_most n op spot at a at' None p = reported_most g spot rule.WrongType
-    scalar_most n op spot at a at' (Some (side.Scalar b)) p = amounts_most n op spot at a at' b
-        (common (sort_of a) (sort_of b)) p
+    scalar_most n op spot at a at' (Some (side.Scalar b)) p =
+        amounts_most n op spot at a at' b (common (sort_of a) (sort_of b)) p
     scalar_most n op spot at a at' (Some (side.Set s)) p = member_most n op spot at a s p
     scalar_most n op spot at a at' (Some (side.Routine t e)) p = reported_most g spot rule.WrongType
     scalar_most n op spot at a at' (Some (side.Procedure f)) p = reported_most g spot rule.WrongType
@@ -362,8 +362,8 @@ module _ (w : Way) where
 
     pub suited_most : (n : ℕ) (broken : Rule) (types : Types) (t : TypeNo) (at : Pos) (x : Computed)
         → weight_value w x ≤ n → Expr_ n (value_suited g broken types t at x)
-    suited_most n broken types t at x p = value_in_most n broken types t at (side_of x) (class_at types t)
-        (le_trans _ _ n (side_most x) p)
+    suited_most n broken types t at x p =
+        value_in_most n broken types t at (side_of x) (class_at types t) (le_trans _ _ n (side_most x) p)
 
     -- ---- components
 
@@ -406,8 +406,8 @@ module _ (w : Way) where
 
     picked_most : (n k : ℕ) (x : TypedExpr) (a : Subscripted) → weight_typed w x ≤ k → weight_subscripted a ⊕ k ≤ n
         → weight_meant w (element_of_array x a) ≤ node w ⊕ n
-    picked_most n k x (indexes.Array t i e d) p q = element_sum w _ _ _ _ _ n k (behind_weight d (part.Element t x))
-        (component_element w t x) refl q p
+    picked_most n k x (indexes.Array t i e d) p q =
+        element_sum w _ _ _ _ _ n k (behind_weight d (part.Element t x)) (component_element w t x) refl q p
     picked_most n k x (indexes.Open t slot) p q =
         open_sum w slot.up _ _ _ _ n k (behind_weight (root_place (root.Open slot)) (part.OpenElement slot t x))
         (component_openelement w slot t x) (rooted_weight (root.Open slot)) q p

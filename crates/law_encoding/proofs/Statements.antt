@@ -1,4 +1,4 @@
--- What statements mean weighs no more than they do, by induction.
+-- What statements mean weighs no more than they allow, by induction.
 use Rattle.std.proofs.Common.{map, ◌≡◌, ℕ, ◌+◌, ◌≤◌, List, [], ◌∷◌, ◌++◌, length, Option, Some, None, Result, Ok, Err}
 use Rattle.std.proofs.Common.{sym, ap, subst, ◌∙◌, length-append, arith}
 use Rattle.std.specs.Prelude.{map}
@@ -63,8 +63,8 @@ module _ (w : Way) where
 
   module _ (g : Gathers) where
     abbrev Elaborates_ : ℕ → Elaborates g.Reported → Type 0
-    Elaborates_ n f = (s : Scope g.Reported) (a : Around g.Reported) → IsNear w s.level
-        → AtMost (weight_step w) n (f s a)
+    Elaborates_ n f =
+        (s : Scope g.Reported) (a : Around g.Reported) → IsNear w s.level → AtMost (weight_step w) n (f s a)
 
     abbrev Rest_ : ℕ → ElaboratesRest g.Reported → Type 0
     Rest_ n f = (s : Scope g.Reported) (a : Around g.Reported) → IsNear w s.level → AtMost (weight_body_if w) n (f s a)
@@ -89,13 +89,13 @@ module _ (w : Way) where
 
     next_most : {A : Type 0} (f : A → ℕ) (k n : ℕ) {so : Result (List A) g.Reported} {x : Result A g.Reported}
         → AtMost (weights_of w f) k so → AtMost f n x → AtMost (weights_of w f) (k ⊕ n) (with_next g so x)
-    next_most f k n p q = then_most (both_most g w p q) (λ v l. fine (v.0 ++ v.1 ∷ [])
-        (le_by _ _ (k ⊕ n) (all_pushed w f v.0 v.1) l))
+    next_most f k n p q =
+        then_most (both_most g w p q) (λ v l. fine (v.0 ++ v.1 ∷ []) (le_by _ _ (k ⊕ n) (all_pushed w f v.0 v.1) l))
 
     module _ (s : Scope g.Reported) (a : Around g.Reported) (near : IsNear w s.level) where
       from_stmts : (k : ℕ) (ns : List ℕ) (xs : List (Elaborates g.Reported)) (so : Result (List TypedStmt) g.Reported)
-          → AtMost (weight_body w) k so → AllJ ns xs → AtMost (weight_body w) (k ⊕ total_of w ns)
-          (fold (with_stmt g s a) so xs)
+          → AtMost (weight_body w) k so → AllJ ns xs
+          → AtMost (weight_body w) (k ⊕ total_of w ns) (fold (with_stmt g s a) so xs)
       from_stmts k [] [] so p all = at_more (none_left w k) p
       from_stmts k [] (x ∷ xs) so p all = absurd all
       from_stmts k (n ∷ ns) [] so p all = absurd all
@@ -104,8 +104,8 @@ module _ (w : Way) where
 
       all_most : (ns : List ℕ) (xs : List (Elaborates g.Reported)) → AllJ ns xs
           → AtMost (weight_body w) (total_of w ns) (all_of g s a xs)
-      all_most ns xs all = at_more (from_none w (total_of w ns))
-          (from_stmts 0 ns xs (Ok []) (fine [] (le_of _ 0 (none_of w _))) all)
+      all_most ns xs all =
+          at_more (from_none w (total_of w ns)) (from_stmts 0 ns xs (Ok []) (fine [] (le_of _ 0 (none_of w _))) all)
 
       standing_most : (ns : List ℕ) (xs : List (Elaborates g.Reported)) → AllJ ns xs
           → AtMost (weight_body_if w) (total_of w ns) (all_if g s a (Some xs))
@@ -132,14 +132,14 @@ module _ (w : Way) where
     one_longer a n k e l = omega (arith, e, l)
 
     next_label : (k : ℕ) {so : Result (List Label) g.Reported} (x : Result Label g.Reported)
-        → AtMost (λ (xs : List Label). length xs) k so → AtMost (λ (xs : List Label). length xs) (k + 1)
-        (with_next g so x)
+        → AtMost (λ (xs : List Label). length xs) k so
+        → AtMost (λ (xs : List Label). length xs) (k + 1) (with_next g so x)
     next_label k x p = then_most (both_most g by_size p (any_most x))
         (λ v l. fine (v.0 ++ v.1 ∷ []) (one_longer _ _ k (length-append v.0 (v.1 ∷ [])) l))
 
     label_most : (k : ℕ) (at : Pos) (st : Labels g.Reported) (r : Result Bounds g.Reported)
-        → AtMost (λ (xs : List Label). length xs) k st.1 → AtMost (λ (xs : List Label). length xs) (k + 1)
-        (with_label g at st r).1
+        → AtMost (λ (xs : List Label). length xs) k st.1
+        → AtMost (λ (xs : List Label). length xs) (k + 1) (with_label g at st r).1
     label_most k at st (Ok None) p = at_more (omega arith) p
     label_most k at st (Ok (Some b)) p = next_label k _ p
     label_most k at st (Err e) p = next_label k (Err e) p
@@ -172,8 +172,8 @@ module _ (w : Way) where
     cased_most : (n m k : ℕ) (s : Scope g.Reported) {e : Result (TypeNo × TypedExpr) g.Reported}
         {xs : Result (List TypedArm) g.Reported} {otherwise : Result (Option (List TypedStmt)) g.Reported}
         → AtMost (weight_selected w g s) n e → AtMost (weights_of w (weight_arm w)) m xs
-        → AtMost (weight_body_if w) k otherwise → AtMost (weight_step w) (in_case w (n ⊕ m ⊕ k))
-        (case_statement g e xs otherwise)
+        → AtMost (weight_body_if w) k otherwise
+        → AtMost (weight_step w) (in_case w (n ⊕ m ⊕ k)) (case_statement g e xs otherwise)
     cased_most n m k s p q r = then_most (both_most g w p (both_most g w q r))
         (λ v l. fine (step.Case v.0.1 v.1.0 v.1.1) (case_sum w _ _ _ _ n m k (step_case w v.0.1 v.1.0 v.1.1) l))
 
@@ -239,8 +239,8 @@ module _ (w : Way) where
     opened_rest x = map-Rest Rest Stmt Arm (ElaboratesRest g.Reported) (Elaborates g.Reported)
         (ElaboratesArm g.Reported) (rest g) (stmt g) (arm g) x
 
-    abbrev opened_arm : Arm-F Rest Stmt Arm → Arm-F (ElaboratesRest g.Reported) (Elaborates g.Reported)
-        (ElaboratesArm g.Reported)
+    abbrev opened_arm : Arm-F Rest Stmt Arm
+        → Arm-F (ElaboratesRest g.Reported) (Elaborates g.Reported) (ElaboratesArm g.Reported)
     opened_arm x = map-Arm Rest Stmt Arm (ElaboratesRest g.Reported) (Elaborates g.Reported) (ElaboratesArm g.Reported)
         (rest g) (stmt g) (arm g) x
 
@@ -272,13 +272,13 @@ module _ (w : Way) where
     abbrev bare_arm : Arm-F SR SS SA → Arm-F Rest Stmt Arm
     bare_arm x = map-Arm SR SS SA Rest Stmt Arm (λ e. e.0) (λ e. e.0) (λ e. e.0) x
 
-    elaborated : (xs : List SS) → AllJ (map (bound_stmt w) (map (λ (e : SS). e.0) xs))
-        (map (stmt g) (map (λ (e : SS). e.0) xs))
+    elaborated : (xs : List SS)
+        → AllJ (map (bound_stmt w) (map (λ (e : SS). e.0) xs)) (map (stmt g) (map (λ (e : SS). e.0) xs))
     elaborated [] = tt
     elaborated (x ∷ xs) = (x.1, elaborated xs)
 
-    armed_all : (xs : List SA) → AllA (map (bound_arm w) (map (λ (e : SA). e.0) xs))
-        (map (arm g) (map (λ (e : SA). e.0) xs))
+    armed_all : (xs : List SA)
+        → AllA (map (bound_arm w) (map (λ (e : SA). e.0) xs)) (map (arm g) (map (λ (e : SA). e.0) xs))
     armed_all [] = tt
     armed_all (x ∷ xs) = (x.1, armed_all xs)
 
@@ -290,13 +290,13 @@ module _ (w : Way) where
 
     body_most : (s : Scope g.Reported) (a : Around g.Reported) (near : IsNear w s.level) (xs : List SS)
         → AtMost (weight_body w) (count_of xs) (all_of g s a (elaborates_of xs))
-    body_most s a near xs = all_most s a near (map (bound_stmt w) (map (λ (e : SS). e.0) xs)) (elaborates_of xs)
-        (elaborated xs)
+    body_most s a near xs =
+        all_most s a near (map (bound_stmt w) (map (λ (e : SS). e.0) xs)) (elaborates_of xs) (elaborated xs)
 
     else_most : (s : Scope g.Reported) (a : Around g.Reported) (near : IsNear w s.level) (xs : List SS)
         → AtMost (weight_body_if w) (count_of xs) (all_if g s a (Some (elaborates_of xs)))
-    else_most s a near xs = standing_most s a near (map (bound_stmt w) (map (λ (e : SS). e.0) xs)) (elaborates_of xs)
-        (elaborated xs)
+    else_most s a near xs =
+        standing_most s a near (map (bound_stmt w) (map (λ (e : SS). e.0) xs)) (elaborates_of xs) (elaborated xs)
 
     no_else : (s : Scope g.Reported) (a : Around g.Reported) → AtMost (weight_body_if w) 0 (all_if g s a None)
     no_else s a = fine None (omega arith)
@@ -309,8 +309,8 @@ module _ (w : Way) where
         at_more (of_call_with w d es) (done_most w g s (node w ⊕ bound_designator w d) (map (bound_expr w) es)
         (head g d) (map (meanings_of g) es) (head_most w g s near d) (all_meant s near es))
 
-    stmt_most_layer : (y : Stmt-F SR SS SA) → Elaborates_ (stmt_form w (bare_stmt y))
-        (stmt_layer g (opened_stmt (bare_stmt y)))
+    stmt_most_layer : (y : Stmt-F SR SS SA)
+        → Elaborates_ (stmt_form w (bare_stmt y)) (stmt_layer g (opened_stmt (bare_stmt y)))
     stmt_most_layer (layer.Assign d e) = λ s a near.
         at_more (of_assign w d e) (assignment_most w g s (node w ⊕ bound_designator w d) (bound_expr w e) (head g d)
         (meanings_of g e).fixed.at (meanings_of g e) (head_most w g s near d) (meant_most w g s near e))
@@ -356,16 +356,16 @@ module _ (w : Way) where
         (λ r k. with_most (node w ⊕ bound_designator w d) (count_of body) r.1 k
         (body_most (into_record s r.0) a near body)))
 
-    rest_most_layer : (y : Rest-F SR SS SA) → Rest_ (rest_form w (bare_rest y))
-        (rest_layer g (opened_rest (bare_rest y)))
+    rest_most_layer : (y : Rest-F SR SS SA)
+        → Rest_ (rest_form w (bare_rest y)) (rest_layer g (opened_rest (bare_rest y)))
     rest_most_layer (layer.Elsif c body follow) = λ s a near.
         at_more (of_elsif w c (map (λ (e : SS). e.0) body) follow.0) (chosen_else_most _
         (chosen_most (bound_expr w c) (count_of body) (bound_rest w follow.0)
         (condition_most w g s (bound_expr w c) (meanings_of g c) (meant_most w g s near c)) (body_most s a near body)
         (follow.1 s a near)))
     rest_most_layer (layer.Else None) = λ s a near. at_more (omega arith) (no_else s a)
-    rest_most_layer (layer.Else (Some body)) = λ s a near. at_more (of_else w (map (λ (e : SS). e.0) body))
-        (else_most s a near body)
+    rest_most_layer (layer.Else (Some body)) =
+        λ s a near. at_more (of_else w (map (λ (e : SS). e.0) body)) (else_most s a near body)
 
     armed_most : (n m : ℕ) {ls : Result (List Label) g.Reported} {body : Result (List TypedStmt) g.Reported}
         → AtMost (λ (xs : List Label). length xs) n ls → AtMost (weight_body w) m body

@@ -33,8 +33,9 @@ use Rattle.check_operator.specs.declared.side.Side.TheVariants as side
 use Rattle.check_expr.specs.Meanings.{Meant}
 use Rattle.check_stmt_parts.specs.Simple.{exit_statement, given_back, return_statement, condition, selector_amount}
 use Rattle.check_stmt_parts.specs.Simple.{selector_of, case_selector, record_by, record_of}
-use Rattle.check_stmt_parts.specs.Control.{controlled_as, control_by, control_of, start_at, limit_number, limit_by}
-use Rattle.check_stmt_parts.specs.Control.{limit_at, type_of, base_of, course_of, step_of, repeated_for}
+use Rattle.check_stmt_parts.specs.Control.{controlled_as, control_by, control_of, start_at}
+use Rattle.check_stmt_parts.specs.Control.{limit_number, limit_by, limit_at, type_of, base_of, course_of, step_of}
+use Rattle.check_stmt_parts.specs.Control.{repeated_for}
 use Rattle.check_stmt_parts.specs.declared.around.Around.{Around}
 use Rattle.check_stmt_parts.specs.declared.control.Control.{Control}
 use Rattle.check_stmt_parts.specs.declared.control.Course.{Course}
@@ -83,11 +84,11 @@ module _ (w : Way) where
     -- ---- conditions, EXIT and RETURN
 
     pub condition_most : (n : ℕ) (x : Meant g.Reported) → FM w g s n x → Expr_ n (condition g s x)
-    condition_most n x p = then_most (value_most w g s n x p) (λ v k. suited_most w g n rule.WrongType s.types boolean
-        x.fixed.at v k)
+    condition_most n x p =
+        then_most (value_most w g s n x p) (λ v k. suited_most w g n rule.WrongType s.types boolean x.fixed.at v k)
 
-    exited_as : (at : Pos) (inside : Bool) → Stmt_ (node w) (reported_where g (not inside) at rule.LonelyExit
-        (Ok step.Exit))
+    exited_as : (at : Pos) (inside : Bool)
+        → Stmt_ (node w) (reported_where g (not inside) at rule.LonelyExit (Ok step.Exit))
     exited_as at true = fine step.Exit (le_of _ (node w) (step_exit w))
     exited_as at false = reported_most g at rule.LonelyExit
 
@@ -163,8 +164,8 @@ module _ (w : Way) where
     control_by_most near at (meaning.Module k) = reported_most g at rule.WrongControl
 
     control_most : IsNear w s.level → (name : Ident) → AtMost weight_control (control_base w) (control_of g s name)
-    control_most near name = then_most (sort_most g name.pos rule.WrongControl (any_most _))
-        (λ x p. control_by_most near name.pos x)
+    control_most near name =
+        then_most (sort_most g name.pos rule.WrongControl (any_most _)) (λ x p. control_by_most near name.pos x)
 
     start_most : (n : ℕ) (at : Pos) (t : Result TypeNo g.Reported) {x : Result Computed g.Reported}
         → AtMost (weight_value w) n x → Expr_ n (start_at g s.types at t x)
@@ -175,16 +176,16 @@ module _ (w : Way) where
         → Expr_ n (limit_number g base at i o)
     limit_number_most n base at i None l = where_most g _ at rule.OutOfRange
         (fine (expr.Constant base i) (le_trans _ (node w) n (le_of _ (node w) (expr_constant w base i)) l))
-    limit_number_most n base at i (Some t) l = fine (expr.Constant t i)
-        (le_trans _ (node w) n (le_of _ (node w) (expr_constant w t i)) l)
+    limit_number_most n base at i (Some t) l =
+        fine (expr.Constant t i) (le_trans _ (node w) n (le_of _ (node w) (expr_constant w t i)) l)
 
     limit_by_most : (n : ℕ) (base : TypeNo) (at : Pos) (o : Option Side) → weight_side w o ≤ n
         → Expr_ n (limit_by g base at o)
     limit_by_most n base at None p = reported_most g at rule.NotAssignable
     limit_by_most n base at (Some (side.Scalar (Known a))) p = where_most g (not (sort_suits base a.sort)) at
         rule.NotAssignable (limit_number_most n base at a.number a.sort p)
-    limit_by_most n base at (Some (side.Scalar (Run b e))) p = where_most g (not (bases_suit base b)) at
-        rule.NotAssignable (fine e p)
+    limit_by_most n base at (Some (side.Scalar (Run b e))) p =
+        where_most g (not (bases_suit base b)) at rule.NotAssignable (fine e p)
     limit_by_most n base at (Some (side.Set e)) p = reported_most g at rule.NotAssignable
     limit_by_most n base at (Some (side.Routine t e)) p = reported_most g at rule.NotAssignable
     limit_by_most n base at (Some (side.Procedure f)) p = reported_most g at rule.NotAssignable

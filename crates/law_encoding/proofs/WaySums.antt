@@ -59,8 +59,8 @@ only_one by_size k n ns = omega arith
 only_one by_depth k n ns = omega arith
 only_one (by_distance level) k n ns = omega arith
 
-pub second_one : (w : Way) (k m n : ℕ) (ns : List ℕ) → node w ⊕⟨ w ⟩ n ≤ node w
-    ⊕⟨ w ⟩ (k ⊕⟨ w ⟩ arguments w (m ∷ n ∷ ns))
+pub second_one : (w : Way) (k m n : ℕ) (ns : List ℕ)
+    → node w ⊕⟨ w ⟩ n ≤ node w ⊕⟨ w ⟩ (k ⊕⟨ w ⟩ arguments w (m ∷ n ∷ ns))
 second_one by_size k m n ns = omega arith
 second_one by_depth k m n ns = omega arith
 second_one (by_distance level) k m n ns = omega arith
@@ -70,14 +70,14 @@ argument_in by_size a k n ns h = omega (arith, h)
 argument_in by_depth a k n ns h = omega (arith, h)
 argument_in (by_distance level) a k n ns h = omega (arith, h)
 
-pub one_sum : (w : Way) (k n : ℕ) (ns : List ℕ) → node w ⊕⟨ w ⟩ (n ⊕⟨ w ⟩ node w) ≤ node w
-    ⊕⟨ w ⟩ (k ⊕⟨ w ⟩ arguments w (n ∷ ns))
+pub one_sum : (w : Way) (k n : ℕ) (ns : List ℕ)
+    → node w ⊕⟨ w ⟩ (n ⊕⟨ w ⟩ node w) ≤ node w ⊕⟨ w ⟩ (k ⊕⟨ w ⟩ arguments w (n ∷ ns))
 one_sum by_size k n ns = omega arith
 one_sum by_depth k n ns = omega arith
 one_sum (by_distance level) k n ns = omega arith
 
-pub two_sum : (w : Way) (k n m : ℕ) (ns : List ℕ) → node w ⊕⟨ w ⟩ (n ⊕⟨ w ⟩ m) ≤ node w
-    ⊕⟨ w ⟩ (k ⊕⟨ w ⟩ arguments w (n ∷ m ∷ ns))
+pub two_sum : (w : Way) (k n m : ℕ) (ns : List ℕ)
+    → node w ⊕⟨ w ⟩ (n ⊕⟨ w ⟩ m) ≤ node w ⊕⟨ w ⟩ (k ⊕⟨ w ⟩ arguments w (n ∷ m ∷ ns))
 two_sum by_size k n m ns = omega arith
 two_sum by_depth k n m ns = omega arith
 two_sum (by_distance level) k n m ns = omega arith

@@ -1,5 +1,5 @@
--- What trees weigh, and what each form of expressions leaves to its parts, in each of the three ways. No tree leads further
--- outwards than the procedure that it stands in stands deep.
+-- How much trees allow in each of the three ways, and what each form of them leaves to its parts. A tree leads no further
+-- outwards than the procedure around it stands deep.
 use Rattle.std.proofs.Common.{◌≡◌, ℕ, ◌+◌, ◌≤◌, List, [], ◌∷◌, Option, Some, None, refl, arith}
 use Rattle.std.specs.Prelude.{map, ◌-◌}
 use Rattle.m2_tree.specs.declared.pos.Pos.{Pos}
@@ -26,8 +26,8 @@ use Rattle.law_encoding.specs.Nesting as nesting
 use Rattle.law_encoding.proofs.Variants.{size_label}
 use Rattle.law_encoding.proofs.Variants as sized
 use Rattle.law_encoding.proofs.DeepTrees as deep
-use Rattle.law_encoding.proofs.Ways.{Way, by_size, by_depth, by_distance, ◌⊕⟨◌⟩◌, node, up, operand, control, in_if}
-use Rattle.law_encoding.proofs.Ways.{in_case, in_loop, labels, total_of, arguments, operands}
+use Rattle.law_encoding.proofs.Ways.{Way, by_size, by_depth, by_distance, ◌⊕⟨◌⟩◌, node, up, operand, control}
+use Rattle.law_encoding.proofs.Ways.{in_if, in_case, in_loop, labels, total_of, arguments, operands}
 
 -- ---- what a name weighs by itself
 
@@ -161,16 +161,12 @@ designator_opened by_depth d y h = deep.at_designator d y h
 designator_opened (by_distance level) d y h = refl
 
 -- so many parts of the same weight
-as_far : {A : Type 0} (level : ℕ) (f : A → ℕ) → ((x : A) → f x ≤ level) → (xs : List A) → deepest_of f xs ≤ level
-as_far level f h [] = omega arith
-as_far level f h (x ∷ xs) = omega (arith, h x, as_far level f h xs)
-
 all_as_far : {A : Type 0} (level : ℕ) (xs : List A) → deepest (map (λ (x : A). level) xs) ≤ level
 all_as_far level [] = omega arith
 all_as_far level (x ∷ xs) = omega (arith, all_as_far level xs)
 
-arguments_as_far : {A : Type 0} (level : ℕ) (xs : List A) → arguments (by_distance level) (map (λ (x : A). level) xs)
-    ≤ level
+arguments_as_far : {A : Type 0} (level : ℕ) (xs : List A)
+    → arguments (by_distance level) (map (λ (x : A). level) xs) ≤ level
 arguments_as_far level [] = omega arith
 arguments_as_far level (x ∷ xs) = omega (arith, arguments_as_far level xs)
 
@@ -221,8 +217,9 @@ of_name by_size d = omega arith
 of_name by_depth d = omega arith
 of_name (by_distance far) d = omega arith
 
-pub of_call : (w : Way) (d : Designator) (es : List Expr) → node w ⊕⟨ w ⟩ (node w ⊕⟨ w ⟩ bound_designator w d
-    ⊕⟨ w ⟩ bound_arguments w es) ≤ expr_form w (layer.Use d (Some es))
+pub of_call : (w : Way) (d : Designator) (es : List Expr)
+    → node w ⊕⟨ w ⟩ (node w ⊕⟨ w ⟩ bound_designator w d ⊕⟨ w ⟩ bound_arguments w es) ≤ expr_form w
+    (layer.Use d (Some es))
 of_call by_size d es = omega arith
 of_call by_depth d es = omega arith
 of_call (by_distance far) d es = omega (arith, arguments_as_far far es)
@@ -245,14 +242,14 @@ of_relation by_size a o b = omega arith
 of_relation by_depth a o b = omega arith
 of_relation (by_distance far) a o b = omega arith
 
-pub of_field : (w : Way) (k : ℕ) (at : Pos) (name : Ident) → node w ⊕⟨ w ⟩ k ≤ k ⊕⟨ w ⟩ selector_form w
-    (layer.Field at name)
+pub of_field : (w : Way) (k : ℕ) (at : Pos) (name : Ident)
+    → node w ⊕⟨ w ⟩ k ≤ k ⊕⟨ w ⟩ selector_form w (layer.Field at name)
 of_field by_size k at name = omega arith
 of_field by_depth k at name = omega arith
 of_field (by_distance far) k at name = omega arith
 
-pub of_index : (w : Way) (k : ℕ) (at : Pos) (e : Expr) → node w ⊕⟨ w ⟩ (k ⊕⟨ w ⟩ bound_expr w e) ≤ k
-    ⊕⟨ w ⟩ selector_form w (layer.Index at e)
+pub of_index : (w : Way) (k : ℕ) (at : Pos) (e : Expr)
+    → node w ⊕⟨ w ⟩ (k ⊕⟨ w ⟩ bound_expr w e) ≤ k ⊕⟨ w ⟩ selector_form w (layer.Index at e)
 of_index by_size k at e = omega arith
 of_index by_depth k at e = omega arith
 of_index (by_distance far) k at e = omega arith
@@ -327,8 +324,8 @@ of_assign by_size d e = omega arith
 of_assign by_depth d e = omega arith
 of_assign (by_distance far) d e = omega arith
 
-pub of_plain_call : (w : Way) (d : Designator) → node w ⊕⟨ w ⟩ (node w ⊕⟨ w ⟩ bound_designator w d ⊕⟨ w ⟩ arguments w
-    []) ≤ stmt_form w (rlayer.Call d None)
+pub of_plain_call : (w : Way) (d : Designator)
+    → node w ⊕⟨ w ⟩ (node w ⊕⟨ w ⟩ bound_designator w d ⊕⟨ w ⟩ arguments w []) ≤ stmt_form w (rlayer.Call d None)
 of_plain_call by_size d = omega arith
 of_plain_call by_depth d = omega arith
 of_plain_call (by_distance far) d = omega arith
@@ -346,8 +343,9 @@ of_if by_size c body rest = omega arith
 of_if by_depth c body rest = omega arith
 of_if (by_distance far) c body rest = omega (arith, all_as_far far body)
 
-pub of_case : (w : Way) (e : Expr) (arms : List Arm) → in_case w
-    (bound_expr w e ⊕⟨ w ⟩ total_of w (map (bound_arm w) arms) ⊕⟨ w ⟩ 0) ≤ stmt_form w (rlayer.Case e arms None)
+pub of_case : (w : Way) (e : Expr) (arms : List Arm)
+    → in_case w (bound_expr w e ⊕⟨ w ⟩ total_of w (map (bound_arm w) arms) ⊕⟨ w ⟩ 0) ≤ stmt_form w
+    (rlayer.Case e arms None)
 of_case by_size e arms = omega arith
 of_case by_depth e arms = omega arith
 of_case (by_distance far) e arms = omega (arith, all_as_far far arms)
@@ -388,8 +386,8 @@ of_for by_size name start limit by body = omega arith
 of_for by_depth name start limit by body = omega arith
 of_for (by_distance far) name start limit by body = omega (arith, all_as_far far body)
 
-pub of_with : (w : Way) (d : Designator) (body : List Stmt) → node w ⊕⟨ w ⟩ bound_designator w d ⊕⟨ w ⟩ bound_stmts w
-    body ≤ stmt_form w (rlayer.With d body)
+pub of_with : (w : Way) (d : Designator) (body : List Stmt)
+    → node w ⊕⟨ w ⟩ bound_designator w d ⊕⟨ w ⟩ bound_stmts w body ≤ stmt_form w (rlayer.With d body)
 of_with by_size d body = omega arith
 of_with by_depth d body = omega arith
 of_with (by_distance far) d body = omega (arith, all_as_far far body)

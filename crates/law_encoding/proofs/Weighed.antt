@@ -63,10 +63,10 @@ pub at_argument : (w : Way) (e : Argument) (x : Argument-F Argument Call Compone
 unfolding size_passed size_call size_component size_link size_typed size_place depth_passed depth_call depth_component
     depth_link depth_typed depth_place outward_passed outward_call outward_component outward_link outward_typed
     outward_place
-at_argument by_size e x h = fold_out-Argument _ _ _ _ _ _ _ _ _ _ _ _ e ∙ ap (argument_layer by_size)
-    (ap (weights_argument by_size) h)
-at_argument by_depth e x h = fold_out-Argument _ _ _ _ _ _ _ _ _ _ _ _ e ∙ ap (argument_layer by_depth)
-    (ap (weights_argument by_depth) h)
+at_argument by_size e x h =
+    fold_out-Argument _ _ _ _ _ _ _ _ _ _ _ _ e ∙ ap (argument_layer by_size) (ap (weights_argument by_size) h)
+at_argument by_depth e x h =
+    fold_out-Argument _ _ _ _ _ _ _ _ _ _ _ _ e ∙ ap (argument_layer by_depth) (ap (weights_argument by_depth) h)
 at_argument (by_distance l) e x h = fold_out-Argument _ _ _ _ _ _ _ _ _ _ _ _ e ∙ ap (argument_layer (by_distance l))
     (ap (weights_argument (by_distance l)) h)
 
@@ -86,10 +86,10 @@ unfolding size_passed size_call size_component size_link size_typed size_place d
     depth_link depth_typed depth_place outward_passed outward_call outward_component outward_link outward_typed
     outward_place
 at_call by_size e x h = fold_out-Call _ _ _ _ _ _ _ _ _ _ _ _ e ∙ ap (call_layer by_size) (ap (weights_call by_size) h)
-at_call by_depth e x h = fold_out-Call _ _ _ _ _ _ _ _ _ _ _ _ e ∙ ap (call_layer by_depth)
-    (ap (weights_call by_depth) h)
-at_call (by_distance l) e x h = fold_out-Call _ _ _ _ _ _ _ _ _ _ _ _ e ∙ ap (call_layer (by_distance l))
-    (ap (weights_call (by_distance l)) h)
+at_call by_depth e x h =
+    fold_out-Call _ _ _ _ _ _ _ _ _ _ _ _ e ∙ ap (call_layer by_depth) (ap (weights_call by_depth) h)
+at_call (by_distance l) e x h =
+    fold_out-Call _ _ _ _ _ _ _ _ _ _ _ _ e ∙ ap (call_layer (by_distance l)) (ap (weights_call (by_distance l)) h)
 
 abbrev pub component_layer : Way → Component-F ℕ ℕ ℕ ℕ ℕ ℕ → ℕ
 component_layer by_size = size.component_layer
@@ -106,10 +106,10 @@ pub at_component : (w : Way) (e : Component) (x : Component-F Argument Call Comp
 unfolding size_passed size_call size_component size_link size_typed size_place depth_passed depth_call depth_component
     depth_link depth_typed depth_place outward_passed outward_call outward_component outward_link outward_typed
     outward_place
-at_component by_size e x h = fold_out-Component _ _ _ _ _ _ _ _ _ _ _ _ e ∙ ap (component_layer by_size)
-    (ap (weights_component by_size) h)
-at_component by_depth e x h = fold_out-Component _ _ _ _ _ _ _ _ _ _ _ _ e ∙ ap (component_layer by_depth)
-    (ap (weights_component by_depth) h)
+at_component by_size e x h =
+    fold_out-Component _ _ _ _ _ _ _ _ _ _ _ _ e ∙ ap (component_layer by_size) (ap (weights_component by_size) h)
+at_component by_depth e x h =
+    fold_out-Component _ _ _ _ _ _ _ _ _ _ _ _ e ∙ ap (component_layer by_depth) (ap (weights_component by_depth) h)
 at_component (by_distance l) e x h = fold_out-Component _ _ _ _ _ _ _ _ _ _ _ _ e ∙ ap (component_layer (by_distance l))
     (ap (weights_component (by_distance l)) h)
 
@@ -129,10 +129,10 @@ unfolding size_passed size_call size_component size_link size_typed size_place d
     depth_link depth_typed depth_place outward_passed outward_call outward_component outward_link outward_typed
     outward_place
 at_link by_size e x h = fold_out-Link _ _ _ _ _ _ _ _ _ _ _ _ e ∙ ap (link_layer by_size) (ap (weights_link by_size) h)
-at_link by_depth e x h = fold_out-Link _ _ _ _ _ _ _ _ _ _ _ _ e ∙ ap (link_layer by_depth)
-    (ap (weights_link by_depth) h)
-at_link (by_distance l) e x h = fold_out-Link _ _ _ _ _ _ _ _ _ _ _ _ e ∙ ap (link_layer (by_distance l))
-    (ap (weights_link (by_distance l)) h)
+at_link by_depth e x h =
+    fold_out-Link _ _ _ _ _ _ _ _ _ _ _ _ e ∙ ap (link_layer by_depth) (ap (weights_link by_depth) h)
+at_link (by_distance l) e x h =
+    fold_out-Link _ _ _ _ _ _ _ _ _ _ _ _ e ∙ ap (link_layer (by_distance l)) (ap (weights_link (by_distance l)) h)
 
 abbrev pub expr_layer : Way → TypedExpr-F ℕ ℕ ℕ ℕ ℕ ℕ → ℕ
 expr_layer by_size = size.expr_layer
@@ -149,12 +149,12 @@ pub at_expr : (w : Way) (e : TypedExpr) (x : TypedExpr-F Argument Call Component
 unfolding size_passed size_call size_component size_link size_typed size_place depth_passed depth_call depth_component
     depth_link depth_typed depth_place outward_passed outward_call outward_component outward_link outward_typed
     outward_place
-at_expr by_size e x h = fold_out-TypedExpr _ _ _ _ _ _ _ _ _ _ _ _ e ∙ ap (expr_layer by_size)
-    (ap (weights_expr by_size) h)
-at_expr by_depth e x h = fold_out-TypedExpr _ _ _ _ _ _ _ _ _ _ _ _ e ∙ ap (expr_layer by_depth)
-    (ap (weights_expr by_depth) h)
-at_expr (by_distance l) e x h = fold_out-TypedExpr _ _ _ _ _ _ _ _ _ _ _ _ e ∙ ap (expr_layer (by_distance l))
-    (ap (weights_expr (by_distance l)) h)
+at_expr by_size e x h =
+    fold_out-TypedExpr _ _ _ _ _ _ _ _ _ _ _ _ e ∙ ap (expr_layer by_size) (ap (weights_expr by_size) h)
+at_expr by_depth e x h =
+    fold_out-TypedExpr _ _ _ _ _ _ _ _ _ _ _ _ e ∙ ap (expr_layer by_depth) (ap (weights_expr by_depth) h)
+at_expr (by_distance l) e x h =
+    fold_out-TypedExpr _ _ _ _ _ _ _ _ _ _ _ _ e ∙ ap (expr_layer (by_distance l)) (ap (weights_expr (by_distance l)) h)
 
 abbrev pub place_layer : Way → Place-F ℕ ℕ ℕ ℕ ℕ ℕ → ℕ
 place_layer by_size = size.place_layer
@@ -171,12 +171,12 @@ pub at_place : (w : Way) (e : Place) (x : Place-F Argument Call Component Link T
 unfolding size_passed size_call size_component size_link size_typed size_place depth_passed depth_call depth_component
     depth_link depth_typed depth_place outward_passed outward_call outward_component outward_link outward_typed
     outward_place
-at_place by_size e x h = fold_out-Place _ _ _ _ _ _ _ _ _ _ _ _ e ∙ ap (place_layer by_size)
-    (ap (weights_place by_size) h)
-at_place by_depth e x h = fold_out-Place _ _ _ _ _ _ _ _ _ _ _ _ e ∙ ap (place_layer by_depth)
-    (ap (weights_place by_depth) h)
-at_place (by_distance l) e x h = fold_out-Place _ _ _ _ _ _ _ _ _ _ _ _ e ∙ ap (place_layer (by_distance l))
-    (ap (weights_place (by_distance l)) h)
+at_place by_size e x h =
+    fold_out-Place _ _ _ _ _ _ _ _ _ _ _ _ e ∙ ap (place_layer by_size) (ap (weights_place by_size) h)
+at_place by_depth e x h =
+    fold_out-Place _ _ _ _ _ _ _ _ _ _ _ _ e ∙ ap (place_layer by_depth) (ap (weights_place by_depth) h)
+at_place (by_distance l) e x h =
+    fold_out-Place _ _ _ _ _ _ _ _ _ _ _ _ e ∙ ap (place_layer (by_distance l)) (ap (weights_place (by_distance l)) h)
 
 abbrev pub step_layer : Way → TypedStmt-F ℕ ℕ → ℕ
 step_layer by_size = size.step_layer
@@ -191,8 +191,8 @@ pub at_step : (w : Way) (e : TypedStmt) (x : TypedStmt-F TypedStmt TypedArm) →
 unfolding size_step size_arm depth_step depth_arm outward_step outward_arm
 at_step by_size e x h = fold_out-TypedStmt _ _ _ _ e ∙ ap (step_layer by_size) (ap (weights_step by_size) h)
 at_step by_depth e x h = fold_out-TypedStmt _ _ _ _ e ∙ ap (step_layer by_depth) (ap (weights_step by_depth) h)
-at_step (by_distance l) e x h = fold_out-TypedStmt _ _ _ _ e ∙ ap (step_layer (by_distance l))
-    (ap (weights_step (by_distance l)) h)
+at_step (by_distance l) e x h =
+    fold_out-TypedStmt _ _ _ _ e ∙ ap (step_layer (by_distance l)) (ap (weights_step (by_distance l)) h)
 
 abbrev pub arm_layer : Way → TypedArm-F ℕ ℕ → ℕ
 arm_layer by_size = size.arm_layer
@@ -207,52 +207,52 @@ pub at_arm : (w : Way) (e : TypedArm) (x : TypedArm-F TypedStmt TypedArm) → ou
 unfolding size_step size_arm depth_step depth_arm outward_step outward_arm
 at_arm by_size e x h = fold_out-TypedArm _ _ _ _ e ∙ ap (arm_layer by_size) (ap (weights_arm by_size) h)
 at_arm by_depth e x h = fold_out-TypedArm _ _ _ _ e ∙ ap (arm_layer by_depth) (ap (weights_arm by_depth) h)
-at_arm (by_distance l) e x h = fold_out-TypedArm _ _ _ _ e ∙ ap (arm_layer (by_distance l))
-    (ap (weights_arm (by_distance l)) h)
+at_arm (by_distance l) e x h =
+    fold_out-TypedArm _ _ _ _ e ∙ ap (arm_layer (by_distance l)) (ap (weights_arm (by_distance l)) h)
 
 -- ---- expressions, designators, calls and arguments
 
-pub argument_value : (w : Way) (t : TypeNo) (e : TypedExpr) → weight_passed w (argument.Value t e) ≡ node w
-    ⊕⟨ w ⟩ weight_typed w e
-argument_value by_size t e = omega (arith, at_argument by_size (argument.Value t e) (layer.Value t e)
-    (argument.outs-Value t e))
-argument_value by_depth t e = omega (arith, at_argument by_depth (argument.Value t e) (layer.Value t e)
-    (argument.outs-Value t e))
-argument_value (by_distance l) t e = omega (arith, at_argument (by_distance l) (argument.Value t e) (layer.Value t e)
-    (argument.outs-Value t e))
+pub argument_value : (w : Way) (t : TypeNo) (e : TypedExpr)
+    → weight_passed w (argument.Value t e) ≡ node w ⊕⟨ w ⟩ weight_typed w e
+argument_value by_size t e =
+    omega (arith, at_argument by_size (argument.Value t e) (layer.Value t e) (argument.outs-Value t e))
+argument_value by_depth t e =
+    omega (arith, at_argument by_depth (argument.Value t e) (layer.Value t e) (argument.outs-Value t e))
+argument_value (by_distance l) t e =
+    omega (arith, at_argument (by_distance l) (argument.Value t e) (layer.Value t e) (argument.outs-Value t e))
 
 pub argument_place : (w : Way) (d : Place) → weight_passed w (argument.Place d) ≡ node w ⊕⟨ w ⟩ weight_place w d
 argument_place by_size d = omega (arith, at_argument by_size (argument.Place d) (layer.Place d) (argument.outs-Place d))
-argument_place by_depth d = omega (arith, at_argument by_depth (argument.Place d) (layer.Place d)
-    (argument.outs-Place d))
-argument_place (by_distance l) d = omega (arith, at_argument (by_distance l) (argument.Place d) (layer.Place d)
-    (argument.outs-Place d))
+argument_place by_depth d =
+    omega (arith, at_argument by_depth (argument.Place d) (layer.Place d) (argument.outs-Place d))
+argument_place (by_distance l) d =
+    omega (arith, at_argument (by_distance l) (argument.Place d) (layer.Place d) (argument.outs-Place d))
 
-pub argument_array : (w : Way) (t : TypeNo) (d : Place) → weight_passed w (argument.Array t d) ≡ node w
-    ⊕⟨ w ⟩ weight_place w d
-argument_array by_size t d = omega (arith, at_argument by_size (argument.Array t d) (layer.Array t d)
-    (argument.outs-Array t d))
-argument_array by_depth t d = omega (arith, at_argument by_depth (argument.Array t d) (layer.Array t d)
-    (argument.outs-Array t d))
-argument_array (by_distance l) t d = omega (arith, at_argument (by_distance l) (argument.Array t d) (layer.Array t d)
-    (argument.outs-Array t d))
+pub argument_array : (w : Way) (t : TypeNo) (d : Place)
+    → weight_passed w (argument.Array t d) ≡ node w ⊕⟨ w ⟩ weight_place w d
+argument_array by_size t d =
+    omega (arith, at_argument by_size (argument.Array t d) (layer.Array t d) (argument.outs-Array t d))
+argument_array by_depth t d =
+    omega (arith, at_argument by_depth (argument.Array t d) (layer.Array t d) (argument.outs-Array t d))
+argument_array (by_distance l) t d =
+    omega (arith, at_argument (by_distance l) (argument.Array t d) (layer.Array t d) (argument.outs-Array t d))
 
-pub argument_open : (w : Way) (slot : Slot) → weight_passed w (argument.Open slot) ≡ node w
-    ⊕⟨ w ⟩ (node w ⊕⟨ w ⟩ up w slot.up)
-argument_open by_size slot = omega (arith, at_argument by_size (argument.Open slot) (layer.Open slot)
-    (argument.outs-Open slot))
-argument_open by_depth slot = omega (arith, at_argument by_depth (argument.Open slot) (layer.Open slot)
-    (argument.outs-Open slot))
-argument_open (by_distance l) slot = omega (arith, at_argument (by_distance l) (argument.Open slot) (layer.Open slot)
-    (argument.outs-Open slot))
+pub argument_open : (w : Way) (slot : Slot)
+    → weight_passed w (argument.Open slot) ≡ node w ⊕⟨ w ⟩ (node w ⊕⟨ w ⟩ up w slot.up)
+argument_open by_size slot =
+    omega (arith, at_argument by_size (argument.Open slot) (layer.Open slot) (argument.outs-Open slot))
+argument_open by_depth slot =
+    omega (arith, at_argument by_depth (argument.Open slot) (layer.Open slot) (argument.outs-Open slot))
+argument_open (by_distance l) slot =
+    omega (arith, at_argument (by_distance l) (argument.Open slot) (layer.Open slot) (argument.outs-Open slot))
 
 pub argument_text : (w : Way) (text : List ℕ) → weight_passed w (argument.Text text) ≡ node w
-argument_text by_size text = omega (arith, at_argument by_size (argument.Text text) (layer.Text text)
-    (argument.outs-Text text))
-argument_text by_depth text = omega (arith, at_argument by_depth (argument.Text text) (layer.Text text)
-    (argument.outs-Text text))
-argument_text (by_distance l) text = omega (arith, at_argument (by_distance l) (argument.Text text) (layer.Text text)
-    (argument.outs-Text text))
+argument_text by_size text =
+    omega (arith, at_argument by_size (argument.Text text) (layer.Text text) (argument.outs-Text text))
+argument_text by_depth text =
+    omega (arith, at_argument by_depth (argument.Text text) (layer.Text text) (argument.outs-Text text))
+argument_text (by_distance l) text =
+    omega (arith, at_argument (by_distance l) (argument.Text text) (layer.Text text) (argument.outs-Text text))
 
 pub call_module : (w : Way) (f : Procedure) (args : List Argument)
     → weight_call w (call.Module f args) ≡ node w ⊕⟨ w ⟩ all_of w (weight_passed w) args
@@ -283,21 +283,21 @@ call_variable (by_distance l) t d args = omega (arith, at_call (by_distance l) (
     args)
 
 pub component_field : (w : Way) (t : TypeNo) (k : ℕ) → weight_component w (component.Field t k) ≡ node w
-component_field by_size t k = omega (arith, at_component by_size (component.Field t k) (layer.Field t k)
-    (component.outs-Field t k))
-component_field by_depth t k = omega (arith, at_component by_depth (component.Field t k) (layer.Field t k)
-    (component.outs-Field t k))
-component_field (by_distance l) t k = omega (arith, at_component (by_distance l) (component.Field t k) (layer.Field t k)
-    (component.outs-Field t k))
+component_field by_size t k =
+    omega (arith, at_component by_size (component.Field t k) (layer.Field t k) (component.outs-Field t k))
+component_field by_depth t k =
+    omega (arith, at_component by_depth (component.Field t k) (layer.Field t k) (component.outs-Field t k))
+component_field (by_distance l) t k =
+    omega (arith, at_component (by_distance l) (component.Field t k) (layer.Field t k) (component.outs-Field t k))
 
-pub component_element : (w : Way) (t : TypeNo) (i : TypedExpr) → weight_component w (component.Element t i) ≡ node w
-    ⊕⟨ w ⟩ weight_typed w i
-component_element by_size t i = omega (arith, at_component by_size (component.Element t i) (layer.Element t i)
-    (component.outs-Element t i))
-component_element by_depth t i = omega (arith, at_component by_depth (component.Element t i) (layer.Element t i)
-    (component.outs-Element t i))
-component_element (by_distance l) t i = omega (arith, at_component (by_distance l) (component.Element t i)
-    (layer.Element t i) (component.outs-Element t i))
+pub component_element : (w : Way) (t : TypeNo) (i : TypedExpr)
+    → weight_component w (component.Element t i) ≡ node w ⊕⟨ w ⟩ weight_typed w i
+component_element by_size t i =
+    omega (arith, at_component by_size (component.Element t i) (layer.Element t i) (component.outs-Element t i))
+component_element by_depth t i =
+    omega (arith, at_component by_depth (component.Element t i) (layer.Element t i) (component.outs-Element t i))
+component_element (by_distance l) t i =
+    omega (arith, at_component (by_distance l) (component.Element t i) (layer.Element t i) (component.outs-Element t i))
 
 pub component_openelement : (w : Way) (slot : Slot) (t : TypeNo) (i : TypedExpr)
     → weight_component w (component.OpenElement slot t i) ≡ node w ⊕⟨ w ⟩ up w slot.up ⊕⟨ w ⟩ weight_typed w i
@@ -310,21 +310,21 @@ component_openelement (by_distance l) slot t i = omega (arith, at_component (by_
 
 pub place_sum : (w : Way) (d : Place) → weight_place w d ≡ node w ⊕⟨ w ⟩ weight_root w d.root ⊕⟨ w ⟩ all_of w
     (weight_component w) d.components
-place_sum by_size d = omega (arith, at_place by_size d (out-Place d) refl, total_all by_size (weight_component by_size)
-    d.components)
-place_sum by_depth d = omega (arith, at_place by_depth d (out-Place d) refl, total_all by_depth
-    (weight_component by_depth) d.components)
+place_sum by_size d =
+    omega (arith, at_place by_size d (out-Place d) refl, total_all by_size (weight_component by_size) d.components)
+place_sum by_depth d =
+    omega (arith, at_place by_depth d (out-Place d) refl, total_all by_depth (weight_component by_depth) d.components)
 place_sum (by_distance l) d = omega (arith, at_place (by_distance l) d (out-Place d) refl, total_all (by_distance l)
     (weight_component (by_distance l)) d.components)
 
 pub link_arithmetic : (w : Way) (o : Arithmetic) (t : TypeNo) (e : TypedExpr)
     → weight_link w (link.Arithmetic o t e) ≡ operand w (weight_typed w e)
-link_arithmetic by_size o t e = omega (arith, at_link by_size (link.Arithmetic o t e) (layer.Arithmetic o t e)
-    (link.outs-Arithmetic o t e))
-link_arithmetic by_depth o t e = omega (arith, at_link by_depth (link.Arithmetic o t e) (layer.Arithmetic o t e)
-    (link.outs-Arithmetic o t e))
-link_arithmetic (by_distance l) o t e = omega (arith, at_link (by_distance l) (link.Arithmetic o t e)
-    (layer.Arithmetic o t e) (link.outs-Arithmetic o t e))
+link_arithmetic by_size o t e =
+    omega (arith, at_link by_size (link.Arithmetic o t e) (layer.Arithmetic o t e) (link.outs-Arithmetic o t e))
+link_arithmetic by_depth o t e =
+    omega (arith, at_link by_depth (link.Arithmetic o t e) (layer.Arithmetic o t e) (link.outs-Arithmetic o t e))
+link_arithmetic (by_distance l) o t e =
+    omega (arith, at_link (by_distance l) (link.Arithmetic o t e) (layer.Arithmetic o t e) (link.outs-Arithmetic o t e))
 
 pub link_and : (w : Way) (e : TypedExpr) → weight_link w (link.And e) ≡ operand w (weight_typed w e)
 link_and by_size e = omega (arith, at_link by_size (link.And e) (layer.And e) (link.outs-And e))
@@ -339,46 +339,46 @@ link_or (by_distance l) e = omega (arith, at_link (by_distance l) (link.Or e) (l
 pub link_combine : (w : Way) (o : SetOperator) (e : TypedExpr)
     → weight_link w (link.Combine o e) ≡ operand w (weight_typed w e)
 link_combine by_size o e = omega (arith, at_link by_size (link.Combine o e) (layer.Combine o e) (link.outs-Combine o e))
-link_combine by_depth o e = omega (arith, at_link by_depth (link.Combine o e) (layer.Combine o e)
-    (link.outs-Combine o e))
-link_combine (by_distance l) o e = omega (arith, at_link (by_distance l) (link.Combine o e) (layer.Combine o e)
-    (link.outs-Combine o e))
+link_combine by_depth o e =
+    omega (arith, at_link by_depth (link.Combine o e) (layer.Combine o e) (link.outs-Combine o e))
+link_combine (by_distance l) o e =
+    omega (arith, at_link (by_distance l) (link.Combine o e) (layer.Combine o e) (link.outs-Combine o e))
 
 pub expr_constant : (w : Way) (t : TypeNo) (n : ℤ) → weight_typed w (expr.Constant t n) ≡ node w
-expr_constant by_size t n = omega (arith, at_expr by_size (expr.Constant t n) (layer.Constant t n)
-    (expr.outs-Constant t n))
-expr_constant by_depth t n = omega (arith, at_expr by_depth (expr.Constant t n) (layer.Constant t n)
-    (expr.outs-Constant t n))
-expr_constant (by_distance l) t n = omega (arith, at_expr (by_distance l) (expr.Constant t n) (layer.Constant t n)
-    (expr.outs-Constant t n))
+expr_constant by_size t n =
+    omega (arith, at_expr by_size (expr.Constant t n) (layer.Constant t n) (expr.outs-Constant t n))
+expr_constant by_depth t n =
+    omega (arith, at_expr by_depth (expr.Constant t n) (layer.Constant t n) (expr.outs-Constant t n))
+expr_constant (by_distance l) t n =
+    omega (arith, at_expr (by_distance l) (expr.Constant t n) (layer.Constant t n) (expr.outs-Constant t n))
 
 pub expr_load : (w : Way) (t : TypeNo) (d : Place) → weight_typed w (expr.Load t d) ≡ node w ⊕⟨ w ⟩ weight_place w d
 expr_load by_size t d = omega (arith, at_expr by_size (expr.Load t d) (layer.Load t d) (expr.outs-Load t d))
 expr_load by_depth t d = omega (arith, at_expr by_depth (expr.Load t d) (layer.Load t d) (expr.outs-Load t d))
-expr_load (by_distance l) t d = omega (arith, at_expr (by_distance l) (expr.Load t d) (layer.Load t d)
-    (expr.outs-Load t d))
+expr_load (by_distance l) t d =
+    omega (arith, at_expr (by_distance l) (expr.Load t d) (layer.Load t d) (expr.outs-Load t d))
 
 pub expr_procedure : (w : Way) (f : Procedure) → weight_typed w (expr.Procedure f) ≡ node w
 expr_procedure by_size f = omega (arith, at_expr by_size (expr.Procedure f) (layer.Procedure f) (expr.outs-Procedure f))
-expr_procedure by_depth f = omega (arith, at_expr by_depth (expr.Procedure f) (layer.Procedure f)
-    (expr.outs-Procedure f))
-expr_procedure (by_distance l) f = omega (arith, at_expr (by_distance l) (expr.Procedure f) (layer.Procedure f)
-    (expr.outs-Procedure f))
+expr_procedure by_depth f =
+    omega (arith, at_expr by_depth (expr.Procedure f) (layer.Procedure f) (expr.outs-Procedure f))
+expr_procedure (by_distance l) f =
+    omega (arith, at_expr (by_distance l) (expr.Procedure f) (layer.Procedure f) (expr.outs-Procedure f))
 
 pub expr_plus : (w : Way) (t : TypeNo) (e : TypedExpr) → weight_typed w (expr.Plus t e) ≡ node w ⊕⟨ w ⟩ weight_typed w e
 expr_plus by_size t e = omega (arith, at_expr by_size (expr.Plus t e) (layer.Plus t e) (expr.outs-Plus t e))
 expr_plus by_depth t e = omega (arith, at_expr by_depth (expr.Plus t e) (layer.Plus t e) (expr.outs-Plus t e))
-expr_plus (by_distance l) t e = omega (arith, at_expr (by_distance l) (expr.Plus t e) (layer.Plus t e)
-    (expr.outs-Plus t e))
+expr_plus (by_distance l) t e =
+    omega (arith, at_expr (by_distance l) (expr.Plus t e) (layer.Plus t e) (expr.outs-Plus t e))
 
 pub expr_negate : (w : Way) (e : TypedExpr) → weight_typed w (expr.Negate e) ≡ node w ⊕⟨ w ⟩ weight_typed w e
 expr_negate by_size e = omega (arith, at_expr by_size (expr.Negate e) (layer.Negate e) (expr.outs-Negate e))
 expr_negate by_depth e = omega (arith, at_expr by_depth (expr.Negate e) (layer.Negate e) (expr.outs-Negate e))
-expr_negate (by_distance l) e = omega (arith, at_expr (by_distance l) (expr.Negate e) (layer.Negate e)
-    (expr.outs-Negate e))
+expr_negate (by_distance l) e =
+    omega (arith, at_expr (by_distance l) (expr.Negate e) (layer.Negate e) (expr.outs-Negate e))
 
-pub expr_chain : (w : Way) (e : TypedExpr) (ls : List Link) → weight_typed w (expr.Chain e ls) ≡ node w
-    ⊕⟨ w ⟩ weight_typed w e ⊕⟨ w ⟩ all_of w (weight_link w) ls
+pub expr_chain : (w : Way) (e : TypedExpr) (ls : List Link)
+    → weight_typed w (expr.Chain e ls) ≡ node w ⊕⟨ w ⟩ weight_typed w e ⊕⟨ w ⟩ all_of w (weight_link w) ls
 expr_chain by_size e ls = omega (arith, at_expr by_size (expr.Chain e ls) (layer.Chain e ls) (expr.outs-Chain e ls),
     total_all by_size (weight_link by_size) ls)
 expr_chain by_depth e ls = omega (arith, at_expr by_depth (expr.Chain e ls) (layer.Chain e ls) (expr.outs-Chain e ls),
@@ -388,12 +388,12 @@ expr_chain (by_distance l) e ls = omega (arith, at_expr (by_distance l) (expr.Ch
 
 pub expr_compare : (w : Way) (o : Comparison) (a b : TypedExpr)
     → weight_typed w (expr.Compare o a b) ≡ node w ⊕⟨ w ⟩ weight_typed w a ⊕⟨ w ⟩ weight_typed w b
-expr_compare by_size o a b = omega (arith, at_expr by_size (expr.Compare o a b) (layer.Compare o a b)
-    (expr.outs-Compare o a b))
-expr_compare by_depth o a b = omega (arith, at_expr by_depth (expr.Compare o a b) (layer.Compare o a b)
-    (expr.outs-Compare o a b))
-expr_compare (by_distance l) o a b = omega (arith, at_expr (by_distance l) (expr.Compare o a b) (layer.Compare o a b)
-    (expr.outs-Compare o a b))
+expr_compare by_size o a b =
+    omega (arith, at_expr by_size (expr.Compare o a b) (layer.Compare o a b) (expr.outs-Compare o a b))
+expr_compare by_depth o a b =
+    omega (arith, at_expr by_depth (expr.Compare o a b) (layer.Compare o a b) (expr.outs-Compare o a b))
+expr_compare (by_distance l) o a b =
+    omega (arith, at_expr (by_distance l) (expr.Compare o a b) (layer.Compare o a b) (expr.outs-Compare o a b))
 
 pub expr_not : (w : Way) (e : TypedExpr) → weight_typed w (expr.Not e) ≡ node w ⊕⟨ w ⟩ weight_typed w e
 expr_not by_size e = omega (arith, at_expr by_size (expr.Not e) (layer.Not e) (expr.outs-Not e))
@@ -402,15 +402,15 @@ expr_not (by_distance l) e = omega (arith, at_expr (by_distance l) (expr.Not e) 
 
 pub expr_include : (w : Way) (o : Inclusion) (a b : TypedExpr)
     → weight_typed w (expr.Include o a b) ≡ node w ⊕⟨ w ⟩ weight_typed w a ⊕⟨ w ⟩ weight_typed w b
-expr_include by_size o a b = omega (arith, at_expr by_size (expr.Include o a b) (layer.Include o a b)
-    (expr.outs-Include o a b))
-expr_include by_depth o a b = omega (arith, at_expr by_depth (expr.Include o a b) (layer.Include o a b)
-    (expr.outs-Include o a b))
-expr_include (by_distance l) o a b = omega (arith, at_expr (by_distance l) (expr.Include o a b) (layer.Include o a b)
-    (expr.outs-Include o a b))
+expr_include by_size o a b =
+    omega (arith, at_expr by_size (expr.Include o a b) (layer.Include o a b) (expr.outs-Include o a b))
+expr_include by_depth o a b =
+    omega (arith, at_expr by_depth (expr.Include o a b) (layer.Include o a b) (expr.outs-Include o a b))
+expr_include (by_distance l) o a b =
+    omega (arith, at_expr (by_distance l) (expr.Include o a b) (layer.Include o a b) (expr.outs-Include o a b))
 
-pub expr_in : (w : Way) (a b : TypedExpr) → weight_typed w (expr.In a b) ≡ node w ⊕⟨ w ⟩ weight_typed w a
-    ⊕⟨ w ⟩ weight_typed w b
+pub expr_in : (w : Way) (a b : TypedExpr) → weight_typed w (expr.In a b) ≡ node w ⊕⟨ w ⟩ weight_typed w a ⊕⟨ w ⟩
+    weight_typed w b
 expr_in by_size a b = omega (arith, at_expr by_size (expr.In a b) (layer.In a b) (expr.outs-In a b))
 expr_in by_depth a b = omega (arith, at_expr by_depth (expr.In a b) (layer.In a b) (expr.outs-In a b))
 expr_in (by_distance l) a b = omega (arith, at_expr (by_distance l) (expr.In a b) (layer.In a b) (expr.outs-In a b))
@@ -448,22 +448,22 @@ expr_val (by_distance l) t e = omega (arith, at_expr (by_distance l) (expr.Val t
 pub expr_high : (w : Way) (slot : Slot) → weight_typed w (expr.High slot) ≡ node w ⊕⟨ w ⟩ up w slot.up
 expr_high by_size slot = omega (arith, at_expr by_size (expr.High slot) (layer.High slot) (expr.outs-High slot))
 expr_high by_depth slot = omega (arith, at_expr by_depth (expr.High slot) (layer.High slot) (expr.outs-High slot))
-expr_high (by_distance l) slot = omega (arith, at_expr (by_distance l) (expr.High slot) (layer.High slot)
-    (expr.outs-High slot))
+expr_high (by_distance l) slot =
+    omega (arith, at_expr (by_distance l) (expr.High slot) (layer.High slot) (expr.outs-High slot))
 
 pub expr_call : (w : Way) (t : TypeNo) (c : Call) → weight_typed w (expr.Call t c) ≡ node w ⊕⟨ w ⟩ weight_call w c
 expr_call by_size t c = omega (arith, at_expr by_size (expr.Call t c) (layer.Call t c) (expr.outs-Call t c))
 expr_call by_depth t c = omega (arith, at_expr by_depth (expr.Call t c) (layer.Call t c) (expr.outs-Call t c))
-expr_call (by_distance l) t c = omega (arith, at_expr (by_distance l) (expr.Call t c) (layer.Call t c)
-    (expr.outs-Call t c))
+expr_call (by_distance l) t c =
+    omega (arith, at_expr (by_distance l) (expr.Call t c) (layer.Call t c) (expr.outs-Call t c))
 
 -- a chain by its parts
 pub chain_weight : (w : Way) (e a : TypedExpr) (links : List Link) → out-TypedExpr e ≡ layer.Chain a links
     → weight_typed w e ≡ node w ⊕⟨ w ⟩ weight_typed w a ⊕⟨ w ⟩ all_of w (weight_link w) links
-chain_weight by_size e a links h = omega (arith, at_expr by_size e (layer.Chain a links) h, total_all by_size
-    (weight_link by_size) links)
-chain_weight by_depth e a links h = omega (arith, at_expr by_depth e (layer.Chain a links) h, total_all by_depth
-    (weight_link by_depth) links)
+chain_weight by_size e a links h =
+    omega (arith, at_expr by_size e (layer.Chain a links) h, total_all by_size (weight_link by_size) links)
+chain_weight by_depth e a links h =
+    omega (arith, at_expr by_depth e (layer.Chain a links) h, total_all by_depth (weight_link by_depth) links)
 chain_weight (by_distance l) e a links h = omega (arith, at_expr (by_distance l) e (layer.Chain a links) h, total_all
     (by_distance l) (weight_link (by_distance l)) links)
 
@@ -471,28 +471,28 @@ chain_weight (by_distance l) e a links h = omega (arith, at_expr (by_distance l)
 
 pub step_assign : (w : Way) (d : Place) (t : TypeNo) (e : TypedExpr)
     → weight_step w (stmt.Assign d t e) ≡ node w ⊕⟨ w ⟩ weight_place w d ⊕⟨ w ⟩ weight_typed w e
-step_assign by_size d t e = omega (arith, at_step by_size (stmt.Assign d t e) (slayer.Assign d t e)
-    (stmt.outs-Assign d t e))
-step_assign by_depth d t e = omega (arith, at_step by_depth (stmt.Assign d t e) (slayer.Assign d t e)
-    (stmt.outs-Assign d t e))
-step_assign (by_distance l) d t e = omega (arith, at_step (by_distance l) (stmt.Assign d t e) (slayer.Assign d t e)
-    (stmt.outs-Assign d t e))
+step_assign by_size d t e =
+    omega (arith, at_step by_size (stmt.Assign d t e) (slayer.Assign d t e) (stmt.outs-Assign d t e))
+step_assign by_depth d t e =
+    omega (arith, at_step by_depth (stmt.Assign d t e) (slayer.Assign d t e) (stmt.outs-Assign d t e))
+step_assign (by_distance l) d t e =
+    omega (arith, at_step (by_distance l) (stmt.Assign d t e) (slayer.Assign d t e) (stmt.outs-Assign d t e))
 
-pub step_copy : (w : Way) (to from : Place) (t : TypeNo) → weight_step w (stmt.Copy to from t) ≡ node w
-    ⊕⟨ w ⟩ weight_place w to ⊕⟨ w ⟩ weight_place w from
-step_copy by_size to from t = omega (arith, at_step by_size (stmt.Copy to from t) (slayer.Copy to from t)
-    (stmt.outs-Copy to from t))
-step_copy by_depth to from t = omega (arith, at_step by_depth (stmt.Copy to from t) (slayer.Copy to from t)
-    (stmt.outs-Copy to from t))
-step_copy (by_distance l) to from t = omega (arith, at_step (by_distance l) (stmt.Copy to from t)
-    (slayer.Copy to from t) (stmt.outs-Copy to from t))
+pub step_copy : (w : Way) (to from : Place) (t : TypeNo)
+    → weight_step w (stmt.Copy to from t) ≡ node w ⊕⟨ w ⟩ weight_place w to ⊕⟨ w ⟩ weight_place w from
+step_copy by_size to from t =
+    omega (arith, at_step by_size (stmt.Copy to from t) (slayer.Copy to from t) (stmt.outs-Copy to from t))
+step_copy by_depth to from t =
+    omega (arith, at_step by_depth (stmt.Copy to from t) (slayer.Copy to from t) (stmt.outs-Copy to from t))
+step_copy (by_distance l) to from t =
+    omega (arith, at_step (by_distance l) (stmt.Copy to from t) (slayer.Copy to from t) (stmt.outs-Copy to from t))
 
 pub step_copytext : (w : Way) (d : Place) (t : TypeNo) (text : List ℕ)
     → weight_step w (stmt.CopyText d t text) ≡ node w ⊕⟨ w ⟩ weight_place w d
-step_copytext by_size d t text = omega (arith, at_step by_size (stmt.CopyText d t text) (slayer.CopyText d t text)
-    (stmt.outs-CopyText d t text))
-step_copytext by_depth d t text = omega (arith, at_step by_depth (stmt.CopyText d t text) (slayer.CopyText d t text)
-    (stmt.outs-CopyText d t text))
+step_copytext by_size d t text =
+    omega (arith, at_step by_size (stmt.CopyText d t text) (slayer.CopyText d t text) (stmt.outs-CopyText d t text))
+step_copytext by_depth d t text =
+    omega (arith, at_step by_depth (stmt.CopyText d t text) (slayer.CopyText d t text) (stmt.outs-CopyText d t text))
 step_copytext (by_distance l) d t text = omega (arith, at_step (by_distance l) (stmt.CopyText d t text)
     (slayer.CopyText d t text) (stmt.outs-CopyText d t text))
 
@@ -508,19 +508,19 @@ step_put (by_distance l) e = omega (arith, at_step (by_distance l) (stmt.Put e) 
 
 pub step_change : (w : Way) (o : Change) (d : Place) (t : TypeNo) (e : TypedExpr)
     → weight_step w (stmt.Change o d t e) ≡ node w ⊕⟨ w ⟩ node w ⊕⟨ w ⟩ weight_place w d ⊕⟨ w ⟩ weight_typed w e
-step_change by_size o d t e = omega (arith, at_step by_size (stmt.Change o d t e) (slayer.Change o d t e)
-    (stmt.outs-Change o d t e))
-step_change by_depth o d t e = omega (arith, at_step by_depth (stmt.Change o d t e) (slayer.Change o d t e)
-    (stmt.outs-Change o d t e))
-step_change (by_distance l) o d t e = omega (arith, at_step (by_distance l) (stmt.Change o d t e)
-    (slayer.Change o d t e) (stmt.outs-Change o d t e))
+step_change by_size o d t e =
+    omega (arith, at_step by_size (stmt.Change o d t e) (slayer.Change o d t e) (stmt.outs-Change o d t e))
+step_change by_depth o d t e =
+    omega (arith, at_step by_depth (stmt.Change o d t e) (slayer.Change o d t e) (stmt.outs-Change o d t e))
+step_change (by_distance l) o d t e =
+    omega (arith, at_step (by_distance l) (stmt.Change o d t e) (slayer.Change o d t e) (stmt.outs-Change o d t e))
 
 pub step_membership : (w : Way) (o : Membership) (d : Place) (e : TypedExpr)
     → weight_step w (stmt.Membership o d e) ≡ node w ⊕⟨ w ⟩ node w ⊕⟨ w ⟩ weight_place w d ⊕⟨ w ⟩ weight_typed w e
-step_membership by_size o d e = omega (arith, at_step by_size (stmt.Membership o d e) (slayer.Membership o d e)
-    (stmt.outs-Membership o d e))
-step_membership by_depth o d e = omega (arith, at_step by_depth (stmt.Membership o d e) (slayer.Membership o d e)
-    (stmt.outs-Membership o d e))
+step_membership by_size o d e =
+    omega (arith, at_step by_size (stmt.Membership o d e) (slayer.Membership o d e) (stmt.outs-Membership o d e))
+step_membership by_depth o d e =
+    omega (arith, at_step by_depth (stmt.Membership o d e) (slayer.Membership o d e) (stmt.outs-Membership o d e))
 step_membership (by_distance l) o d e = omega (arith, at_step (by_distance l) (stmt.Membership o d e)
     (slayer.Membership o d e) (stmt.outs-Membership o d e))
 
@@ -556,8 +556,8 @@ step_if (by_distance l) e body (Some xs) =
         (weight_step (by_distance l)) xs)
 
 pub step_case : (w : Way) (e : TypedExpr) (arms : List TypedArm) (others : Option (List TypedStmt))
-    → weight_step w (stmt.Case e arms others) ≡ in_case w (weight_typed w e ⊕⟨ w ⟩ all_of w (weight_arm w) arms
-    ⊕⟨ w ⟩ weight_body_if w others)
+    → weight_step w (stmt.Case e arms others) ≡ in_case w (weight_typed w e ⊕⟨ w ⟩ all_of w (weight_arm w) arms ⊕⟨ w ⟩
+    weight_body_if w others)
 step_case by_size e arms None =
     omega (arith, at_step by_size (stmt.Case e arms None) (slayer.Case e arms None) (stmt.outs-Case e arms None),
     total_all by_size (weight_arm by_size) arms)
@@ -620,8 +620,8 @@ step_return (by_distance l) = omega (arith, at_step (by_distance l) stmt.Return 
 pub step_give : (w : Way) (t : TypeNo) (e : TypedExpr) → weight_step w (stmt.Give t e) ≡ node w ⊕⟨ w ⟩ weight_typed w e
 step_give by_size t e = omega (arith, at_step by_size (stmt.Give t e) (slayer.Give t e) (stmt.outs-Give t e))
 step_give by_depth t e = omega (arith, at_step by_depth (stmt.Give t e) (slayer.Give t e) (stmt.outs-Give t e))
-step_give (by_distance l) t e = omega (arith, at_step (by_distance l) (stmt.Give t e) (slayer.Give t e)
-    (stmt.outs-Give t e))
+step_give (by_distance l) t e =
+    omega (arith, at_step (by_distance l) (stmt.Give t e) (slayer.Give t e) (stmt.outs-Give t e))
 
 pub step_for : (w : Way) (d : Place) (t : TypeNo) (start limit : TypedExpr) (by : ℤ) (body : List TypedStmt)
     → weight_step w (stmt.For d t start limit by body) ≡ in_loop w (control w (weight_place w d) ⊕⟨ w ⟩ weight_typed w
@@ -646,9 +646,9 @@ step_with (by_distance l) d body = omega (arith, at_step (by_distance l) (stmt.W
     (stmt.outs-With d body), total_all (by_distance l) (weight_step (by_distance l)) body)
 
 pub arm_sum : (w : Way) (x : TypedArm) → weight_arm w x ≡ labels w (length x.labels) ⊕⟨ w ⟩ weight_body w x.body
-arm_sum by_size x = omega (arith, at_arm by_size x (out-TypedArm x) refl, total_all by_size (weight_step by_size)
-    x.body)
-arm_sum by_depth x = omega (arith, at_arm by_depth x (out-TypedArm x) refl, total_all by_depth (weight_step by_depth)
-    x.body)
+arm_sum by_size x =
+    omega (arith, at_arm by_size x (out-TypedArm x) refl, total_all by_size (weight_step by_size) x.body)
+arm_sum by_depth x =
+    omega (arith, at_arm by_depth x (out-TypedArm x) refl, total_all by_depth (weight_step by_depth) x.body)
 arm_sum (by_distance l) x = omega (arith, at_arm (by_distance l) x (out-TypedArm x) refl, total_all (by_distance l)
     (weight_step (by_distance l)) x.body)
