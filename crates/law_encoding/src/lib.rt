@@ -4,20 +4,23 @@
 //!   what the checker makes of expressions, and `specs/Small` says what is proved.
 //! - `proofs/Variants` has the sizes of trees by their variants, and `proofs/Weights` the induction over the grammar: a tree is
 //!   no larger than its tokens. `proofs/Texts` counts the tokens of a text.
-//! - `proofs/Typed` has the sizes of typed trees by their variants. `proofs/Operators` and `proofs/Calls` have a lemma for each
-//!   definition of `check_operator` and `check_call`, and `proofs/Meanings` the lemmas of `check_expr`, with the
-//!   induction over expressions.
-//! - `proofs/Effects` and `proofs/Steps` have a lemma for each definition of assignments, calls and `check_stmt_parts`, and
-//!   `proofs/Statements` the induction over statements.
+//! - `proofs/Ways` has three ways to weigh typed trees: how large they are, how deep they nest, and how many procedures outwards
+//!   they go. `proofs/WaySums` says what sums of weights come to, `proofs/WayTrees` how much trees allow, and `proofs/Weighed`
+//!   what typed trees weigh by their variants.
+//! - One proof has the bounds of all three. `proofs/Operators` and `proofs/Calls` have a lemma for each definition of
+//!   `check_operator` and `check_call`, and `proofs/Meanings` the lemmas of `check_expr`, with the induction over expressions.
+//!   `proofs/Effects` and `proofs/Steps` have a lemma for each definition of assignments, calls and `check_stmt_parts`, and
+//!   `proofs/Statements` the induction over statements. `proofs/Blocks` has the bodies of procedures, with the induction over
+//!   blocks, and whole modules. `proofs/Bounds` says it of each way, and `proofs/Bounded` has the bound of all texts.
 //! - `proofs/Counts` and `proofs/StepCounts` count the locals that the code of expressions and statements takes,
 //!   and `proofs/TableCalls` and `proofs/TableSteps` the calls through the table.
 //! - `specs/Nesting` says how deep trees nest, `specs/TypedNesting` how deep typed trees do, `specs/CodeNesting` how deep code does,
-//!   and `specs/Nested` what is proved. `proofs/DeepTexts` has the induction over the grammar and the parser's limit. `DeepOperators`
-//!   to `DeepBlocks` follow the checker, `FlatCode`, `DeepCode` and `DeepCodeSteps` the code, and `DeepFunctions` has whole modules.
+//!   and `specs/Nested` what is proved. `proofs/DeepTexts` has the induction over the grammar and the parser's limit. `FlatCode`,
+//!   `DeepCode` and `DeepCodeSteps` follow the code, and `DeepFunctions` has whole modules.
 //! - `specs/CodeBytes` says how many bytes code takes at most, `specs/CodeNumbers` whether its numbers fit, and `specs/Outward` how
 //!   many procedures outwards typed trees go. `specs/Short` and `specs/Fits` say what is proved of them: what a module has to be
 //!   so that it has an encoding, and how much of it holds. `CodeFits`, `EncodedBytes`, `FunctionsFit` and `BodyModules` have the
-//!   conditions, `ShortCode` to `FunctionBytes` the bytes of code, `OutwardTyped` to `OutwardBlocks` follow the checker.
+//!   conditions, and `ShortCode` to `FunctionBytes` the bytes of code.
 //! - `specs/ProcedureNesting` says how deep procedures nest, with the induction over the grammar in `proofs/NestedProcedures`.
 //!   `specs/ProcedureLevels` says how deep they stand in a module. `proofs/ProcedureLevels` has the induction over blocks, and
 //!   `proofs/KeptImports` what imports keep.
@@ -35,8 +38,6 @@
 //!   the steps, and `proofs/DeclaredProcedures` whole modules. `proofs/DistinctExports` has the exports of definitions,
 //!   `proofs/HeadingCounts` the formals of headings, and `proofs/RoutineCounts` the induction over blocks. `proofs/ModuleCounts`
 //!   has whole modules.
-//! - `proofs/Blocks` has the bodies of procedures, with the induction over blocks, and whole modules, and `proofs/Bounded` the
-//!   bound of all texts.
 #![tactic(auto)]
 
 ghost use Rattle.law_encoding.specs.Small.{TreesAreSmall, TextsAreSmall, ExpressionsAreSmall, DesignatorsAreSmall, StatementsAreSmall, ModulesAreSmall, BodiesAreSmall, LocalsAreFew, TableCallsAreFew};
