@@ -5,6 +5,7 @@ use Rattle.m2_rule.specs.declared.rule.Rule.TheVariants as rule
 use Rattle.m2_tree.specs.declared.pos.Pos.{Pos}
 use Rattle.typed_tree.specs.declared.computed.Argument.{Argument}
 use Rattle.typed_tree.specs.declared.computed.Argument.TheVariants as argument
+use Rattle.typed_tree.specs.declared.computed.Call.TheVariants as call
 use Rattle.typed_tree.specs.declared.computed.Place.{Place}
 use Rattle.typed_tree.specs.declared.computed.TypedExpr.{TypedExpr}
 use Rattle.typed_tree.specs.declared.computed.TypedExpr.TheVariants as expr
@@ -41,11 +42,9 @@ use Rattle.law_encoding.proofs.Sums.{le_by}
 use Rattle.law_encoding.proofs.Ways.{Way, ◌⊕⟨◌⟩◌, node, up, all_of, weight_typed, weight_place, weight_call}
 use Rattle.law_encoding.proofs.Ways.{weight_passed, weight_value, weight_meant}
 use Rattle.law_encoding.proofs.WaySums.{under, more, one_at_least, one_of, one_of_two, second_part, high_sum, both_most}
-use Rattle.law_encoding.proofs.Weighed.{argument_value, argument_place, argument_array, argument_open, argument_text}
-use Rattle.law_encoding.proofs.Weighed.{call_module, call_nested, call_variable, expr_load, expr_abs, expr_cap}
-use Rattle.law_encoding.proofs.Weighed.{expr_chr, expr_odd, expr_ord, expr_val, expr_high}
 use Rattle.law_encoding.proofs.Results.{then_most, reported_most, where_most, any_most}
 use Rattle.law_encoding.proofs.Operators.{of_value_most, suited_most}
+use Rattle.law_encoding.proofs.Weighed.{argument_is, call_is, expr_is}
 
 module _ (w : Way) where
   infixl 65 ◌⊕◌
@@ -65,18 +64,18 @@ module _ (w : Way) where
 
   pub call_most : (c : Callee) (xs : List Argument)
       → weight_call w (call_by xs c) ≡ weight_callee c ⊕ all_of w (weight_passed w) xs
-  call_most (callee.Module f) xs = call_module w f xs
-  call_most (callee.Nested f) xs = call_nested w f xs
-  call_most (callee.Variable t d) xs = call_variable w t d xs
+  call_most (callee.Module f) xs = call_is w _ (call.outs-Module f xs)
+  call_most (callee.Nested f) xs = call_is w _ (call.outs-Nested f xs)
+  call_most (callee.Variable t d) xs = call_is w _ (call.outs-Variable t d xs)
 
   module _ (g : Gathers) (types : Types) where
     -- ---- values
 
     loaded_as_most : (n : ℕ) (t : TypeNo) (d : Place) (c : Class) → node w ⊕ weight_place w d ≤ n
         → weight_value w (loaded_as t d c) ≤ n
-    loaded_as_most n t d (class.Scalar s) p = le_by _ _ n (expr_load w t d) p
-    loaded_as_most n t d class.Set p = le_by _ _ n (expr_load w t d) p
-    loaded_as_most n t d class.Procedure p = le_by _ _ n (expr_load w t d) p
+    loaded_as_most n t d (class.Scalar s) p = le_by _ _ n (expr_is w _ (expr.outs-Load t d)) p
+    loaded_as_most n t d class.Set p = le_by _ _ n (expr_is w _ (expr.outs-Load t d)) p
+    loaded_as_most n t d class.Procedure p = le_by _ _ n (expr_is w _ (expr.outs-Load t d)) p
     loaded_as_most n t d class.Whole p = p
 
     given_as_most : (n : ℕ) (t : TypeNo) (e : TypedExpr) (c : Class) → weight_typed w e ≤ n
@@ -111,7 +110,8 @@ module _ (w : Way) where
         → Passed_ (node w ⊕ n) (variable_passed g t at d)
     variable_most n t at (designated.Value x) p = reported_most g at rule.NoVariable
     variable_most n t at (designated.Variable u d) p =
-        where_most g _ at rule.NoVariable (fine (argument.Place d) (under w _ _ n (argument_place w d) p))
+        where_most g _ at rule.NoVariable (fine (argument.Place d)
+        (under w _ _ n (argument_is w _ (argument.outs-Place d)) p))
     variable_most n t at (designated.Open u slot) p = reported_most g at rule.NoVariable
     variable_most n t at (designated.Type u) p = reported_most g at rule.NoVariable
     variable_most n t at (designated.Procedure f) p = reported_most g at rule.NoVariable
@@ -123,9 +123,11 @@ module _ (w : Way) where
         → Passed_ (node w ⊕ n) (open_passed g types t at d)
     open_most n t at (designated.Value x) p = reported_most g at rule.NoVariable
     open_most n t at (designated.Variable u d) p =
-        where_most g _ at rule.NoVariable (fine (argument.Array u d) (under w _ _ n (argument_array w u d) p))
+        where_most g _ at rule.NoVariable (fine (argument.Array u d)
+        (under w _ _ n (argument_is w _ (argument.outs-Array u d)) p))
     open_most n t at (designated.Open u slot) p =
-        where_most g _ at rule.NoVariable (fine (argument.Open slot) (under w _ _ n (argument_open w slot) p))
+        where_most g _ at rule.NoVariable (fine (argument.Open slot)
+        (under w _ _ n (argument_is w _ (argument.outs-Open slot)) p))
     open_most n t at (designated.Type u) p = reported_most g at rule.NoVariable
     open_most n t at (designated.Procedure f) p = reported_most g at rule.NoVariable
     open_most n t at (designated.Nested f) p = reported_most g at rule.NoVariable
@@ -134,7 +136,8 @@ module _ (w : Way) where
 
     text_argument_most : (n : ℕ) (t : TypeNo) (at : Pos) (v : Value) → Passed_ (node w ⊕ n) (text_argument g t at v)
     text_argument_most n t at (constant.Text text) =
-        where_most g _ at rule.WrongArgument (fine (argument.Text text) (one_of w _ n (argument_text w text)))
+        where_most g _ at rule.WrongArgument (fine (argument.Text text)
+        (one_of w _ n (argument_is w _ (argument.outs-Text text))))
     text_argument_most n t at (constant.Number i) = reported_most g at rule.WrongArgument
     text_argument_most n t at (constant.Scalar s) = reported_most g at rule.WrongArgument
     text_argument_most n t at (constant.Set bits) = reported_most g at rule.WrongArgument
@@ -152,9 +155,11 @@ module _ (w : Way) where
         → Passed_ (node w ⊕ n) (open_value g types t at d)
     open_value_most n t at (designated.Value x) p = text_most n t at x
     open_value_most n t at (designated.Variable u d) p =
-        where_most g _ at rule.WrongArgument (fine (argument.Array u d) (under w _ _ n (argument_array w u d) p))
+        where_most g _ at rule.WrongArgument (fine (argument.Array u d)
+        (under w _ _ n (argument_is w _ (argument.outs-Array u d)) p))
     open_value_most n t at (designated.Open u slot) p =
-        where_most g _ at rule.WrongArgument (fine (argument.Open slot) (under w _ _ n (argument_open w slot) p))
+        where_most g _ at rule.WrongArgument (fine (argument.Open slot)
+        (under w _ _ n (argument_is w _ (argument.outs-Open slot)) p))
     open_value_most n t at (designated.Type u) p = reported_most g at rule.WrongType
     open_value_most n t at (designated.Procedure f) p = reported_most g at rule.WrongArgument
     open_value_most n t at (designated.Nested f) p = reported_most g at rule.NoProcedureValue
@@ -165,7 +170,8 @@ module _ (w : Way) where
         → Passed_ (node w ⊕ n) (whole_passed g t at d)
     whole_most n t at (designated.Value x) p = reported_most g at rule.WrongArgument
     whole_most n t at (designated.Variable u d) p =
-        where_most g _ at rule.WrongArgument (fine (argument.Place d) (under w _ _ n (argument_place w d) p))
+        where_most g _ at rule.WrongArgument (fine (argument.Place d)
+        (under w _ _ n (argument_is w _ (argument.outs-Place d)) p))
     whole_most n t at (designated.Open u slot) p = reported_most g at rule.WrongArgument
     whole_most n t at (designated.Type u) p = reported_most g at rule.WrongType
     whole_most n t at (designated.Procedure f) p = reported_most g at rule.WrongArgument
@@ -177,7 +183,7 @@ module _ (w : Way) where
         → Passed_ (node w ⊕ n) (simple_passed g types t at d)
     simple_most n t at d p = then_most (taken_most n at d p) (λ x h. then_most
         (suited_most w g n rule.WrongArgument types t at x h)
-        (λ e k. fine (argument.Value t e) (more w _ _ n (argument_value w t e) k)))
+        (λ e k. fine (argument.Value t e) (more w _ _ n (argument_is w _ (argument.outs-Value t e)) k)))
 
     passed_most : (n : ℕ) (t : TypeNo) (at : Pos) (d : Designated) (c : Class) → weight_meant w d ≤ n
         → Passed_ (node w ⊕ n) (passed_as g types t at d c)
@@ -222,11 +228,11 @@ module _ (w : Way) where
 
     unary_built_most : (n : ℕ) (u : Unary) (b : TypeNo) (e : TypedExpr) → weight_typed w e ≤ n
         → weight_value w (unary_built u b e) ≤ node w ⊕ n
-    unary_built_most n unary.Abs b e p = more w _ _ n (expr_abs w b e) p
-    unary_built_most n unary.Cap b e p = more w _ _ n (expr_cap w e) p
-    unary_built_most n unary.Chr b e p = more w _ _ n (expr_chr w e) p
-    unary_built_most n unary.Odd b e p = more w _ _ n (expr_odd w e) p
-    unary_built_most n unary.Ord b e p = more w _ _ n (expr_ord w e) p
+    unary_built_most n unary.Abs b e p = more w _ _ n (expr_is w _ (expr.outs-Abs b e)) p
+    unary_built_most n unary.Cap b e p = more w _ _ n (expr_is w _ (expr.outs-Cap e)) p
+    unary_built_most n unary.Chr b e p = more w _ _ n (expr_is w _ (expr.outs-Chr e)) p
+    unary_built_most n unary.Odd b e p = more w _ _ n (expr_is w _ (expr.outs-Odd e)) p
+    unary_built_most n unary.Ord b e p = more w _ _ n (expr_is w _ (expr.outs-Ord e)) p
 
     pub unary_most : (n : ℕ) (f : Standard) (u : Unary) (at : Pos) (x : Computed) → weight_value w x ≤ n
         → AtMost (weight_value w) (node w ⊕ n) (unary_at g f u at x)
@@ -247,7 +253,7 @@ module _ (w : Way) where
         → AtMost (weight_value w) (node w ⊕ n) (converted_value g t s at x)
     converted_most n t s at (value.Constant v) p = of_value_most w g (node w ⊕ n) _ (one_at_least w n)
     converted_most n t s at (value.Scalar u b e) p = where_most g (not (is_numeric b)) at rule.WrongArgument
-        (fine (value.Scalar t s.base (expr.Val t e)) (more w _ _ n (expr_val w t e) p))
+        (fine (value.Scalar t s.base (expr.Val t e)) (more w _ _ n (expr_is w _ (expr.outs-Val t e)) p))
     converted_most n t s at (value.Set e) p = reported_most g at rule.WrongArgument
     converted_most n t s at (value.Routine u e) p = reported_most g at rule.WrongArgument
     converted_most n t s at (value.Procedure h) p = reported_most g at rule.WrongArgument
@@ -262,7 +268,7 @@ module _ (w : Way) where
     pub high_most : (n : ℕ) (at : Pos) (d : Designated) → weight_meant w d ≤ n
         → AtMost (weight_value w) (node w ⊕ n) (high_of g at d)
     high_most n at (designated.Open t slot) p =
-        fine (value.Scalar cardinal cardinal (expr.High slot)) (high_sum w _ _ n (expr_high w slot) p)
+        fine (value.Scalar cardinal cardinal (expr.High slot)) (high_sum w _ _ n (expr_is w _ (expr.outs-High slot)) p)
     high_most n at (designated.Value x) p = reported_most g at rule.WrongArgument
     high_most n at (designated.Variable t d) p = reported_most g at rule.WrongArgument
     high_most n at (designated.Type t) p = reported_most g at rule.WrongType

@@ -52,13 +52,12 @@ use Rattle.law_encoding.proofs.Ways.{Way, ◌⊕⟨◌⟩◌, node, arguments, w
 use Rattle.law_encoding.proofs.Ways.{weight_value, weight_meant}
 use Rattle.law_encoding.proofs.WaySums.{one_of, one_sum, two_sum, put_sum, assign_sum, copy_sum, text_sum, change_sum}
 use Rattle.law_encoding.proofs.WaySums.{done_sum, both_most}
-use Rattle.law_encoding.proofs.Weighed.{expr_constant, step_assign, step_copy, step_copytext, step_call, step_put}
-use Rattle.law_encoding.proofs.Weighed.{step_change, step_membership, step_halt}
 use Rattle.law_encoding.proofs.Results.{then_most, at_more, reported_most, where_most, reported_beside_most, ahead_most}
 use Rattle.law_encoding.proofs.Results.{sort_most, of_heading_most, any_most}
 use Rattle.law_encoding.proofs.Operators.{suited_most}
 use Rattle.law_encoding.proofs.Calls.{weight_callee, weight_called, call_most, callee_most}
 use Rattle.law_encoding.proofs.Meanings.{FM, AllM, value_most, weight_list, actuals_most}
+use Rattle.law_encoding.proofs.Weighed.{expr_is, step_is}
 
 module _ (w : Way) where
   infixl 65 ◌⊕◌
@@ -130,9 +129,9 @@ module _ (w : Way) where
 
     stored_most : (n k : ℕ) (t : TypeNo) (d : Place) (a : Accepted) → node w ⊕ weight_place w d ≤ n
         → weight_accepted a ≤ k → weight_step w (store_statement t d a) ≤ n ⊕ k
-    stored_most n k t d (accepted.Value e) p q = assign_sum w _ _ _ n k (step_assign w d t e) p q
-    stored_most n k t d (accepted.Whole from) p q = copy_sum w _ _ _ n k (step_copy w d from t) p q
-    stored_most n k t d (accepted.Text text) p q = text_sum w _ _ n k (step_copytext w d t text) p
+    stored_most n k t d (accepted.Value e) p q = assign_sum w _ _ _ n k (step_is w _ (step.outs-Assign d t e)) p q
+    stored_most n k t d (accepted.Whole from) p q = copy_sum w _ _ _ n k (step_is w _ (step.outs-Copy d from t)) p q
+    stored_most n k t d (accepted.Text text) p q = text_sum w _ _ n k (step_is w _ (step.outs-CopyText d t text)) p
 
     assigned_to_most : (n : ℕ) (a : Target) (at : Pos) (x : Computed) → weight_target a ⊕ weight_value w x ≤ n
         → Stmt_ n (assignment_to g s.types a at x)
@@ -176,7 +175,8 @@ module _ (w : Way) where
     known_amount_most : (n : ℕ) (at : Pos) (o : Option Ordinal) → node w ≤ n → Expr_ n (known_amount g at o)
     known_amount_most n at None l = reported_most g at rule.WrongArgument
     known_amount_most n at (Some a) l = fine (expr.Constant (type_of_number a.number a.sort) a.number)
-        (le_trans _ (node w) n (le_of _ (node w) (expr_constant w (type_of_number a.number a.sort) a.number)) l)
+        (le_trans _ (node w) n (le_of _ (node w) (expr_is w _ (expr.outs-Constant (type_of_number a.number a.sort)
+        a.number))) l)
 
     amount_most : (n : ℕ) (at : Pos) (x : Computed) → weight_value w x ≤ n → Expr_ n (amount g at x)
     amount_most n at (value.Constant v) p = known_amount_most n at (whole_number v) p
@@ -190,7 +190,7 @@ module _ (w : Way) where
     change_by_most : (n k : ℕ) (o : Change) {v : Result (TypeNo × Place) g.Reported} {e : Result TypedExpr g.Reported}
         → AtMost weight_variable n v → Expr_ k e → Stmt_ (node w ⊕ (n ⊕ k)) (change_by g o v e)
     change_by_most n k o p q = then_most (both_most g w p q) (λ v l. fine (step.Change o v.0.1 v.0.0 v.1)
-        (change_sum w _ _ _ (n ⊕ k) (step_change w o v.0.1 v.0.0 v.1) l))
+        (change_sum w _ _ _ (n ⊕ k) (step_is w _ (step.outs-Change o v.0.1 v.0.0 v.1)) l))
 
     changed_in_most : (n : ℕ) (v : Meant g.Reported) → FM w g s n v → AtMost weight_variable n (change_target_in g s v)
     changed_in_most n v p = then_most (sort_most g v.fixed.at rule.NoVariable p) (λ d k. changed_most n v.fixed.at d k)
@@ -202,7 +202,7 @@ module _ (w : Way) where
     changed_by_most k (n ∷ m ∷ ns) at o (v ∷ []) all = absurd all.1
     changed_by_most k (n ∷ []) at o (v ∷ []) all =
         at_more (one_sum w k n []) (change_by_most n (node w) o (changed_in_most n v all.0)
-        (fine (expr.Constant cardinal (pos 1)) (le_of _ (node w) (expr_constant w cardinal (pos 1)))))
+        (fine (expr.Constant cardinal (pos 1)) (le_of _ (node w) (expr_is w _ (expr.outs-Constant cardinal (pos 1))))))
     changed_by_most k [] at o (v ∷ x ∷ []) all = absurd all
     changed_by_most k (n ∷ []) at o (v ∷ x ∷ []) all = absurd all.1
     changed_by_most k (n ∷ m ∷ ns) at o (v ∷ x ∷ []) all =
@@ -237,7 +237,8 @@ module _ (w : Way) where
     element_known_most n at None l = reported_most g at rule.WrongArgument
     element_known_most n at (Some a) l = where_most g _ at rule.OutOfRange
         (fine (expr.Constant (type_of_number a.number a.sort) a.number)
-        (le_trans _ (node w) n (le_of _ (node w) (expr_constant w (type_of_number a.number a.sort) a.number)) l))
+        (le_trans _ (node w) n (le_of _ (node w) (expr_is w _ (expr.outs-Constant (type_of_number a.number a.sort)
+        a.number))) l))
 
     element_most : (n : ℕ) (at : Pos) (x : Computed) → weight_value w x ≤ n → Expr_ n (set_element g at x)
     element_most n at (value.Constant v) p = element_known_most n at (whole_number v) p
@@ -251,7 +252,7 @@ module _ (w : Way) where
     membership_most : (n k : ℕ) (o : Membership) {d : Result Place g.Reported} {e : Result TypedExpr g.Reported}
         → AtMost weight_set n d → Expr_ k e → Stmt_ (node w ⊕ (n ⊕ k)) (membership_of g o d e)
     membership_most n k o p q = then_most (both_most g w p q) (λ v l. fine (step.Membership o v.0 v.1)
-        (change_sum w _ _ _ (n ⊕ k) (step_membership w o v.0 v.1) l))
+        (change_sum w _ _ _ (n ⊕ k) (step_is w _ (step.outs-Membership o v.0 v.1)) l))
 
     set_in_most : (n : ℕ) (v : Meant g.Reported) → FM w g s n v → AtMost weight_set n (set_in g s v)
     set_in_most n v p = then_most (sort_most g v.fixed.at rule.NoVariable p) (λ d k. set_variable_most n v.fixed.at d k)
@@ -270,7 +271,7 @@ module _ (w : Way) where
     -- ---- HALT and Put
 
     halted_most : (n : ℕ) (at : Pos) (args : List (Meant g.Reported)) → Stmt_ (node w ⊕ n) (halt_statement g s at args)
-    halted_most n at [] = fine step.Halt (one_of w _ n (step_halt w))
+    halted_most n at [] = fine step.Halt (one_of w _ n (step_is w _ step.outs-Halt))
     halted_most n at (x ∷ xs) = reported_beside_most g at rule.ArgumentCount _
 
     put_by_most : (k : ℕ) (ns : List ℕ) (at : Pos) (args : List (Meant g.Reported)) → AllM w g s ns args
@@ -279,7 +280,7 @@ module _ (w : Way) where
     put_by_most k [] at (x ∷ []) all = absurd all
     put_by_most k (n ∷ ns) at (x ∷ []) all =
         then_most (value_most w g s n x all.0) (λ v l. then_most (suited_most w g n rule.WrongArgument s.types char
-        x.fixed.at v l) (λ e q. fine (step.Put e) (put_sum w _ _ k n ns (step_put w e) q)))
+        x.fixed.at v l) (λ e q. fine (step.Put e) (put_sum w _ _ k n ns (step_is w _ (step.outs-Put e)) q)))
     put_by_most k ns at (x ∷ y ∷ xs) all = reported_beside_most g at rule.ArgumentCount _
 
     standard_most : (k : ℕ) (ns : List ℕ) (at : Pos) (args : List (Meant g.Reported)) (f : Standard)
@@ -305,7 +306,7 @@ module _ (w : Way) where
     call_done_most : (k n : ℕ) (c : Callee) {args : Result (List Argument) g.Reported} → weight_callee w c ≤ k
         → AtMost (weight_list w g s) (0 ⊕ n) args → Stmt_ (node w ⊕ (k ⊕ n)) (call_done c args)
     call_done_most k n c l p = then_most p (λ xs q. fine (step.Call (call_by xs c))
-        (done_sum w _ _ _ _ k n (step_call w (call_by xs c)) (call_most w c xs) l q))
+        (done_sum w _ _ _ _ k n (step_is w _ (step.outs-Call (call_by xs c))) (call_most w c xs) l q))
 
     routine_most : (k : ℕ) (ns : List ℕ) (at : Pos) (t : TypeNo) (c : Callee) (args : List (Meant g.Reported))
         → weight_callee w c ≤ k → AllM w g s ns args

@@ -72,13 +72,13 @@ use Rattle.law_encoding.proofs.WayTrees.{bound_selector, bound_designator, expr_
 use Rattle.law_encoding.proofs.WayTrees.{expr_opened, selector_opened, designator_opened, of_number, of_char, of_text}
 use Rattle.law_encoding.proofs.WayTrees.{of_set, of_not, of_brackets, of_name, of_call, of_term, of_sum, of_relation}
 use Rattle.law_encoding.proofs.WayTrees.{of_field, of_index, of_selectors}
-use Rattle.law_encoding.proofs.Weighed.{component_field, expr_call}
 use Rattle.law_encoding.proofs.Results.{then_most, at_more, reported_most, reported_beside_most, ahead_most, sort_most}
 use Rattle.law_encoding.proofs.Results.{of_heading_most, of_value_most, sort_of_value_most, plain_most, any_most}
 use Rattle.law_encoding.proofs.Operators.{behind_weight, rooted_weight, signed_most, negated_most, combined_most}
 use Rattle.law_encoding.proofs.Operators.{field_most, indexed_most}
 use Rattle.law_encoding.proofs.Calls.{weight_callee, weight_called, call_most, given_most, taken_most, actual_most}
 use Rattle.law_encoding.proofs.Calls.{callee_most, unary_most, bound_most, conversion_most, high_most}
+use Rattle.law_encoding.proofs.Weighed.{component_is, expr_is}
 
 module _ (w : Way) where
   infixl 65 ◌⊕◌
@@ -169,7 +169,7 @@ module _ (w : Way) where
     call_given_most k n t c l p =
         then_most p (λ xs q. fine (function_result s.types t (expr.Call t (call_by xs c)))
         (given_most w g s.types (node w ⊕ (k ⊕ n)) t (expr.Call t (call_by xs c))
-        (call_sum w _ _ _ _ k n (expr_call w t (call_by xs c)) (call_most w c xs) l q)))
+        (call_sum w _ _ _ _ k n (expr_is w _ (expr.outs-Call t (call_by xs c))) (call_most w c xs) l q)))
 
     routine_most : (k : ℕ) (ns : List ℕ) (at : Pos) (t : TypeNo) (c : Callee) (args : List (Meant g.Reported))
         → weight_callee w c ≤ k → AllM ns args → Value_ (node w ⊕ (k ⊕ arguments w ns)) (routine_called g s at t c args)
@@ -295,7 +295,7 @@ module _ (w : Way) where
     by_meaning at (meaning.Local v) = fine (local_by s.level v v.kind) (local_most v v.kind)
     by_meaning at (meaning.Field f) =
         fine _ (field_name w _ _ _ (behind_weight w (root_place (root.With f.with)) (part.Field f.whole f.number))
-        (rooted_weight w (root.With f.with)) (component_field w f.whole f.number))
+        (rooted_weight w (root.With f.with)) (component_is w _ (part.outs-Field f.whole f.number)))
     by_meaning at (meaning.Procedure f) = fine (designated.Procedure f) (procedure_name w)
     by_meaning at (meaning.LocalProcedure f) = fine _ (nested_name w s.level f.level near)
     by_meaning at meaning.Ahead = reported_most g at rule.Undeclared

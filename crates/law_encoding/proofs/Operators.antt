@@ -68,11 +68,8 @@ use Rattle.law_encoding.proofs.Ways.{weight_component, weight_link, weight_value
 use Rattle.law_encoding.proofs.WaySums.{none_of, one_alone, all_pushed, more, one_at_least, one_link, longer}
 use Rattle.law_encoding.proofs.WaySums.{behind_step, rooted_step, one_component, element_sum, open_sum, operand_less}
 use Rattle.law_encoding.proofs.WaySums.{join, pair, operands_less, first_less, second_less, known_less, both_most}
-use Rattle.law_encoding.proofs.Weighed.{chain_weight, component_field, component_element, component_openelement}
-use Rattle.law_encoding.proofs.Weighed.{place_sum, link_arithmetic, link_and, link_or, link_combine, expr_constant}
-use Rattle.law_encoding.proofs.Weighed.{expr_procedure, expr_plus, expr_negate, expr_chain, expr_compare, expr_not}
-use Rattle.law_encoding.proofs.Weighed.{expr_include, expr_in}
 use Rattle.law_encoding.proofs.Results.{then_most, at_mapped, reported_most, where_most, any_most}
+use Rattle.law_encoding.proofs.Weighed.{component_is, expr_is, link_is, place_sum}
 
 module _ (w : Way) where
   infixl 65 ◌⊕◌
@@ -84,13 +81,13 @@ module _ (w : Way) where
   -- a chain by its parts
   chain_of_one : (e : TypedExpr) (l : Link) → weight_typed w (expr.Chain e (l ∷ [])) ≤ node w ⊕ weight_typed w
       e ⊕ weight_link w l
-  chain_of_one e l = one_link w _ _ _ _ (expr_chain w e (l ∷ [])) (one_alone w (weight_link w) l)
+  chain_of_one e l = one_link w _ _ _ _ (expr_is w _ (expr.outs-Chain e (l ∷ []))) (one_alone w (weight_link w) l)
 
   linked_by : (x : TypedExpr-F Argument Call Component Link TypedExpr Place) (e : TypedExpr) (l : Link)
       → out-TypedExpr e ≡ x → weight_typed w (linked_to x e l) ≤ node w ⊕ weight_typed w e ⊕ weight_link w l
   linked_by (layer.Chain a links) e l h =
       longer w _ _ (weight_typed w a) _ (weight_link w l) (all_of w (weight_link w) links)
-      (expr_chain w a (links ++ l ∷ [])) (all_pushed w (weight_link w) links l) (chain_weight w e a links h)
+      (expr_is w _ (expr.outs-Chain a (links ++ l ∷ []))) (all_pushed w (weight_link w) links l) (expr_is w _ h)
   linked_by (layer.Constant t n) e l h = chain_of_one e l
   linked_by (layer.Load t d) e l h = chain_of_one e l
   linked_by (layer.Procedure f) e l h = chain_of_one e l
@@ -137,7 +134,7 @@ module _ (w : Way) where
   constant_most : (o : Option Operand) → weight_side (constant_side o) ≤ node w
   constant_most None = omega arith
   constant_most (Some (operand.Scalar a)) = omega arith
-  constant_most (Some (operand.Set bits)) = le_of _ (node w) (expr_constant w bitset (pos bits))
+  constant_most (Some (operand.Set bits)) = le_of _ (node w) (expr_is w _ (expr.outs-Constant bitset (pos bits)))
 
   pub side_most : (x : Computed) → weight_side (side_of x) ≤ weight_value w x
   side_most (value.Constant v) = constant_most (operand_of v)
@@ -149,7 +146,7 @@ module _ (w : Way) where
   side_most value.Untaken = omega arith
 
   run_most : (t : TypeNo) (a : Amount) → weight_typed w (run_of t a) ≤ weight_amount a
-  run_most t (Known a) = le_of _ (node w) (expr_constant w t a.number)
+  run_most t (Known a) = le_of _ (node w) (expr_is w _ (expr.outs-Constant t a.number))
   run_most t (Run b e) = omega arith
 
   module _ (g : Gathers) where
@@ -164,9 +161,9 @@ module _ (w : Way) where
     signed_scalar_most : (n : ℕ) (o : Sign) (at : Pos) (b : TypeNo) (e : TypedExpr) → weight_typed w e ≤ n
         → Value_ (node w ⊕ n) (signed_scalar g o at b e)
     signed_scalar_most n sign.Plus at b e p = where_most g (not (is_numeric b)) at rule.WrongType
-        (fine (value.Scalar b b (expr.Plus b e)) (more w _ _ n (expr_plus w b e) p))
+        (fine (value.Scalar b b (expr.Plus b e)) (more w _ _ n (expr_is w _ (expr.outs-Plus b e)) p))
     signed_scalar_most n sign.Minus at b e p = where_most g (not (is_integer b)) at rule.WrongType
-        (fine (value.Scalar b b (expr.Negate e)) (more w _ _ n (expr_negate w e) p))
+        (fine (value.Scalar b b (expr.Negate e)) (more w _ _ n (expr_is w _ (expr.outs-Negate e)) p))
 
     signed_value_most : (n : ℕ) (o : Sign) (at : Pos) (x : Computed) → weight_value w x ≤ n
         → Value_ (node w ⊕ n) (signed_value g o at x)
@@ -186,7 +183,7 @@ module _ (w : Way) where
         → Value_ (node w ⊕ n) (negated_value g at x)
     negated_value_most n at (value.Constant v) p = of_value_most (node w ⊕ n) _ (one_at_least w n)
     negated_value_most n at (value.Scalar t b e) p = where_most g (not (are_same b boolean)) at rule.WrongType
-        (fine (truth_of (expr.Not e)) (more w _ _ n (expr_not w e) p))
+        (fine (truth_of (expr.Not e)) (more w _ _ n (expr_is w _ (expr.outs-Not e)) p))
     negated_value_most n at (value.Set e) p = reported_most g at rule.WrongType
     negated_value_most n at (value.Routine t e) p = reported_most g at rule.WrongType
     negated_value_most n at (value.Procedure f) p = reported_most g at rule.WrongType
@@ -202,10 +199,10 @@ module _ (w : Way) where
     built_most : (n : ℕ) (t : TypeNo) (x y : TypedExpr) (o : Step) → weight_typed w x ⊕ operand w (weight_typed w y) ≤ n
         → weight_value w (step_result t x y o) ≤ node w ⊕ n
     built_most n t x y (step.Arithmetic o) p =
-        join w _ _ _ _ n (linked_most x (link.Arithmetic o t y)) (link_arithmetic w o t y) p
-    built_most n t x y step.And p = join w _ _ _ _ n (linked_most x (link.And y)) (link_and w y) p
-    built_most n t x y step.Or p = join w _ _ _ _ n (linked_most x (link.Or y)) (link_or w y) p
-    built_most n t x y (step.Compare c) p = pair w _ _ _ n (expr_compare w c x y) p
+        join w _ _ _ _ n (linked_most x (link.Arithmetic o t y)) (link_is w _ (link.outs-Arithmetic o t y)) p
+    built_most n t x y step.And p = join w _ _ _ _ n (linked_most x (link.And y)) (link_is w _ (link.outs-And y)) p
+    built_most n t x y step.Or p = join w _ _ _ _ n (linked_most x (link.Or y)) (link_is w _ (link.outs-Or y)) p
+    built_most n t x y (step.Compare c) p = pair w _ _ _ n (expr_is w _ (expr.outs-Compare c x y)) p
 
     stepped_most : (n : ℕ) (at : Pos) (sort : Option TypeNo) (a b : Amount) (o : Option Step)
         → weight_amount a ⊕ operand w (weight_amount b) ≤ n → Value_ (node w ⊕ n) (step_or_refusal g at sort a b o)
@@ -228,15 +225,15 @@ module _ (w : Way) where
         where_most g (not (is_in op && is_number (sort_of a))) spot rule.WrongType
         (then_most (any_most (element_fits g at a))
         (λ f h. fine (truth_of (expr.In (run_of (or_cardinal (sort_of a)) a) s))
-        (pair w _ _ _ n (expr_in w (run_of (or_cardinal (sort_of a)) a) s)
+        (pair w _ _ _ n (expr_is w _ (expr.outs-In (run_of (or_cardinal (sort_of a)) a) s))
         (first_less w _ _ _ n (run_most (or_cardinal (sort_of a)) a) p))))
 
     set_built_most : (n : ℕ) (x y : TypedExpr) (o : SetStep) → weight_typed w x ⊕ operand w (weight_typed w y) ≤ n
         → weight_value w (set_built x y o) ≤ node w ⊕ n
     set_built_most n x y (set_step.Combine o) p =
-        join w _ _ _ _ n (linked_most x (link.Combine o y)) (link_combine w o y) p
-    set_built_most n x y (set_step.Compare c) p = pair w _ _ _ n (expr_compare w c x y) p
-    set_built_most n x y (set_step.Include i) p = pair w _ _ _ n (expr_include w i x y) p
+        join w _ _ _ _ n (linked_most x (link.Combine o y)) (link_is w _ (link.outs-Combine o y)) p
+    set_built_most n x y (set_step.Compare c) p = pair w _ _ _ n (expr_is w _ (expr.outs-Compare c x y)) p
+    set_built_most n x y (set_step.Include i) p = pair w _ _ _ n (expr_is w _ (expr.outs-Include i x y)) p
 
     sets_most : (n : ℕ) (at : Pos) (x y : TypedExpr) (o : Option SetStep)
         → weight_typed w x ⊕ operand w (weight_typed w y) ≤ n → Value_ (node w ⊕ n) (on_sets g at x y o)
@@ -264,7 +261,7 @@ module _ (w : Way) where
         → weight_typed w x ⊕ operand w (weight_typed w y) ≤ n → Value_ (node w ⊕ n) (on_procedures g at fit x y o)
     procedures_most n at fit x y None p = reported_most g at rule.WrongType
     procedures_most n at fit x y (Some c) p = where_most g (not fit) at rule.WrongType
-        (fine (truth_of (expr.Compare c x y)) (pair w _ _ _ n (expr_compare w c x y) p))
+        (fine (truth_of (expr.Compare c x y)) (pair w _ _ _ n (expr_is w _ (expr.outs-Compare c x y)) p))
 
     abbrev weight_partner : Option (Bool × TypedExpr) → ℕ
     weight_partner None = 0
@@ -276,7 +273,7 @@ module _ (w : Way) where
     partner_most types t (Some (side.Scalar b)) = omega arith
     partner_most types t (Some (side.Set s)) = omega arith
     partner_most types t (Some (side.Routine u e)) = omega arith
-    partner_most types t (Some (side.Procedure f)) = le_of _ (node w) (expr_procedure w f)
+    partner_most types t (Some (side.Procedure f)) = le_of _ (node w) (expr_is w _ (expr.outs-Procedure f))
 
     routine_most : (types : Types) (f : Procedure) (y : Option Side)
         → weight_partner (routine_of types f y) ≤ weight_side y
@@ -301,7 +298,7 @@ module _ (w : Way) where
         (partner_of types t y) (second_less w _ _ _ n (partner_most types t y) p)
     between_most n types op spot at (Some (side.Procedure f)) at' y p =
         with_partner_most n spot (expr.Procedure f) (equality_of op) (routine_of types f y)
-        (known_less w _ _ _ n (expr_procedure w f) (routine_most types f y) p)
+        (known_less w _ _ _ n (expr_is w _ (expr.outs-Procedure f)) (routine_most types f y) p)
 
     known_most : (n : ℕ) (types : Types) (op : BinaryOp) (spot at : Pos) (x : Computed) (at' : Pos) (y : Computed)
         (a b : Option Operand) → weight_value w x ⊕ operand w (weight_value w y) ≤ n
@@ -329,7 +326,8 @@ module _ (w : Way) where
     scalar_suited_most n broken t s at None p = reported_most g at broken
     scalar_suited_most n broken t s at (Some (side.Scalar (Known a))) p =
         where_most g _ at broken (where_most g _ at rule.OutOfRange
-        (fine (expr.Constant t a.number) (le_trans _ (node w) n (le_of _ (node w) (expr_constant w t a.number)) p)))
+        (fine (expr.Constant t a.number) (le_trans _ (node w) n
+        (le_of _ (node w) (expr_is w _ (expr.outs-Constant t a.number))) p)))
     scalar_suited_most n broken t s at (Some (side.Scalar (Run b e))) p = where_most g _ at broken (fine e p)
     scalar_suited_most n broken t s at (Some (side.Set e)) p = reported_most g at broken
     scalar_suited_most n broken t s at (Some (side.Routine u e)) p = reported_most g at broken
@@ -350,7 +348,8 @@ module _ (w : Way) where
     procedure_suited_most n broken types t at (Some (side.Set e)) p = reported_most g at broken
     procedure_suited_most n broken types t at (Some (side.Routine u e)) p = where_most g _ at broken (fine e p)
     procedure_suited_most n broken types t at (Some (side.Procedure f)) p =
-        where_most g _ at broken (fine (expr.Procedure f) (le_trans _ (node w) n (le_of _ (node w) (expr_procedure w f))
+        where_most g _ at broken (fine (expr.Procedure f) (le_trans _ (node w) n
+        (le_of _ (node w) (expr_is w _ (expr.outs-Procedure f)))
         p))
 
     value_in_most : (n : ℕ) (broken : Rule) (types : Types) (t : TypeNo) (at : Pos) (x : Option Side) (c : Class)
@@ -375,7 +374,7 @@ module _ (w : Way) where
     field_most n types at name (designated.Variable t d) p =
         then_most (any_most (record_field g at name (fields_at types t)))
         (λ f h. fine (designated.Variable f.1 (behind d (part.Field t f.0)))
-        (one_component w _ _ _ n (behind_weight d (part.Field t f.0)) (component_field w t f.0) p))
+        (one_component w _ _ _ n (behind_weight d (part.Field t f.0)) (component_is w _ (part.outs-Field t f.0)) p))
     field_most n types at name (designated.Value x) p = reported_most g at rule.WrongType
     field_most n types at name (designated.Open t slot) p = reported_most g at rule.WrongType
     field_most n types at name (designated.Type t) p = reported_most g at rule.WrongType
@@ -407,10 +406,12 @@ module _ (w : Way) where
     picked_most : (n k : ℕ) (x : TypedExpr) (a : Subscripted) → weight_typed w x ≤ k → weight_subscripted a ⊕ k ≤ n
         → weight_meant w (element_of_array x a) ≤ node w ⊕ n
     picked_most n k x (indexes.Array t i e d) p q =
-        element_sum w _ _ _ _ _ n k (behind_weight d (part.Element t x)) (component_element w t x) refl q p
+        element_sum w _ _ _ _ _ n k (behind_weight d (part.Element t x)) (component_is w _ (part.outs-Element t x)) refl
+        q
+        p
     picked_most n k x (indexes.Open t slot) p q =
         open_sum w slot.up _ _ _ _ n k (behind_weight (root_place (root.Open slot)) (part.OpenElement slot t x))
-        (component_openelement w slot t x) (rooted_weight (root.Open slot)) q p
+        (component_is w _ (part.outs-OpenElement slot t x)) (rooted_weight (root.Open slot)) q p
 
     pub indexed_most : (n k : ℕ) (types : Types) (at : Pos) {d : Result Designated g.Reported} (at' : Pos)
         {x : Result Computed g.Reported} → Designated_ n d → Value_ k x

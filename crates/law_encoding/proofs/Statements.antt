@@ -49,12 +49,12 @@ use Rattle.law_encoding.proofs.WayTrees.{bound_arm, bound_stmts, stmt_form, rest
 use Rattle.law_encoding.proofs.WayTrees.{rest_opened, arm_opened, of_return, of_assign, of_plain_call, of_call_with}
 use Rattle.law_encoding.proofs.WayTrees.{of_if, of_case, of_case_else, of_while, of_repeat, of_loop, of_exit, of_for}
 use Rattle.law_encoding.proofs.WayTrees.{of_with, of_elsif, of_else, of_arm}
-use Rattle.law_encoding.proofs.Weighed.{step_if, step_case, step_while, step_repeat, step_loop, step_with, arm_sum}
 use Rattle.law_encoding.proofs.Results.{then_most, at_more, at_mapped, any_most, ahead_most}
 use Rattle.law_encoding.proofs.Meanings.{AllM, meant_most, head_most}
 use Rattle.law_encoding.proofs.Effects.{assignment_most, done_most}
 use Rattle.law_encoding.proofs.Steps.{weight_selected, KnownIf, record_most, condition_most, exited_most, returned_most}
 use Rattle.law_encoding.proofs.Steps.{selected_most, course_most, for_most}
+use Rattle.law_encoding.proofs.Weighed.{step_is, arm_sum}
 
 module _ (w : Way) where
   infixl 65 ◌⊕◌
@@ -163,7 +163,7 @@ module _ (w : Way) where
         → AtMost (weight_body w) m body → AtMost (weight_body_if w) k follow
         → AtMost (weight_step w) (in_if w (n ⊕ m ⊕ k)) (if_statement g c body follow)
     chosen_most n m k p q r = then_most (both_most g w p (both_most g w q r))
-        (λ v l. fine (step.If v.0 v.1.0 v.1.1) (if_sum w _ _ _ _ n m k (step_if w v.0 v.1.0 v.1.1) l))
+        (λ v l. fine (step.If v.0 v.1.0 v.1.1) (if_sum w _ _ _ _ n m k (step_is w _ (step.outs-If v.0 v.1.0 v.1.1)) l))
 
     chosen_else_most : (n : ℕ) {x : Result TypedStmt g.Reported} → AtMost (weight_step w) n x
         → AtMost (weight_body_if w) n (chosen_else x)
@@ -175,27 +175,29 @@ module _ (w : Way) where
         → AtMost (weight_body_if w) k otherwise
         → AtMost (weight_step w) (in_case w (n ⊕ m ⊕ k)) (case_statement g e xs otherwise)
     cased_most n m k s p q r = then_most (both_most g w p (both_most g w q r))
-        (λ v l. fine (step.Case v.0.1 v.1.0 v.1.1) (case_sum w _ _ _ _ n m k (step_case w v.0.1 v.1.0 v.1.1) l))
+        (λ v l. fine (step.Case v.0.1 v.1.0 v.1.1) (case_sum w _ _ _ _ n m k
+        (step_is w _ (step.outs-Case v.0.1 v.1.0 v.1.1)) l))
 
     while_most : (n m : ℕ) {c : Result TypedExpr g.Reported} {body : Result (List TypedStmt) g.Reported}
         → AtMost (weight_typed w) n c → AtMost (weight_body w) m body
         → AtMost (weight_step w) (looped w (n ⊕ m)) (repeated_while g c body)
     while_most n m p q = then_most (both_most g w p q) (λ v l. fine (step.While v.0 v.1)
-        (while_sum w _ _ _ n m (step_while w v.0 v.1) l))
+        (while_sum w _ _ _ n m (step_is w _ (step.outs-While v.0 v.1)) l))
 
     until_most : (n m : ℕ) {c : Result TypedExpr g.Reported} {body : Result (List TypedStmt) g.Reported}
         → AtMost (weight_body w) m body → AtMost (weight_typed w) n c
         → AtMost (weight_step w) (in_if w (m ⊕ n)) (repeated_until g body c)
     until_most n m q p = then_most (both_most g w q p) (λ v l. fine (step.Repeat v.0 v.1)
-        (repeat_sum w _ _ _ m n (step_repeat w v.0 v.1) l))
+        (repeat_sum w _ _ _ m n (step_is w _ (step.outs-Repeat v.0 v.1)) l))
 
     looped_most : (n : ℕ) {body : Result (List TypedStmt) g.Reported} → AtMost (weight_body w) n body
         → AtMost (weight_step w) (looped w n) (loop_statement body)
-    looped_most n p = then_most p (λ v l. fine (step.Loop v) (loop_sum w _ _ n (step_loop w v) l))
+    looped_most n p = then_most p (λ v l. fine (step.Loop v) (loop_sum w _ _ n (step_is w _ (step.outs-Loop v)) l))
 
     with_most : (n m : ℕ) (d : Place) {body : Result (List TypedStmt) g.Reported} → node w ⊕ weight_place w d ≤ n
         → AtMost (weight_body w) m body → AtMost (weight_step w) (n ⊕ m) (within d body)
-    with_most n m d k p = then_most p (λ v l. fine (step.With d v) (with_sum w _ _ _ n m (step_with w d v) k l))
+    with_most n m d k p =
+        then_most p (λ v l. fine (step.With d v) (with_sum w _ _ _ n m (step_is w _ (step.outs-With d v)) k l))
 
     -- ---- parts
 

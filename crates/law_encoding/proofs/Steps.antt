@@ -45,10 +45,10 @@ use Rattle.law_encoding.proofs.Ways.{Way, ◌⊕⟨◌⟩◌, node, in_loop, con
 use Rattle.law_encoding.proofs.Ways.{weight_body, weight_value, weight_meant}
 use Rattle.law_encoding.proofs.WaySums.{second_part, more, one_of, for_sum, both_most}
 use Rattle.law_encoding.proofs.WayTrees.{IsNear, control_base, global_control, local_control}
-use Rattle.law_encoding.proofs.Weighed.{expr_constant, step_exit, step_return, step_give, step_for}
 use Rattle.law_encoding.proofs.Results.{then_most, reported_most, where_most, reported_beside_most, sort_most, any_most}
 use Rattle.law_encoding.proofs.Operators.{weight_amount, weight_side, side_most, suited_most, rooted_weight}
 use Rattle.law_encoding.proofs.Meanings.{FM, value_most}
+use Rattle.law_encoding.proofs.Weighed.{expr_is, step_is}
 
 module _ (w : Way) where
   infixl 65 ◌⊕◌
@@ -89,7 +89,7 @@ module _ (w : Way) where
 
     exited_as : (at : Pos) (inside : Bool)
         → Stmt_ (node w) (reported_where g (not inside) at rule.LonelyExit (Ok step.Exit))
-    exited_as at true = fine step.Exit (le_of _ (node w) (step_exit w))
+    exited_as at true = fine step.Exit (le_of _ (node w) (step_is w _ step.outs-Exit))
     exited_as at false = reported_most g at rule.LonelyExit
 
     pub exited_most : (at : Pos) (a : Around g.Reported) → Stmt_ (node w) (exit_statement g at a)
@@ -100,7 +100,7 @@ module _ (w : Way) where
     given_back_most n t at p =
         then_most (both_most g w (any_most t) p)
         (λ v k. then_most (suited_most w g n rule.NotAssignable s.types v.0 at v.1 (second_part w _ n k))
-        (λ e q. fine (step.Give v.0 e) (more w _ _ n (step_give w v.0 e) q)))
+        (λ e q. fine (step.Give v.0 e) (more w _ _ n (step_is w _ (step.outs-Give v.0 e)) q)))
 
     abbrev pub KnownIf : ℕ → Option (Meant g.Reported) → Type 0
     KnownIf n None = Unit {0}
@@ -108,7 +108,7 @@ module _ (w : Way) where
 
     pub returned_most : (n : ℕ) (at : Pos) (o : Option (Result TypeNo g.Reported)) (x : Option (Meant g.Reported))
         → KnownIf n x → Stmt_ (node w ⊕ n) (return_statement g s at o x)
-    returned_most n at None None p = fine step.Return (one_of w _ n (step_return w))
+    returned_most n at None None p = fine step.Return (one_of w _ n (step_is w _ step.outs-Return))
     returned_most n at None (Some x) p = reported_beside_most g at rule.WrongReturn _
     returned_most n at (Some t) None p = reported_most g at rule.WrongReturn
     returned_most n at (Some t) (Some x) p = given_back_most n t x.fixed.at (value_most w g s n x p)
@@ -119,7 +119,7 @@ module _ (w : Way) where
     weight_selected x = weight_typed w x.1
 
     amount_most : (n : ℕ) (a : Amount) → weight_amount w a ≤ n → weight_selected (selector_amount a) ≤ n
-    amount_most n (Known a) p = le_trans _ (node w) n (le_of _ (node w) (expr_constant w _ a.number)) p
+    amount_most n (Known a) p = le_trans _ (node w) n (le_of _ (node w) (expr_is w _ (expr.outs-Constant _ a.number))) p
     amount_most n (Run b e) p = p
 
     selector_most : (n : ℕ) (at : Pos) (o : Option Side) → weight_side w o ≤ n
@@ -175,9 +175,10 @@ module _ (w : Way) where
     limit_number_most : (n : ℕ) (base : TypeNo) (at : Pos) (i : ℤ) (o : Option TypeNo) → node w ≤ n
         → Expr_ n (limit_number g base at i o)
     limit_number_most n base at i None l = where_most g _ at rule.OutOfRange
-        (fine (expr.Constant base i) (le_trans _ (node w) n (le_of _ (node w) (expr_constant w base i)) l))
+        (fine (expr.Constant base i) (le_trans _ (node w) n (le_of _ (node w) (expr_is w _ (expr.outs-Constant base i)))
+        l))
     limit_number_most n base at i (Some t) l =
-        fine (expr.Constant t i) (le_trans _ (node w) n (le_of _ (node w) (expr_constant w t i)) l)
+        fine (expr.Constant t i) (le_trans _ (node w) n (le_of _ (node w) (expr_is w _ (expr.outs-Constant t i))) l)
 
     limit_by_most : (n : ℕ) (base : TypeNo) (at : Pos) (o : Option Side) → weight_side w o ≤ n
         → Expr_ n (limit_by g base at o)
@@ -214,5 +215,7 @@ module _ (w : Way) where
     for_most n k b p q =
         then_most (both_most g w p q)
         (λ v l. fine (step.For v.0.control.place v.0.control.of v.0.start v.0.limit v.0.by v.1)
-        (for_sum w _ _ _ _ _ (control_base w) n k b (step_for w v.0.control.place v.0.control.of v.0.start v.0.limit
-        v.0.by v.1) l))
+        (for_sum w _ _ _ _ _ (control_base w) n k b (step_is w _ (step.outs-For v.0.control.place v.0.control.of
+        v.0.start
+        v.0.limit
+        v.0.by v.1)) l))
