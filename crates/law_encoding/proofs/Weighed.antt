@@ -1,5 +1,5 @@
 -- What typed trees weigh, by their variants, in each of the three ways.
-use Rattle.std.proofs.Common.{◌≡◌, ℕ, ℤ, List, length, Option, Some, None, refl, ap, ◌∙◌, arith}
+use Rattle.std.proofs.Common.{◌≡◌, ℕ, List, length, Some, None, refl, ap, ◌∙◌, arith}
 use Rattle.std.specs.Prelude.{map}
 use Rattle.typed_tree.specs.declared.computed.Argument.{Argument, Argument-F, out-Argument, map-Argument}
 use Rattle.typed_tree.specs.declared.computed.Argument.{fold_out-Argument}
@@ -11,27 +11,11 @@ use Rattle.typed_tree.specs.declared.computed.TypedExpr.{TypedExpr, TypedExpr-F,
 use Rattle.typed_tree.specs.declared.computed.TypedExpr.{fold_out-TypedExpr}
 use Rattle.typed_tree.specs.declared.computed.Place.{Place, Place-F, out-Place, map-Place, fold_out-Place}
 use Rattle.typed_tree.specs.declared.computed.Argument.TheOpen as layer
-use Rattle.typed_tree.specs.declared.computed.Argument.TheVariants as argument
-use Rattle.typed_tree.specs.declared.computed.Call.TheVariants as call
-use Rattle.typed_tree.specs.declared.computed.Component.TheVariants as component
-use Rattle.typed_tree.specs.declared.computed.Link.TheVariants as link
-use Rattle.typed_tree.specs.declared.computed.TypedExpr.TheVariants as expr
-use Rattle.typed_tree.specs.declared.computed.Arithmetic.{Arithmetic}
-use Rattle.typed_tree.specs.declared.computed.Comparison.{Comparison}
-use Rattle.typed_tree.specs.declared.computed.Inclusion.{Inclusion}
-use Rattle.typed_tree.specs.declared.computed.LocalProcedure.{LocalProcedure}
-use Rattle.typed_tree.specs.declared.computed.SetOperator.{SetOperator}
-use Rattle.typed_tree.specs.declared.computed.Slot.{Slot}
-use Rattle.typed_tree.specs.declared.meaning.Procedure.{Procedure}
-use Rattle.typed_tree.specs.declared.statement.Change.{Change}
-use Rattle.typed_tree.specs.declared.statement.Membership.{Membership}
 use Rattle.typed_tree.specs.declared.statement.TypedArm.{TypedArm, TypedArm-F, out-TypedArm, map-TypedArm}
 use Rattle.typed_tree.specs.declared.statement.TypedArm.{fold_out-TypedArm}
 use Rattle.typed_tree.specs.declared.statement.TypedStmt.{TypedStmt, TypedStmt-F, out-TypedStmt, map-TypedStmt}
 use Rattle.typed_tree.specs.declared.statement.TypedStmt.{fold_out-TypedStmt}
 use Rattle.typed_tree.specs.declared.statement.TypedStmt.TheOpen as slayer
-use Rattle.typed_tree.specs.declared.statement.TypedStmt.TheVariants as stmt
-use Rattle.typed_tree.specs.declared.types.TypeNo.{TypeNo}
 use Rattle.law_encoding.specs.TypedSizes as size
 use Rattle.law_encoding.specs.TypedSizes.{size_typed, size_place, size_component, size_link, size_call, size_passed}
 use Rattle.law_encoding.specs.TypedSizes.{size_step, size_arm}
