@@ -222,7 +222,7 @@ both_sum by_size a b n d e h i j = omega (arith, h, i, j)
 both_sum by_depth a b n d e h i j = omega (arith, h, i, j)
 both_sum (by_distance far) a b n d e h i j = omega (arith, h, i, j)
 
-none_sum : (w : Way) (a b : ℕ) → a ≡ 0 → b ≤ 0 → a ⊕⟨ w ⟩ b ≤ 0
+none_sum : (w : Way) (a b : ℕ) → a ≤ 0 → b ≤ 0 → a ⊕⟨ w ⟩ b ≤ 0
 none_sum by_size a b h i = omega (arith, h, i)
 none_sum by_depth a b h i = omega (arith, h, i)
 none_sum (by_distance far) a b h i = omega (arith, h, i)
@@ -235,12 +235,7 @@ all_more (by_distance far) f x xs = omega arith
 none_yet : (w : Way) (hs : List TypeNo) → all_of w (weight_routine w) (map empty_routine hs) ≤ 0
 none_yet w [] = le_of _ 0 (none_of w (weight_routine w))
 none_yet w (h ∷ hs) = le_trans _ _ 0 (all_more w (weight_routine w) (empty_routine h) (map empty_routine hs))
-    (none_sum w _ _ (no_body w (empty_routine h).level) (none_yet w hs))
-
-begun_none : (w : Way) (a b : ℕ) → a ≤ 0 → b ≡ 0 → a ⊕⟨ w ⟩ b ≤ 0
-begun_none by_size a b h i = omega (arith, h, i)
-begun_none by_depth a b h i = omega (arith, h, i)
-begun_none (by_distance far) a b h i = omega (arith, h, i)
+    (none_sum w _ _ (le_of _ 0 (no_body w (empty_routine h).level)) (none_yet w hs))
 
 module _ (way : Way) where
   infixl 65 ◌⊕◌
@@ -413,7 +408,7 @@ module _ (way : Way) where
           → so_far way (bodies_checked g elaborates ends None (begins modules s m ds).1 (begins modules s m ds).0
           ds).bodies ≤ 0 ⊕ all_of way (bound_decl way) ds
       walked_bodies modules s m ds = written_most None (begins modules s m ds).1 ds ((begins modules s m ds).0, 0) 0
-          (begun_none way _ _ (none_yet way _) (none_of way (weight_routine way)))
+          (none_sum way _ _ (none_yet way _) (le_of _ 0 (none_of way (weight_routine way))))
 
     -- a block, by its declarations and statements
     block_sum : (b : Block) → all_of way (bound_decl way) (out-Block b).decls ⊕ bound_body way (out-Block b).body

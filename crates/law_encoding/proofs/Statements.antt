@@ -42,7 +42,7 @@ use Rattle.law_encoding.proofs.Ways.{Way, by_size, ◌⊕⟨◌⟩◌, node, in_
 use Rattle.law_encoding.proofs.Ways.{weight_place, weight_step, weight_arm, weight_body, weight_body_if}
 use Rattle.law_encoding.proofs.Ways.{all_of as weights_of, in_loop as looped}
 use Rattle.law_encoding.proofs.WaySums.{none_of, one_alone, all_pushed, no_more, sum_again, none_left, all_again}
-use Rattle.law_encoding.proofs.WaySums.{from_none, if_sum, case_sum, while_sum, repeat_sum, loop_sum, with_sum}
+use Rattle.law_encoding.proofs.WaySums.{from_none, if_sum, case_sum, while_sum, repeat_sum, loop_sum, assign_sum}
 use Rattle.law_encoding.proofs.WaySums.{labels_less, both_most}
 use Rattle.law_encoding.proofs.WayTrees.{IsNear, bound_expr, bound_designator, bound_if, bound_stmt, bound_rest}
 use Rattle.law_encoding.proofs.WayTrees.{bound_arm, bound_stmts, stmt_form, rest_form, arm_form, stmt_opened}
@@ -197,7 +197,7 @@ module _ (w : Way) where
     with_most : (n m : ℕ) (d : Place) {body : Result (List TypedStmt) g.Reported} → node w ⊕ weight_place w d ≤ n
         → AtMost (weight_body w) m body → AtMost (weight_step w) (n ⊕ m) (within d body)
     with_most n m d k p =
-        then_most p (λ v l. fine (step.With d v) (with_sum w _ _ _ n m (step_is w _ (step.outs-With d v)) k l))
+        then_most p (λ v l. fine (step.With d v) (assign_sum w _ _ _ n m (step_is w _ (step.outs-With d v)) k l))
 
     -- ---- parts
 

@@ -295,11 +295,6 @@ loop_sum by_size a b n h i = omega (arith, h, i)
 loop_sum by_depth a b n h i = omega (arith, h, i)
 loop_sum (by_distance level) a b n h i = omega (arith, h, i)
 
-pub with_sum : (w : Way) (a d b n m : ℕ) → a ≡ node w ⊕⟨ w ⟩ d ⊕⟨ w ⟩ b → node w ⊕⟨ w ⟩ d ≤ n → b ≤ m → a ≤ n ⊕⟨ w ⟩ m
-with_sum by_size a d b n m h i j = omega (arith, h, i, j)
-with_sum by_depth a d b n m h i j = omega (arith, h, i, j)
-with_sum (by_distance level) a d b n m h i j = omega (arith, h, i, j)
-
 pub for_sum : (w : Way) (a d x y b c n k m : ℕ) → a ≡ in_loop w (control w d ⊕⟨ w ⟩ x ⊕⟨ w ⟩ y ⊕⟨ w ⟩ b)
     → control w d ⊕⟨ w ⟩ x ⊕⟨ w ⟩ (y ⊕⟨ w ⟩ 0) ⊕⟨ w ⟩ b ≤ c ⊕⟨ w ⟩ n ⊕⟨ w ⟩ (k ⊕⟨ w ⟩ 0) ⊕⟨ w ⟩ m
     → a ≤ in_loop w (c ⊕⟨ w ⟩ n ⊕⟨ w ⟩ k ⊕⟨ w ⟩ m)
