@@ -1,7 +1,6 @@
 -- What a block declares: what each entry of a name keeps, the whole block keeps.
-use Rattle.std.proofs.Common.{◌≡◌, ℕ, ◌==◌, Bool, true, false, cond, List, [], ◌∷◌, length, Option, Some, None, Result, Ok, Err, refl, sym, ap, subst, ◌∙◌}
+use Rattle.std.proofs.Common.{◌≡◌, ℕ, ◌==◌, Bool, true, false, cond, List, [], length, Option, Some, None, Result, Ok, Err, refl, sym, subst}
 use Rattle.std.specs.List.{fold}
-use Rattle.m2_tree.specs.declared.name.Ident.{Ident}
 use Rattle.m2_tree.specs.declared.decl.Variables.{Variables}
 use Rattle.m2_tree.specs.declared.decl.Heading.{Heading}
 use Rattle.m2_tree.specs.declared.decl.Decl.{Decl, Decl-F, out-Decl}
@@ -24,12 +23,12 @@ use Rattle.check_definition.specs.Declare.{variable_meaning, with_variable_type,
 use Rattle.check_block.specs.declared.heading.Standing.{Standing}
 use Rattle.check_block.specs.declared.heading.Standing.TheVariants.{Free, Awaited, Taken}
 use Rattle.check_block.specs.Headings.{standing_of, name_standing, nested_meaning, set_heading, module_procedure, headed_as}
-use Rattle.check_block.specs.Naming.{marked_decl, with_marks, all_marked}
-use Rattle.check_block.specs.Declarations.{local_meaning, with_locals, with_variables_of, Course, decl_layer, with_decl, declared_block}
+use Rattle.check_block.specs.Naming.{marked_decl, all_marked}
+use Rattle.check_block.specs.Declarations.{local_meaning, with_locals, Course, decl_layer, with_decl, declared_block}
 use Rattle.law_folds.proofs.Orders.{IsOrder, steps}
 use Rattle.law_folds.proofs.MarkSteps.{KeepsMarks, decls_marks}
-use Rattle.law_folds.proofs.TypeSteps.{KeepsTypes, made_keeps}
-use Rattle.law_folds.proofs.NameSteps.{KeepsNames, constants_keep, types_keep, variables_keep, locals_keep, AtLevel, varied_level, level_names}
+use Rattle.law_folds.proofs.TypeSteps.{made_keeps}
+use Rattle.law_folds.proofs.NameSteps.{KeepsNames, constants_keep, types_keep, variables_keep, locals_keep, varied_level, level_names}
 
 -- ---- what stands under the name of a heading
 
@@ -56,6 +55,10 @@ free_standing (Some (Declared Here (Err m))) e = absurd cc
 free_standing (Some (Declared (Module n) m)) e = absurd cc
 free_standing (Some (Declared (Export n) m)) e = absurd cc
 
+pub headed_level : {T : Type 0} (s : Scope T) (t : Result TypeNo T) → (with_procedure_type s t).level ≡ s.level
+headed_level s (Ok t) = refl
+headed_level s (Err e) = refl
+
 -- ---- what each entry of a block keeps
 
 pub record KeepsBlocks (g : Gathers) (R : Scope g.Reported → Scope g.Reported → Type 0) : Type 0 where
@@ -63,14 +66,13 @@ pub record KeepsBlocks (g : Gathers) (R : Scope g.Reported → Scope g.Reported 
   pub names : KeepsNames g R
   pub variable_ends : (s : Scope g.Reported) (name : List ℕ) (t : Result TypeNo g.Reported) → (s.level == 0) ≡ true
       → let v : Scope g.Reported = with_variable_type s t in is_begun (find_name name v.own) ≡ true
-      → R v (with_known name (Declared Here (variable_meaning s.types.home (length s.variables) t)) v)
+      → R s (with_known name (Declared Here (variable_meaning s.types.home (length s.variables) t)) v)
   pub local_ends : (s : Scope g.Reported) (name : List ℕ) (t : Result TypeNo g.Reported) → (s.level == 0) ≡ false
       → let v : Scope g.Reported = with_variable_type s t in is_begun (find_name name v.own) ≡ true
-      → R v (with_known name (Declared Here (local_meaning s.level (length s.variables) t)) v)
-  pub headed : (s : Scope g.Reported) (t : Result TypeNo g.Reported) → R s (with_procedure_type s t)
+      → R s (with_known name (Declared Here (local_meaning s.level (length s.variables) t)) v)
   pub procedure : (s : Scope g.Reported) (name : List ℕ) (t : Result TypeNo g.Reported) → (s.level == 0) ≡ true
       → let p : Scope g.Reported = with_procedure_type s t in is_free (find_name name p.own) ≡ true
-      → R p (with_known name (Headed (heading_means false (procedure_meaning s.types.home (length s.procedures) t))) p)
+      → R s (with_known name (Headed (heading_means false (procedure_meaning s.types.home (length s.procedures) t))) p)
   pub nested : (s : Scope g.Reported) (name : List ℕ) (n : ℕ) (t : Result TypeNo g.Reported) → (s.level == 0) ≡ false
       → is_free (find_name name s.own) ≡ true
       → R s (with_known name (Headed (heading_means true (nested_meaning s.level n t))) s)
@@ -90,10 +92,10 @@ module _ (g : Gathers) {R : Scope g.Reported → Scope g.Reported → Type 0} (k
       → R st.0 (cond {A = St} b (fold (with_variables g) st vs) (fold (with_locals g) st vs)).0
   variables_of true st vs l =
       (variables_keep g (level_names g true k.names)
-      (λ s name t e. (refl, λ a. k.variable_ends s name t (ap (λ (n : ℕ). n == 0) (sym (varied_level s t)) ∙ a) e)) vs st).1 l
+      (λ s name t e. (varied_level s t, λ a. k.variable_ends s name t a e)) vs st).1 l
   variables_of false st vs l =
       (locals_keep g (level_names g false k.names)
-      (λ s name t e. (refl, λ a. k.local_ends s name t (ap (λ (n : ℕ). n == 0) (sym (varied_level s t)) ∙ a) e)) vs st).1 l
+      (λ s name t e. (varied_level s t, λ a. k.local_ends s name t a e)) vs st).1 l
 
   -- ---- headings
 
@@ -111,9 +113,7 @@ module _ (g : Gathers) {R : Scope g.Reported → Scope g.Reported → Type 0} (k
   new_by : (b : Bool) (s : Scope g.Reported) (name : List ℕ) (n : ℕ) (t : Result TypeNo g.Reported) → (s.level == 0) ≡ b
       → is_free (find_name name s.own) ≡ true
       → R s (cond b (module_procedure s name t) (set_heading name (heading_means true (nested_meaning s.level n t)) s))
-  new_by true s name n t l f =
-      order.next s (with_procedure_type s t) _ (k.headed s t)
-      (k.procedure s name t l (subst (λ es. Frees name es) (sym (headed_own s t)) f))
+  new_by true s name n t l f = k.procedure s name t l (subst (λ es. Frees name es) (sym (headed_own s t)) f)
   new_by false s name n t l f = k.nested s name n t l f
 
   headed_keeps : (s : Scope g.Reported) (h : Heading) (n : ℕ) (o : Standing) → name_standing (find_name h.name.name s.own) ≡ o

@@ -1,5 +1,5 @@
 -- What an imported name keeps, all imports keep.
-use Rattle.std.proofs.Common.{◌≡◌, ℕ, Bool, true, List, [], ◌∷◌, take, drop, Option, Some, None, Result, Ok, Err}
+use Rattle.std.proofs.Common.{◌≡◌, ℕ, true, List, [], take, drop, Option, Some, None, Result, Ok, Err}
 use Rattle.std.specs.Prelude.{cond, slice_get}
 use Rattle.std.specs.List.{fold}
 use Rattle.m2_rule.specs.declared.rule.Rule.TheVariants as rule

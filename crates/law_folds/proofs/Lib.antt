@@ -5,3 +5,4 @@ pub mod TypeSteps
 pub mod ImportSteps
 pub mod NameSteps
 pub mod BlockSteps
+pub mod DefinitionSteps

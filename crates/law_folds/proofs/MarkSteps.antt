@@ -14,7 +14,7 @@ use Rattle.m2_tree.specs.declared.decl.Simple.{Simple}
 use Rattle.m2_tree.specs.declared.decl.Simple.TheVariants as simple
 use Rattle.m2_tree.specs.declared.decl.TypeExpr.{TypeExpr, TypeExpr-F}
 use Rattle.m2_tree.specs.declared.decl.TypeExpr.TheOpen as layer
-use Rattle.m2_tree.specs.declared.decl.Field.{Field, Field-F}
+use Rattle.m2_tree.specs.declared.decl.Field.{Field}
 use Rattle.typed_tree.specs.Names.{find_name}
 use Rattle.check_scope.specs.Scopes.{with_known, unless_marked, mark_name}
 use Rattle.check_scope.specs.declared.known.Known.{Known}
@@ -65,10 +65,11 @@ module _ {T : Type 0} {R : Scope T → Scope T → Type 0} (k : KeepsMarks R) wh
   abbrev Lists : Type 0
   Lists = Fielded (marked_in {T = T}) (marked_field {T = T}) (λ t f. AreKept f) (λ d f. AreKept f)
 
-  lists_marks : (fs : List Lists) (s : Scope T)
+  field_lists_marks : (fs : List Lists) (s : Scope T)
       → R s (fold then_marks s (map (marked_field {T = T}) (map (λ (f : Lists). f.0) fs)))
-  lists_marks [] s = k.order.same s
-  lists_marks (f ∷ fs) s = k.order.next s (marked_field f.0 s) _ (f.1 s) (lists_marks fs (marked_field f.0 s))
+  field_lists_marks [] s = k.order.same s
+  field_lists_marks (f ∷ fs) s =
+      k.order.next s (marked_field f.0 s) _ (f.1 s) (field_lists_marks fs (marked_field f.0 s))
 
   abbrev stripped : TypeExpr-F Trees Lists → TypeExpr-F TypeExpr Field
   stripped y = bare (marked_in {T = T}) (marked_field {T = T}) (λ t f. AreKept f) (λ d f. AreKept f) y
@@ -77,7 +78,7 @@ module _ {T : Type 0} {R : Scope T → Scope T → Type 0} (k : KeepsMarks R) wh
   layer_marks (layer.Simple t) s = simple_marks t s
   layer_marks (layer.Array at index t) s =
       k.order.next s (marked_simple index s) _ (simple_marks index s) (t.1 (marked_simple index s))
-  layer_marks (layer.Record at fields) s = lists_marks fields s
+  layer_marks (layer.Record at fields) s = field_lists_marks fields s
   layer_marks (layer.Procedure at formals of) s = k.order.same s
 
   pub type_marks : (t : TypeExpr) (s : Scope T) → R s (marked_in t s)
@@ -98,19 +99,28 @@ module _ {T : Type 0} {R : Scope T → Scope T → Type 0} (k : KeepsMarks R) wh
   variables_marks s v =
       let m : Scope T = fold marked_later s v.names in k.order.next s m _ (names_marks v.names s) (type_marks v.of m)
 
+  pub constants_marks : (cs : List Constant) (s : Scope T) → R s (fold marked_constant s cs)
+  constants_marks = steps k.order same marked_constant constant_marks
+
+  pub types_marks : (ts : List TypeDecl) (s : Scope T) → R s (fold marked_type s ts)
+  types_marks = steps k.order same marked_type type_decl_marks
+
+  pub lists_marks : (vs : List Variables) (s : Scope T) → R s (fold marked_variables s vs)
+  lists_marks = steps k.order same marked_variables variables_marks
+
   pub def_marks : (s : Scope T) (d : Def) → R s (marked_def s d)
-  def_marks s (def.Constants cs) = steps k.order same marked_constant constant_marks cs s
-  def_marks s (def.Types ts) = steps k.order same marked_type type_decl_marks ts s
-  def_marks s (def.Variables vs) = steps k.order same marked_variables variables_marks vs s
+  def_marks s (def.Constants cs) = constants_marks cs s
+  def_marks s (def.Types ts) = types_marks ts s
+  def_marks s (def.Variables vs) = lists_marks vs s
   def_marks s (def.Procedure h) = ahead_mark s h.name
 
   pub defs_marks : (ds : List Def) (s : Scope T) → R s (fold marked_def s ds)
   defs_marks = steps k.order same marked_def def_marks
 
   pub decl_layer_marks : {A B : Type 0} (y : Decl-F A B) (s : Scope T) → R s (marked_layer s y)
-  decl_layer_marks (decl.Constants cs) s = steps k.order same marked_constant constant_marks cs s
-  decl_layer_marks (decl.Types ts) s = steps k.order same marked_type type_decl_marks ts s
-  decl_layer_marks (decl.Variables vs) s = steps k.order same marked_variables variables_marks vs s
+  decl_layer_marks (decl.Constants cs) s = constants_marks cs s
+  decl_layer_marks (decl.Types ts) s = types_marks ts s
+  decl_layer_marks (decl.Variables vs) s = lists_marks vs s
   decl_layer_marks (decl.Procedure h b) s = ahead_mark s h.name
 
   pub decls_marks : (ds : List Decl) (st : Scope T × List ℕ) → R st.0 (fold (with_marks marked_decl) st ds).0

@@ -1,17 +1,15 @@
 -- What constants, types and variables keep: a name begins, something new may be made, and the name ends.
-use Rattle.std.proofs.Common.{◌≡◌, ℕ, ◌==◌, Bool, true, false, List, [], ◌∷◌, length, Result, Ok, Err, refl, sym, ap, ◌∙◌}
+use Rattle.std.proofs.Common.{◌≡◌, ℕ, ◌==◌, Bool, true, false, cond, List, [], length, Result, Ok, Err, refl, ap, ◌∙◌}
 use Rattle.std.specs.List.{fold}
 use Rattle.m2_tree.specs.declared.name.Ident.{Ident}
 use Rattle.m2_tree.specs.declared.decl.Constant.{Constant}
 use Rattle.m2_tree.specs.declared.decl.TypeDecl.{TypeDecl}
 use Rattle.m2_tree.specs.declared.decl.Variables.{Variables}
 use Rattle.typed_tree.specs.declared.meaning.Meaning.{Meaning}
-use Rattle.typed_tree.specs.declared.meaning.Value.{Value}
 use Rattle.typed_tree.specs.declared.types.TypeNo.{TypeNo}
 use Rattle.typed_tree.specs.Names.{find_name}
 use Rattle.check_scope.specs.Elaborated.{Gathers}
 use Rattle.check_scope.specs.Scopes.{State, is_free, with_known, begin_name, is_begun, finish_name}
-use Rattle.check_scope.specs.declared.known.Known.{Known}
 use Rattle.check_scope.specs.declared.known.Known.TheVariants.{Begun, Declared}
 use Rattle.check_scope.specs.declared.known.Origin.TheVariants.{Here}
 use Rattle.check_scope.specs.declared.scope.Scope.{Scope}
@@ -19,7 +17,7 @@ use Rattle.check_const.specs.Parts.{constant}
 use Rattle.check_expr.specs.Meanings.{part}
 use Rattle.check_type_expr.specs.Made.{type_of}
 use Rattle.check_definition.specs.Declare.{constant_meaning, with_constant, type_meaning, brings_with, with_type, begun_name, variable_meaning, with_variable_type, finished_variable, with_variables}
-use Rattle.check_block.specs.Declarations.{local_meaning, finished_local, with_locals}
+use Rattle.check_block.specs.Declarations.{local_meaning, finished_local, with_locals, with_variables_of}
 use Rattle.law_folds.proofs.Orders.{IsOrder, either_scope, steps}
 use Rattle.law_folds.proofs.TypeSteps.{unless_keeps, KeepsTypes, type_keeps}
 
@@ -39,18 +37,18 @@ pub record KeepsNames (g : Gathers) (R : Scope g.Reported → Scope g.Reported �
       → is_begun (find_name name s.own) ≡ true → R s (with_known name (Declared Here (type_meaning t n)) s)
   pub varied : (s : Scope g.Reported) (t : Result TypeNo g.Reported) → R s (with_variable_type s t)
 
--- a variable ends, of a module or of a procedure, whose type was noted
+-- the type of a variable is noted, of a module's or a procedure's, and its name ends
 abbrev pub VariablesEnd : (g : Gathers) → (Scope g.Reported → Scope g.Reported → Type 0) → Type 0
 VariablesEnd g R =
     (s : Scope g.Reported) (name : List ℕ) (t : Result TypeNo g.Reported)
     → let v : Scope g.Reported = with_variable_type s t in is_begun (find_name name v.own) ≡ true
-    → R v (with_known name (Declared Here (variable_meaning s.types.home (length s.variables) t)) v)
+    → R s (with_known name (Declared Here (variable_meaning s.types.home (length s.variables) t)) v)
 
 abbrev pub LocalsEnd : (g : Gathers) → (Scope g.Reported → Scope g.Reported → Type 0) → Type 0
 LocalsEnd g R =
     (s : Scope g.Reported) (name : List ℕ) (t : Result TypeNo g.Reported)
     → let v : Scope g.Reported = with_variable_type s t in is_begun (find_name name v.own) ≡ true
-    → R v (with_known name (Declared Here (local_meaning s.level (length s.variables) t)) v)
+    → R s (with_known name (Declared Here (local_meaning s.level (length s.variables) t)) v)
 
 module _ (g : Gathers) {R : Scope g.Reported → Scope g.Reported → Type 0} (k : KeepsNames g R) where
   abbrev St : Type 0
@@ -105,8 +103,8 @@ module _ (g : Gathers) {R : Scope g.Reported → Scope g.Reported → Type 0} (k
       → R s (finished_variable t s x)
   variable_keeps h t s x =
       let v : Scope g.Reported = with_variable_type s t in
-      order.next s v _ (k.varied s t)
-      (finish_keeps order v x (variable_meaning s.types.home (length s.variables) t) (h s x.name t))
+      either_scope order s (is_begun (find_name x.name v.own))
+      (with_known x.name (Declared Here (variable_meaning s.types.home (length s.variables) t)) v) v (h s x.name t) (k.varied s t)
 
   pub variables_keep : VariablesEnd g R → (vs : List Variables) (st : St) → R st.0 (fold (with_variables g) st vs).0
   variables_keep h = steps order state (with_variables g) (variables_by finished_variable (variable_keeps h))
@@ -118,10 +116,17 @@ module _ (g : Gathers) {R : Scope g.Reported → Scope g.Reported → Type 0} (k
       → R s (finished_local t s x)
   local_keeps h t s x =
       let v : Scope g.Reported = with_variable_type s t in
-      order.next s v _ (k.varied s t) (finish_keeps order v x (local_meaning s.level (length s.variables) t) (h s x.name t))
+      either_scope order s (is_begun (find_name x.name v.own))
+      (with_known x.name (Declared Here (local_meaning s.level (length s.variables) t)) v) v (h s x.name t) (k.varied s t)
 
   pub locals_keep : LocalsEnd g R → (vs : List Variables) (st : St) → R st.0 (fold (with_locals g) st vs).0
   locals_keep h = steps order state (with_locals g) (variables_by finished_local (local_keeps h))
+
+  pub variables_of_keep : VariablesEnd g R → LocalsEnd g R → (vs : List Variables) (st : St) → R st.0 (with_variables_of g st vs).0
+  variables_of_keep h l vs st = by (st.0.level == 0) where
+    by : (b : Bool) → R st.0 (cond {A = St} b (fold (with_variables g) st vs) (fold (with_locals g) st vs)).0
+    by true = variables_keep h vs st
+    by false = locals_keep l vs st
 
 -- ---- at one level
 

@@ -1,5 +1,5 @@
 -- What a new shape and the constants of an enumeration keep, all types keep that are made.
-use Rattle.std.proofs.Common.{◌≡◌, ℕ, Bool, true, ℤ, pos, List, [], ◌∷◌, Result, Ok, Err}
+use Rattle.std.proofs.Common.{◌≡◌, ℕ, true, ℤ, pos, List, [], ◌∷◌, Result, Ok, Err, refl, sym, subst}
 use Rattle.std.specs.Prelude.{map}
 use Rattle.std.specs.List.{fold}
 use Rattle.m2_rule.specs.declared.rule.Rule.TheVariants as rule
@@ -8,12 +8,12 @@ use Rattle.m2_tree.specs.declared.decl.Simple.{Simple}
 use Rattle.m2_tree.specs.declared.decl.Simple.TheVariants as simple
 use Rattle.m2_tree.specs.declared.decl.TypeExpr.{TypeExpr, TypeExpr-F}
 use Rattle.m2_tree.specs.declared.decl.TypeExpr.TheOpen as layer
-use Rattle.m2_tree.specs.declared.decl.Field.{Field, Field-F}
+use Rattle.m2_tree.specs.declared.decl.Field.{Field, out-Field}
 use Rattle.typed_tree.specs.declared.shape.Made.{Made}
 use Rattle.typed_tree.specs.declared.types.TypeNo.{TypeNo}
 use Rattle.typed_tree.specs.Names.{find_name}
 use Rattle.check_scope.specs.Elaborated.{Gathers, report}
-use Rattle.check_scope.specs.Scopes.{State, is_free, with_known, unless_declared}
+use Rattle.check_scope.specs.Scopes.{is_free, with_known, unless_declared}
 use Rattle.check_scope.specs.declared.known.Known.{Known}
 use Rattle.check_scope.specs.declared.known.Known.TheVariants.{Declared}
 use Rattle.check_scope.specs.declared.known.Origin.TheVariants.{Here}
@@ -95,3 +95,7 @@ module _ (g : Gathers) {R : Scope g.Reported → Scope g.Reported → Type 0} (k
   type_keeps =
       all_trees (type_of g) (field_list g) (λ t f. AreKept f) (λ d f. FieldsKept f) (type_layer g) (field_layer g)
       (types_at g) (fields_at g) layer_keeps (λ y st. y.of.1 st.0)
+
+  pub field_list_keeps : (d : Field) (st : WithFields) → R st.0 (field_list g d st).0
+  field_list_keeps d st =
+      subst (λ (f : MakesFields g). R st.0 (f st).0) (sym (fields_at g d (out-Field d) refl)) (type_keeps (out-Field d).of st.0)

@@ -11,7 +11,7 @@ use Rattle.m2_tree.specs.declared.decl.Def.{Def}
 use Rattle.m2_tree.specs.declared.decl.Def.TheVariants as def
 use Rattle.m2_tree.specs.declared.decl.Simple.{Simple}
 use Rattle.m2_tree.specs.declared.decl.Simple.TheVariants as simple
-use Rattle.m2_tree.specs.declared.decl.TypeExpr.{TypeExpr, TypeExpr-F, out-TypeExpr, roll-TypeExpr, out-roll-TypeExpr, map-TypeExpr, fold_out-TypeExpr, ind-TypeExpr}
+use Rattle.m2_tree.specs.declared.decl.TypeExpr.{TypeExpr, TypeExpr-F, roll-TypeExpr, out-roll-TypeExpr, map-TypeExpr}
 use Rattle.m2_tree.specs.declared.decl.TypeExpr.TheOpen as layer
 use Rattle.m2_tree.specs.declared.decl.Field.{Field, Field-F, out-Field, roll-Field, out-roll-Field, map-Field, fold_out-Field}
 use Rattle.typed_tree.specs.Names.{find_name}
@@ -24,6 +24,7 @@ use Rattle.check_definition.specs.Marking.{Marks, marked_later, marked_simple, t
 use Rattle.def_typing.specs.Operators.{◌!◌}
 use Rattle.def_typing.specs.TypeExprs.{constants_listed, all_listed, constants_layer, constants_of_field, constants_in, constants_in_field}
 use Rattle.def_typing.specs.Declarations.{Declaration, OfConstant, OfType, OfVariables}
+use Rattle.law_folds.proofs.TypeFolds.{Typed, Fielded, bare, bare_field, all_trees, marks_opened, marks_opened_field, marks_at, marks_at_field}
 use Rattle.law_typing.proofs.Heading.{nil_right, append_assoc}
 use Rattle.law_typing.proofs.Entering.{entered_all}
 use Rattle.law_typing.proofs.TypeReading.{constants_at}
@@ -44,31 +45,23 @@ module _ (T : Type 0) where
   abbrev marked : Scope T → List Ident → Scope T
   marked s xs = fold marked_later s xs
 
-  abbrev PM : TypeExpr → Type 0
-  PM t = (s : Scope T) → marked_in t s ≡ marked s (constants_in t)
+  abbrev PT : TypeExpr → Marks T → Type 0
+  PT t f = (s : Scope T) → f s ≡ marked s (constants_in t)
 
-  abbrev PMF : Field → Type 0
-  PMF f = (s : Scope T) → marked_field f s ≡ marked s (constants_in_field f)
+  abbrev PF : Field → Marks T → Type 0
+  PF d f = (s : Scope T) → f s ≡ marked s (constants_in_field d)
 
-  abbrev SM : Type 0
-  SM = (t : TypeExpr) × PM t
+  abbrev ST : Type 0
+  ST = Typed (marked_in {T = T}) (marked_field {T = T}) PT PF
 
-  abbrev SMF : Type 0
-  SMF = (t : Field) × PMF t
+  abbrev SF : Type 0
+  SF = Fielded (marked_in {T = T}) (marked_field {T = T}) PT PF
 
-  abbrev opened : TypeExpr-F TypeExpr Field → TypeExpr-F (Marks T) (Marks T)
-  opened x = map-TypeExpr TypeExpr Field (Marks T) (Marks T) marked_in marked_field x
+  abbrev shut : TypeExpr-F ST SF → TypeExpr-F TypeExpr Field
+  shut y = bare (marked_in {T = T}) (marked_field {T = T}) PT PF y
 
-  abbrev opened_field : Field-F TypeExpr Field → Field-F (Marks T) (Marks T)
-  opened_field x = map-Field TypeExpr Field (Marks T) (Marks T) marked_in marked_field x
-
-  marks_at : (t : TypeExpr) (x : TypeExpr-F TypeExpr Field) → out-TypeExpr t ≡ x → marked_in {T = T} t ≡ marking.type_layer (opened x)
-  unfolding marked_in marked_field
-  marks_at t x h = fold_out-TypeExpr (Marks T) (Marks T) marking.type_layer marking.field_layer t ∙ ap (λ (y : TypeExpr-F TypeExpr Field). marking.type_layer (opened y)) h
-
-  field_marks_at : (f : Field) (x : Field-F TypeExpr Field) → out-Field f ≡ x → marked_field {T = T} f ≡ marking.field_layer (opened_field x)
-  unfolding marked_in marked_field
-  field_marks_at f x h = fold_out-Field (Marks T) (Marks T) marking.type_layer marking.field_layer f ∙ ap (λ (y : Field-F TypeExpr Field). marking.field_layer (opened_field y)) h
+  abbrev shut_field : Field-F ST SF → Field-F TypeExpr Field
+  shut_field y = bare_field (marked_in {T = T}) (marked_field {T = T}) PT PF y
 
   abbrev listed_field : Field-F TypeExpr Field → Field-F (List Ident) (List Ident)
   listed_field x = map-Field TypeExpr Field (List Ident) (List Ident) constants_in constants_in_field x
@@ -77,40 +70,39 @@ module _ (T : Type 0) where
   unfolding constants_in constants_in_field
   field_at f x h = fold_out-Field (List Ident) (List Ident) constants_layer constants_of_field f ∙ ap (λ (y : Field-F TypeExpr Field). constants_of_field (listed_field y)) h
 
-  abbrev shut : TypeExpr-F SM SMF → TypeExpr-F TypeExpr Field
-  shut x = map-TypeExpr SM SMF TypeExpr Field (λ t. t.0) (λ f. f.0) x
-
-  abbrev shut_field : Field-F SM SMF → Field-F TypeExpr Field
-  shut_field x = map-Field SM SMF TypeExpr Field (λ t. t.0) (λ f. f.0) x
-
   simple_marks : (x : Simple) (s : Scope T) → marked_simple x s ≡ marked s (constants_listed x)
   simple_marks (simple.Named q) s = refl
   simple_marks (simple.Enumeration at names) s = refl
   simple_marks (simple.Subrange of at low high) s = refl
 
-  fields_mark : (fs : List SMF) (s : Scope T) → fold then_marks s (map (marked_field {T = T}) (map (λ (f : SMF). f.0) fs)) ≡ marked s (all_listed (map constants_in_field (map (λ (f : SMF). f.0) fs)))
+  fields_mark : (fs : List SF) (s : Scope T) → fold then_marks s (map (marked_field {T = T}) (map (λ (f : SF). f.0) fs)) ≡ marked s (all_listed (map constants_in_field (map (λ (f : SF). f.0) fs)))
   fields_mark [] s = refl
   fields_mark (f ∷ fs) s =
-      ap (λ (t : Scope T). fold then_marks t (map (marked_field {T = T}) (map (λ (f : SMF). f.0) fs))) (f.1 s)
-      ∙ fields_mark fs (marked s (constants_in_field f.0)) ∙ fold_both marked_later s (constants_in_field f.0) (all_listed (map constants_in_field (map (λ (f : SMF). f.0) fs)))
+      ap (λ (t : Scope T). fold then_marks t (map (marked_field {T = T}) (map (λ (f : SF). f.0) fs))) (f.1 s)
+      ∙ fields_mark fs (marked s (constants_in_field f.0)) ∙ fold_both marked_later s (constants_in_field f.0) (all_listed (map constants_in_field (map (λ (f : SF). f.0) fs)))
 
   abbrev listed : TypeExpr-F TypeExpr Field → List Ident
   listed x = constants_layer (map-TypeExpr TypeExpr Field (List Ident) (List Ident) constants_in constants_in_field x)
 
-  layer_marks : (y : TypeExpr-F SM SMF) (s : Scope T) → marking.type_layer (opened (shut y)) s ≡ marked s (listed (shut y))
+  layer_marks : (y : TypeExpr-F ST SF) (s : Scope T) → marking.type_layer (marks_opened (shut y)) s ≡ marked s (listed (shut y))
   layer_marks (layer.Simple x) s = simple_marks x s
   layer_marks (layer.Array at index t) s = t.1 (marked_simple index s) ∙ ap (λ (u : Scope T). marked u (constants_in t.0)) (simple_marks index s) ∙ fold_both marked_later s (constants_listed index) (constants_in t.0)
   layer_marks (layer.Record at fields) s = fields_mark fields s
   layer_marks (layer.Procedure at formals t) s = refl
 
-  step_marks : (x : TypeExpr-F TypeExpr Field) (y : TypeExpr-F SM SMF) → shut y ≡ x → PM (roll-TypeExpr x)
-  step_marks x y q s = ap (λ (m : Marks T). m s) (marks_at (roll-TypeExpr x) (shut y) (out-roll-TypeExpr x ∙ sym q)) ∙ layer_marks y s ∙ sym (ap (λ (xs : List Ident). marked s xs) (constants_at (roll-TypeExpr x) (shut y) (out-roll-TypeExpr x ∙ sym q)))
+  type_step : (y : TypeExpr-F ST SF) → PT (roll-TypeExpr (shut y)) (marking.type_layer (marks_opened (shut y)))
+  type_step y s =
+      let x : TypeExpr-F TypeExpr Field = shut y in
+      layer_marks y s ∙ sym (ap (λ (xs : List Ident). marked s xs) (constants_at (roll-TypeExpr x) x (out-roll-TypeExpr x)))
 
-  step_field_marks : (x : Field-F TypeExpr Field) (y : Field-F SM SMF) → shut_field y ≡ x → PMF (roll-Field x)
-  step_field_marks x y q s = ap (λ (m : Marks T). m s) (field_marks_at (roll-Field x) (shut_field y) (out-roll-Field x ∙ sym q)) ∙ y.of.1 s ∙ sym (ap (λ (xs : List Ident). marked s xs) (field_at (roll-Field x) (shut_field y) (out-roll-Field x ∙ sym q)))
+  field_step : (y : Field-F ST SF) → PF (roll-Field (shut_field y)) (marking.field_layer (marks_opened_field (shut_field y)))
+  field_step y s =
+      let x : Field-F TypeExpr Field = shut_field y in
+      y.of.1 s ∙ sym (ap (λ (xs : List Ident). marked s xs) (field_at (roll-Field x) x (out-roll-Field x)))
 
-  type_marked : (t : TypeExpr) → PM t
-  type_marked = ind-TypeExpr PM PMF step_marks step_field_marks
+  type_marked : (t : TypeExpr) (s : Scope T) → marked_in t s ≡ marked s (constants_in t)
+  type_marked =
+      all_trees marked_in marked_field PT PF marking.type_layer marking.field_layer marks_at marks_at_field type_step field_step
 
   -- ---- keys
 

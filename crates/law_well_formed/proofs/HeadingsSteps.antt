@@ -1,13 +1,11 @@
 -- What marks and declarations leave as it was: names that are there, and what names that are settled mean.
-use Rattle.std.proofs.Common.{◌≡◌, ℕ, ◌==◌, Bool, true, false, not, cond, List, [], ◌∷◌, ◌++◌, Option, Some, None, Result, Ok, Err, refl, sym, ap, subst, ◌∙◌}
+use Rattle.std.proofs.Common.{◌≡◌, ℕ, ◌==◌, Bool, true, false, not, cond, List, [], ◌∷◌, ◌++◌, Option, Some, None, Result, Ok, Err, refl, sym, ap, ◌∙◌}
 use Rattle.std.specs.Prelude.{slice_get}
-use Rattle.std.specs.List.{fold}
 use Rattle.m2_rule.specs.declared.rule.Rule.TheVariants as rule
 use Rattle.m2_tree.specs.declared.name.Ident.{Ident}
 use Rattle.typed_tree.specs.declared.meaning.Meaning.{Meaning}
 use Rattle.typed_tree.specs.declared.shape.Made.{Made}
 use Rattle.typed_tree.specs.declared.known_types.Types.{Types}
-use Rattle.typed_tree.specs.declared.table.Table.{Table}
 use Rattle.typed_tree.specs.declared.types.Home.{Home}
 use Rattle.typed_tree.specs.declared.types.Home.TheVariants as home
 use Rattle.typed_tree.specs.declared.types.TypeNo.{TypeNo}
@@ -19,11 +17,10 @@ use Rattle.check_scope.specs.Scopes.{State, is_free, with_known, unless_declared
 use Rattle.check_scope.specs.declared.known.Known.{Known}
 use Rattle.check_scope.specs.declared.known.Known.TheVariants.{Later, Ahead, Begun, Headed, Declared}
 use Rattle.check_scope.specs.declared.known.Origin.TheVariants.{Here}
-use Rattle.check_scope.specs.declared.scope.Block.{Block}
-use Rattle.check_scope.specs.declared.scope.OpenedRecord.{OpenedRecord}
 use Rattle.check_scope.specs.declared.scope.Scope.{Scope}
 use Rattle.check_type_expr.specs.Made.{with_shape, with_made}
 use Rattle.check_definition.specs.Marking.{Marks}
+use Rattle.law_folds.proofs.MarkSteps.{KeepsMarks}
 use Rattle.law_well_formed.specs.FormedScopes.{holds_of, is_awaiting}
 use Rattle.law_well_formed.proofs.Names.{get_more, same_is, found_self, kept_entered}
 use Rattle.law_well_formed.proofs.HeadingsLists.{index, found_other, index_entered, there_entered}
@@ -148,16 +145,20 @@ same_by : {T : Type 0} (s : Scope T) (name : List ℕ) (v : Known T) (other : Li
 same_by s name v other k true b n e = let z : find_name other s.own ≡ None = ap (λ (x : List ℕ). find_name x s.own) (same_is other name b) ∙ n in absurd (let y : None ≡ Some k = sym z ∙ e in cc)
 same_by s name v other k false b n e = found_other name v s.own other b ∙ e
 
-marked_by : {T : Type 0} (s : Scope T) (name : List ℕ) (v : Known T) (o : Option (Known T)) → find_name name s.own ≡ o → is_free (Some v) ≡ true → Marked s (unless_marked name v s o)
-marked_by s name v (Some k) e f = marked_refl s
-marked_by s name v None e f = record {
+pub new_marked : {T : Type 0} (s : Scope T) (name : List ℕ) (v : Known T) → is_free (Some v) ≡ true → find_name name s.own ≡ None
+    → Marked s (with_known name v s)
+new_marked s name v f e = record {
   keeps = known_keeps s name v (ap (λ (o : Option (Known _)). holds_of is_settled o) e);
   same = λ other k g. same_by s name v other k (same_name other name) refl e g;
   free = λ other g. new_by s name v other (same_name other name) refl f g;
 }
 
-pub name_marked : {T : Type 0} (s : Scope T) (name : Ident) (v : Known T) → is_free (Some v) ≡ true → Marked s (mark_name name v s)
-name_marked s name v f = marked_by s name.name v (find_name name.name s.own) refl f
+pub keeps_marks : {T : Type 0} → KeepsMarks {T = T} Marked
+keeps_marks = record {
+  order = record { same = marked_refl; next = λ a b c p q. marked_then p q };
+  later = λ s name e. new_marked s name Later refl e;
+  ahead = λ s name e. new_marked s name Ahead refl e;
+}
 
 -- a name that is marked is there
 there_by : {T : Type 0} (s : Scope T) (name : List ℕ) (v : Known T) (o : Option (Known T)) → find_name name s.own ≡ o → find_name name (unless_marked name v s o).own ≡ None → ⊥

@@ -18,11 +18,9 @@ pub mod StmtsSteps
 pub mod Statements
 pub mod Names
 pub mod ScopesGrowth
-pub mod ScopesTypeExprs
 pub mod ScopesDeclarations
 pub mod ScopesImports
 pub mod NumbersGrowth
-pub mod NumbersTypeExprs
 pub mod NumbersDeclarations
 pub mod Entered
 pub mod HeadingsLists

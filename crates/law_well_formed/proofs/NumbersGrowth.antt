@@ -1,26 +1,18 @@
 -- What one name more does, and one type more.
-use Rattle.std.proofs.Common.{◌≡◌, ℕ, ◌≤◌, Bool, true, false, cond, List, [], ◌∷◌, length, Option, Some, None, Result, Ok, Err, refl, subst, sym, ◌∙◌, arith}
-use Rattle.std.specs.Prelude.{slice_get, ◌⊎◌}
-use Rattle.m2_rule.specs.declared.rule.Rule.TheVariants as rule
-use Rattle.m2_tree.specs.declared.name.Ident.{Ident}
-use Rattle.typed_tree.specs.declared.meaning.LocalVariable.{LocalVariable}
+use Rattle.std.proofs.Common.{◌≡◌, ℕ, Bool, true, false, cond, List, [], ◌∷◌, refl, subst, sym, ◌∙◌, arith}
 use Rattle.typed_tree.specs.declared.meaning.Meaning.{Meaning}
 use Rattle.typed_tree.specs.declared.meaning.Meaning.TheVariants as meaning
 use Rattle.typed_tree.specs.declared.shape.Formal.{Formal}
 use Rattle.typed_tree.specs.declared.shape.Made.{Made}
-use Rattle.typed_tree.specs.declared.types.TypeNo.{TypeNo}
 use Rattle.m2_tree.specs.Names.{same_name}
-use Rattle.typed_tree.specs.Names.{find_name, enter_name}
-use Rattle.check_scope.specs.Elaborated.{Gathers, report}
-use Rattle.check_scope.specs.Scopes.{State, is_free, with_known, unless_declared, begin_name, is_begun, finish_name, unless_marked, mark_name}
+use Rattle.typed_tree.specs.Names.{enter_name}
+use Rattle.check_scope.specs.Scopes.{with_known}
 use Rattle.check_scope.specs.declared.known.Known.{Known}
 use Rattle.check_scope.specs.declared.known.Known.TheVariants.{Later, Ahead, Begun, Headed, Declared}
-use Rattle.check_scope.specs.declared.known.Origin.TheVariants.{Here}
 use Rattle.check_scope.specs.declared.scope.Scope.{Scope}
-use Rattle.check_type_expr.specs.Made.{with_shape, with_made}
-use Rattle.law_well_formed.specs.Formed.{Holds}
+use Rattle.check_type_expr.specs.Made.{with_shape}
 use Rattle.law_well_formed.proofs.Basics.{holds_weaker}
-use Rattle.law_well_formed.specs.FormedNumbers.{Lists, lists_of, LocalNumbered, MeaningNumbered, KnownNumbered, NamesNumbered, IsNumbered, More, Grows}
+use Rattle.law_well_formed.specs.FormedNumbers.{Lists, lists_of, MeaningNumbered, KnownNumbered, NamesNumbered, IsNumbered, More, Grows}
 
 -- ---- lists that grow
 
@@ -96,36 +88,7 @@ module _ (fs : List Formal) where
     numbered = λ h. record { names = names_entered (lists_of s) name k s.own (p h) h.names; few = h.few };
   }
 
-  module _ (g : Gathers) (s : Scope g.Reported) (name : Ident) where
-    unless_by : (b : Bool) (k : Known g.Reported) → (IsNumbered fs s → KnownNumbered fs (lists_of s) k) → Grows fs s (cond {A = State (Unit {0}) g.Reported} b (with_known name.name k s, Ok tt) (s, report g name.pos rule.DeclaredTwice)).0
-    unless_by true k p = known_grows s name.name k p
-    unless_by false k p = grows_refl s
-
-    pub unless_grows : (k : Known g.Reported) → (IsNumbered fs s → KnownNumbered fs (lists_of s) k) → Grows fs s (unless_declared g s name k).0
-    unless_grows k p = unless_by (is_free (find_name name.name s.own)) k p
-
-    pub begun_grows : Grows fs s (begin_name g s name).0
-    begun_grows = unless_grows Begun (λ h. tt)
-
-  finished_by : {T : Type 0} (s : Scope T) (name : List ℕ) (k : Known T) (b : Bool) → (IsNumbered fs s → KnownNumbered fs (lists_of s) k) → Grows fs s (cond b (with_known name k s) s)
-  finished_by s name k true p = known_grows s name k p
-  finished_by s name k false p = grows_refl s
-
-  pub finished_grows : {T : Type 0} (s : Scope T) (name : Ident) (r : Result Meaning T) → (IsNumbered fs s → Holds (MeaningNumbered fs (lists_of s)) r) → Grows fs s (finish_name s name r)
-  finished_grows s name r p = finished_by s name.name (Declared Here r) (is_begun (find_name name.name s.own)) p
-
-  marked_by : {T : Type 0} (s : Scope T) (name : List ℕ) (k : Known T) (o : Option (Known T)) → KnownNumbered fs (lists_of s) k → Grows fs s (unless_marked name k s o)
-  marked_by s name k (Some x) p = grows_refl s
-  marked_by s name k None p = known_grows s name k (λ h. p)
-
-  pub marked_grows : {T : Type 0} (s : Scope T) (name : Ident) (k : Known T) → KnownNumbered fs (lists_of s) k → Grows fs s (mark_name name k s)
-  marked_grows s name k p = marked_by s name.name k (find_name name.name s.own) p
-
   -- ---- types
 
   pub shape_grows : {T : Type 0} (s : Scope T) (x : Made) → Grows fs s (with_shape s x)
   shape_grows s x = lists_grow s (with_shape s x) refl refl (more_refl (lists_of s))
-
-  pub made_grows : {T : Type 0} (s : Scope T) (x : Result Made T) → Grows fs s (with_made s x).0
-  made_grows s (Ok x) = shape_grows s x
-  made_grows s (Err e) = grows_refl s

@@ -1,33 +1,25 @@
 -- Marks, imports, whole blocks, and the way into procedures and back keep types in order.
-use Rattle.std.proofs.Common.{◌≡◌, ℕ, zero, suc, Bool, true, false, cond, List, [], ◌∷◌, ◌++◌, length, Option, Some, None, Result, Ok, Err, refl, sym, ap, subst, ◌∙◌}
-use Rattle.std.specs.Prelude.{map, take, drop, slice_get}
+use Rattle.std.proofs.Common.{◌≡◌, ℕ, zero, suc, Bool, true, false, cond, List, [], ◌∷◌, ◌++◌, length, Option, Some, None, Result, Ok, Err, refl, sym, subst}
+use Rattle.std.specs.Prelude.{take, drop, slice_get}
 use Rattle.std.specs.List.{fold}
 use Rattle.std.specs.Option.{is_some}
 use Rattle.m2_rule.specs.declared.rule.Rule.TheVariants as rule
 use Rattle.m2_tree.specs.declared.pos.Pos.{Pos}
 use Rattle.m2_tree.specs.declared.name.Ident.{Ident}
-use Rattle.m2_tree.specs.declared.decl.Constant.{Constant}
-use Rattle.m2_tree.specs.declared.decl.TypeDecl.{TypeDecl}
-use Rattle.m2_tree.specs.declared.decl.Variables.{Variables}
 use Rattle.m2_tree.specs.declared.decl.Section.{Section}
 use Rattle.m2_tree.specs.declared.decl.Heading.{Heading}
 use Rattle.m2_tree.specs.declared.decl.Import.{Import}
 use Rattle.m2_tree.specs.declared.decl.Module.{Module}
 use Rattle.m2_tree.specs.declared.decl.Def.{Def}
-use Rattle.m2_tree.specs.declared.decl.Def.TheVariants as def
-use Rattle.m2_tree.specs.declared.decl.Decl.{Decl, Decl-F, out-Decl}
-use Rattle.m2_tree.specs.declared.decl.Decl.TheOpen as dlayer
-use Rattle.m2_tree.specs.declared.decl.Simple.{Simple}
-use Rattle.m2_tree.specs.declared.decl.Simple.TheVariants as simple
-use Rattle.m2_tree.specs.declared.decl.TypeExpr.{TypeExpr, TypeExpr-F, out-TypeExpr, roll-TypeExpr, out-roll-TypeExpr, map-TypeExpr, fold_out-TypeExpr, ind-TypeExpr}
-use Rattle.m2_tree.specs.declared.decl.TypeExpr.TheOpen as layer
-use Rattle.m2_tree.specs.declared.decl.Field.{Field, Field-F, out-Field, roll-Field, out-roll-Field, map-Field, fold_out-Field}
+use Rattle.m2_tree.specs.declared.decl.Decl.{Decl, out-Decl}
 use Rattle.typed_tree.specs.declared.types.TypeNo.{TypeNo}
 use Rattle.typed_tree.specs.declared.shape.Formal.{Formal}
 use Rattle.typed_tree.specs.declared.meaning.Meaning.{Meaning}
 use Rattle.typed_tree.specs.declared.meaning.Meaning.TheVariants as meaning
 use Rattle.typed_tree.specs.declared.table.Table.{Table}
 use Rattle.typed_tree.specs.declared.known_types.Types.{Types}
+use Rattle.law_folds.proofs.Orders.{fact}
+use Rattle.law_folds.proofs.MarkSteps.{KeepsMarks, defs_marks, decls_marks}
 use Rattle.law_well_formed.specs.Ordered.{is_known, AreKnown}
 use Rattle.typed_tree.specs.Names.{find_name, enter_name, place_of}
 use Rattle.check_scope.specs.Elaborated.{Gathers, report}
@@ -40,12 +32,11 @@ use Rattle.check_scope.specs.declared.known.Origin.TheVariants as origin
 use Rattle.check_scope.specs.declared.scope.Block.{Block}
 use Rattle.check_scope.specs.declared.scope.Scope.{Scope}
 use Rattle.check_type_expr.specs.Headings.{formal_of}
-use Rattle.check_definition.specs.Marking.{Marks, marked_later, marked_simple, then_marks, marked_in, marked_field, marked_constant, marked_type, marked_variables, marked_def}
-use Rattle.check_definition.specs.Marking as marking
+use Rattle.check_definition.specs.Marking.{marked_def}
 use Rattle.check_definition.specs.Importing.{module_named, with_module_as, with_module_name, with_entry, brings_in, reported_of_taken, unless_taken, from_place, with_from, exports_of, from_module, with_imports, with_import}
 use Rattle.check_definition.specs.Declare.{with_def}
 use Rattle.check_definition.specs.Compiled.{declared_in}
-use Rattle.check_block.specs.Naming.{marked_layer, marked_decl, with_marks, all_marked}
+use Rattle.check_block.specs.Naming.{marked_decl, all_marked}
 use Rattle.check_block.specs.Declarations.{Course, with_decl, declared_block, declared_module}
 use Rattle.check_block.specs.declared.inner.Outside.{Outside}
 use Rattle.check_block.specs.Inner.{inwards, formal_meaning, with_formal_type, Formals, with_formal, with_section, entered_procedure, split_last, pop_block, left_procedure}
@@ -54,108 +45,19 @@ use Rattle.law_well_formed.proofs.Basics.{then_holds, holds_weaker}
 use Rattle.law_well_formed.proofs.RangesMade.{beside_then, const_holds}
 use Rattle.law_well_formed.specs.FormedOrder.{MeaningOrdered, KnownOrdered, NamesOrdered, BlocksOrdered, ExportsOrdered, TablesOrdered, ScopeOrdered, StateOrdered}
 use Rattle.law_well_formed.proofs.OrderTypes.{known_more}
-use Rattle.law_well_formed.proofs.Named.{names_more, known_ordered, marked_ordered}
+use Rattle.law_well_formed.proofs.Named.{names_more, known_ordered}
 use Rattle.law_well_formed.proofs.OrderMade.{formal_ordered}
 use Rattle.law_well_formed.proofs.OrderDeclarations.{def_ordered, decl_ordered}
 
 module _ (base : Types) where
   -- ---- marks
 
-  later_all : {T : Type 0} (names : List Ident) (s : Scope T) → ScopeOrdered base s → ScopeOrdered base (fold marked_later s names)
-  later_all [] s h = h
-  later_all (x ∷ xs) s h = later_all xs (marked_later s x) (marked_ordered base s x Later h tt)
-
-  simple_marks : {T : Type 0} (t : Simple) (s : Scope T) → ScopeOrdered base s → ScopeOrdered base (marked_simple t s)
-  simple_marks (simple.Named q) s h = h
-  simple_marks (simple.Enumeration at names) s h = later_all names s h
-  simple_marks (simple.Subrange o at low high) s h = h
-
-  module _ (T : Type 0) where
-    abbrev OrderedMarks : Marks T → Type 0
-    OrderedMarks f = (s : Scope T) → ScopeOrdered base s → ScopeOrdered base (f s)
-
-    abbrev PM : TypeExpr → Type 0
-    PM t = OrderedMarks (marked_in {T = T} t)
-
-    abbrev PMF : Field → Type 0
-    PMF t = OrderedMarks (marked_field {T = T} t)
-
-    abbrev SM : Type 0
-    SM = (t : TypeExpr) × PM t
-
-    abbrev SMF : Type 0
-    SMF = (t : Field) × PMF t
-
-    abbrev marks_opened : TypeExpr-F TypeExpr Field → TypeExpr-F (Marks T) (Marks T)
-    marks_opened x = map-TypeExpr TypeExpr Field (Marks T) (Marks T) marked_in marked_field x
-
-    abbrev marks_opened_field : Field-F TypeExpr Field → Field-F (Marks T) (Marks T)
-    marks_opened_field x = map-Field TypeExpr Field (Marks T) (Marks T) marked_in marked_field x
-
-    marks_at : (t : TypeExpr) (x : TypeExpr-F TypeExpr Field) → out-TypeExpr t ≡ x → marked_in {T = T} t ≡ marking.type_layer (marks_opened x)
-    unfolding marked_in marked_field
-    marks_at t x h = fold_out-TypeExpr (Marks T) (Marks T) marking.type_layer marking.field_layer t ∙ ap (λ (y : TypeExpr-F TypeExpr Field). marking.type_layer (marks_opened y)) h
-
-    marks_at_field : (f : Field) (x : Field-F TypeExpr Field) → out-Field f ≡ x → marked_field {T = T} f ≡ marking.field_layer (marks_opened_field x)
-    unfolding marked_in marked_field
-    marks_at_field f x h = fold_out-Field (Marks T) (Marks T) marking.type_layer marking.field_layer f ∙ ap (λ (y : Field-F TypeExpr Field). marking.field_layer (marks_opened_field y)) h
-
-    abbrev marks_bare : TypeExpr-F SM SMF → TypeExpr-F TypeExpr Field
-    marks_bare x = map-TypeExpr SM SMF TypeExpr Field (λ t. t.0) (λ f. f.0) x
-
-    abbrev marks_bare_field : Field-F SM SMF → Field-F TypeExpr Field
-    marks_bare_field x = map-Field SM SMF TypeExpr Field (λ t. t.0) (λ f. f.0) x
-
-    field_marks : (fs : List SMF) (s : Scope T) → ScopeOrdered base s → ScopeOrdered base (fold then_marks s (map (marked_field {T = T}) (map (λ (f : SMF). f.0) fs)))
-    field_marks [] s h = h
-    field_marks (f ∷ fs) s h = field_marks fs (marked_field f.0 s) (f.1 s h)
-
-    type_marks : (y : TypeExpr-F SM SMF) → OrderedMarks (marking.type_layer (marks_opened (marks_bare y)))
-    type_marks (layer.Simple t) = λ s h. simple_marks t s h
-    type_marks (layer.Array at index t) = λ s h. t.1 (marked_simple index s) (simple_marks index s h)
-    type_marks (layer.Record at fields) = λ s h. field_marks fields s h
-    type_marks (layer.Procedure at formals t) = λ s h. h
-
-    step_marks : (x : TypeExpr-F TypeExpr Field) (y : TypeExpr-F SM SMF) → marks_bare y ≡ x → PM (roll-TypeExpr x)
-    step_marks x y q = subst OrderedMarks (sym (marks_at (roll-TypeExpr x) (marks_bare y) (out-roll-TypeExpr x ∙ sym q))) (type_marks y)
-
-    step_marks_field : (x : Field-F TypeExpr Field) (y : Field-F SM SMF) → marks_bare_field y ≡ x → PMF (roll-Field x)
-    step_marks_field x y q = subst OrderedMarks (sym (marks_at_field (roll-Field x) (marks_bare_field y) (out-roll-Field x ∙ sym q))) y.of.1
-
-    marked_in_ordered : (t : TypeExpr) → PM t
-    marked_in_ordered = ind-TypeExpr PM PMF step_marks step_marks_field
-
-    constant_marks : (cs : List Constant) (s : Scope T) → ScopeOrdered base s → ScopeOrdered base (fold marked_constant s cs)
-    constant_marks [] s h = h
-    constant_marks (c ∷ cs) s h = constant_marks cs (marked_constant s c) (marked_ordered base s c.name Later h tt)
-
-    types_marks : (ts : List TypeDecl) (s : Scope T) → ScopeOrdered base s → ScopeOrdered base (fold marked_type s ts)
-    types_marks [] s h = h
-    types_marks (t ∷ ts) s h = types_marks ts (marked_type s t) (marked_in_ordered t.of _ (marked_ordered base s t.name Later h tt))
-
-    variables_marks : (vs : List Variables) (s : Scope T) → ScopeOrdered base s → ScopeOrdered base (fold marked_variables s vs)
-    variables_marks [] s h = h
-    variables_marks (v ∷ vs) s h = variables_marks vs (marked_variables s v) (marked_in_ordered v.of _ (later_all v.names s h))
-
-    def_marks : (d : Def) (s : Scope T) → ScopeOrdered base s → ScopeOrdered base (marked_def s d)
-    def_marks (def.Constants cs) s h = constant_marks cs s h
-    def_marks (def.Types ts) s h = types_marks ts s h
-    def_marks (def.Variables vs) s h = variables_marks vs s h
-    def_marks (def.Procedure x) s h = marked_ordered base s x.name Ahead h tt
-
-    defs_marks : (ds : List Def) (s : Scope T) → ScopeOrdered base s → ScopeOrdered base (fold marked_def s ds)
-    defs_marks [] s h = h
-    defs_marks (d ∷ ds) s h = defs_marks ds (marked_def s d) (def_marks d s h)
-
-    layer_marks : {A B : Type 0} (y : Decl-F A B) (s : Scope T) → ScopeOrdered base s → ScopeOrdered base (marked_layer s y)
-    layer_marks (dlayer.Constants cs) s h = constant_marks cs s h
-    layer_marks (dlayer.Types ts) s h = types_marks ts s h
-    layer_marks (dlayer.Variables vs) s h = variables_marks vs s h
-    layer_marks (dlayer.Procedure x b) s h = marked_ordered base s x.name Ahead h tt
-
-    decls_marks : (ds : List Decl) (st : Scope T × List ℕ) → ScopeOrdered base st.0 → ScopeOrdered base (fold (with_marks marked_decl) st ds).0
-    decls_marks [] st h = h
-    decls_marks (d ∷ ds) st h = decls_marks ds (with_marks marked_decl st d) (layer_marks (out-Decl d) st.0 h)
+  marks : {T : Type 0} → KeepsMarks {T = T} (λ s t. ScopeOrdered base s → ScopeOrdered base t)
+  marks = record {
+    order = fact (λ s. ScopeOrdered base s);
+    later = λ s name e h. known_ordered base s name Later h tt;
+    ahead = λ s name e h. known_ordered base s name Ahead h tt;
+  }
 
   -- ---- imports
 
@@ -246,7 +148,7 @@ module _ (base : Types) where
     decls_ordered ends (d ∷ ds) c p = decls_ordered ends ds (with_decl g ends c d) (decl_ordered base g ends c p (out-Decl d))
 
     pub block_ordered : (ends : List ℕ) (st : State (Unit {0}) g.Reported) (first : ℕ) (ds : List Decl) → StateOrdered base st → StateOrdered base (let d = declared_block g ends st first ds in (d.0, d.1))
-    block_ordered ends st first ds p = decls_ordered ends ds ((all_marked marked_decl st.0 ds).0, st.1, first) (holds_weaker (λ x h. decls_marks g.Reported ds (st.0, []) h) p)
+    block_ordered ends st first ds p = decls_ordered ends ds ((all_marked marked_decl st.0 ds).0, st.1, first) (holds_weaker (λ x h. decls_marks marks ds (st.0, []) h) p)
 
     pub module_ordered : (modules : List (List ℕ × ℕ)) (ends : List ℕ) (s : Scope g.Reported) (m : Module) (ds : List Decl) → ScopeOrdered base s
         → StateOrdered base (let d = declared_module g modules ends s m ds in (d.0, d.1))
@@ -258,7 +160,7 @@ module _ (base : Types) where
     defs_ordered (d ∷ ds) st p = defs_ordered ds (with_def g st d) (def_ordered base g st p d)
 
     pub definition_ordered : (m : Module) (modules : List (List ℕ × ℕ)) (s : Scope g.Reported) (ds : List Def) → ScopeOrdered base s → StateOrdered base (declared_in g m modules s ds)
-    definition_ordered m modules s ds h = defs_ordered ds (fold (with_import g modules) (fold marked_def s ds, Ok tt) m.imports) (imports_ordered modules m.imports (fold marked_def s ds, Ok tt) (fine tt (defs_marks g.Reported ds s h)))
+    definition_ordered m modules s ds h = defs_ordered ds (fold (with_import g modules) (fold marked_def s ds, Ok tt) m.imports) (imports_ordered modules m.imports (fold marked_def s ds, Ok tt) (fine tt (defs_marks marks ds s h)))
 
   -- ---- into a procedure, and back
 

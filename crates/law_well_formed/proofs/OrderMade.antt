@@ -1,5 +1,5 @@
 -- Type expressions lead from scopes with types in order to such scopes.
-use Rattle.std.proofs.Common.{◌≡◌, ℕ, pos, Bool, true, false, cond, List, [], ◌∷◌, ◌++◌, Option, Some, None, Result, Ok, Err, refl, sym, ap, subst, ◌∙◌, arith}
+use Rattle.std.proofs.Common.{◌≡◌, ℕ, pos, Bool, true, false, cond, List, [], ◌∷◌, ◌++◌, Option, Some, None, Result, Ok, Err, refl, sym, ap, ◌∙◌, arith}
 use Rattle.std.specs.Prelude.{◌+◌, ◌*◌, ◌≤◌, map, nat_lt}
 use Rattle.std.specs.List.{fold, AllByRecursion}
 use Rattle.std.specs.Option.{is_some}
@@ -13,9 +13,9 @@ use Rattle.m2_tree.specs.declared.decl.Section.{Section}
 use Rattle.m2_tree.specs.declared.decl.Heading.{Heading}
 use Rattle.m2_tree.specs.declared.decl.Simple.{Simple}
 use Rattle.m2_tree.specs.declared.decl.Simple.TheVariants as simple
-use Rattle.m2_tree.specs.declared.decl.TypeExpr.{TypeExpr, TypeExpr-F, out-TypeExpr, roll-TypeExpr, out-roll-TypeExpr, map-TypeExpr, fold_out-TypeExpr, ind-TypeExpr}
+use Rattle.m2_tree.specs.declared.decl.TypeExpr.{TypeExpr, TypeExpr-F}
 use Rattle.m2_tree.specs.declared.decl.TypeExpr.TheOpen as layer
-use Rattle.m2_tree.specs.declared.decl.Field.{Field, Field-F, out-Field, roll-Field, out-roll-Field, map-Field, fold_out-Field}
+use Rattle.m2_tree.specs.declared.decl.Field.{Field, Field-F}
 use Rattle.typed_tree.specs.declared.types.TypeNo.{TypeNo}
 use Rattle.typed_tree.specs.declared.shape.Formal.{Formal}
 use Rattle.typed_tree.specs.declared.shape.Made.{Made}
@@ -36,11 +36,12 @@ use Rattle.check_type_expr.specs.Fields.{no_fields, with_field, with_name}
 use Rattle.check_type_expr.specs.Named.{first_of}
 use Rattle.check_type_expr.specs.Headings.{formal_of, result_of, procedure_made, joined_formal, with_parameter, procedure_type, formal_for_each, joined_formals, with_section, heading_of}
 use Rattle.check_type_expr.specs.Made.{next_type, with_shape, with_made, too_many, enumeration_constant, enumeration_scalar, enumerate_name, enumeration, subrange, simple_type, simple_place, array_in, index_type, field_type, nothing_of, Makes, MakesFields, then_fields, array_type, record_type, fields_named, type_layer, field_layer, type_of, field_list}
+use Rattle.law_folds.proofs.TypeFolds.{Typed, Fielded, bare, bare_field, all_trees, types_opened, fields_opened, types_at, fields_at}
 use Rattle.law_well_formed.specs.Formed.{Holds, fine, broken}
 use Rattle.law_well_formed.proofs.Basics.{then_holds, holds_weaker, where_holds, unless_holds, both_holds, any_holds}
 use Rattle.law_well_formed.proofs.Order.{has, keys, other_way, still_apart, keys_entered}
 use Rattle.law_well_formed.proofs.RangesMade.{beside_then, const_holds}
-use Rattle.law_well_formed.specs.Ordered.{result_named, is_known, AreKnown, max_cells, cells_of_fields, Follows}
+use Rattle.law_well_formed.specs.Ordered.{result_named, is_known, AreKnown, max_cells, cells_of_fields}
 use Rattle.law_well_formed.proofs.Cells.{made_kept, fields_stay}
 use Rattle.law_well_formed.specs.FormedOrder.{StandOnce, StartedFrom, ScopeOrdered, MadeOrdered}
 use Rattle.law_well_formed.proofs.OrderTypes.{known_kept, all_kept, ShapeOrdered, scope_more, next_known, based_on, based_here}
@@ -270,56 +271,32 @@ module _ (g : Gathers) where
   abbrev OrderedFields : MakesFields g → Type 0
   OrderedFields f = (base : Types) (st : Scope g.Reported × Fields × Result (Unit {0}) g.Reported) → FieldsOrdered g base st → FieldsOrdered g base (f st)
 
-  abbrev PT : TypeExpr → Type 0
-  PT t = OrderedMakes (type_of g t)
-
-  abbrev PF : Field → Type 0
-  PF f = OrderedFields (field_list g f)
-
   abbrev ST : Type 0
-  ST = (t : TypeExpr) × PT t
+  ST = Typed (type_of g) (field_list g) (λ t f. OrderedMakes f) (λ d f. OrderedFields f)
 
   abbrev SF : Type 0
-  SF = (f : Field) × PF f
+  SF = Fielded (type_of g) (field_list g) (λ t f. OrderedMakes f) (λ d f. OrderedFields f)
 
-  abbrev opened : TypeExpr-F TypeExpr Field → TypeExpr-F (Makes g) (MakesFields g)
-  opened x = map-TypeExpr TypeExpr Field (Makes g) (MakesFields g) (type_of g) (field_list g) x
+  abbrev stripped : TypeExpr-F ST SF → TypeExpr-F TypeExpr Field
+  stripped y = bare (type_of g) (field_list g) (λ t f. OrderedMakes f) (λ d f. OrderedFields f) y
 
-  abbrev opened_field : Field-F TypeExpr Field → Field-F (Makes g) (MakesFields g)
-  opened_field x = map-Field TypeExpr Field (Makes g) (MakesFields g) (type_of g) (field_list g) x
-
-  at : (t : TypeExpr) (x : TypeExpr-F TypeExpr Field) → out-TypeExpr t ≡ x → type_of g t ≡ type_layer g (opened x)
-  unfolding type_of field_list
-  at t x h = fold_out-TypeExpr (Makes g) (MakesFields g) (type_layer g) (field_layer g) t ∙ ap (λ (y : TypeExpr-F TypeExpr Field). type_layer g (opened y)) h
-
-  at_field : (f : Field) (x : Field-F TypeExpr Field) → out-Field f ≡ x → field_list g f ≡ field_layer g (opened_field x)
-  unfolding type_of field_list
-  at_field f x h = fold_out-Field (Makes g) (MakesFields g) (type_layer g) (field_layer g) f ∙ ap (λ (y : Field-F TypeExpr Field). field_layer g (opened_field y)) h
-
-  abbrev bare : TypeExpr-F ST SF → TypeExpr-F TypeExpr Field
-  bare x = map-TypeExpr ST SF TypeExpr Field (λ t. t.0) (λ f. f.0) x
-
-  abbrev bare_field : Field-F ST SF → Field-F TypeExpr Field
-  bare_field x = map-Field ST SF TypeExpr Field (λ t. t.0) (λ f. f.0) x
+  abbrev stripped_field : Field-F ST SF → Field-F TypeExpr Field
+  stripped_field y = bare_field (type_of g) (field_list g) (λ t f. OrderedMakes f) (λ d f. OrderedFields f) y
 
   fields_all : (base : Types) (fs : List SF) (st : Scope g.Reported × Fields × Result (Unit {0}) g.Reported) → FieldsOrdered g base st → FieldsOrdered g base (fold (then_fields g) st (map (field_list g) (map (λ (f : SF). f.0) fs)))
   fields_all base [] st p = p
   fields_all base (f ∷ fs) st p = fields_all base fs (field_list g f.0 st) (f.1 base st p)
 
-  type_ordered : (y : TypeExpr-F ST SF) → OrderedMakes (type_layer g (opened (bare y)))
+  type_ordered : (y : TypeExpr-F ST SF) → OrderedMakes (type_layer g (types_opened g (stripped y)))
   type_ordered (layer.Simple t) = λ base s h. simple_ordered g base s h t
   type_ordered (layer.Array at index t) = λ base s h. array_ordered g base at (index_type g s index) (type_of g t.0) (index_ordered g base s h index) (λ k. t.1 (index_type g s index).0.types (index_type g s index).0 k)
   type_ordered (layer.Record at fields) = λ base s h. record_ordered g base at _ (fields_all base fields (s, no_fields, Ok tt) (fine tt (h, record { known = tt; once = tt; counted = λ few. refl })))
   type_ordered (layer.Procedure at formals t) = λ base s h. made_ordered base s (procedure_type_ordered g base s h formals t)
 
-  step_type : (x : TypeExpr-F TypeExpr Field) (y : TypeExpr-F ST SF) → bare y ≡ x → PT (roll-TypeExpr x)
-  step_type x y q = subst OrderedMakes (sym (at (roll-TypeExpr x) (bare y) (out-roll-TypeExpr x ∙ sym q))) (type_ordered y)
-
-  field_list_ordered : (y : Field-F ST SF) → OrderedFields (field_layer g (opened_field (bare_field y)))
+  field_list_ordered : (y : Field-F ST SF) → OrderedFields (field_layer g (fields_opened g (stripped_field y)))
   field_list_ordered y = λ base st p. list_ordered g base st.0 (type_of g y.of.0 st.0) y.names st.1 st.2 p (λ h. y.of.1 st.0.types st.0 h)
 
-  step_field : (x : Field-F TypeExpr Field) (y : Field-F ST SF) → bare_field y ≡ x → PF (roll-Field x)
-  step_field x y q = subst OrderedFields (sym (at_field (roll-Field x) (bare_field y) (out-roll-Field x ∙ sym q))) (field_list_ordered y)
-
-  pub type_of_ordered : (t : TypeExpr) → PT t
-  type_of_ordered = ind-TypeExpr PT PF step_type step_field
+  pub type_of_ordered : (t : TypeExpr) → OrderedMakes (type_of g t)
+  type_of_ordered =
+      all_trees (type_of g) (field_list g) (λ t f. OrderedMakes f) (λ d f. OrderedFields f) (type_layer g) (field_layer g) (types_at g) (fields_at g)
+      type_ordered field_list_ordered

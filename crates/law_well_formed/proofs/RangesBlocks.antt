@@ -1,27 +1,17 @@
 -- Marks, imports, whole blocks, and the way into procedures and back.
-use Rattle.std.proofs.Common.{◌≡◌, ℕ, zero, suc, Bool, true, false, cond, List, [], ◌∷◌, ◌++◌, length, Option, Some, None, Result, Ok, Err, refl, sym, ap, subst, ◌∙◌}
-use Rattle.std.specs.Prelude.{map, take, drop, slice_get}
+use Rattle.std.proofs.Common.{◌≡◌, ℕ, zero, suc, Bool, true, false, cond, List, [], ◌∷◌, ◌++◌, length, Option, Some, None, Result, Ok, Err, refl, sym, subst}
+use Rattle.std.specs.Prelude.{take, drop, slice_get}
 use Rattle.std.specs.List.{fold, list_all}
 use Rattle.std.specs.Option.{is_some}
 use Rattle.m2_rule.specs.declared.rule.Rule.TheVariants as rule
 use Rattle.m2_tree.specs.declared.pos.Pos.{Pos}
 use Rattle.m2_tree.specs.declared.name.Ident.{Ident}
-use Rattle.m2_tree.specs.declared.decl.Constant.{Constant}
-use Rattle.m2_tree.specs.declared.decl.TypeDecl.{TypeDecl}
-use Rattle.m2_tree.specs.declared.decl.Variables.{Variables}
 use Rattle.m2_tree.specs.declared.decl.Section.{Section}
 use Rattle.m2_tree.specs.declared.decl.Heading.{Heading}
 use Rattle.m2_tree.specs.declared.decl.Import.{Import}
 use Rattle.m2_tree.specs.declared.decl.Module.{Module}
 use Rattle.m2_tree.specs.declared.decl.Def.{Def}
-use Rattle.m2_tree.specs.declared.decl.Def.TheVariants as def
-use Rattle.m2_tree.specs.declared.decl.Decl.{Decl, Decl-F, out-Decl}
-use Rattle.m2_tree.specs.declared.decl.Decl.TheOpen as dlayer
-use Rattle.m2_tree.specs.declared.decl.Simple.{Simple}
-use Rattle.m2_tree.specs.declared.decl.Simple.TheVariants as simple
-use Rattle.m2_tree.specs.declared.decl.TypeExpr.{TypeExpr, TypeExpr-F, out-TypeExpr, roll-TypeExpr, out-roll-TypeExpr, map-TypeExpr, fold_out-TypeExpr, ind-TypeExpr}
-use Rattle.m2_tree.specs.declared.decl.TypeExpr.TheOpen as layer
-use Rattle.m2_tree.specs.declared.decl.Field.{Field, Field-F, out-Field, roll-Field, out-roll-Field, map-Field, fold_out-Field}
+use Rattle.m2_tree.specs.declared.decl.Decl.{Decl, out-Decl}
 use Rattle.typed_tree.specs.declared.shape.Formal.{Formal}
 use Rattle.typed_tree.specs.declared.meaning.Meaning.{Meaning}
 use Rattle.typed_tree.specs.declared.meaning.Meaning.TheVariants as meaning
@@ -38,120 +28,32 @@ use Rattle.check_scope.specs.declared.known.Origin.TheVariants as origin
 use Rattle.check_scope.specs.declared.scope.Block.{Block}
 use Rattle.check_scope.specs.declared.scope.Scope.{Scope}
 use Rattle.check_type_expr.specs.Headings.{formal_of}
-use Rattle.check_definition.specs.Marking.{Marks, marked_later, marked_simple, then_marks, marked_in, marked_field, marked_constant, marked_type, marked_variables, marked_def}
-use Rattle.check_definition.specs.Marking as marking
+use Rattle.check_definition.specs.Marking.{marked_def}
 use Rattle.check_definition.specs.Importing.{module_named, with_module_as, with_module_name, with_entry, brings_in, reported_of_taken, unless_taken, from_place, with_from, exports_of, from_module, with_imports, with_import}
 use Rattle.check_definition.specs.Declare.{with_def}
 use Rattle.check_definition.specs.Compiled.{declared_in}
-use Rattle.check_block.specs.Naming.{marked_layer, marked_decl, with_marks, all_marked}
+use Rattle.check_block.specs.Naming.{marked_decl, all_marked}
 use Rattle.check_block.specs.Declarations.{Course, with_decl, declared_block, declared_module}
 use Rattle.check_block.specs.declared.inner.Outside.{Outside}
 use Rattle.check_block.specs.Inner.{inwards, formal_kind, formal_meaning, Formals, with_formal, with_section, entered_procedure, split_last, pop_block, left_procedure}
+use Rattle.law_folds.proofs.Orders.{fact}
+use Rattle.law_folds.proofs.MarkSteps.{KeepsMarks, defs_marks, decls_marks}
 use Rattle.law_well_formed.specs.Formed.{Holds, fine, broken}
 use Rattle.law_well_formed.proofs.Basics.{holds_weaker}
 use Rattle.law_well_formed.specs.FormedRanges.{fits_def, fits_decl, MeaningRanged, KnownRanged, NamesRanged, BlocksRanged, ExportsRanged, TablesRanged, ScopeRanged, StateRanged}
 use Rattle.law_well_formed.proofs.RangesTypes.{both_left, both_right}
-use Rattle.law_well_formed.proofs.RangesMade.{beside_then, const_holds, names_more, known_ranged, marked_ranged}
+use Rattle.law_well_formed.proofs.RangesMade.{beside_then, const_holds, names_more, known_ranged}
 use Rattle.law_well_formed.proofs.Constants.{constants_ranged}
 use Rattle.law_well_formed.proofs.RangesDeclarations.{meant_holds, def_ranged, decl_ranged}
 
 -- ---- marks
 
-later_all : {T : Type 0} (names : List Ident) (s : Scope T) → ScopeRanged s → ScopeRanged (fold marked_later s names)
-later_all [] s h = h
-later_all (x ∷ xs) s h = later_all xs (marked_later s x) (marked_ranged s x Later h tt)
-
-simple_marks : {T : Type 0} (t : Simple) (s : Scope T) → ScopeRanged s → ScopeRanged (marked_simple t s)
-simple_marks (simple.Named q) s h = h
-simple_marks (simple.Enumeration at names) s h = later_all names s h
-simple_marks (simple.Subrange o at low high) s h = h
-
-module _ (T : Type 0) where
-  abbrev RangedMarks : Marks T → Type 0
-  RangedMarks f = (s : Scope T) → ScopeRanged s → ScopeRanged (f s)
-
-  abbrev PM : TypeExpr → Type 0
-  PM t = RangedMarks (marked_in {T = T} t)
-
-  abbrev PMF : Field → Type 0
-  PMF t = RangedMarks (marked_field {T = T} t)
-
-  abbrev SM : Type 0
-  SM = (t : TypeExpr) × PM t
-
-  abbrev SMF : Type 0
-  SMF = (t : Field) × PMF t
-
-  abbrev marks_opened : TypeExpr-F TypeExpr Field → TypeExpr-F (Marks T) (Marks T)
-  marks_opened x = map-TypeExpr TypeExpr Field (Marks T) (Marks T) marked_in marked_field x
-
-  abbrev marks_opened_field : Field-F TypeExpr Field → Field-F (Marks T) (Marks T)
-  marks_opened_field x = map-Field TypeExpr Field (Marks T) (Marks T) marked_in marked_field x
-
-  marks_at : (t : TypeExpr) (x : TypeExpr-F TypeExpr Field) → out-TypeExpr t ≡ x → marked_in {T = T} t ≡ marking.type_layer (marks_opened x)
-  unfolding marked_in marked_field
-  marks_at t x h = fold_out-TypeExpr (Marks T) (Marks T) marking.type_layer marking.field_layer t ∙ ap (λ (y : TypeExpr-F TypeExpr Field). marking.type_layer (marks_opened y)) h
-
-  marks_at_field : (f : Field) (x : Field-F TypeExpr Field) → out-Field f ≡ x → marked_field {T = T} f ≡ marking.field_layer (marks_opened_field x)
-  unfolding marked_in marked_field
-  marks_at_field f x h = fold_out-Field (Marks T) (Marks T) marking.type_layer marking.field_layer f ∙ ap (λ (y : Field-F TypeExpr Field). marking.field_layer (marks_opened_field y)) h
-
-  abbrev marks_bare : TypeExpr-F SM SMF → TypeExpr-F TypeExpr Field
-  marks_bare x = map-TypeExpr SM SMF TypeExpr Field (λ t. t.0) (λ f. f.0) x
-
-  abbrev marks_bare_field : Field-F SM SMF → Field-F TypeExpr Field
-  marks_bare_field x = map-Field SM SMF TypeExpr Field (λ t. t.0) (λ f. f.0) x
-
-  field_marks : (fs : List SMF) (s : Scope T) → ScopeRanged s → ScopeRanged (fold then_marks s (map (marked_field {T = T}) (map (λ (f : SMF). f.0) fs)))
-  field_marks [] s h = h
-  field_marks (f ∷ fs) s h = field_marks fs (marked_field f.0 s) (f.1 s h)
-
-  type_marks : (y : TypeExpr-F SM SMF) → RangedMarks (marking.type_layer (marks_opened (marks_bare y)))
-  type_marks (layer.Simple t) = λ s h. simple_marks t s h
-  type_marks (layer.Array at index t) = λ s h. t.1 (marked_simple index s) (simple_marks index s h)
-  type_marks (layer.Record at fields) = λ s h. field_marks fields s h
-  type_marks (layer.Procedure at formals t) = λ s h. h
-
-  step_marks : (x : TypeExpr-F TypeExpr Field) (y : TypeExpr-F SM SMF) → marks_bare y ≡ x → PM (roll-TypeExpr x)
-  step_marks x y q = subst RangedMarks (sym (marks_at (roll-TypeExpr x) (marks_bare y) (out-roll-TypeExpr x ∙ sym q))) (type_marks y)
-
-  step_marks_field : (x : Field-F TypeExpr Field) (y : Field-F SM SMF) → marks_bare_field y ≡ x → PMF (roll-Field x)
-  step_marks_field x y q = subst RangedMarks (sym (marks_at_field (roll-Field x) (marks_bare_field y) (out-roll-Field x ∙ sym q))) y.of.1
-
-  marked_in_ranged : (t : TypeExpr) → PM t
-  marked_in_ranged = ind-TypeExpr PM PMF step_marks step_marks_field
-
-  constant_marks : (cs : List Constant) (s : Scope T) → ScopeRanged s → ScopeRanged (fold marked_constant s cs)
-  constant_marks [] s h = h
-  constant_marks (c ∷ cs) s h = constant_marks cs (marked_constant s c) (marked_ranged s c.name Later h tt)
-
-  types_marks : (ts : List TypeDecl) (s : Scope T) → ScopeRanged s → ScopeRanged (fold marked_type s ts)
-  types_marks [] s h = h
-  types_marks (t ∷ ts) s h = types_marks ts (marked_type s t) (marked_in_ranged t.of _ (marked_ranged s t.name Later h tt))
-
-  variables_marks : (vs : List Variables) (s : Scope T) → ScopeRanged s → ScopeRanged (fold marked_variables s vs)
-  variables_marks [] s h = h
-  variables_marks (v ∷ vs) s h = variables_marks vs (marked_variables s v) (marked_in_ranged v.of _ (later_all v.names s h))
-
-  def_marks : (d : Def) (s : Scope T) → ScopeRanged s → ScopeRanged (marked_def s d)
-  def_marks (def.Constants cs) s h = constant_marks cs s h
-  def_marks (def.Types ts) s h = types_marks ts s h
-  def_marks (def.Variables vs) s h = variables_marks vs s h
-  def_marks (def.Procedure x) s h = marked_ranged s x.name Ahead h tt
-
-  defs_marks : (ds : List Def) (s : Scope T) → ScopeRanged s → ScopeRanged (fold marked_def s ds)
-  defs_marks [] s h = h
-  defs_marks (d ∷ ds) s h = defs_marks ds (marked_def s d) (def_marks d s h)
-
-  layer_marks : {A B : Type 0} (y : Decl-F A B) (s : Scope T) → ScopeRanged s → ScopeRanged (marked_layer s y)
-  layer_marks (dlayer.Constants cs) s h = constant_marks cs s h
-  layer_marks (dlayer.Types ts) s h = types_marks ts s h
-  layer_marks (dlayer.Variables vs) s h = variables_marks vs s h
-  layer_marks (dlayer.Procedure x b) s h = marked_ranged s x.name Ahead h tt
-
-  decls_marks : (ds : List Decl) (st : Scope T × List ℕ) → ScopeRanged st.0 → ScopeRanged (fold (with_marks marked_decl) st ds).0
-  decls_marks [] st h = h
-  decls_marks (d ∷ ds) st h = decls_marks ds (with_marks marked_decl st d) (layer_marks (out-Decl d) st.0 h)
+marks : {T : Type 0} → KeepsMarks {T = T} (λ s t. ScopeRanged s → ScopeRanged t)
+marks = record {
+  order = fact ScopeRanged;
+  later = λ s name e h. known_ranged s name Later h tt;
+  ahead = λ s name e h. known_ranged s name Ahead h tt;
+}
 
 -- ---- imports
 
@@ -242,7 +144,7 @@ module _ (g : Gathers) where
   decls_ranged ends (d ∷ ds) c e p = decls_ranged ends ds (with_decl g ends c d) (both_right (fits_decl d) (list_all fits_decl ds) e) (decl_ranged g (constants_ranged g) ends c p (out-Decl d) (both_left (fits_decl d) (list_all fits_decl ds) e))
 
   pub block_ranged : (ends : List ℕ) (st : State (Unit {0}) g.Reported) (first : ℕ) (ds : List Decl) → list_all fits_decl ds ≡ true → StateRanged st → StateRanged (let d = declared_block g ends st first ds in (d.0, d.1))
-  block_ranged ends st first ds e p = decls_ranged ends ds ((all_marked marked_decl st.0 ds).0, st.1, first) e (holds_weaker (λ x h. decls_marks g.Reported ds (st.0, []) h) p)
+  block_ranged ends st first ds e p = decls_ranged ends ds ((all_marked marked_decl st.0 ds).0, st.1, first) e (holds_weaker (λ x h. decls_marks marks ds (st.0, []) h) p)
 
   pub module_ranged : (modules : List (List ℕ × ℕ)) (ends : List ℕ) (s : Scope g.Reported) (m : Module) (ds : List Decl) → list_all fits_decl ds ≡ true → ScopeRanged s
       → StateRanged (let d = declared_module g modules ends s m ds in (d.0, d.1))
@@ -254,7 +156,7 @@ module _ (g : Gathers) where
   defs_ranged (d ∷ ds) st e p = defs_ranged ds (with_def g st d) (both_right (fits_def d) (list_all fits_def ds) e) (def_ranged g (constants_ranged g) st p d (both_left (fits_def d) (list_all fits_def ds) e))
 
   pub definition_ranged : (m : Module) (modules : List (List ℕ × ℕ)) (s : Scope g.Reported) (ds : List Def) → list_all fits_def ds ≡ true → ScopeRanged s → StateRanged (declared_in g m modules s ds)
-  definition_ranged m modules s ds e h = defs_ranged ds (fold (with_import g modules) (fold marked_def s ds, Ok tt) m.imports) e (imports_ranged modules m.imports (fold marked_def s ds, Ok tt) (fine tt (defs_marks g.Reported ds s h)))
+  definition_ranged m modules s ds e h = defs_ranged ds (fold (with_import g modules) (fold marked_def s ds, Ok tt) m.imports) e (imports_ranged modules m.imports (fold marked_def s ds, Ok tt) (fine tt (defs_marks marks ds s h)))
 
 -- ---- into a procedure, and back
 

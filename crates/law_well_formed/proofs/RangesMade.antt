@@ -1,5 +1,5 @@
 -- Type expressions lead from scopes with ranges of the language to such scopes.
-use Rattle.std.proofs.Common.{◌≡◌, ℕ, zero, suc, ◌+◌, ◌<◌, ◌≤◌, pos, ◌-ℤ◌, Bool, true, false, List, [], ◌∷◌, length, Option, Some, None, Result, Ok, Err, refl, sym, ap, subst, ◌∙◌, arith}
+use Rattle.std.proofs.Common.{◌≡◌, ℕ, zero, suc, ◌+◌, ◌<◌, ◌≤◌, pos, ◌-ℤ◌, Bool, true, false, List, [], ◌∷◌, length, Option, Some, None, Result, Ok, Err, refl, sym, ap, ◌∙◌, arith}
 use Rattle.std.proofs.lemmas.Int.{ints}
 use Rattle.std.specs.Prelude.{slice_get, cond, map, nat_lt}
 use Rattle.std.specs.List.{fold, list_all}
@@ -9,7 +9,7 @@ use Rattle.m2_tree.specs.declared.name.Ident.{Ident}
 use Rattle.m2_tree.specs.declared.decl.Heading.{Heading}
 use Rattle.m2_tree.specs.declared.decl.Simple.{Simple}
 use Rattle.m2_tree.specs.declared.decl.Simple.TheVariants as simple
-use Rattle.m2_tree.specs.declared.decl.TypeExpr.{TypeExpr, TypeExpr-F, out-TypeExpr, roll-TypeExpr, out-roll-TypeExpr, map-TypeExpr, fold_out-TypeExpr, ind-TypeExpr}
+use Rattle.m2_tree.specs.declared.decl.TypeExpr.{TypeExpr, TypeExpr-F, out-TypeExpr, roll-TypeExpr, out-roll-TypeExpr, map-TypeExpr, fold_out-TypeExpr}
 use Rattle.m2_tree.specs.declared.decl.TypeExpr.TheOpen as layer
 use Rattle.m2_tree.specs.declared.decl.Field.{Field, Field-F, out-Field, roll-Field, out-roll-Field, map-Field, fold_out-Field, fold-Field}
 use Rattle.typed_tree.specs.declared.types.TypeNo.{TypeNo}
@@ -33,6 +33,7 @@ use Rattle.check_type_expr.specs.Cells.{array_cells, count_at}
 use Rattle.check_type_expr.specs.Fields.{no_fields, with_field, with_name}
 use Rattle.check_type_expr.specs.Headings.{procedure_made, with_section, result_of, heading_of}
 use Rattle.check_type_expr.specs.Made.{next_type, with_shape, with_made, reported_at, too_many, enumeration_constant, enumeration_scalar, enumerate_name, enumeration, simple_type, simple_place, array_in, index_type, field_type, nothing_of, Makes, MakesFields, then_fields, array_type, record_type, fields_named, type_layer, field_layer, type_of, field_list}
+use Rattle.law_folds.proofs.TypeFolds.{Typed, Fielded, bare, bare_field, all_trees, types_opened, fields_opened, types_at, fields_at}
 use Rattle.law_well_formed.specs.Formed.{Holds, fine, broken}
 use Rattle.law_well_formed.proofs.Basics.{then_holds, holds_weaker, reported_holds, where_holds, any_holds}
 use Rattle.law_modules.specs.Ranges.{IsRange, IsRanged}
@@ -236,34 +237,26 @@ module _ (g : Gathers) (known : ConstantsAreRanged g) where
   abbrev RangedFields : MakesFields g → Type 0
   RangedFields f = (st : Scope g.Reported × Fields × Result (Unit {0}) g.Reported) → FieldsRanged st → FieldsRanged (f st)
 
-  abbrev PT : TypeExpr → Type 0
-  PT t = fits_type t ≡ true → RangedMakes (type_of g t)
-
   abbrev fits_fields : Field → Bool
   fits_fields f = fold-Field Bool Bool fits_type_layer fits_field f
 
-  abbrev PF : Field → Type 0
-  PF f = fits_fields f ≡ true → RangedFields (field_list g f)
+  abbrev PT : TypeExpr → Makes g → Type 0
+  PT t f = fits_type t ≡ true → RangedMakes f
+
+  abbrev PF : Field → MakesFields g → Type 0
+  PF d f = fits_fields d ≡ true → RangedFields f
 
   abbrev ST : Type 0
-  ST = (t : TypeExpr) × PT t
+  ST = Typed (type_of g) (field_list g) PT PF
 
   abbrev SF : Type 0
-  SF = (f : Field) × PF f
+  SF = Fielded (type_of g) (field_list g) PT PF
 
-  abbrev opened : TypeExpr-F TypeExpr Field → TypeExpr-F (Makes g) (MakesFields g)
-  opened x = map-TypeExpr TypeExpr Field (Makes g) (MakesFields g) (type_of g) (field_list g) x
+  abbrev stripped : TypeExpr-F ST SF → TypeExpr-F TypeExpr Field
+  stripped y = bare (type_of g) (field_list g) PT PF y
 
-  abbrev opened_field : Field-F TypeExpr Field → Field-F (Makes g) (MakesFields g)
-  opened_field x = map-Field TypeExpr Field (Makes g) (MakesFields g) (type_of g) (field_list g) x
-
-  at : (t : TypeExpr) (x : TypeExpr-F TypeExpr Field) → out-TypeExpr t ≡ x → type_of g t ≡ type_layer g (opened x)
-  unfolding type_of field_list
-  at t x h = fold_out-TypeExpr (Makes g) (MakesFields g) (type_layer g) (field_layer g) t ∙ ap (λ (y : TypeExpr-F TypeExpr Field). type_layer g (opened y)) h
-
-  at_field : (f : Field) (x : Field-F TypeExpr Field) → out-Field f ≡ x → field_list g f ≡ field_layer g (opened_field x)
-  unfolding type_of field_list
-  at_field f x h = fold_out-Field (Makes g) (MakesFields g) (type_layer g) (field_layer g) f ∙ ap (λ (y : Field-F TypeExpr Field). field_layer g (opened_field y)) h
+  abbrev stripped_field : Field-F ST SF → Field-F TypeExpr Field
+  stripped_field y = bare_field (type_of g) (field_list g) PT PF y
 
   abbrev elaborated : TypeExpr-F TypeExpr Field → TypeExpr-F Bool Bool
   elaborated x = map-TypeExpr TypeExpr Field Bool Bool fits_type fits_fields x
@@ -279,12 +272,6 @@ module _ (g : Gathers) (known : ConstantsAreRanged g) where
   unfolding fits_type
   fits_at_field f x h = fold_out-Field Bool Bool fits_type_layer fits_field f ∙ ap (λ (y : Field-F TypeExpr Field). fits_field (elaborated_field y)) h
 
-  abbrev bare : TypeExpr-F ST SF → TypeExpr-F TypeExpr Field
-  bare x = map-TypeExpr ST SF TypeExpr Field (λ t. t.0) (λ f. f.0) x
-
-  abbrev bare_field : Field-F ST SF → Field-F TypeExpr Field
-  bare_field x = map-Field ST SF TypeExpr Field (λ t. t.0) (λ f. f.0) x
-
   fields_all : (fs : List SF) → list_all itself (map fits_fields (map (λ (f : SF). f.0) fs)) ≡ true → (st : Scope g.Reported × Fields × Result (Unit {0}) g.Reported) → FieldsRanged st
       → FieldsRanged (fold (then_fields g) st (map (field_list g) (map (λ (f : SF). f.0) fs)))
   fields_all [] e st p = p
@@ -292,25 +279,21 @@ module _ (g : Gathers) (known : ConstantsAreRanged g) where
       let rest : Bool = list_all itself (map fits_fields (map (λ (f : SF). f.0) fs)) in
       fields_all fs (both_right (fits_fields f.0) (list_all itself (map fits_fields (map (λ (f : SF). f.0) fs))) e) (field_list g f.0 st) (f.1 (both_left (fits_fields f.0) (list_all itself (map fits_fields (map (λ (f : SF). f.0) fs))) e) st p)
 
-  type_ranged : (y : TypeExpr-F ST SF) → fits_type_layer (elaborated (bare y)) ≡ true → RangedMakes (type_layer g (opened (bare y)))
+  type_ranged : (y : TypeExpr-F ST SF) → fits_type_layer (elaborated (stripped y)) ≡ true → RangedMakes (type_layer g (types_opened g (stripped y)))
   type_ranged (layer.Simple t) e = λ s h. simple_ranged s h t e
   type_ranged (layer.Array at index t) e = λ s h.
       array_ranged at (index_type g s index) (type_of g t.0) (index_ranged s h index (both_left (fits_simple index) (fits_type t.0) e)) (λ k. t.1 (both_right (fits_simple index) (fits_type t.0) e) (index_type g s index).0 k)
   type_ranged (layer.Record at fields) e = λ s h. record_ranged at _ (fields_all fields e (s, no_fields, Ok tt) (fine tt h))
   type_ranged (layer.Procedure at formals t) e = λ s h. made_ranged s (procedure_plain g s h _ _)
 
-  step_type : (x : TypeExpr-F TypeExpr Field) (y : TypeExpr-F ST SF) → bare y ≡ x → PT (roll-TypeExpr x)
-  step_type x y q =
-      let is : out-TypeExpr (roll-TypeExpr x) ≡ bare y = out-roll-TypeExpr x ∙ sym q in λ e.
-      subst RangedMakes (sym (at (roll-TypeExpr x) (bare y) is)) (type_ranged y (sym (fits_at (roll-TypeExpr x) (bare y) is) ∙ e))
-
-  field_ranged : (y : Field-F ST SF) → fits_field (elaborated_field (bare_field y)) ≡ true → RangedFields (field_layer g (opened_field (bare_field y)))
+  field_ranged : (y : Field-F ST SF) → fits_field (elaborated_field (stripped_field y)) ≡ true → RangedFields (field_layer g (fields_opened g (stripped_field y)))
   field_ranged y e = λ st p. named_ranged (type_of g y.of.0 st.0) y.names st.1 st.2 p (λ h. y.of.1 e st.0 h)
 
-  step_field : (x : Field-F TypeExpr Field) (y : Field-F ST SF) → bare_field y ≡ x → PF (roll-Field x)
-  step_field x y q =
-      let is : out-Field (roll-Field x) ≡ bare_field y = out-roll-Field x ∙ sym q in λ e.
-      subst RangedFields (sym (at_field (roll-Field x) (bare_field y) is)) (field_ranged y (sym (fits_at_field (roll-Field x) (bare_field y) is) ∙ e))
+  type_step : (y : TypeExpr-F ST SF) → PT (roll-TypeExpr (stripped y)) (type_layer g (types_opened g (stripped y)))
+  type_step y e = let x : TypeExpr-F TypeExpr Field = stripped y in type_ranged y (sym (fits_at (roll-TypeExpr x) x (out-roll-TypeExpr x)) ∙ e)
 
-  pub type_of_ranged : (t : TypeExpr) → PT t
-  type_of_ranged = ind-TypeExpr PT PF step_type step_field
+  field_step : (y : Field-F ST SF) → PF (roll-Field (stripped_field y)) (field_layer g (fields_opened g (stripped_field y)))
+  field_step y e = let x : Field-F TypeExpr Field = stripped_field y in field_ranged y (sym (fits_at_field (roll-Field x) x (out-roll-Field x)) ∙ e)
+
+  pub type_of_ranged : (t : TypeExpr) → fits_type t ≡ true → RangedMakes (type_of g t)
+  type_of_ranged = all_trees (type_of g) (field_list g) PT PF (type_layer g) (field_layer g) (types_at g) (fields_at g) type_step field_step

@@ -19,7 +19,6 @@ use Rattle.typed_tree.specs.declared.meaning.Meaning.{Meaning}
 use Rattle.typed_tree.specs.declared.meaning.Meaning.TheVariants as meaning
 use Rattle.typed_tree.specs.declared.meaning.Procedure.{Procedure}
 use Rattle.typed_tree.specs.declared.meaning.LocalKind.TheVariants as kind
-use Rattle.typed_tree.specs.declared.meaning.Value.{Value}
 use Rattle.typed_tree.specs.declared.shape.Made.{Made}
 use Rattle.typed_tree.specs.declared.shape.Shape.{Shape}
 use Rattle.typed_tree.specs.declared.shape.Shape.TheVariants as shape
@@ -30,33 +29,32 @@ use Rattle.typed_tree.specs.declared.typed_module.TypedModule.{TypedModule}
 use Rattle.typed_tree.specs.declared.types.TypeNo.{TypeNo}
 use Rattle.typed_tree.specs.Names.{find_name}
 use Rattle.check_scope.specs.Elaborated.{Gathers, report, reported_where, beside, ◌▷◌}
-use Rattle.check_scope.specs.Scopes.{State, begin_name}
+use Rattle.check_scope.specs.Scopes.{State, is_free, with_known, is_begun}
 use Rattle.check_scope.specs.declared.known.Known.{Known}
 use Rattle.check_scope.specs.declared.known.Known.TheVariants.{Later, Ahead, Begun, Headed, Declared}
 use Rattle.check_scope.specs.declared.known.Origin.TheVariants.{Here}
 use Rattle.check_scope.specs.declared.scope.Scope.{Scope}
 use Rattle.check_scope.specs.declared.meaningless.Meaningless.{Meaningless}
 use Rattle.check_scope.specs.Scopes.{heading_means}
-use Rattle.check_const.specs.Parts.{constant}
-use Rattle.check_expr.specs.Meanings.{part}
 use Rattle.check_type_expr.specs.Named.{first_of, named_type}
 use Rattle.check_block.specs.Agreeing.{same_formal, same_result, signature_in, signature_of, agree}
 use Rattle.def_scheme.specs.Exprs.{is_there, result_in}
 use Rattle.check_type_expr.specs.Headings.{with_section, result_of, heading_of, names_of}
-use Rattle.check_type_expr.specs.Made.{type_of, next_type, with_shape}
-use Rattle.check_definition.specs.Declare.{constant_meaning, with_constant, brings_with, type_meaning, with_type, begun_name, variable_meaning, with_variable_type, finished_variable, with_variables, procedure_meaning, with_procedure_type}
-use Rattle.check_definition.specs.Marking.{marked_constant, marked_type, marked_variables}
+use Rattle.check_type_expr.specs.Made.{enumeration_constant, next_type, with_shape}
+use Rattle.check_definition.specs.Declare.{with_constant, with_type, begun_name, with_variable_type, with_variables, procedure_meaning, with_procedure_type}
 use Rattle.check_block.specs.declared.heading.Standing.{Standing}
 use Rattle.check_block.specs.declared.heading.Standing.TheVariants.{Free, Awaited, Taken}
 use Rattle.check_block.specs.Headings.{standing_of, name_standing, nested_meaning, set_heading, module_procedure, with_new, nothing_made, reported_of_other, headed_as, with_heading}
 use Rattle.check_block.specs.Naming.{marked_layer}
-use Rattle.check_block.specs.Declarations.{local_meaning, finished_local, with_locals, Course, with_procedure, decl_layer, is_awaited}
+use Rattle.check_block.specs.Declarations.{with_locals, Course, with_procedure, decl_layer, is_awaited}
+use Rattle.law_folds.proofs.Orders.{IsOrder}
+use Rattle.law_folds.proofs.MarkSteps.{KeepsMarks, decl_layer_marks}
+use Rattle.law_folds.proofs.NameSteps.{KeepsNames, constants_keep, types_keep, VariablesEnd, LocalsEnd, variables_of_keep}
 use Rattle.law_well_formed.specs.Formed.{Holds, fine, broken}
 use Rattle.law_well_formed.proofs.Basics.{then_holds, where_holds, both_holds, any_holds}
 use Rattle.law_well_formed.specs.FormedScopes.{holds_of, is_awaiting, FormedOwn, FormedKnown, Leads, HeadIs, HeadsAre}
 use Rattle.law_well_formed.proofs.Names.{get_more, get_last, found_self}
-use Rattle.law_well_formed.proofs.ScopesGrowth.{is_headed, leads_refl, leads_then, known_leads, begun_leads, finished_leads, marked_leads, shape_leads}
-use Rattle.law_well_formed.proofs.ScopesTypeExprs.{later_all, marked_in_leads, type_of_leads}
+use Rattle.law_well_formed.proofs.ScopesGrowth.{is_headed, free_unheaded, begun_unheaded, leads_refl, leads_then, known_leads, shape_leads}
 
 -- ---- what is reported
 
@@ -107,35 +105,7 @@ module _ (m : TypedModule) (opens : ℕ → Bool) (g : Gathers) where
   own_home : (home : ℕ) → home ≡ m.types.home → (home == m.types.home) ≡ true
   own_home home e = same_home home m.types.home e
 
-  -- ---- constants and types
-
-  constant_leads : (st : State (Unit {0}) g.Reported) (c : Constant) → Goes st.0 (with_constant g st c).0
-  constant_leads st c =
-      let b : Scope g.Reported = (begin_name g st.0 c.name).0 in
-      let v : Result Value g.Reported = constant g b (part g c.value) in
-      leads_then m opens (begun_leads m opens g st.0 c.name)
-      (finished_leads m opens b c.name (constant_meaning v) (unawaiting v (λ x. meaning.Constant x) (λ x. refl)) (λ h. then_holds (any_holds v) (λ x k. fine (meaning.Constant x) (tt, tt))))
-
-  pub constants_lead : (cs : List Constant) (st : State (Unit {0}) g.Reported) → Goes st.0 (fold (with_constant g) st cs).0
-  constants_lead [] st = leads_refl m opens st.0
-  constants_lead (c ∷ cs) st = leads_then m opens (constant_leads st c) (constants_lead cs (with_constant g st c))
-
-  type_leads : (st : State (Unit {0}) g.Reported) (d : TypeDecl) → Goes st.0 (with_type g st d).0
-  type_leads st d =
-      let b : Scope g.Reported = (begin_name g st.0 d.name).0 in
-      let t : State TypeNo g.Reported = type_of g d.of b in
-      leads_then m opens (begun_leads m opens g st.0 d.name) (leads_then m opens (type_of_leads m opens g d.of b)
-      (finished_leads m opens t.0 d.name (type_meaning t.1 (brings_with d.of)) (unawaiting t.1 (λ x. meaning.Type x (brings_with d.of)) (λ x. refl)) (λ h. then_holds (any_holds t.1) (λ x k. fine (meaning.Type x (brings_with d.of)) (tt, tt)))))
-
-  pub types_lead : (ts : List TypeDecl) (st : State (Unit {0}) g.Reported) → Goes st.0 (fold (with_type g) st ts).0
-  types_lead [] st = leads_refl m opens st.0
-  types_lead (t ∷ ts) st = leads_then m opens (type_leads st t) (types_lead ts (with_type g st t))
-
-  -- ---- variables
-
-  begun_all : (names : List Ident) (st : State (Unit {0}) g.Reported) → Goes st.0 (fold (begun_name g) st names).0
-  begun_all [] st = leads_refl m opens st.0
-  begun_all (x ∷ xs) st = leads_then m opens (begun_leads m opens g st.0 x) (begun_all xs (begun_name g st x))
+  -- ---- constants, types and variables
 
   variable_type_leads : (s : Scope g.Reported) (t : Result TypeNo g.Reported) → Goes s (with_variable_type s t)
   variable_type_leads s (Err e) = leads_refl m opens s
@@ -153,53 +123,57 @@ module _ (m : TypedModule) (opens : ℕ → Bool) (g : Gathers) where
     formed = λ e p. p;
   }
 
-  variable_leads : (t : Result TypeNo g.Reported) (s : Scope g.Reported) (name : Ident) → Goes s (finished_variable t s name)
-  variable_leads t s name =
+  order : IsOrder {T = g.Reported} Goes
+  order = record { same = leads_refl m opens; next = λ a b c p q. leads_then m opens p q }
+
+  free_leads : (s : Scope g.Reported) (name : List ℕ) (k : Known g.Reported) → is_free (find_name name s.own) ≡ true
+      → is_awaiting k ≡ false → FormedKnown m opens k → Goes s (with_known name k s)
+  free_leads s name k e a p = known_leads m opens s name k (free_unheaded (find_name name s.own) e) a (λ h. p)
+
+  ended_leads : (s : Scope g.Reported) (name : List ℕ) {A : Type 0} (r : Result A g.Reported) (f : A → Meaning)
+      → is_begun (find_name name s.own) ≡ true → ((x : A) → is_awaited (standing_of (f x)) ≡ false)
+      → (s.types.home ≡ m.types.home → (x : A) → FormedOwn m opens (f x))
+      → Goes s (with_known name (Declared Here (r ▷ λ x. Ok (f x))) s)
+  ended_leads s name r f e a p =
+      known_leads m opens s name (Declared Here (r ▷ λ x. Ok (f x))) (begun_unheaded (find_name name s.own) e)
+      (unawaiting r f a) (λ h. then_holds (any_holds r) (λ x k. fine (f x) (p h x)))
+
+  marks : KeepsMarks {T = g.Reported} Goes
+  marks = record {
+    order = order;
+    later = λ s name e. free_leads s name Later (ap is_free e) refl tt;
+    ahead = λ s name e. free_leads s name Ahead (ap is_free e) refl tt;
+  }
+
+  names : KeepsNames g Goes
+  names = record {
+    types = record {
+      order = order;
+      shaped = shape_leads m opens;
+      listed = λ s name t n e. free_leads s name (Declared Here (Ok (enumeration_constant t n))) e refl (fine _ (tt, tt));
+    };
+    begun = λ s name e. free_leads s name Begun e refl tt;
+    constant_ends = λ s c e. ended_leads s c.name.name _ (λ x. meaning.Constant x) e (λ x. refl) (λ h x. (tt, tt));
+    type_ends = λ s name t n e. ended_leads s name t (λ x. meaning.Type x n) e (λ x. refl) (λ h x. (tt, tt));
+    varied = variable_type_leads;
+  }
+
+  variable_ends : VariablesEnd g Goes
+  variable_ends s name t e =
+      let v : Scope g.Reported = with_variable_type s t in
       let mine = variable_type_leads s t in
+      let k : ℕ = s.types.home in
       leads_then m opens mine
-      (finished_leads m opens (with_variable_type s t) name (variable_meaning s.types.home (length s.variables) t)
-      (unawaiting t (λ x. meaning.Variable (record { home = s.types.home; number = length s.variables; of = x })) (λ x. refl))
-      (λ h. then_holds (any_holds t) (λ x k. fine (meaning.Variable (record { home = s.types.home; number = length s.variables; of = x }))
-      (ap (λ (b : Bool). b || list_any (λ i. i.number == s.types.home) m.imports) (own_home s.types.home (sym mine.home ∙ h)), sym mine.home ∙ h))))
+      (ended_leads v name t (λ x. meaning.Variable (record { home = k; number = length s.variables; of = x })) e (λ x. refl) (λ h x.
+      let own : k ≡ m.types.home = sym mine.home ∙ h in
+      (ap (λ (b : Bool). b || list_any (λ i. i.number == k) m.imports) (own_home k own), own)))
 
-  variables_all : (t : Result TypeNo g.Reported) (names : List Ident) (s : Scope g.Reported) → Goes s (fold (finished_variable t) s names)
-  variables_all t [] s = leads_refl m opens s
-  variables_all t (x ∷ xs) s = leads_then m opens (variable_leads t s x) (variables_all t xs (finished_variable t s x))
-
-  variable_list : (st : State (Unit {0}) g.Reported) (v : Variables) → Goes st.0 (with_variables g st v).0
-  variable_list st v =
-      let b : State (Unit {0}) g.Reported = fold (begun_name g) st v.names in
-      let t : State TypeNo g.Reported = type_of g v.of b.0 in
-      leads_then m opens (begun_all v.names st) (leads_then m opens (type_of_leads m opens g v.of b.0) (variables_all t.1 v.names t.0))
-
-  pub variables_lead : (vs : List Variables) (st : State (Unit {0}) g.Reported) → Goes st.0 (fold (with_variables g) st vs).0
-  variables_lead [] st = leads_refl m opens st.0
-  variables_lead (v ∷ vs) st = leads_then m opens (variable_list st v) (variables_lead vs (with_variables g st v))
-
-  local_leads : (t : Result TypeNo g.Reported) (s : Scope g.Reported) (name : Ident) → Goes s (finished_local t s name)
-  local_leads t s name =
+  local_ends : LocalsEnd g Goes
+  local_ends s name t e =
       leads_then m opens (variable_type_leads s t)
-      (finished_leads m opens (with_variable_type s t) name (local_meaning s.level (length s.variables) t)
-      (unawaiting t (λ x. meaning.Local (record { level = s.level; number = length s.variables; kind = kind.Variable; of = x })) (λ x. refl))
-      (λ h. then_holds (any_holds t) (λ x k. fine (meaning.Local (record { level = s.level; number = length s.variables; kind = kind.Variable; of = x })) (tt, tt))))
-
-  locals_all : (t : Result TypeNo g.Reported) (names : List Ident) (s : Scope g.Reported) → Goes s (fold (finished_local t) s names)
-  locals_all t [] s = leads_refl m opens s
-  locals_all t (x ∷ xs) s = leads_then m opens (local_leads t s x) (locals_all t xs (finished_local t s x))
-
-  local_list : (st : State (Unit {0}) g.Reported) (v : Variables) → Goes st.0 (with_locals g st v).0
-  local_list st v =
-      let b : State (Unit {0}) g.Reported = fold (begun_name g) st v.names in
-      let t : State TypeNo g.Reported = type_of g v.of b.0 in
-      leads_then m opens (begun_all v.names st) (leads_then m opens (type_of_leads m opens g v.of b.0) (locals_all t.1 v.names t.0))
-
-  pub locals_lead : (vs : List Variables) (st : State (Unit {0}) g.Reported) → Goes st.0 (fold (with_locals g) st vs).0
-  locals_lead [] st = leads_refl m opens st.0
-  locals_lead (v ∷ vs) st = leads_then m opens (local_list st v) (locals_lead vs (with_locals g st v))
-
-  variables_by : (b : Bool) (st : State (Unit {0}) g.Reported) (vs : List Variables) → Goes st.0 (cond {A = State (Unit {0}) g.Reported} b (fold (with_variables g) st vs) (fold (with_locals g) st vs)).0
-  variables_by true st vs = variables_lead vs st
-  variables_by false st vs = locals_lead vs st
+      (ended_leads (with_variable_type s t) name t
+      (λ x. meaning.Local (record { level = s.level; number = length s.variables; kind = kind.Variable; of = x }))
+      e (λ x. refl) (λ h x. (tt, tt)))
 
   -- ---- headings
 
@@ -254,34 +228,17 @@ module _ (m : TypedModule) (opens : ℕ → Bool) (g : Gathers) where
   pub heading_leads : (s : Scope g.Reported) (h : Heading) (n : ℕ) → HeadIs m opens s (with_heading g s n h).0 h.name.name → Goes s (with_heading g s n h).0
   heading_leads s h n k = heading_by s h n (heading_of g s h) (name_standing (find_name h.name.name s.own)) refl k
 
-  -- ---- marks
-
-  marked_constants : (cs : List Constant) (s : Scope g.Reported) → Goes s (fold marked_constant s cs)
-  marked_constants [] s = leads_refl m opens s
-  marked_constants (c ∷ cs) s = leads_then m opens (marked_leads m opens s c.name Later refl tt) (marked_constants cs (marked_constant s c))
-
-  marked_types : (ts : List TypeDecl) (s : Scope g.Reported) → Goes s (fold marked_type s ts)
-  marked_types [] s = leads_refl m opens s
-  marked_types (t ∷ ts) s = leads_then m opens (leads_then m opens (marked_leads m opens s t.name Later refl tt) (marked_in_leads m opens g.Reported t.of _)) (marked_types ts (marked_type s t))
-
-  marked_lists : (vs : List Variables) (s : Scope g.Reported) → Goes s (fold marked_variables s vs)
-  marked_lists [] s = leads_refl m opens s
-  marked_lists (v ∷ vs) s = leads_then m opens (leads_then m opens (later_all m opens v.names s) (marked_in_leads m opens g.Reported v.of _)) (marked_lists vs (marked_variables s v))
-
   -- ---- a declaration of a block
 
   module _ {A B : Type 0} where
     pub decl_leads : (ends : List ℕ) (c : Course g.Reported) (y : Decl-F A B) → HeadsAre m opens g c y → Goes c.0 (decl_layer g ends c y).0
-    decl_leads ends c (layer.Constants cs) k = constants_lead cs (c.0, c.1)
-    decl_leads ends c (layer.Types ts) k = types_lead ts (c.0, c.1)
-    decl_leads ends c (layer.Variables vs) k = variables_by (c.0.level == 0) (c.0, c.1) vs
+    decl_leads ends c (layer.Constants cs) k = constants_keep g names cs (c.0, c.1)
+    decl_leads ends c (layer.Types ts) k = types_keep g names ts (c.0, c.1)
+    decl_leads ends c (layer.Variables vs) k = variables_of_keep g names variable_ends local_ends vs (c.0, c.1)
     decl_leads ends c (layer.Procedure h b) k = heading_leads c.0 h c.2 k
 
     pub layer_marks : (s : Scope g.Reported) (y : Decl-F A B) → Goes s (marked_layer s y)
-    layer_marks s (layer.Constants cs) = marked_constants cs s
-    layer_marks s (layer.Types ts) = marked_types ts s
-    layer_marks s (layer.Variables vs) = marked_lists vs s
-    layer_marks s (layer.Procedure h b) = marked_leads m opens s h.name Ahead refl tt
+    layer_marks s y = decl_layer_marks marks y s
 
 -- ---- results of headings
 

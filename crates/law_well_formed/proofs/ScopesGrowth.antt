@@ -1,10 +1,7 @@
 -- What one name more does, and one type more.
-use Rattle.std.proofs.Common.{◌≡◌, ℕ, ◌==◌, Bool, true, false, cond, List, [], ◌∷◌, ◌++◌, Option, Some, None, Result, Ok, Err, refl, sym, ap, ◌∙◌}
+use Rattle.std.proofs.Common.{◌≡◌, ℕ, ◌==◌, Bool, true, false, cond, List, [], ◌∷◌, ◌++◌, Option, Some, None, refl, sym, ap, ◌∙◌}
 use Rattle.std.specs.Prelude.{slice_get}
-use Rattle.m2_rule.specs.declared.rule.Rule.TheVariants as rule
-use Rattle.m2_tree.specs.declared.name.Ident.{Ident}
 use Rattle.typed_tree.specs.declared.known_types.Types.{Types}
-use Rattle.typed_tree.specs.declared.meaning.Meaning.{Meaning}
 use Rattle.typed_tree.specs.declared.shape.Made.{Made}
 use Rattle.typed_tree.specs.declared.typed_module.TypedModule.{TypedModule}
 use Rattle.typed_tree.specs.declared.types.Home.{Home}
@@ -13,15 +10,12 @@ use Rattle.typed_tree.specs.declared.types.TypeNo.{TypeNo}
 use Rattle.typed_tree.specs.Known.{made_from, made_at}
 use Rattle.m2_tree.specs.Names.{same_name}
 use Rattle.typed_tree.specs.Names.{find_name, enter_name}
-use Rattle.check_scope.specs.declared.known.Origin.TheVariants.{Here}
 use Rattle.check_scope.specs.declared.known.Known.{Known}
 use Rattle.check_scope.specs.declared.known.Known.TheVariants.{Later, Ahead, Begun, Headed, Declared}
 use Rattle.check_scope.specs.declared.scope.Scope.{Scope}
-use Rattle.check_scope.specs.Elaborated.{Gathers, report}
-use Rattle.check_scope.specs.Scopes.{State, is_free, with_known, unless_declared, begin_name, is_begun, finish_name, unless_marked, mark_name}
-use Rattle.check_type_expr.specs.Made.{with_shape, with_made}
-use Rattle.law_well_formed.specs.Formed.{Holds}
-use Rattle.law_well_formed.specs.FormedScopes.{holds_of, is_awaiting, FormedOwn, FormedKnown, AreFormedNames, Leads}
+use Rattle.check_scope.specs.Scopes.{is_free, with_known, is_begun}
+use Rattle.check_type_expr.specs.Made.{with_shape}
+use Rattle.law_well_formed.specs.FormedScopes.{holds_of, is_awaiting, FormedKnown, AreFormedNames, Leads}
 use Rattle.law_well_formed.proofs.Names.{get_more, kept_entered, none_entered, same_entered}
 
 -- a heading was met
@@ -40,7 +34,7 @@ free_unheaded (Some Begun) e = refl
 free_unheaded (Some (Headed m)) e = absurd cc
 free_unheaded (Some (Declared o m)) e = refl
 
-begun_unheaded : {T : Type 0} (o : Option (Known T)) → is_begun o ≡ true → holds_of is_headed o ≡ false
+pub begun_unheaded : {T : Type 0} (o : Option (Known T)) → is_begun o ≡ true → holds_of is_headed o ≡ false
 begun_unheaded None e = refl
 begun_unheaded (Some Later) e = refl
 begun_unheaded (Some Ahead) e = refl
@@ -117,31 +111,6 @@ module _ (m : TypedModule) (opens : ℕ → Bool) where
     formed = λ h q. names_more name k s.own (p h) q;
   }
 
-  module _ (g : Gathers) (s : Scope g.Reported) (name : Ident) where
-    unless_by : (b : Bool) (k : Known g.Reported) → (b ≡ true → Leads m opens s (with_known name.name k s)) → Leads m opens s (cond {A = State (Unit {0}) g.Reported} b (with_known name.name k s, Ok tt) (s, report g name.pos rule.DeclaredTwice)).0
-    unless_by true k p = p refl
-    unless_by false k p = leads_refl s
-
-    pub unless_leads : (k : Known g.Reported) → is_awaiting k ≡ false → (s.types.home ≡ m.types.home → FormedKnown m opens k) → Leads m opens s (unless_declared g s name k).0
-    unless_leads k a p = unless_by (is_free (find_name name.name s.own)) k (λ e. known_leads s name.name k (free_unheaded (find_name name.name s.own) e) a p)
-
-    pub begun_leads : Leads m opens s (begin_name g s name).0
-    begun_leads = unless_leads Begun refl (λ e. tt)
-
-  finished_by : {T : Type 0} (s : Scope T) (name : List ℕ) (k : Known T) (b : Bool) → (b ≡ true → Leads m opens s (with_known name k s)) → Leads m opens s (cond b (with_known name k s) s)
-  finished_by s name k true p = p refl
-  finished_by s name k false p = leads_refl s
-
-  pub finished_leads : {T : Type 0} (s : Scope T) (name : Ident) (r : Result Meaning T) → is_awaiting (Declared Here r) ≡ false → (s.types.home ≡ m.types.home → Holds (FormedOwn m opens) r) → Leads m opens s (finish_name s name r)
-  finished_leads s name r a p = finished_by s name.name (Declared Here r) (is_begun (find_name name.name s.own)) (λ e. known_leads s name.name (Declared Here r) (begun_unheaded (find_name name.name s.own) e) a p)
-
-  marked_by : {T : Type 0} (s : Scope T) (name : List ℕ) (k : Known T) (o : Option (Known T)) → find_name name s.own ≡ o → is_awaiting k ≡ false → FormedKnown m opens k → Leads m opens s (unless_marked name k s o)
-  marked_by s name k (Some x) e a p = leads_refl s
-  marked_by s name k None e a p = known_leads s name k (ap (λ (o : Option (Known _)). holds_of is_headed o) e) a (λ h. p)
-
-  pub marked_leads : {T : Type 0} (s : Scope T) (name : Ident) (k : Known T) → is_awaiting k ≡ false → FormedKnown m opens k → Leads m opens s (mark_name name k s)
-  marked_leads s name k a p = marked_by s name.name k (find_name name.name s.own) refl a p
-
   -- ---- types
 
   pub shape_leads : {T : Type 0} (s : Scope T) (x : Made) → Leads m opens s (with_shape s x)
@@ -158,7 +127,3 @@ module _ (m : TypedModule) (opens : ℕ → Bool) where
     awaited = λ name e. refl;
     formed = λ e p. p;
   }
-
-  pub made_leads : {T : Type 0} (s : Scope T) (x : Result Made T) → Leads m opens s (with_made s x).0
-  made_leads s (Ok x) = shape_leads s x
-  made_leads s (Err e) = leads_refl s

@@ -14,9 +14,9 @@ use Rattle.m2_tree.specs.declared.decl.Def.{Def}
 use Rattle.m2_tree.specs.declared.decl.Def.TheVariants as def
 use Rattle.m2_tree.specs.declared.decl.Simple.{Simple}
 use Rattle.m2_tree.specs.declared.decl.Simple.TheVariants as simple
-use Rattle.m2_tree.specs.declared.decl.TypeExpr.{TypeExpr, TypeExpr-F, out-TypeExpr, roll-TypeExpr, out-roll-TypeExpr, map-TypeExpr, fold_out-TypeExpr, ind-TypeExpr}
+use Rattle.m2_tree.specs.declared.decl.TypeExpr.{TypeExpr, TypeExpr-F, roll-TypeExpr, out-roll-TypeExpr}
 use Rattle.m2_tree.specs.declared.decl.TypeExpr.TheOpen as layer
-use Rattle.m2_tree.specs.declared.decl.Field.{Field, Field-F, out-Field, roll-Field, out-roll-Field, map-Field, fold_out-Field}
+use Rattle.m2_tree.specs.declared.decl.Field.{Field, Field-F, out-Field, roll-Field, out-roll-Field}
 use Rattle.typed_tree.specs.declared.shape.Made.{Made}
 use Rattle.typed_tree.specs.declared.types.TypeNo.{TypeNo}
 use Rattle.m2_tree.specs.Names.{same_name}
@@ -33,9 +33,12 @@ use Rattle.check_type_expr.specs.Made.{next_type, with_shape, with_made, enumera
 use Rattle.check_definition.specs.Marking.{Marks, marked_later, marked_simple, then_marks, marked_in, marked_field, marked_constant, marked_type, marked_variables, marked_def}
 use Rattle.check_definition.specs.Marking as marking
 use Rattle.check_definition.specs.Declare.{with_constant, with_type, begun_name, with_variables, with_def}
+use Rattle.law_folds.proofs.TypeFolds.{Typed, bare, bare_field, all_trees, marks_opened, marks_opened_field, marks_at, marks_at_field, types_opened, fields_opened, types_at, fields_at}
+use Rattle.law_folds.proofs.TypeFolds.{Fielded as WithFields}
+use Rattle.law_folds.proofs.MarkSteps.{KeepsMarks, def_marks, defs_marks}
 use Rattle.law_well_formed.proofs.ImportsLists.{same_is}
 use Rattle.law_well_formed.proofs.Order.{has, mark_key, keys, keys_entered, Distinct, distinct_entered, TakenIn, now_taken, is_taken, number_of, NoneDone, none_entered, AllTaken}
-use Rattle.law_well_formed.proofs.TablesSteps.{mark_more, Goes, same_goes, ◌⨾◌, fold_goes, made_goes, listed_goes, opened, opened_field, type_at, field_at, type_of_goes, field_list_goes, constant_ends, type_finished, type_ends, constant_goes, type_decl_goes, begun_all_go, variables_end, variables_go}
+use Rattle.law_well_formed.proofs.TablesSteps.{mark_more, Goes, same_goes, ◌⨾◌, fold_goes, made_goes, listed_goes, type_of_goes, field_list_goes, constant_ends, type_finished, type_ends, constant_goes, type_decl_goes, begun_all_go, variables_end, variables_go}
 
 -- ---- what is reported
 
@@ -128,9 +131,8 @@ module _ {T : Type 0} where
     keys_are = q.keys_are ∙ ap (λ (ks : List (List ℕ)). ks ++ q.more) p.keys_are ∙ append_assoc (keys a.own) p.more q.more;
   }
 
-  unless_keeps : (name : List ℕ) (k : Known T) (s : Scope T) (o : Option (Known T)) → number_of k ≡ None → Keeps s (unless_marked name k s o)
-  unless_keeps name k s (Some v) e = same_keeps s
-  unless_keeps name k s None e =
+  new_keeps : (s : Scope T) (name : List ℕ) (k : Known T) → number_of k ≡ None → Keeps s (with_known name k s)
+  new_keeps s name k e =
       let m = mark_more name (has name (keys s.own)) (keys s.own) in
       record {
         procedures = refl;
@@ -140,84 +142,19 @@ module _ {T : Type 0} where
         keys_are = keys_entered name k s.own ∙ m.1;
       }
 
-  pub marked_keeps : (name : Ident) (k : Known T) (s : Scope T) → number_of k ≡ None → Keeps s (mark_name name k s)
-  marked_keeps name k s e = unless_keeps name.name k s (find_name name.name s.own) e
-
-  fold_keeps : {X : Type 0} (f : Scope T → X → Scope T) → ((s : Scope T) (x : X) → Keeps s (f s x)) → (xs : List X) (s : Scope T) → Keeps s (fold f s xs)
-  fold_keeps f k [] s = same_keeps s
-  fold_keeps f k (x ∷ xs) s = keeps_then (k s x) (fold_keeps f k xs (f s x))
-
-  later_keeps : (names : List Ident) (s : Scope T) → Keeps s (fold marked_later s names)
-  later_keeps names s = fold_keeps marked_later (λ s x. marked_keeps x Later s refl) names s
-
-  simple_keeps : (t : Simple) (s : Scope T) → Keeps s (marked_simple t s)
-  simple_keeps (simple.Named q) s = same_keeps s
-  simple_keeps (simple.Enumeration at names) s = later_keeps names s
-  simple_keeps (simple.Subrange o at low high) s = same_keeps s
+  marks : KeepsMarks {T = T} Keeps
+  marks = record {
+    order = record { same = same_keeps; next = λ a b c p q. keeps_then p q };
+    later = λ s name e. new_keeps s name Later refl;
+    ahead = λ s name e. new_keeps s name Ahead refl;
+  }
 
 module _ (T : Type 0) where
-  abbrev KeepingMarks : Marks T → Type 0
-  KeepingMarks f = (s : Scope T) → Keeps s (f s)
-
-  abbrev PM : TypeExpr → Type 0
-  PM t = KeepingMarks (marked_in {T = T} t)
-
-  abbrev PMF : Field → Type 0
-  PMF t = KeepingMarks (marked_field {T = T} t)
-
-  abbrev SM : Type 0
-  SM = (t : TypeExpr) × PM t
-
-  abbrev SMF : Type 0
-  SMF = (t : Field) × PMF t
-
-  abbrev pub marks_opened : TypeExpr-F TypeExpr Field → TypeExpr-F (Marks T) (Marks T)
-  marks_opened x = map-TypeExpr TypeExpr Field (Marks T) (Marks T) marked_in marked_field x
-
-  abbrev pub marks_opened_field : Field-F TypeExpr Field → Field-F (Marks T) (Marks T)
-  marks_opened_field x = map-Field TypeExpr Field (Marks T) (Marks T) marked_in marked_field x
-
-  pub marks_at : (t : TypeExpr) (x : TypeExpr-F TypeExpr Field) → out-TypeExpr t ≡ x → marked_in {T = T} t ≡ marking.type_layer (marks_opened x)
-  unfolding marked_in marked_field
-  marks_at t x h = fold_out-TypeExpr (Marks T) (Marks T) marking.type_layer marking.field_layer t ∙ ap (λ (y : TypeExpr-F TypeExpr Field). marking.type_layer (marks_opened y)) h
-
-  pub marks_at_field : (f : Field) (x : Field-F TypeExpr Field) → out-Field f ≡ x → marked_field {T = T} f ≡ marking.field_layer (marks_opened_field x)
-  unfolding marked_in marked_field
-  marks_at_field f x h = fold_out-Field (Marks T) (Marks T) marking.type_layer marking.field_layer f ∙ ap (λ (y : Field-F TypeExpr Field). marking.field_layer (marks_opened_field y)) h
-
-  abbrev marks_bare : TypeExpr-F SM SMF → TypeExpr-F TypeExpr Field
-  marks_bare x = map-TypeExpr SM SMF TypeExpr Field (λ t. t.0) (λ f. f.0) x
-
-  abbrev marks_bare_field : Field-F SM SMF → Field-F TypeExpr Field
-  marks_bare_field x = map-Field SM SMF TypeExpr Field (λ t. t.0) (λ f. f.0) x
-
-  field_marks : (fs : List SMF) (s : Scope T) → Keeps s (fold then_marks s (map (marked_field {T = T}) (map (λ (f : SMF). f.0) fs)))
-  field_marks [] s = same_keeps s
-  field_marks (f ∷ fs) s = keeps_then (f.1 s) (field_marks fs (marked_field f.0 s))
-
-  type_marks : (y : TypeExpr-F SM SMF) → KeepingMarks (marking.type_layer (marks_opened (marks_bare y)))
-  type_marks (layer.Simple t) = λ s. simple_keeps t s
-  type_marks (layer.Array at index t) = λ s. keeps_then (simple_keeps index s) (t.1 (marked_simple index s))
-  type_marks (layer.Record at fields) = λ s. field_marks fields s
-  type_marks (layer.Procedure at formals t) = λ s. same_keeps s
-
-  step_marks : (x : TypeExpr-F TypeExpr Field) (y : TypeExpr-F SM SMF) → marks_bare y ≡ x → PM (roll-TypeExpr x)
-  step_marks x y q = subst KeepingMarks (sym (marks_at (roll-TypeExpr x) (marks_bare y) (out-roll-TypeExpr x ∙ sym q))) (type_marks y)
-
-  step_marks_field : (x : Field-F TypeExpr Field) (y : Field-F SM SMF) → marks_bare_field y ≡ x → PMF (roll-Field x)
-  step_marks_field x y q = subst KeepingMarks (sym (marks_at_field (roll-Field x) (marks_bare_field y) (out-roll-Field x ∙ sym q))) y.of.1
-
-  marked_in_keeps : (t : TypeExpr) → PM t
-  marked_in_keeps = ind-TypeExpr PM PMF step_marks step_marks_field
-
   pub def_keeps : (s : Scope T) (d : Def) → Keeps s (marked_def s d)
-  def_keeps s (def.Constants cs) = fold_keeps marked_constant (λ s c. marked_keeps c.name Later s refl) cs s
-  def_keeps s (def.Types ts) = fold_keeps marked_type (λ s t. keeps_then (marked_keeps t.name Later s refl) (marked_in_keeps t.of (mark_name t.name Later s))) ts s
-  def_keeps s (def.Variables vs) = fold_keeps marked_variables (λ s v. keeps_then (later_keeps v.names s) (marked_in_keeps v.of (fold marked_later s v.names))) vs s
-  def_keeps s (def.Procedure h) = marked_keeps h.name Ahead s refl
+  def_keeps = def_marks marks
 
   pub defs_keep : (ds : List Def) (s : Scope T) → Keeps s (fold marked_def s ds)
-  defs_keep ds s = fold_keeps marked_def def_keeps ds s
+  defs_keep = defs_marks marks
 
 -- ---- declarations that break no rule
 
@@ -279,23 +216,23 @@ module _ (g : Gathers) where
   abbrev TakesFields : MakesFields g → Marks g.Reported → Type 0
   TakesFields f marks = (st : Fielded) → (f st).2 ≡ Ok tt → (fin : Own) → Within (f st).0.own fin → Covers fin marks
 
-  abbrev PT : TypeExpr → Type 0
-  PT t = Takes (type_of g t) (marked_in t)
+  abbrev PT : TypeExpr → Makes g → Type 0
+  PT t f = Takes f (marked_in t)
 
-  abbrev PF : Field → Type 0
-  PF f = TakesFields (field_list g f) (marked_field f)
+  abbrev PF : Field → MakesFields g → Type 0
+  PF d f = TakesFields f (marked_field d)
 
   abbrev ST : Type 0
-  ST = (t : TypeExpr) × PT t
+  ST = Typed (type_of g) (field_list g) PT PF
 
   abbrev SF : Type 0
-  SF = (f : Field) × PF f
+  SF = WithFields (type_of g) (field_list g) PT PF
 
-  abbrev bare : TypeExpr-F ST SF → TypeExpr-F TypeExpr Field
-  bare x = map-TypeExpr ST SF TypeExpr Field (λ t. t.0) (λ f. f.0) x
+  abbrev stripped : TypeExpr-F ST SF → TypeExpr-F TypeExpr Field
+  stripped y = bare (type_of g) (field_list g) PT PF y
 
-  abbrev bare_field : Field-F ST SF → Field-F TypeExpr Field
-  bare_field x = map-Field ST SF TypeExpr Field (λ t. t.0) (λ f. f.0) x
+  abbrev stripped_field : Field-F ST SF → Field-F TypeExpr Field
+  stripped_field y = bare_field (type_of g) (field_list g) PT PF y
 
   names_reported : (t : TypeNo) (cells : ℕ) (names : List Ident) (st : Fields × Result (Unit {0}) g.Reported) → (fold (with_name g t cells) st names).1 ≡ Ok tt → st.1 ≡ Ok tt
   names_reported t cells [] st e = e
@@ -309,7 +246,7 @@ module _ (g : Gathers) where
   field_reported f st e =
       let of : State TypeNo g.Reported = type_of g (out-Field f).of st.0 in
       beside_left g st.2 (nothing_of of.1)
-      (fields_reported of (out-Field f).names st.1 st.2 (subst (λ (y : MakesFields g). (y st).2 ≡ Ok tt) (field_at g f (out-Field f) refl) e))
+      (fields_reported of (out-Field f).names st.1 st.2 (subst (λ (y : MakesFields g). (y st).2 ≡ Ok tt) (fields_at g f (out-Field f) refl) e))
 
   abbrev all_fields : List SF → Fielded → Fielded
   all_fields fs st = fold (then_fields g) st (map (field_list g) (map (λ (f : SF). f.0) fs))
@@ -347,29 +284,30 @@ module _ (g : Gathers) where
       let k = then_ok st.2 _ made.0 made.1 in
       all_take fields (s, no_fields, Ok tt) k.1 fin (λ y h. w y ((made_goes st.0 (record_of g at st.1 st.2)).taken y h)) z all
 
-  type_takes : (y : TypeExpr-F ST SF) → Takes (type_layer g (opened g (bare y))) (marking.type_layer (marks_opened g.Reported (bare y)))
+  type_takes : (y : TypeExpr-F ST SF) → Takes (type_layer g (types_opened g (stripped y))) (marking.type_layer (marks_opened (stripped y)))
   type_takes (layer.Simple t) = λ s x e fin w z all. simple_takes s t x e fin w z all
   type_takes (layer.Array at index t) = array_takes at index t
   type_takes (layer.Record at fields) = record_takes at fields
   type_takes (layer.Procedure at formals t) = λ s x e fin w z all. all
 
-  field_takes : (y : Field-F ST SF) → TakesFields (field_layer g (opened_field g (bare_field y))) (marking.field_layer (marks_opened_field g.Reported (bare_field y)))
+  field_takes : (y : Field-F ST SF) → TakesFields (field_layer g (fields_opened g (stripped_field y))) (marking.field_layer (marks_opened_field (stripped_field y)))
   field_takes y st e fin w z all =
       let of : State TypeNo g.Reported = type_of g y.of.0 st.0 in
       let k = then_ok of.1 (λ x. Ok tt) tt (beside_right g st.2 (nothing_of of.1) (fields_reported of y.names st.1 st.2 e)) in
       y.of.1 st.0 k.0 k.1 fin w z all
 
-  along : {A B : Type 0} (R : A → B → Type 0) {a a' : A} {b b' : B} → a ≡ a' → b ≡ b' → R a' b' → R a b
-  along R {a' = a'} {b = b} e f r = subst (λ x. R x b) (sym e) (subst (λ y. R a' y) (sym f) r)
+  type_step : (y : TypeExpr-F ST SF) → PT (roll-TypeExpr (stripped y)) (type_layer g (types_opened g (stripped y)))
+  type_step y =
+      let x : TypeExpr-F TypeExpr Field = stripped y in
+      subst (λ (m : Marks g.Reported). Takes (type_layer g (types_opened g x)) m) (sym (marks_at (roll-TypeExpr x) x (out-roll-TypeExpr x))) (type_takes y)
 
-  step_type : (x : TypeExpr-F TypeExpr Field) (y : TypeExpr-F ST SF) → bare y ≡ x → PT (roll-TypeExpr x)
-  step_type x y q = along Takes (type_at g (roll-TypeExpr x) (bare y) (out-roll-TypeExpr x ∙ sym q)) (marks_at g.Reported (roll-TypeExpr x) (bare y) (out-roll-TypeExpr x ∙ sym q)) (type_takes y)
+  field_step : (y : Field-F ST SF) → PF (roll-Field (stripped_field y)) (field_layer g (fields_opened g (stripped_field y)))
+  field_step y =
+      let x : Field-F TypeExpr Field = stripped_field y in
+      subst (λ (m : Marks g.Reported). TakesFields (field_layer g (fields_opened g x)) m) (sym (marks_at_field (roll-Field x) x (out-roll-Field x))) (field_takes y)
 
-  step_field : (x : Field-F TypeExpr Field) (y : Field-F ST SF) → bare_field y ≡ x → PF (roll-Field x)
-  step_field x y q = along TakesFields (field_at g (roll-Field x) (bare_field y) (out-roll-Field x ∙ sym q)) (marks_at_field g.Reported (roll-Field x) (bare_field y) (out-roll-Field x ∙ sym q)) (field_takes y)
-
-  type_of_takes : (t : TypeExpr) → PT t
-  type_of_takes = ind-TypeExpr PT PF step_type step_field
+  type_of_takes : (t : TypeExpr) → PT t (type_of g t)
+  type_of_takes = all_trees (type_of g) (field_list g) PT PF (type_layer g) (field_layer g) (types_at g) (fields_at g) type_step field_step
 
   -- ---- constants, types and variables
 
