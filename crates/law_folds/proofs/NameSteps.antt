@@ -19,7 +19,7 @@ use Rattle.check_type_expr.specs.Made.{type_of}
 use Rattle.check_definition.specs.Declare.{constant_meaning, with_constant, type_meaning, brings_with, with_type, begun_name, variable_meaning, with_variable_type, finished_variable, with_variables}
 use Rattle.check_block.specs.Declarations.{local_meaning, finished_local, with_locals, with_variables_of}
 use Rattle.law_folds.proofs.Orders.{IsOrder, either_scope, steps}
-use Rattle.law_folds.proofs.TypeSteps.{unless_keeps, KeepsTypes, type_keeps}
+use Rattle.law_folds.proofs.TypeSteps.{unless_keeps, KeepsTypes, by_shapes}
 
 -- a name ends whose declaration was begun
 pub finish_keeps : {T : Type 0} {R : Scope T → Scope T → Type 0} (o : IsOrder R) (s : Scope T) (name : Ident)
@@ -35,7 +35,10 @@ pub record KeepsNames (g : Gathers) (R : Scope g.Reported → Scope g.Reported �
       → R s (with_known c.name.name (Declared Here (constant_meaning (constant g s (part g c.value)))) s)
   pub type_ends : (s : Scope g.Reported) (name : List ℕ) (t : Result TypeNo g.Reported) (n : ℕ)
       → is_begun (find_name name s.own) ≡ true → R s (with_known name (Declared Here (type_meaning t n)) s)
-  pub varied : (s : Scope g.Reported) (t : Result TypeNo g.Reported) → R s (with_variable_type s t)
+
+-- the type of a variable is noted
+abbrev pub Varies : (g : Gathers) → (Scope g.Reported → Scope g.Reported → Type 0) → Type 0
+Varies g R = (s : Scope g.Reported) (t : Result TypeNo g.Reported) → R s (with_variable_type s t)
 
 -- the type of a variable is noted, of a module's or a procedure's, and its name ends
 abbrev pub VariablesEnd : (g : Gathers) → (Scope g.Reported → Scope g.Reported → Type 0) → Type 0
@@ -82,7 +85,7 @@ module _ (g : Gathers) {R : Scope g.Reported → Scope g.Reported → Type 0} (k
   type_decl_keeps st d =
       let b : Scope g.Reported = (begin_name g st.0 d.name).0 in
       let t : State TypeNo g.Reported = type_of g d.of b in
-      order.next st.0 b _ (begin_keeps st.0 d.name) (order.next b t.0 _ (type_keeps g k.types d.of b)
+      order.next st.0 b _ (begin_keeps st.0 d.name) (order.next b t.0 _ (k.types.types d.of b)
       (finish_keeps order t.0 d.name (type_meaning t.1 (brings_with d.of)) (k.type_ends t.0 d.name.name t.1 (brings_with d.of))))
 
   pub types_keep : (ts : List TypeDecl) (st : St) → R st.0 (fold (with_type g) st ts).0
@@ -97,36 +100,38 @@ module _ (g : Gathers) {R : Scope g.Reported → Scope g.Reported → Type 0} (k
       let b : Scope g.Reported = (fold (begun_name g) st v.names).0 in
       let t : State TypeNo g.Reported = type_of g v.of b in
       order.next st.0 b _ (begun_all v.names st)
-      (order.next b t.0 _ (type_keeps g k.types v.of b) (steps order same (f t.1) (h t.1) v.names t.0))
+      (order.next b t.0 _ (k.types.types v.of b) (steps order same (f t.1) (h t.1) v.names t.0))
 
-  pub variable_keeps : VariablesEnd g R → (t : Result TypeNo g.Reported) (s : Scope g.Reported) (x : Ident)
+  pub variable_keeps : Varies g R → VariablesEnd g R → (t : Result TypeNo g.Reported) (s : Scope g.Reported) (x : Ident)
       → R s (finished_variable t s x)
-  variable_keeps h t s x =
-      let v : Scope g.Reported = with_variable_type s t in
-      either_scope order s (is_begun (find_name x.name v.own))
-      (with_known x.name (Declared Here (variable_meaning s.types.home (length s.variables) t)) v) v (h s x.name t) (k.varied s t)
+  variable_keeps v h t s x =
+      let n : Scope g.Reported = with_variable_type s t in
+      either_scope order s (is_begun (find_name x.name n.own))
+      (with_known x.name (Declared Here (variable_meaning s.types.home (length s.variables) t)) n) n (h s x.name t) (v s t)
 
-  pub variables_keep : VariablesEnd g R → (vs : List Variables) (st : St) → R st.0 (fold (with_variables g) st vs).0
-  variables_keep h = steps order state (with_variables g) (variables_by finished_variable (variable_keeps h))
+  pub variable_list_keeps : Varies g R → VariablesEnd g R → (st : St) (v : Variables) → R st.0 (with_variables g st v).0
+  variable_list_keeps v h = variables_by finished_variable (variable_keeps v h)
 
-  pub variable_list_keeps : VariablesEnd g R → (st : St) (v : Variables) → R st.0 (with_variables g st v).0
-  variable_list_keeps h = variables_by finished_variable (variable_keeps h)
+  pub variables_keep : Varies g R → VariablesEnd g R → (vs : List Variables) (st : St)
+      → R st.0 (fold (with_variables g) st vs).0
+  variables_keep v h = steps order state (with_variables g) (variable_list_keeps v h)
 
-  local_keeps : LocalsEnd g R → (t : Result TypeNo g.Reported) (s : Scope g.Reported) (x : Ident)
+  local_keeps : Varies g R → LocalsEnd g R → (t : Result TypeNo g.Reported) (s : Scope g.Reported) (x : Ident)
       → R s (finished_local t s x)
-  local_keeps h t s x =
-      let v : Scope g.Reported = with_variable_type s t in
-      either_scope order s (is_begun (find_name x.name v.own))
-      (with_known x.name (Declared Here (local_meaning s.level (length s.variables) t)) v) v (h s x.name t) (k.varied s t)
+  local_keeps v h t s x =
+      let n : Scope g.Reported = with_variable_type s t in
+      either_scope order s (is_begun (find_name x.name n.own))
+      (with_known x.name (Declared Here (local_meaning s.level (length s.variables) t)) n) n (h s x.name t) (v s t)
 
-  pub locals_keep : LocalsEnd g R → (vs : List Variables) (st : St) → R st.0 (fold (with_locals g) st vs).0
-  locals_keep h = steps order state (with_locals g) (variables_by finished_local (local_keeps h))
+  pub locals_keep : Varies g R → LocalsEnd g R → (vs : List Variables) (st : St) → R st.0 (fold (with_locals g) st vs).0
+  locals_keep v h = steps order state (with_locals g) (variables_by finished_local (local_keeps v h))
 
-  pub variables_of_keep : VariablesEnd g R → LocalsEnd g R → (vs : List Variables) (st : St) → R st.0 (with_variables_of g st vs).0
-  variables_of_keep h l vs st = by (st.0.level == 0) where
+  pub variables_of_keep : Varies g R → VariablesEnd g R → LocalsEnd g R → (vs : List Variables) (st : St)
+      → R st.0 (with_variables_of g st vs).0
+  variables_of_keep v h l vs st = by (st.0.level == 0) where
     by : (b : Bool) → R st.0 (cond {A = St} b (fold (with_variables g) st vs) (fold (with_locals g) st vs)).0
-    by true = variables_keep h vs st
-    by false = locals_keep l vs st
+    by true = variables_keep v h vs st
+    by false = locals_keep v l vs st
 
 -- ---- at one level
 
@@ -145,16 +150,22 @@ pub varied_level : {T : Type 0} (s : Scope T) (t : Result TypeNo T) → (with_va
 varied_level s (Ok t) = refl
 varied_level s (Err e) = refl
 
+level_types : (g : Gathers) → KeepsTypes g (λ s t. t.level ≡ s.level)
+level_types g = by_shapes g (record {
+  order = record { same = λ s. refl; next = λ a b c p q. q ∙ p };
+  shaped = λ s m. refl;
+  listed = λ s name t n f. refl;
+})
+
 pub level_names : (g : Gathers) (b : Bool) {R : Scope g.Reported → Scope g.Reported → Type 0} → KeepsNames g R
     → KeepsNames g (AtLevel b R)
 level_names g b {R = R} k = record {
   types = record {
     order = level_order b R k.types.order;
-    shaped = λ s m. (refl, λ e. k.types.shaped s m);
-    listed = λ s name t n f. (refl, λ e. k.types.listed s name t n f);
+    types = λ t s. ((level_types g).types t s, λ e. k.types.types t s);
+    headings = λ s h. ((level_types g).headings s h, λ e. k.types.headings s h);
   };
   begun = λ s name f. (refl, λ e. k.begun s name f);
   constant_ends = λ s c f. (refl, λ e. k.constant_ends s c f);
   type_ends = λ s name t n f. (refl, λ e. k.type_ends s name t n f);
-  varied = λ s t. (varied_level s t, λ e. k.varied s t);
 }

@@ -4,6 +4,7 @@ use Rattle.std.specs.Prelude.{map}
 use Rattle.std.specs.List.{fold}
 use Rattle.m2_rule.specs.declared.rule.Rule.TheVariants as rule
 use Rattle.m2_tree.specs.declared.name.Ident.{Ident}
+use Rattle.m2_tree.specs.declared.decl.Heading.{Heading}
 use Rattle.m2_tree.specs.declared.decl.Simple.{Simple}
 use Rattle.m2_tree.specs.declared.decl.Simple.TheVariants as simple
 use Rattle.m2_tree.specs.declared.decl.TypeExpr.{TypeExpr, TypeExpr-F}
@@ -20,6 +21,7 @@ use Rattle.check_scope.specs.declared.known.Origin.TheVariants.{Here}
 use Rattle.check_scope.specs.declared.scope.Scope.{Scope}
 use Rattle.check_type_expr.specs.declared.field.Fields.{Fields}
 use Rattle.check_type_expr.specs.Fields.{no_fields}
+use Rattle.check_type_expr.specs.Headings.{heading_of}
 use Rattle.check_type_expr.specs.Made.{next_type, with_shape, with_made, enumeration_constant, enumeration_scalar, too_many, enumerate_name, simple_type, index_type, Makes, MakesFields, then_fields, type_layer, field_layer, type_of, field_list}
 use Rattle.law_folds.proofs.Orders.{IsOrder, either, steps}
 use Rattle.law_folds.proofs.TypeFolds.{Typed, Fielded, bare, all_trees, types_opened, types_at, fields_at}
@@ -32,13 +34,13 @@ module _ (g : Gathers) {R : Scope g.Reported → Scope g.Reported → Type 0} (o
       either o s (is_free (find_name name.name s.own)) (with_known name.name k s, Ok tt)
       (s, report g name.pos rule.DeclaredTwice) h (o.same s)
 
-pub record KeepsTypes (g : Gathers) (R : Scope g.Reported → Scope g.Reported → Type 0) : Type 0 where
+pub record KeepsShapes (g : Gathers) (R : Scope g.Reported → Scope g.Reported → Type 0) : Type 0 where
   pub order : IsOrder R
   pub shaped : (s : Scope g.Reported) (m : Made) → R s (with_shape s m)
   pub listed : (s : Scope g.Reported) (name : List ℕ) (t : TypeNo) (n : ℤ) → is_free (find_name name s.own) ≡ true
       → R s (with_known name (Declared Here (Ok (enumeration_constant t n))) s)
 
-module _ (g : Gathers) {R : Scope g.Reported → Scope g.Reported → Type 0} (k : KeepsTypes g R) where
+module _ (g : Gathers) {R : Scope g.Reported → Scope g.Reported → Type 0} (k : KeepsShapes g R) where
   abbrev Listed : Type 0
   Listed = Scope g.Reported × ℕ × Result (Unit {0}) g.Reported
 
@@ -99,3 +101,13 @@ module _ (g : Gathers) {R : Scope g.Reported → Scope g.Reported → Type 0} (k
   pub field_list_keeps : (d : Field) (st : WithFields) → R st.0 (field_list g d st).0
   field_list_keeps d st =
       subst (λ (f : MakesFields g). R st.0 (f st).0) (sym (fields_at g d (out-Field d) refl)) (type_keeps (out-Field d).of st.0)
+
+-- ---- types, and the headings of procedures
+
+pub record KeepsTypes (g : Gathers) (R : Scope g.Reported → Scope g.Reported → Type 0) : Type 0 where
+  pub order : IsOrder R
+  pub types : (t : TypeExpr) (s : Scope g.Reported) → R s (type_of g t s).0
+  pub headings : (s : Scope g.Reported) (h : Heading) → R s (with_made s (heading_of g s h)).0
+
+pub by_shapes : (g : Gathers) {R : Scope g.Reported → Scope g.Reported → Type 0} → KeepsShapes g R → KeepsTypes g R
+by_shapes g k = record { order = k.order; types = type_keeps g k; headings = λ s h. made_keeps g k s (heading_of g s h) }

@@ -32,7 +32,8 @@ use Rattle.law_typing.proofs.Entering.{entered_all}
 use Rattle.def_typed.specs.Numbers.{headings_by, headings_in}
 use Rattle.law_numbers.specs.Numbered as numbered
 use Rattle.law_numbers.specs.Numbered.{Entry, no_heading, new_heading, awaited_heading, nested_heading}
-use Rattle.law_numbers.proofs.Walking.{free_standing, waiting, IsEntered, later_is, ahead_is, begun_is, headed_is, declared_is, constants_stay, types_stay, variables_stay}
+use Rattle.law_folds.proofs.BlockSteps.{free_standing}
+use Rattle.law_numbers.proofs.Walking.{waiting, IsEntered, later_is, ahead_is, begun_is, headed_is, declared_is, constants_stay, types_stay, variables_stay}
 use Rattle.law_numbers.proofs.Variables.{get_left, beside_second, entered_here, free_beside, begun_beside, awaited_beside}
 use Rattle.law_numbers.proofs.Declaring.{decls_fine}
 

@@ -1,30 +1,27 @@
 -- Where a body begins: what its imports leave as it was, and the procedures of its definition that await their headings.
-use Rattle.std.proofs.Common.{◌≡◌, ℕ, ◌==◌, Bool, true, false, ◌||◌, cond, List, [], ◌∷◌, length, Option, Some, None, Result, Ok, Err, refl, sym, ap, subst, ◌∙◌}
-use Rattle.std.specs.Prelude.{take, drop, slice_get}
+use Rattle.std.proofs.Common.{◌≡◌, ℕ, ◌==◌, Bool, true, false, ◌||◌, cond, List, [], ◌∷◌, length, Option, Some, None, Ok, refl, sym, ap, subst, ◌∙◌}
+use Rattle.std.specs.Prelude.{slice_get}
 use Rattle.std.specs.List.{fold}
-use Rattle.m2_rule.specs.declared.rule.Rule.TheVariants as rule
-use Rattle.m2_tree.specs.declared.pos.Pos.{Pos}
-use Rattle.m2_tree.specs.declared.name.Ident.{Ident}
 use Rattle.m2_tree.specs.declared.decl.Import.{Import}
 use Rattle.typed_tree.specs.declared.meaning.Meaning.{Meaning}
 use Rattle.typed_tree.specs.declared.meaning.Meaning.TheVariants as meaning
 use Rattle.typed_tree.specs.declared.meaning.Procedure.{Procedure}
 use Rattle.typed_tree.specs.declared.types.TypeNo.{TypeNo}
 use Rattle.m2_tree.specs.Names.{same_name}
-use Rattle.typed_tree.specs.Names.{find_name, enter_name, place_of}
-use Rattle.check_scope.specs.Elaborated.{Gathers, report}
-use Rattle.check_scope.specs.Scopes.{State, is_free, with_known, is_again, import_name}
-use Rattle.check_scope.specs.declared.known.Origin.{Origin}
+use Rattle.typed_tree.specs.Names.{find_name, enter_name}
+use Rattle.check_scope.specs.Elaborated.{Gathers}
+use Rattle.check_scope.specs.Scopes.{State, with_known}
 use Rattle.check_scope.specs.declared.known.Origin.TheVariants.{Here, Module, Export}
 use Rattle.check_scope.specs.declared.known.Known.{Known}
 use Rattle.check_scope.specs.declared.known.Known.TheVariants.{Declared}
 use Rattle.check_scope.specs.declared.scope.Block.{Block as Around}
 use Rattle.check_scope.specs.declared.scope.Scope.{Scope}
-use Rattle.check_definition.specs.Importing.{module_named, with_module_as, with_module_name, with_entry, brings_in, reported_of_taken, unless_taken, from_place, with_from, exports_of, from_module, with_imports, with_import}
+use Rattle.check_definition.specs.Importing.{with_import}
 use Rattle.check_definition.specs.Predeclared.{predeclared_block}
 use Rattle.check_block.specs.declared.heading.Standing.TheVariants.{Awaited, Taken}
 use Rattle.check_block.specs.Headings.{standing_of, standing_known, name_standing}
 use Rattle.check_body.specs.Own.{with_own_name, own_names, exported_headings}
+use Rattle.law_folds.proofs.ImportSteps.{imports_keep}
 use Rattle.law_well_formed.proofs.ImportsLists.{same_is}
 use Rattle.law_well_formed.proofs.Names.{found_self}
 use Rattle.law_well_formed.proofs.HeadingsLists.{found_other}
@@ -70,52 +67,12 @@ module _ {T : Type 0} where
   known_stays : (name : List ℕ) (k : Known T) (s : Scope T) → standing_known k ≡ Taken → Stays s (with_known name k s)
   known_stays name k s t = record { level = refl; outer = refl; withs = refl; home = refl; procedures = refl; awaited = λ y p e. taken_awaits y name k s.own p t e }
 
-  either : (s : Scope T) (b : Bool) {A : Type 0} (x y : State A T) → Stays s x.0 → Stays s y.0 → Stays s (cond b x y).0
-  either s true x y p q = p
-  either s false x y p q = q
-
-  module _ {A X : Type 0} (at : A → Scope T) (f : A → X → A) (k : (a : A) (x : X) → Stays (at a) (at (f a x))) where
-    fold_stays : (xs : List X) (a : A) → Stays (at a) (at (fold f a xs))
-    fold_stays [] a = same_stays (at a)
-    fold_stays (x ∷ xs) a = fold_stays xs (f a x) ⨾ k a x
-
-  abbrev state : {A : Type 0} → State A T → Scope T
-  state st = st.0
-
-module _ (g : Gathers) where
-  imported_stays : (s : Scope g.Reported) (at : Pos) (name : List ℕ) (o : Origin) (m : Result Meaning g.Reported) → standing_known (Declared o m) ≡ Taken → Stays s (import_name g s at name o m).0
-  imported_stays s at name o m t =
-      either s (is_again (find_name name s.own) o) (s, Ok tt) (cond (is_free (find_name name s.own)) (with_known name (Declared o m) s, Ok tt) (s, report g at rule.DeclaredTwice)) (same_stays s)
-      (either s (is_free (find_name name s.own)) (with_known name (Declared o m) s, Ok tt) (s, report g at rule.DeclaredTwice) (known_stays name (Declared o m) s t) (same_stays s))
-
-  module_as_stays : (s : Scope g.Reported) (name : Ident) (r : Result ℕ g.Reported) → Stays s (with_module_as g s name r).0
-  module_as_stays s name (Ok k) = imported_stays s name.pos name.name (Module k) _ refl
-  module_as_stays s name (Err e) = same_stays s
-
-  entry_stays : (at : Pos) (k : ℕ) (st : State (Unit {0}) g.Reported) (e : List ℕ × Meaning) → Stays st.0 (with_entry g at k st e).0
-  entry_stays at k st e = imported_stays st.0 at e.0 (Export k) (Ok e.1) refl
-
-  taken_stays : (s : Scope g.Reported) (at : Pos) (k : ℕ) (es : List (List ℕ × Meaning)) (i : ℕ) (o : Option (Result (Unit {0}) g.Reported)) → Stays s (unless_taken g s at k es i o).0
-  taken_stays s at k es i (Some j) = same_stays s
-  taken_stays s at k es i None = fold_stays state (with_entry g at k) (entry_stays at k) (take (brings_in (slice_get es i)) (drop i es)) (s, Ok tt)
-
-  place_stays : (s : Scope g.Reported) (name : Ident) (k : ℕ) (es : List (List ℕ × Meaning)) (o : Option ℕ) → Stays s (from_place g s name k es o).0
-  place_stays s name k es None = same_stays s
-  place_stays s name k es (Some i) = taken_stays s name.pos k es i (reported_of_taken g name.pos k (find_name name.name s.own))
-
-  from_stays : (k : ℕ) (es : List (List ℕ × Meaning)) (st : State (Unit {0}) g.Reported) (name : Ident) → Stays st.0 (with_from g k es st name).0
-  from_stays k es st name = place_stays st.0 name k es (place_of name.name es)
-
-  from_module_stays : (r : Result ℕ g.Reported) (st : State (Unit {0}) g.Reported) (names : List Ident) → Stays st.0 (from_module g r st names).0
-  from_module_stays (Ok k) st names = fold_stays state (with_from g k (exports_of (slice_get st.0.tables k))) (from_stays k (exports_of (slice_get st.0.tables k))) names st
-  from_module_stays (Err e) st names = same_stays st.0
-
-  imports_stay : (modules : List (List ℕ × ℕ)) (st : State (Unit {0}) g.Reported) (from : Option Ident) (names : List Ident) → Stays st.0 (with_imports g modules st from names).0
-  imports_stay modules st None names = fold_stays state (with_module_name g modules) (λ st x. module_as_stays st.0 x (module_named g modules x)) names st
-  imports_stay modules st (Some m) names = from_module_stays (module_named g modules m) st names
-
-  pub import_stays : (modules : List (List ℕ × ℕ)) (is : List Import) (st : State (Unit {0}) g.Reported) → Stays st.0 (fold (with_import g modules) st is).0
-  import_stays modules is st = fold_stays state (with_import g modules) (λ st i. imports_stay modules st i.from i.names) is st
+pub import_stays : (g : Gathers) (modules : List (List ℕ × ℕ)) (is : List Import) (st : State (Unit {0}) g.Reported) → Stays st.0 (fold (with_import g modules) st is).0
+import_stays g = imports_keep g (record {
+  order = record { same = same_stays; next = λ a b c p q. q ⨾ p };
+  modules = λ s name n e. known_stays name (Declared (Module n) (Ok (meaning.Module n))) s refl;
+  exports = λ s name n m e. known_stays name (Declared (Export n) (Ok m)) s refl;
+})
 
 -- ---- procedures of the definition
 

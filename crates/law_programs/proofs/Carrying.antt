@@ -3,9 +3,6 @@ use Rattle.std.proofs.Common.{◌≡◌, ℕ, zero, suc, ◌==◌, Bool, true, f
 use Rattle.std.specs.Prelude.{slice_get, nat_eq}
 use Rattle.std.specs.Map.{lookup}
 use Rattle.std.specs.Option.{is_some}
-use Rattle.m2_rule.specs.declared.rule.Rule.TheVariants as rule
-use Rattle.m2_tree.specs.declared.pos.Pos.{Pos}
-use Rattle.m2_tree.specs.declared.name.Ident.{Ident}
 use Rattle.typed_tree.specs.declared.known_types.Types.{Types}
 use Rattle.typed_tree.specs.declared.meaning.Meaning.{Meaning}
 use Rattle.typed_tree.specs.declared.meaning.Meaning.TheVariants as meaning
@@ -20,12 +17,10 @@ use Rattle.typed_tree.specs.declared.types.Home.TheVariants.{Predeclared, Module
 use Rattle.typed_tree.specs.declared.types.TypeNo.{TypeNo}
 use Rattle.typed_tree.specs.Known.{made_from, in_list, scalar_at}
 use Rattle.m2_tree.specs.Names.{same_name}
-use Rattle.typed_tree.specs.Names.{find_name, enter_name}
-use Rattle.check_scope.specs.Elaborated.{Gathers, report}
-use Rattle.check_scope.specs.Scopes.{State, is_free, with_known, unless_declared, begin_name, is_begun, finish_name, unless_marked, mark_name}
+use Rattle.typed_tree.specs.Names.{enter_name}
+use Rattle.check_scope.specs.Scopes.{with_known}
 use Rattle.check_scope.specs.declared.known.Known.{Known}
 use Rattle.check_scope.specs.declared.known.Known.TheVariants.{Later, Ahead, Begun, Headed, Declared}
-use Rattle.check_scope.specs.declared.known.Origin.TheVariants.{Here}
 use Rattle.check_scope.specs.declared.scope.Scope.{Scope}
 use Rattle.check_operator.specs.Classes.{array_shape, array_made, array_at}
 use Rattle.check_type_expr.specs.Made.{with_shape, with_made}
@@ -34,7 +29,7 @@ use Rattle.law_well_formed.specs.Formed.{Holds, fine, broken}
 use Rattle.law_well_formed.proofs.Basics.{holds_weaker, Grows}
 use Rattle.law_well_formed.proofs.Names.{get_more}
 use Rattle.law_programs.specs.Typing.{IsIndexed}
-use Rattle.law_programs.specs.Carried.{ShapeIndexed, AllIndexed, OthersIndexed, TypesIndexed, MeaningPlaced, KnownPlaced, NamesPlaced, MeaningWord, KnownWord, NamesWords, ScopeWords, slots_from, slots_in, StandsIn, MeaningSlot, KnownSlot, NamesSlots, Carries}
+use Rattle.law_programs.specs.Carried.{ShapeIndexed, AllIndexed, OthersIndexed, TypesIndexed, MeaningPlaced, KnownPlaced, NamesPlaced, KnownWord, NamesWords, ScopeWords, slots_from, slots_in, StandsIn, MeaningSlot, KnownSlot, NamesSlots, Carries}
 use Rattle.law_programs.specs.Scopes.{formal_slot, variable_slot}
 use Rattle.law_programs.proofs.Known.{scalar_known}
 
@@ -215,31 +210,6 @@ known_carries s name k p w z = record {
   slots = λ o l q. slots_more (slots_in o s.variables) s.level name k s.own (z o l) q;
 }
 
-module _ (g : Gathers) (s : Scope g.Reported) where
-  pub free_carries : (at : Pos) (name : List ℕ) (k : Known g.Reported) (b : Bool) → KnownPlaced s.types.home s.variables k → (ScopeWords s → KnownWord k) → SlotFor s k → Carries s (cond {A = State (Unit {0}) g.Reported} b (with_known name k s, Ok tt) (s, report g at rule.DeclaredTwice)).0
-  free_carries at name k true p w z = known_carries s name k p w z
-  free_carries at name k false p w z = carries_refl s
-
-  pub unless_carries : (name : Ident) (k : Known g.Reported) → KnownPlaced s.types.home s.variables k → (ScopeWords s → KnownWord k) → SlotFor s k → Carries s (unless_declared g s name k).0
-  unless_carries name k p w z = free_carries name.pos name.name k (is_free (find_name name.name s.own)) p w z
-
-  pub begun_carries : (name : Ident) → Carries s (begin_name g s name).0
-  begun_carries name = unless_carries name Begun tt (λ q. tt) (λ fs l. tt)
-
-finished_by : {T : Type 0} (s : Scope T) (name : List ℕ) (k : Known T) (b : Bool) → KnownPlaced s.types.home s.variables k → (ScopeWords s → KnownWord k) → SlotFor s k → Carries s (cond b (with_known name k s) s)
-finished_by s name k true p w z = known_carries s name k p w z
-finished_by s name k false p w z = carries_refl s
-
-pub finished_carries : {T : Type 0} (s : Scope T) (name : Ident) (r : Result Meaning T) → Holds (MeaningPlaced s.types.home s.variables) r → (ScopeWords s → Holds MeaningWord r) → SlotFor s (Declared Here r) → Carries s (finish_name s name r)
-finished_carries s name r p w z = finished_by s name.name (Declared Here r) (is_begun (find_name name.name s.own)) p w z
-
-marked_by : {T : Type 0} (s : Scope T) (name : List ℕ) (k : Known T) (o : Option (Known T)) → KnownPlaced s.types.home s.variables k → (ScopeWords s → KnownWord k) → SlotFor s k → Carries s (unless_marked name k s o)
-marked_by s name k (Some x) p w z = carries_refl s
-marked_by s name k None p w z = known_carries s name k p w z
-
-pub marked_carries : {T : Type 0} (s : Scope T) (name : Ident) (k : Known T) → KnownPlaced s.types.home s.variables k → (ScopeWords s → KnownWord k) → SlotFor s k → Carries s (mark_name name k s)
-marked_carries s name k p w z = marked_by s name.name k (find_name name.name s.own) p w z
-
 -- ---- one type more
 
 made_more : (types : Types) (x : Made) → Grows types (record types { own = types.own ++ x ∷ [] })
@@ -309,10 +279,10 @@ procedure_type_carries s (Ok t) = record {
 }
 procedure_type_carries s (Err e) = carries_refl s
 
--- a name is finished behind a step that carries on; its slot is asked for what stood before
-then_by : {T : Type 0} (a s : Scope T) (name : List ℕ) (k : Known T) (b : Bool) → Carries a s → KnownPlaced s.types.home s.variables k → (ScopeWords s → KnownWord k)
-    → ((o : Option (List Formal)) → StandsIn o a → KnownSlot (slots_in o s.variables) s.level k) → Carries a (cond b (with_known name k s) s)
-then_by a s name k true c p w z = record {
+-- a name is entered behind a step that carries on; its slot is asked for what stood before
+pub then_known : {T : Type 0} (a s : Scope T) (name : List ℕ) (k : Known T) → Carries a s → KnownPlaced s.types.home s.variables k → (ScopeWords s → KnownWord k)
+    → ((o : Option (List Formal)) → StandsIn o a → KnownSlot (slots_in o s.variables) s.level k) → Carries a (with_known name k s)
+then_known a s name k c p w z = record {
   home = c.home;
   tables = c.tables;
   types = c.types;
@@ -324,11 +294,6 @@ then_by a s name k true c p w z = record {
   level = c.level;
   slots = λ o l q. slots_more (slots_in o s.variables) s.level name k s.own (z o l) (c.slots o l q);
 }
-then_by a s name k false c p w z = c
-
-pub then_finished : {T : Type 0} (a s : Scope T) (name : Ident) (r : Result Meaning T) → Carries a s → Holds (MeaningPlaced s.types.home s.variables) r → (ScopeWords s → Holds MeaningWord r)
-    → ((o : Option (List Formal)) → StandsIn o a → Holds (MeaningSlot (slots_in o s.variables) s.level) r) → Carries a (finish_name s name r)
-then_finished a s name r c p w z = then_by a s name.name (Declared Here r) (is_begun (find_name name.name s.own)) c p w z
 
 -- ---- an array that is known
 

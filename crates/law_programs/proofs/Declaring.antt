@@ -1,5 +1,5 @@
 -- Type expressions, declarations, marks, imports and blocks carry on.
-use Rattle.std.proofs.Common.{◌≡◌, ℕ, zero, suc, ◌==◌, Bool, true, false, cond, List, [], ◌∷◌, length, take, drop, Option, Some, None, Result, Ok, Err, refl, sym, ap, subst, ◌∙◌, pos, ◌≤◌, length-append, arith, ◌++◌}
+use Rattle.std.proofs.Common.{◌≡◌, ℕ, zero, suc, ◌==◌, true, false, List, [], ◌∷◌, length, drop, Option, Some, None, Result, Ok, Err, refl, sym, ap, subst, ◌∙◌, pos, ◌≤◌, length-append, arith, ◌++◌, inl, inr}
 use Rattle.std.specs.Prelude.{map, nat_lt, slice_get}
 use Rattle.std.proofs.lemmas.List.{length-map, length-drop}
 use Rattle.std.specs.List.{fold}
@@ -8,20 +8,16 @@ use Rattle.m2_rule.specs.declared.rule.Rule.TheVariants as rule
 use Rattle.m2_tree.specs.declared.pos.Pos.{Pos}
 use Rattle.m2_tree.specs.declared.name.Ident.{Ident}
 use Rattle.m2_tree.specs.declared.decl.Constant.{Constant}
-use Rattle.m2_tree.specs.declared.decl.TypeDecl.{TypeDecl}
-use Rattle.m2_tree.specs.declared.decl.Variables.{Variables}
 use Rattle.m2_tree.specs.declared.decl.Heading.{Heading}
 use Rattle.m2_tree.specs.declared.decl.Import.{Import}
 use Rattle.m2_tree.specs.declared.decl.Module.{Module}
 use Rattle.m2_tree.specs.declared.decl.Def.{Def}
-use Rattle.m2_tree.specs.declared.decl.Def.TheVariants as def
-use Rattle.m2_tree.specs.declared.decl.Decl.{Decl, Decl-F, out-Decl}
-use Rattle.m2_tree.specs.declared.decl.Decl.TheOpen as decl
+use Rattle.m2_tree.specs.declared.decl.Decl.{Decl}
 use Rattle.m2_tree.specs.declared.decl.Simple.{Simple}
 use Rattle.m2_tree.specs.declared.decl.Simple.TheVariants as simple
-use Rattle.m2_tree.specs.declared.decl.TypeExpr.{TypeExpr, TypeExpr-F, out-TypeExpr, roll-TypeExpr, out-roll-TypeExpr, map-TypeExpr, fold_out-TypeExpr, ind-TypeExpr}
+use Rattle.m2_tree.specs.declared.decl.TypeExpr.{TypeExpr, TypeExpr-F}
 use Rattle.m2_tree.specs.declared.decl.TypeExpr.TheOpen as layer
-use Rattle.m2_tree.specs.declared.decl.Field.{Field, Field-F, out-Field, roll-Field, out-roll-Field, map-Field, fold_out-Field}
+use Rattle.m2_tree.specs.declared.decl.Field.{Field}
 use Rattle.typed_tree.specs.declared.types.TypeNo.{TypeNo}
 use Rattle.typed_tree.specs.declared.shape.Formal.{Formal}
 use Rattle.typed_tree.specs.declared.shape.Made.{Made}
@@ -34,13 +30,10 @@ use Rattle.typed_tree.specs.declared.meaning.Value.{Value}
 use Rattle.typed_tree.specs.declared.table.Table.{Table}
 use Rattle.typed_tree.specs.declared.known_types.Types.{Types}
 use Rattle.typed_tree.specs.Known.{scalar_at, cells_at}
-use Rattle.typed_tree.specs.Names.{find_name, place_of}
 use Rattle.check_scope.specs.Elaborated.{Gathers, both}
-use Rattle.check_scope.specs.Scopes.{State, is_free, begin_name, is_again, import_name}
+use Rattle.check_scope.specs.Scopes.{State}
 use Rattle.check_scope.specs.declared.known.Known.TheVariants.{Later, Ahead, Headed, Declared}
-use Rattle.check_scope.specs.declared.known.Origin.{Origin}
-use Rattle.check_scope.specs.declared.known.Origin.TheVariants.{Here, Export}
-use Rattle.check_scope.specs.declared.known.Origin.TheVariants as origin
+use Rattle.check_scope.specs.declared.known.Origin.TheVariants.{Here}
 use Rattle.check_scope.specs.declared.scope.Scope.{Scope}
 use Rattle.check_scope.specs.Scopes.{heading_means}
 use Rattle.check_const.specs.Parts.{constant}
@@ -49,105 +42,55 @@ use Rattle.check_type_expr.specs.declared.field.Fields.{Fields}
 use Rattle.check_type_expr.specs.Cells.{array_cells, count_at, is_index_scalar, is_index}
 use Rattle.check_type_expr.specs.Fields.{no_fields}
 use Rattle.check_type_expr.specs.Headings.{procedure_made, with_section, result_of, heading_of}
-use Rattle.check_type_expr.specs.Made.{next_type, with_shape, with_made, enumeration_constant, enumeration_scalar, too_many, enumerate_name, simple_type, simple_place, array_of, index_type, record_of, Makes, MakesFields, then_fields, type_layer, field_layer, type_of, field_list}
-use Rattle.check_definition.specs.Marking.{Marks, marked_later, marked_simple, then_marks, marked_in, marked_field, marked_constant, marked_type, marked_variables, marked_def}
-use Rattle.check_definition.specs.Marking as marking
-use Rattle.check_definition.specs.Declare.{constant_meaning, with_constant, brings_with, type_meaning, with_type, begun_name, variable_meaning, with_variable_type, finished_variable, with_variables, procedure_meaning, with_procedure_type, with_procedure, with_def}
-use Rattle.check_definition.specs.Importing.{module_named, with_module_as, with_module_name, with_entry, brings_in, reported_of_taken, unless_taken, from_place, with_from, exports_of, from_module, with_imports, with_import}
+use Rattle.check_type_expr.specs.Made.{next_type, with_shape, enumeration_constant, enumeration_scalar, too_many, enumerate_name, simple_type, simple_place, array_of, index_type, record_of, Makes, MakesFields, then_fields, type_layer, field_layer, type_of, field_list}
+use Rattle.check_definition.specs.Marking.{marked_def}
+use Rattle.check_definition.specs.Declare.{variable_meaning, with_variable_type, procedure_meaning, with_procedure_type}
+use Rattle.check_definition.specs.Importing.{exports_of, with_import}
 use Rattle.check_definition.specs.Compiled.{declared_in}
-use Rattle.check_block.specs.declared.heading.Standing.{Standing}
-use Rattle.check_block.specs.declared.heading.Standing.TheVariants.{Free, Awaited, Taken}
-use Rattle.check_block.specs.Headings.{name_standing, nested_meaning, set_heading, module_procedure, headed_as, with_heading}
-use Rattle.check_block.specs.Naming.{marked_layer, marked_decl, with_marks, all_marked}
-use Rattle.check_block.specs.Declarations.{local_meaning, finished_local, with_locals, Course, decl_layer, with_decl, declared_block, declared_module}
+use Rattle.check_block.specs.Headings.{nested_meaning}
+use Rattle.check_block.specs.Declarations.{local_meaning, declared_block, declared_module}
+use Rattle.law_folds.proofs.Orders.{IsOrder, steps}
+use Rattle.law_folds.proofs.TypeFolds.{Typed, Fielded, bare, all_trees, types_opened, types_at, fields_at}
+use Rattle.law_folds.proofs.MarkSteps.{KeepsMarks, defs_marks}
+use Rattle.law_folds.proofs.TypeSteps.{unless_keeps, KeepsTypes}
+use Rattle.law_folds.proofs.NameSteps.{KeepsNames, VariablesEnd}
+use Rattle.law_folds.proofs.ImportSteps.{Among, KeepsExports, imports_bring}
+use Rattle.law_folds.proofs.DefinitionSteps.{KeepsDefinitions, defs_keep}
+use Rattle.law_folds.proofs.BlockSteps.{KeepsBlocks, block_keeps}
 use Rattle.law_well_formed.specs.Formed.{Holds, fine, broken}
 use Rattle.law_well_formed.proofs.Basics.{then_holds, holds_weaker, where_holds, both_holds, any_holds, heading_means_holds}
 use Rattle.law_well_formed.proofs.RangesDeclarations.{meant_holds}
 use Rattle.law_well_formed.proofs.Names.{get_last}
 use Rattle.law_well_formed.proofs.ScopesDeclarations.{same_home}
-use Rattle.law_programs.specs.Carried.{ShapeIndexed, MeaningPlaced, IsElsewhere, ExportsElsewhere, TablesElsewhere, MeaningWord, ExportsWords, TablesWords, ScopeWords, slots_from, slots_in, StandsIn, MeaningSlot, Carries}
+use Rattle.law_programs.specs.Carried.{ShapeIndexed, MeaningPlaced, IsElsewhere, ExportsElsewhere, TablesElsewhere, MeaningWord, ExportsWords, TablesWords, slots_from, slots_in, StandsIn, MeaningSlot, Carries}
 use Rattle.law_programs.specs.Scopes.{formal_slot, variable_slot}
-use Rattle.law_programs.proofs.Carrying.{Slots, slots_behind, IsScalar, scalar_stays, carries_refl, carries_then, free_carries, unless_carries, begun_carries, finished_carries, known_carries, marked_carries, shape_carries, made_carries, variable_type_carries, procedure_type_carries, then_finished}
+use Rattle.law_programs.proofs.Carrying.{Slots, slots_behind, IsScalar, scalar_stays, carries_refl, carries_then, known_carries, shape_carries, made_carries, variable_type_carries, procedure_type_carries, then_known}
 use Rattle.law_programs.proofs.Denoting.{constants_words}
 use Rattle.law_programs.proofs.Operators.{where_not}
 
+order : {T : Type 0} → IsOrder {T = T} Carries
+order = record { same = carries_refl; next = λ a b c p q. carries_then p q }
+
 -- ---- marks
 
-later_all : {T : Type 0} (names : List Ident) (s : Scope T) → Carries s (fold marked_later s names)
-later_all [] s = carries_refl s
-later_all (x ∷ xs) s = carries_then (marked_carries s x Later tt (λ q. tt) (λ fs l. tt)) (later_all xs (marked_later s x))
-
-simple_marks : {T : Type 0} (t : Simple) (s : Scope T) → Carries s (marked_simple t s)
-simple_marks (simple.Named q) s = carries_refl s
-simple_marks (simple.Enumeration at names) s = later_all names s
-simple_marks (simple.Subrange o at low high) s = carries_refl s
-
-module _ (T : Type 0) where
-  abbrev CarriesMarks : Marks T → Type 0
-  CarriesMarks f = (s : Scope T) → Carries s (f s)
-
-  abbrev PM : TypeExpr → Type 0
-  PM t = CarriesMarks (marked_in {T = T} t)
-
-  abbrev PMF : Field → Type 0
-  PMF t = CarriesMarks (marked_field {T = T} t)
-
-  abbrev SM : Type 0
-  SM = (t : TypeExpr) × PM t
-
-  abbrev SMF : Type 0
-  SMF = (t : Field) × PMF t
-
-  abbrev marks_opened : TypeExpr-F TypeExpr Field → TypeExpr-F (Marks T) (Marks T)
-  marks_opened x = map-TypeExpr TypeExpr Field (Marks T) (Marks T) marked_in marked_field x
-
-  abbrev marks_opened_field : Field-F TypeExpr Field → Field-F (Marks T) (Marks T)
-  marks_opened_field x = map-Field TypeExpr Field (Marks T) (Marks T) marked_in marked_field x
-
-  marks_at : (t : TypeExpr) (x : TypeExpr-F TypeExpr Field) → out-TypeExpr t ≡ x → marked_in {T = T} t ≡ marking.type_layer (marks_opened x)
-  unfolding marked_in marked_field
-  marks_at t x h = fold_out-TypeExpr (Marks T) (Marks T) marking.type_layer marking.field_layer t ∙ ap (λ (y : TypeExpr-F TypeExpr Field). marking.type_layer (marks_opened y)) h
-
-  marks_at_field : (f : Field) (x : Field-F TypeExpr Field) → out-Field f ≡ x → marked_field {T = T} f ≡ marking.field_layer (marks_opened_field x)
-  unfolding marked_in marked_field
-  marks_at_field f x h = fold_out-Field (Marks T) (Marks T) marking.type_layer marking.field_layer f ∙ ap (λ (y : Field-F TypeExpr Field). marking.field_layer (marks_opened_field y)) h
-
-  abbrev marks_bare : TypeExpr-F SM SMF → TypeExpr-F TypeExpr Field
-  marks_bare x = map-TypeExpr SM SMF TypeExpr Field (λ t. t.0) (λ f. f.0) x
-
-  abbrev marks_bare_field : Field-F SM SMF → Field-F TypeExpr Field
-  marks_bare_field x = map-Field SM SMF TypeExpr Field (λ t. t.0) (λ f. f.0) x
-
-  field_marks : (fs : List SMF) (s : Scope T) → Carries s (fold then_marks s (map (marked_field {T = T}) (map (λ (f : SMF). f.0) fs)))
-  field_marks [] s = carries_refl s
-  field_marks (f ∷ fs) s = carries_then (f.1 s) (field_marks fs (marked_field f.0 s))
-
-  type_marks : (y : TypeExpr-F SM SMF) → CarriesMarks (marking.type_layer (marks_opened (marks_bare y)))
-  type_marks (layer.Simple t) = λ s. simple_marks t s
-  type_marks (layer.Array at index t) = λ s. carries_then (simple_marks index s) (t.1 (marked_simple index s))
-  type_marks (layer.Record at fields) = λ s. field_marks fields s
-  type_marks (layer.Procedure at formals t) = λ s. carries_refl s
-
-  step_marks : (x : TypeExpr-F TypeExpr Field) (y : TypeExpr-F SM SMF) → marks_bare y ≡ x → PM (roll-TypeExpr x)
-  step_marks x y q = subst CarriesMarks (sym (marks_at (roll-TypeExpr x) (marks_bare y) (out-roll-TypeExpr x ∙ sym q))) (type_marks y)
-
-  step_marks_field : (x : Field-F TypeExpr Field) (y : Field-F SM SMF) → marks_bare_field y ≡ x → PMF (roll-Field x)
-  step_marks_field x y q = subst CarriesMarks (sym (marks_at_field (roll-Field x) (marks_bare_field y) (out-roll-Field x ∙ sym q))) y.of.1
-
-  marked_in_carries : (t : TypeExpr) → PM t
-  marked_in_carries = ind-TypeExpr PM PMF step_marks step_marks_field
+marks : {T : Type 0} → KeepsMarks {T = T} Carries
+marks = record {
+  order = order;
+  later = λ s name e. known_carries s name Later tt (λ q. tt) (λ fs l. tt);
+  ahead = λ s name e. known_carries s name Ahead tt (λ q. tt) (λ fs l. tt);
+}
 
 -- ---- types that are made
 
 module _ (g : Gathers) where
-  listed_all : (t : TypeNo) (names : List Ident) (l : Scope g.Reported × ℕ × Result (Unit {0}) g.Reported) → Carries l.0 (fold (enumerate_name g t) l names).0
-  listed_all t [] l = carries_refl l.0
-  listed_all t (x ∷ xs) l = carries_then (unless_carries g l.0 x (Declared Here (Ok (enumeration_constant t (pos l.1)))) (fine (enumeration_constant t (pos l.1)) tt) (λ q. fine (enumeration_constant t (pos l.1)) tt) (λ fs k. fine (enumeration_constant t (pos l.1)) tt)) (listed_all t xs (enumerate_name g t l x))
+  listed_carries : (t : TypeNo) (l : Scope g.Reported × ℕ × Result (Unit {0}) g.Reported) (x : Ident) → Carries l.0 (enumerate_name g t l x).0
+  listed_carries t l x = unless_keeps g order l.0 x (Declared Here (Ok (enumeration_constant t (pos l.1)))) (λ e. known_carries l.0 x.name _ (fine _ tt) (λ q. fine _ tt) (λ fs k. fine _ tt))
 
   simple_carries : (s : Scope g.Reported) (t : Simple) → Carries s (simple_type g s t).0
   simple_carries s (simple.Named q) = carries_refl s
   simple_carries s (simple.Enumeration at names) =
-      carries_then (shape_carries s (enumeration_scalar (next_type s) names) tt) (listed_all (next_type s) names (with_shape s (enumeration_scalar (next_type s) names), 0, too_many g names))
+      let x : Made = enumeration_scalar (next_type s) names in
+      carries_then (shape_carries s x tt) (steps order (λ (l : Scope g.Reported × ℕ × Result (Unit {0}) g.Reported). l.0) (enumerate_name g (next_type s)) (listed_carries (next_type s)) names (with_shape s x, 0, too_many g names))
   simple_carries s (simple.Subrange o at low high) = made_carries s (then_holds (any_holds _) (λ r k. fine _ tt))
 
   -- an index is of a scalar type
@@ -180,43 +123,20 @@ module _ (g : Gathers) where
   abbrev CarriesFields : MakesFields g → Type 0
   CarriesFields f = (st : Scope g.Reported × Fields × Result (Unit {0}) g.Reported) → Carries st.0 (f st).0
 
-  abbrev PT : TypeExpr → Type 0
-  PT t = CarriesMakes (type_of g t)
-
-  abbrev PF : Field → Type 0
-  PF f = CarriesFields (field_list g f)
-
   abbrev ST : Type 0
-  ST = (t : TypeExpr) × PT t
+  ST = Typed (type_of g) (field_list g) (λ t f. CarriesMakes f) (λ d f. CarriesFields f)
 
   abbrev SF : Type 0
-  SF = (f : Field) × PF f
+  SF = Fielded (type_of g) (field_list g) (λ t f. CarriesMakes f) (λ d f. CarriesFields f)
 
-  abbrev opened : TypeExpr-F TypeExpr Field → TypeExpr-F (Makes g) (MakesFields g)
-  opened x = map-TypeExpr TypeExpr Field (Makes g) (MakesFields g) (type_of g) (field_list g) x
-
-  abbrev opened_field : Field-F TypeExpr Field → Field-F (Makes g) (MakesFields g)
-  opened_field x = map-Field TypeExpr Field (Makes g) (MakesFields g) (type_of g) (field_list g) x
-
-  at : (t : TypeExpr) (x : TypeExpr-F TypeExpr Field) → out-TypeExpr t ≡ x → type_of g t ≡ type_layer g (opened x)
-  unfolding type_of field_list
-  at t x h = fold_out-TypeExpr (Makes g) (MakesFields g) (type_layer g) (field_layer g) t ∙ ap (λ (y : TypeExpr-F TypeExpr Field). type_layer g (opened y)) h
-
-  at_field : (f : Field) (x : Field-F TypeExpr Field) → out-Field f ≡ x → field_list g f ≡ field_layer g (opened_field x)
-  unfolding type_of field_list
-  at_field f x h = fold_out-Field (Makes g) (MakesFields g) (type_layer g) (field_layer g) f ∙ ap (λ (y : Field-F TypeExpr Field). field_layer g (opened_field y)) h
-
-  abbrev bare : TypeExpr-F ST SF → TypeExpr-F TypeExpr Field
-  bare x = map-TypeExpr ST SF TypeExpr Field (λ t. t.0) (λ f. f.0) x
-
-  abbrev bare_field : Field-F ST SF → Field-F TypeExpr Field
-  bare_field x = map-Field ST SF TypeExpr Field (λ t. t.0) (λ f. f.0) x
+  abbrev stripped : TypeExpr-F ST SF → TypeExpr-F TypeExpr Field
+  stripped y = bare (type_of g) (field_list g) (λ t f. CarriesMakes f) (λ d f. CarriesFields f) y
 
   fields_all : (fs : List SF) (st : Scope g.Reported × Fields × Result (Unit {0}) g.Reported) → Carries st.0 (fold (then_fields g) st (map (field_list g) (map (λ (f : SF). f.0) fs))).0
   fields_all [] st = carries_refl st.0
   fields_all (f ∷ fs) st = carries_then (f.1 st) (fields_all fs (field_list g f.0 st))
 
-  type_carries : (y : TypeExpr-F ST SF) → CarriesMakes (type_layer g (opened (bare y)))
+  type_carries : (y : TypeExpr-F ST SF) → CarriesMakes (type_layer g (types_opened g (stripped y)))
   type_carries (layer.Simple t) = λ s. simple_carries s t
   type_carries (layer.Array at index t) = λ s.
       let of : Carries (index_type g s index).0 (type_of g t.0 (index_type g s index).0).0 = t.1 (index_type g s index).0 in
@@ -226,70 +146,43 @@ module _ (g : Gathers) where
       carries_then (fields_all fields (s, no_fields, Ok tt)) (made_carries st.0 (record_plain st.0.types at st.1 st.2))
   type_carries (layer.Procedure at formals t) = λ s. made_carries s (procedure_plain s.types _ _)
 
-  step_type : (x : TypeExpr-F TypeExpr Field) (y : TypeExpr-F ST SF) → bare y ≡ x → PT (roll-TypeExpr x)
-  step_type x y q = subst CarriesMakes (sym (at (roll-TypeExpr x) (bare y) (out-roll-TypeExpr x ∙ sym q))) (type_carries y)
+  types : KeepsTypes g Carries
+  types = record {
+    order = order;
+    types = all_trees (type_of g) (field_list g) (λ t f. CarriesMakes f) (λ d f. CarriesFields f) (type_layer g) (field_layer g) (types_at g) (fields_at g)
+        type_carries (λ y st. y.of.1 st.0);
+    headings = λ s h. made_carries s (heading_plain s h);
+  }
 
-  step_field : (x : Field-F TypeExpr Field) (y : Field-F ST SF) → bare_field y ≡ x → PF (roll-Field x)
-  step_field x y q = subst CarriesFields (sym (at_field (roll-Field x) (bare_field y) (out-roll-Field x ∙ sym q))) (λ st. y.of.1 st.0)
-
-  pub type_of_carries : (t : TypeExpr) → PT t
-  type_of_carries = ind-TypeExpr PT PF step_type step_field
-
-  -- ---- constants and types
+  -- ---- constants, types and variables
 
   abbrev Goes : Scope g.Reported → Scope g.Reported → Type 0
   Goes s s' = Carries s s'
 
-  constant_carries : (st : State (Unit {0}) g.Reported) (c : Constant) → Goes st.0 (with_constant g st c).0
-  constant_carries st c =
-      let b : Scope g.Reported = (begin_name g st.0 c.name).0 in
-      let v : Result Value g.Reported = constant g b (part g c.value) in
-      carries_then (begun_carries g st.0 c.name) (finished_carries b c.name (constant_meaning v) (meant_holds (λ u. meaning.Constant u) (λ u. tt) v) (λ q. then_holds (constants_words g b q c.value) (λ u w. fine (meaning.Constant u) w)) (λ fs l. meant_holds (λ u. meaning.Constant u) (λ u. tt) v))
-
-  constants_carry : (cs : List Constant) (st : State (Unit {0}) g.Reported) → Goes st.0 (fold (with_constant g) st cs).0
-  constants_carry [] st = carries_refl st.0
-  constants_carry (c ∷ cs) st = carries_then (constant_carries st c) (constants_carry cs (with_constant g st c))
-
-  type_decl_carries : (st : State (Unit {0}) g.Reported) (d : TypeDecl) → Goes st.0 (with_type g st d).0
-  type_decl_carries st d =
-      let b : Scope g.Reported = (begin_name g st.0 d.name).0 in
-      let t : State TypeNo g.Reported = type_of g d.of b in
-      carries_then (begun_carries g st.0 d.name) (carries_then (type_of_carries d.of b) (finished_carries t.0 d.name (type_meaning t.1 (brings_with d.of)) (meant_holds (λ u. meaning.Type u (brings_with d.of)) (λ u. tt) t.1) (λ q. meant_holds (λ u. meaning.Type u (brings_with d.of)) (λ u. tt) t.1) (λ fs l. meant_holds (λ u. meaning.Type u (brings_with d.of)) (λ u. tt) t.1)))
-
-  types_carry : (ts : List TypeDecl) (st : State (Unit {0}) g.Reported) → Goes st.0 (fold (with_type g) st ts).0
-  types_carry [] st = carries_refl st.0
-  types_carry (t ∷ ts) st = carries_then (type_decl_carries st t) (types_carry ts (with_type g st t))
-
-  -- ---- variables
-
-  begun_all : (names : List Ident) (st : State (Unit {0}) g.Reported) → Goes st.0 (fold (begun_name g) st names).0
-  begun_all [] st = carries_refl st.0
-  begun_all (x ∷ xs) st = carries_then (begun_carries g st.0 x) (begun_all xs (begun_name g st x))
+  names : KeepsNames g Goes
+  names = record {
+    types = types;
+    begun = λ s name e. known_carries s name Begun tt (λ q. tt) (λ fs l. tt);
+    constant_ends = λ s c e.
+        let v : Result Value g.Reported = constant g s (part g c.value) in
+        known_carries s c.name.name _ (meant_holds (λ u. meaning.Constant u) (λ u. tt) v) (λ q. then_holds (constants_words g s q c.value) (λ u w. fine (meaning.Constant u) w))
+        (λ fs l. meant_holds (λ u. meaning.Constant u) (λ u. tt) v);
+    type_ends = λ s name t n e.
+        known_carries s name _ (meant_holds (λ u. meaning.Type u n) (λ u. tt) t) (λ q. meant_holds (λ u. meaning.Type u n) (λ u. tt) t) (λ fs l. meant_holds (λ u. meaning.Type u n) (λ u. tt) t);
+  }
 
   variable_placed : (s : Scope g.Reported) (t : Result TypeNo g.Reported) → Holds (MeaningPlaced (with_variable_type s t).types.home (with_variable_type s t).variables) (variable_meaning s.types.home (length s.variables) t)
   variable_placed s (Ok t) = fine (meaning.Variable (record { home = s.types.home; number = length s.variables; of = t })) (λ e. get_last s.variables t)
   variable_placed s (Err e) = broken e
 
-  variables_all : (t : Result TypeNo g.Reported) (names : List Ident) (s : Scope g.Reported) → Goes s (fold (finished_variable t) s names)
-  variables_all t [] s = carries_refl s
-  variables_all t (x ∷ xs) s = carries_then (carries_then (variable_type_carries s t) (finished_carries (with_variable_type s t) x (variable_meaning s.types.home (length s.variables) t) (variable_placed s t) (λ q. meant_holds (λ u. meaning.Variable (record { home = s.types.home; number = length s.variables; of = u })) (λ u. tt) t) (λ fs l. meant_holds (λ u. meaning.Variable (record { home = s.types.home; number = length s.variables; of = u })) (λ u. tt) t))) (variables_all t xs (finished_variable t s x))
-
-  variable_list : (st : State (Unit {0}) g.Reported) (v : Variables) → Goes st.0 (with_variables g st v).0
-  variable_list st v =
-      let b : State (Unit {0}) g.Reported = fold (begun_name g) st v.names in
-      let t : State TypeNo g.Reported = type_of g v.of b.0 in
-      carries_then (begun_all v.names st) (carries_then (type_of_carries v.of b.0) (variables_all t.1 v.names t.0))
-
-  variables_carry : (vs : List Variables) (st : State (Unit {0}) g.Reported) → Goes st.0 (fold (with_variables g) st vs).0
-  variables_carry [] st = carries_refl st.0
-  variables_carry (v ∷ vs) st = carries_then (variable_list st v) (variables_carry vs (with_variables g st v))
+  variable_ends : VariablesEnd g Goes
+  variable_ends s name t e =
+      let m : TypeNo → Meaning = λ u. meaning.Variable (record { home = s.types.home; number = length s.variables; of = u }) in
+      carries_then (variable_type_carries s t) (known_carries (with_variable_type s t) name _ (variable_placed s t) (λ q. meant_holds m (λ u. tt) t) (λ fs l. meant_holds m (λ u. tt) t))
 
   -- the scope of a procedure
   abbrev Nested : Scope g.Reported → Type 0
   Nested s = s.level ≡ 0 → ⊥
-
-  nested_on : {a b : Scope g.Reported} → Carries a b → Nested a → Nested b
-  nested_on c deep e = deep (sym c.level ∙ e)
 
   -- a variable stands behind all others
   slot_last : (fs : List Formal) (vs : List TypeNo) (t : TypeNo) → length fs ≤ length vs → slice_get (slots_from fs (vs ++ t ∷ [])) (length vs) ≡ Some (variable_slot t)
@@ -313,104 +206,57 @@ module _ (g : Gathers) where
   local_word : (s : Scope g.Reported) (t : Result TypeNo g.Reported) → Holds MeaningWord (local_meaning s.level (length s.variables) t)
   local_word s t = meant_holds (λ u. meaning.Local (record { level = s.level; number = length s.variables; kind = kind.Variable; of = u })) (λ u. tt) t
 
-  locals_all : (t : Result TypeNo g.Reported) (names : List Ident) (s : Scope g.Reported) → Nested s → Goes s (fold (finished_local t) s names)
-  locals_all t [] s deep = carries_refl s
-  locals_all t (x ∷ xs) s deep =
-      let c : Goes s (finished_local t s x) = then_finished s (with_variable_type s t) x (local_meaning s.level (length s.variables) t) (variable_type_carries s t) (local_placed s t) (λ q. local_word s t) (local_slot s t deep) in
-      carries_then c (locals_all t xs (finished_local t s x) (nested_on c deep))
-
-  local_list : (st : State (Unit {0}) g.Reported) (v : Variables) → Nested st.0 → Goes st.0 (with_locals g st v).0
-  local_list st v deep =
-      let b : State (Unit {0}) g.Reported = fold (begun_name g) st v.names in
-      let t : State TypeNo g.Reported = type_of g v.of b.0 in
-      let c : Goes st.0 t.0 = carries_then (begun_all v.names st) (type_of_carries v.of b.0) in
-      carries_then c (locals_all t.1 v.names t.0 (nested_on c deep))
-
-  locals_carry : (vs : List Variables) (st : State (Unit {0}) g.Reported) → Nested st.0 → Goes st.0 (fold (with_locals g) st vs).0
-  locals_carry [] st deep = carries_refl st.0
-  locals_carry (v ∷ vs) st deep = let c : Goes st.0 (with_locals g st v).0 = local_list st v deep in carries_then c (locals_carry vs (with_locals g st v) (nested_on c deep))
-
   nested_by : (s : Scope g.Reported) → (s.level == 0) ≡ false → Nested s
   nested_by s e z = let k : true ≡ false = sym (same_home s.level 0 z) ∙ e in cc
 
-  variables_by : (b : Bool) (st : State (Unit {0}) g.Reported) → (st.0.level == 0) ≡ b → (vs : List Variables) → Goes st.0 (cond {A = State (Unit {0}) g.Reported} b (fold (with_variables g) st vs) (fold (with_locals g) st vs)).0
-  variables_by true st e vs = variables_carry vs st
-  variables_by false st e vs = locals_carry vs st (nested_by st.0 e)
+  local_ends : (s : Scope g.Reported) (name : List ℕ) (t : Result TypeNo g.Reported) → (s.level == 0) ≡ false
+      → Goes s (with_known name (Declared Here (local_meaning s.level (length s.variables) t)) (with_variable_type s t))
+  local_ends s name t l =
+      then_known s (with_variable_type s t) name _ (variable_type_carries s t) (local_placed s t) (λ q. local_word s t) (local_slot s t (nested_by s l))
 
   -- ---- procedures
 
-  procedure_carries : (st : State (Unit {0}) g.Reported) (h : Heading) → Goes st.0 (with_procedure g st h).0
-  procedure_carries st h =
-      let t : State TypeNo g.Reported = with_made st.0 (heading_of g st.0 h) in
-      carries_then (made_carries st.0 (heading_plain st.0 h)) (carries_then (procedure_type_carries t.0 t.1)
-      (unless_carries g (with_procedure_type t.0 t.1) h.name (Declared Here (procedure_meaning t.0.types.home (length t.0.procedures) t.1)) (meant_holds (λ u. meaning.Procedure (record { home = t.0.types.home; number = length t.0.procedures; heading = u })) (λ u. tt) t.1) (λ q. meant_holds (λ u. meaning.Procedure (record { home = t.0.types.home; number = length t.0.procedures; heading = u })) (λ u. tt) t.1) (λ fs l. meant_holds (λ u. meaning.Procedure (record { home = t.0.types.home; number = length t.0.procedures; heading = u })) (λ u. tt) t.1)))
-
-  new_by : (b : Bool) (s : Scope g.Reported) (name : List ℕ) (n : ℕ) (t : Result TypeNo g.Reported) → Goes s (cond b (module_procedure s name t) (set_heading name (heading_means true (nested_meaning s.level n t)) s))
-  new_by true s name n t =
+  procedure_heads : (s : Scope g.Reported) (name : List ℕ) (t : Result TypeNo g.Reported)
+      → Goes s (with_known name (Headed (heading_means false (procedure_meaning s.types.home (length s.procedures) t))) (with_procedure_type s t))
+  procedure_heads s name t =
+      let m : TypeNo → Meaning = λ u. meaning.Procedure (record { home = s.types.home; number = length s.procedures; heading = u }) in
       carries_then (procedure_type_carries s t)
-      (known_carries (with_procedure_type s t) name (Headed (heading_means false (procedure_meaning s.types.home (length s.procedures) t))) (heading_means_holds false (meant_holds (λ u. meaning.Procedure (record { home = s.types.home; number = length s.procedures; heading = u })) (λ u. tt) t)) (λ q. heading_means_holds false (meant_holds (λ u. meaning.Procedure (record { home = s.types.home; number = length s.procedures; heading = u })) (λ u. tt) t)) (λ fs l. heading_means_holds false (meant_holds (λ u. meaning.Procedure (record { home = s.types.home; number = length s.procedures; heading = u })) (λ u. tt) t)))
-  new_by false s name n t = known_carries s name (Headed (heading_means true (nested_meaning s.level n t))) (heading_means_holds true (meant_holds (λ u. meaning.LocalProcedure (record { level = s.level; number = n; heading = u })) (λ u. tt) t)) (λ q. heading_means_holds true (meant_holds (λ u. meaning.LocalProcedure (record { level = s.level; number = n; heading = u })) (λ u. tt) t)) (λ fs l. heading_means_holds true (meant_holds (λ u. meaning.LocalProcedure (record { level = s.level; number = n; heading = u })) (λ u. tt) t))
+      (known_carries (with_procedure_type s t) name _ (heading_means_holds false (meant_holds m (λ u. tt) t)) (λ q. heading_means_holds false (meant_holds m (λ u. tt) t)) (λ fs l. heading_means_holds false (meant_holds m (λ u. tt) t)))
 
-  heading_by : (s : Scope g.Reported) (h : Heading) (n : ℕ) (o : Standing) → Goes s (headed_as g s h n (heading_of g s h) o).0
-  heading_by s h n Free =
-      let t : State TypeNo g.Reported = with_made s (heading_of g s h) in
-      carries_then (made_carries s (heading_plain s h)) (new_by (t.0.level == 0) t.0 h.name.name n t.1)
-  heading_by s h n (Awaited p) = known_carries s h.name.name (Headed (Ok (meaning.Procedure p))) (fine (meaning.Procedure p) tt) (λ q. fine (meaning.Procedure p) tt) (λ fs l. fine (meaning.Procedure p) tt)
-  heading_by s h n Taken = carries_refl s
+  nested_heads : (s : Scope g.Reported) (name : List ℕ) (n : ℕ) (t : Result TypeNo g.Reported)
+      → Goes s (with_known name (Headed (heading_means true (nested_meaning s.level n t))) s)
+  nested_heads s name n t =
+      let m : TypeNo → Meaning = λ u. meaning.LocalProcedure (record { level = s.level; number = n; heading = u }) in
+      known_carries s name _ (heading_means_holds true (meant_holds m (λ u. tt) t)) (λ q. heading_means_holds true (meant_holds m (λ u. tt) t)) (λ fs l. heading_means_holds true (meant_holds m (λ u. tt) t))
 
-  heading_carries : (s : Scope g.Reported) (h : Heading) (n : ℕ) → Goes s (with_heading g s n h).0
-  heading_carries s h n = heading_by s h n (name_standing (find_name h.name.name s.own))
+  procedure_ends : (s : Scope g.Reported) (name : List ℕ) (t : Result TypeNo g.Reported)
+      → Goes s (with_known name (Declared Here (procedure_meaning s.types.home (length s.procedures) t)) (with_procedure_type s t))
+  procedure_ends s name t =
+      let m : TypeNo → Meaning = λ u. meaning.Procedure (record { home = s.types.home; number = length s.procedures; heading = u }) in
+      carries_then (procedure_type_carries s t) (known_carries (with_procedure_type s t) name _ (meant_holds m (λ u. tt) t) (λ q. meant_holds m (λ u. tt) t) (λ fs l. meant_holds m (λ u. tt) t))
 
-  -- ---- a declaration of a definition, and one of a block
+  -- ---- all declarations
 
-  pub def_carries : (st : State (Unit {0}) g.Reported) (d : Def) → Goes st.0 (with_def g st d).0
-  def_carries st (def.Constants cs) = constants_carry cs st
-  def_carries st (def.Types ts) = types_carry ts st
-  def_carries st (def.Variables vs) = variables_carry vs st
-  def_carries st (def.Procedure h) = procedure_carries st h
+  blocks : KeepsBlocks g Goes
+  blocks = record {
+    marks = marks;
+    names = names;
+    varied = variable_type_carries;
+    variable_ends = λ s name t l e. variable_ends s name t e;
+    local_ends = λ s name t l e. local_ends s name t l;
+    procedure = λ s name t l e. procedure_heads s name t;
+    nested = λ s name n t l e. nested_heads s name n t;
+    awaited = λ s name p e. known_carries s name (Headed (Ok (meaning.Procedure p))) (fine (meaning.Procedure p) tt) (λ q. fine (meaning.Procedure p) tt) (λ fs l. fine (meaning.Procedure p) tt);
+  }
 
-  decl_by : {A B : Type 0} (ends : List ℕ) (c : Course g.Reported) (y : Decl-F A B) → Goes c.0 (decl_layer g ends c y).0
-  decl_by ends c (decl.Constants cs) = constants_carry cs (c.0, c.1)
-  decl_by ends c (decl.Types ts) = types_carry ts (c.0, c.1)
-  decl_by ends c (decl.Variables vs) = variables_by (c.0.level == 0) (c.0, c.1) refl vs
-  decl_by ends c (decl.Procedure h b) = heading_carries c.0 h c.2
-
-  pub decl_carries : (ends : List ℕ) (c : Course g.Reported) (d : Decl) → Goes c.0 (with_decl g ends c d).0
-  decl_carries ends c d = decl_by ends c (out-Decl d)
-
-  -- ---- marks
-
-  marked_constants : (cs : List Constant) (s : Scope g.Reported) → Goes s (fold marked_constant s cs)
-  marked_constants [] s = carries_refl s
-  marked_constants (c ∷ cs) s = carries_then (marked_carries s c.name Later tt (λ q. tt) (λ fs l. tt)) (marked_constants cs (marked_constant s c))
-
-  marked_types : (ts : List TypeDecl) (s : Scope g.Reported) → Goes s (fold marked_type s ts)
-  marked_types [] s = carries_refl s
-  marked_types (t ∷ ts) s = carries_then (carries_then (marked_carries s t.name Later tt (λ q. tt) (λ fs l. tt)) (marked_in_carries g.Reported t.of _)) (marked_types ts (marked_type s t))
-
-  marked_lists : (vs : List Variables) (s : Scope g.Reported) → Goes s (fold marked_variables s vs)
-  marked_lists [] s = carries_refl s
-  marked_lists (v ∷ vs) s = carries_then (carries_then (later_all v.names s) (marked_in_carries g.Reported v.of _)) (marked_lists vs (marked_variables s v))
-
-  def_marks : (d : Def) (s : Scope g.Reported) → Goes s (marked_def s d)
-  def_marks (def.Constants cs) s = marked_constants cs s
-  def_marks (def.Types ts) s = marked_types ts s
-  def_marks (def.Variables vs) s = marked_lists vs s
-  def_marks (def.Procedure h) s = marked_carries s h.name Ahead tt (λ q. tt) (λ fs l. tt)
-
-  defs_marks : (ds : List Def) (s : Scope g.Reported) → Goes s (fold marked_def s ds)
-  defs_marks [] s = carries_refl s
-  defs_marks (d ∷ ds) s = carries_then (def_marks d s) (defs_marks ds (marked_def s d))
-
-  layer_marks : {A B : Type 0} (y : Decl-F A B) (s : Scope g.Reported) → Goes s (marked_layer s y)
-  layer_marks (decl.Constants cs) s = marked_constants cs s
-  layer_marks (decl.Types ts) s = marked_types ts s
-  layer_marks (decl.Variables vs) s = marked_lists vs s
-  layer_marks (decl.Procedure h b) s = marked_carries s h.name Ahead tt (λ q. tt) (λ fs l. tt)
-
-  decls_marks : (ds : List Decl) (st : Scope g.Reported × List ℕ) → Goes st.0 (fold (with_marks marked_decl) st ds).0
-  decls_marks [] st = carries_refl st.0
-  decls_marks (d ∷ ds) st = carries_then (layer_marks (out-Decl d) st.0) (decls_marks ds (with_marks marked_decl st d))
+  definitions : KeepsDefinitions g Goes
+  definitions = record {
+    names = names;
+    varied = variable_type_carries;
+    variable_ends = variable_ends;
+    headed = procedure_type_carries;
+    procedure = λ s name t e. procedure_ends s name t;
+  }
 
   -- ---- imports
 
@@ -438,112 +284,57 @@ module _ (g : Gathers) where
   elsewhere_slot home slots level (meaning.Standard f) p = tt
   elsewhere_slot home slots level (meaning.Module k) p = tt
 
-  take_elsewhere : (home n : ℕ) (es : List (List ℕ × Meaning)) → ExportsElsewhere home es → ExportsElsewhere home (take n es)
-  take_elsewhere home zero es p = tt
-  take_elsewhere home (suc n) [] p = tt
-  take_elsewhere home (suc n) (e ∷ es) p = (p.0, take_elsewhere home n es p.1)
-
-  drop_elsewhere : (home n : ℕ) (es : List (List ℕ × Meaning)) → ExportsElsewhere home es → ExportsElsewhere home (drop n es)
-  drop_elsewhere home zero es p = p
-  drop_elsewhere home (suc n) [] p = tt
-  drop_elsewhere home (suc n) (e ∷ es) p = drop_elsewhere home n es p.1
-
   exports_elsewhere : (home : ℕ) (ts : List Table) (k : ℕ) → TablesElsewhere home ts → ExportsElsewhere home (exports_of (slice_get ts k))
   exports_elsewhere home [] k p = tt
   exports_elsewhere home (t ∷ ts) zero p = p.0
   exports_elsewhere home (t ∷ ts) (suc k) p = exports_elsewhere home ts k p.1
-
-  again_by : (s : Scope g.Reported) (b : Bool) (st : State (Unit {0}) g.Reported) → Goes s st.0 → Goes s (cond {A = State (Unit {0}) g.Reported} b (s, Ok tt) st).0
-  again_by s true st p = carries_refl s
-  again_by s false st p = p
-
-  imported_carries : (s : Scope g.Reported) (at : Pos) (name : List ℕ) (o : Origin) (m : Meaning) → MeaningPlaced s.types.home s.variables m → (ScopeWords s → MeaningWord m) → ((slots : Slots) → MeaningSlot slots s.level m) → Goes s (import_name g s at name o (Ok m)).0
-  imported_carries s at name o m p w z = again_by s (is_again (find_name name s.own) o) _ (free_carries g s at name (Declared o (Ok m)) (is_free (find_name name s.own)) (fine m p) (λ q. fine m (w q)) (λ fs l. fine m (z (slots_in fs s.variables))))
-
-  module_carries : (s : Scope g.Reported) (name : Ident) (r : Result ℕ g.Reported) → Goes s (with_module_as g s name r).0
-  module_carries s name (Ok k) = imported_carries s name.pos name.name (origin.Module k) (meaning.Module k) tt (λ q. tt) (λ slots. tt)
-  module_carries s name (Err e) = carries_refl s
-
-  modules_carry : (modules : List (List ℕ × ℕ)) (names : List Ident) (st : State (Unit {0}) g.Reported) → Goes st.0 (fold (with_module_name g modules) st names).0
-  modules_carry modules [] st = carries_refl st.0
-  modules_carry modules (x ∷ xs) st = carries_then (module_carries st.0 x (module_named g modules x)) (modules_carry modules xs (with_module_name g modules st x))
-
-  -- the constants that a table of the scope exports
-  abbrev WordsOf : Scope g.Reported → List (List ℕ × Meaning) → Type 0
-  WordsOf s es = TablesWords s.tables → ExportsWords es
-
-  words_same : (s s' : Scope g.Reported) (es : List (List ℕ × Meaning)) → s'.tables ≡ s.tables → WordsOf s es → WordsOf s' es
-  words_same s s' es e w = λ q. w (subst (λ (ts : List Table). TablesWords ts) e q)
-
-  take_words : (n : ℕ) (es : List (List ℕ × Meaning)) → ExportsWords es → ExportsWords (take n es)
-  take_words zero es p = tt
-  take_words (suc n) [] p = tt
-  take_words (suc n) (e ∷ es) p = (p.0, take_words n es p.1)
-
-  drop_words : (n : ℕ) (es : List (List ℕ × Meaning)) → ExportsWords es → ExportsWords (drop n es)
-  drop_words zero es p = p
-  drop_words (suc n) [] p = tt
-  drop_words (suc n) (e ∷ es) p = drop_words n es p.1
 
   exports_words : (ts : List Table) (k : ℕ) → TablesWords ts → ExportsWords (exports_of (slice_get ts k))
   exports_words [] k p = tt
   exports_words (t ∷ ts) zero p = p.0
   exports_words (t ∷ ts) (suc k) p = exports_words ts k p.1
 
-  entries_carry : (at : Pos) (k : ℕ) (es : List (List ℕ × Meaning)) (st : State (Unit {0}) g.Reported) → ExportsElsewhere st.0.types.home es → WordsOf st.0 es → Goes st.0 (fold (with_entry g at k) st es).0
-  entries_carry at k [] st p w = carries_refl st.0
-  entries_carry at k (e ∷ es) st p w =
-      let one = imported_carries st.0 at e.0 (Export k) e.1 (elsewhere_placed st.0.types.home st.0.variables e.1 p.0) (λ q. (w q.tables).0) (λ slots. elsewhere_slot st.0.types.home slots st.0.level e.1 p.0) in
-      carries_then one (entries_carry at k es (with_entry g at k st e) (subst (λ (n : ℕ). ExportsElsewhere n es) (sym one.home) p.1) (words_same st.0 (with_entry g at k st e).0 es one.tables (λ q. (w q).1)))
+  exported_elsewhere : (home : ℕ) (es : List (List ℕ × Meaning)) (x : List ℕ × Meaning) → ExportsElsewhere home es → Among x es → IsElsewhere home x.1
+  exported_elsewhere home [] x p a = absurd a
+  exported_elsewhere home (e ∷ es) x p (inl q) = subst (λ (z : List ℕ × Meaning). IsElsewhere home z.1) (sym q) p.0
+  exported_elsewhere home (e ∷ es) x p (inr a) = exported_elsewhere home es x p.1 a
 
-  unless_carry : (s : Scope g.Reported) (at : Pos) (k : ℕ) (es : List (List ℕ × Meaning)) (i : ℕ) (o : Option (Result (Unit {0}) g.Reported)) → ExportsElsewhere s.types.home es → WordsOf s es → Goes s (unless_taken g s at k es i o).0
-  unless_carry s at k es i (Some j) p w = carries_refl s
-  unless_carry s at k es i None p w =
-      entries_carry at k (take (brings_in (slice_get es i)) (drop i es)) (s, Ok tt) (take_elsewhere s.types.home (brings_in (slice_get es i)) (drop i es) (drop_elsewhere s.types.home i es p))
-      (λ q. take_words (brings_in (slice_get es i)) (drop i es) (drop_words i es (w q)))
+  exported_word : (es : List (List ℕ × Meaning)) (x : List ℕ × Meaning) → ExportsWords es → Among x es → MeaningWord x.1
+  exported_word [] x p a = absurd a
+  exported_word (e ∷ es) x p (inl q) = subst (λ (z : List ℕ × Meaning). MeaningWord z.1) (sym q) p.0
+  exported_word (e ∷ es) x p (inr a) = exported_word es x p.1 a
 
-  place_carries : (s : Scope g.Reported) (name : Ident) (k : ℕ) (es : List (List ℕ × Meaning)) (o : Option ℕ) → ExportsElsewhere s.types.home es → WordsOf s es → Goes s (from_place g s name k es o).0
-  place_carries s name k es None p w = carries_refl s
-  place_carries s name k es (Some i) p w = unless_carry s name.pos k es i (reported_of_taken g name.pos k (find_name name.name s.own)) p w
+  -- where no table exports a variable of the module itself
+  abbrev FromElsewhere : Scope g.Reported → Type 0
+  FromElsewhere s = TablesElsewhere s.types.home s.tables
 
-  from_carries : (k : ℕ) (es : List (List ℕ × Meaning)) (names : List Ident) (st : State (Unit {0}) g.Reported) → ExportsElsewhere st.0.types.home es → WordsOf st.0 es → Goes st.0 (fold (with_from g k es) st names).0
-  from_carries k es [] st p w = carries_refl st.0
-  from_carries k es (x ∷ xs) st p w =
-      let one = place_carries st.0 x k es (place_of x.name es) p w in
-      carries_then one (from_carries k es xs (with_from g k es st x) (subst (λ (n : ℕ). ExportsElsewhere n es) (sym one.home) p) (words_same st.0 (with_from g k es st x).0 es one.tables w))
+  elsewhere_on : (a b : Scope g.Reported) → Carries a b → FromElsewhere a → FromElsewhere b
+  elsewhere_on a b c p =
+      subst (λ (n : ℕ). TablesElsewhere n b.tables) (sym c.home) (subst (λ (ts : List Table). TablesElsewhere a.types.home ts) (sym c.tables) p)
 
-  from_module_carries : (r : Result ℕ g.Reported) (st : State (Unit {0}) g.Reported) (names : List Ident) → TablesElsewhere st.0.types.home st.0.tables → Goes st.0 (from_module g r st names).0
-  from_module_carries (Ok k) st names p = from_carries k (exports_of (slice_get st.0.tables k)) names st (exports_elsewhere st.0.types.home st.0.tables k p) (λ q. exports_words st.0.tables k q)
-  from_module_carries (Err e) st names p = carries_refl st.0
+  imports : KeepsExports g (λ s t. FromElsewhere s → Carries s t)
+  imports = record {
+    order = record { same = λ s p. carries_refl s; next = λ a b c p q e. carries_then (p e) (q (elsewhere_on a b (p e) e)) };
+    modules = λ s name n e p. known_carries s name _ (fine (meaning.Module n) tt) (λ q. fine (meaning.Module n) tt) (λ fs l. fine (meaning.Module n) tt);
+    exports = λ s x n e a p.
+        let away : IsElsewhere s.types.home x.1 = exported_elsewhere s.types.home _ x (exports_elsewhere s.types.home s.tables n p) a in
+        known_carries s x.0 _ (fine x.1 (elsewhere_placed s.types.home s.variables x.1 away)) (λ q. fine x.1 (exported_word _ x (exports_words s.tables n q.tables) a))
+        (λ fs l. fine x.1 (elsewhere_slot s.types.home (slots_in fs s.variables) s.level x.1 away));
+  }
 
-  import_carries : (modules : List (List ℕ × ℕ)) (st : State (Unit {0}) g.Reported) (o : Option Ident) (names : List Ident) → TablesElsewhere st.0.types.home st.0.tables → Goes st.0 (with_imports g modules st o names).0
-  import_carries modules st None names p = modules_carry modules names st
-  import_carries modules st (Some n) names p = from_module_carries (module_named g modules n) st names p
-
-  imports_carry : (modules : List (List ℕ × ℕ)) (is : List Import) (st : State (Unit {0}) g.Reported) → TablesElsewhere st.0.types.home st.0.tables → Goes st.0 (fold (with_import g modules) st is).0
-  imports_carry modules [] st p = carries_refl st.0
-  imports_carry modules (i ∷ is) st p =
-      let one = import_carries modules st i.from i.names p in
-      carries_then one (imports_carry modules is (with_import g modules st i) (subst (λ (n : ℕ). TablesElsewhere n (with_import g modules st i).0.tables) (sym one.home) (subst (λ (ts : List Table). TablesElsewhere st.0.types.home ts) (sym one.tables) p)))
+  imports_carry : (modules : List (List ℕ × ℕ)) (is : List Import) (st : State (Unit {0}) g.Reported) → FromElsewhere st.0 → Goes st.0 (fold (with_import g modules) st is).0
+  imports_carry = imports_bring g imports
 
   -- ---- whole blocks, definitions and modules
 
-  decls_carry : (ends : List ℕ) (ds : List Decl) (c : Course g.Reported) → Goes c.0 (fold (with_decl g ends) c ds).0
-  decls_carry ends [] c = carries_refl c.0
-  decls_carry ends (d ∷ ds) c = carries_then (decl_carries ends c d) (decls_carry ends ds (with_decl g ends c d))
-
   pub block_carries : (ends : List ℕ) (st : State (Unit {0}) g.Reported) (first : ℕ) (ds : List Decl) → Goes st.0 (declared_block g ends st first ds).0
-  block_carries ends st first ds = carries_then (decls_marks ds (st.0, [])) (decls_carry ends ds ((all_marked marked_decl st.0 ds).0, st.1, first))
-
-  defs_carry : (ds : List Def) (st : State (Unit {0}) g.Reported) → Goes st.0 (fold (with_def g) st ds).0
-  defs_carry [] st = carries_refl st.0
-  defs_carry (d ∷ ds) st = carries_then (def_carries st d) (defs_carry ds (with_def g st d))
+  block_carries = block_keeps g blocks
 
   pub definition_carries : (m : Module) (modules : List (List ℕ × ℕ)) (s : Scope g.Reported) (ds : List Def) → TablesElsewhere s.types.home s.tables → Goes s (declared_in g m modules s ds).0
   definition_carries m modules s ds p =
-      let one = defs_marks ds s in
-      let there : TablesElsewhere (fold marked_def s ds).types.home (fold marked_def s ds).tables = subst (λ (n : ℕ). TablesElsewhere n (fold marked_def s ds).tables) (sym one.home) (subst (λ (ts : List Table). TablesElsewhere s.types.home ts) (sym one.tables) p) in
-      carries_then one (carries_then (imports_carry modules m.imports (fold marked_def s ds, Ok tt) there) (defs_carry ds (fold (with_import g modules) (fold marked_def s ds, Ok tt) m.imports)))
+      let one = defs_marks marks ds s in
+      let there : FromElsewhere (fold marked_def s ds) = elsewhere_on s (fold marked_def s ds) one p in
+      carries_then one (carries_then (imports_carry modules m.imports (fold marked_def s ds, Ok tt) there) (defs_keep g definitions ds (fold (with_import g modules) (fold marked_def s ds, Ok tt) m.imports)))
 
   pub module_carries_on : (modules : List (List ℕ × ℕ)) (ends : List ℕ) (s : Scope g.Reported) (m : Module) (ds : List Decl) → TablesElsewhere s.types.home s.tables → Goes s (declared_module g modules ends s m ds).0
   module_carries_on modules ends s m ds p = carries_then (imports_carry modules m.imports (s, Ok tt) p) (block_carries ends (fold (with_import g modules) (s, Ok tt) m.imports) 0 ds)

@@ -14,6 +14,7 @@ use Rattle.check_type_expr.specs.Made.{with_shape}
 use Rattle.check_definition.specs.Importing.{with_import}
 use Rattle.check_definition.specs.Declare.{with_variable_type, with_procedure_type}
 use Rattle.check_block.specs.Declarations.{declared_module}
+use Rattle.law_folds.proofs.TypeSteps.{by_shapes}
 use Rattle.law_folds.proofs.Orders.{fact}
 use Rattle.law_folds.proofs.ImportSteps.{KeepsImports, imports_keep}
 use Rattle.law_folds.proofs.BlockSteps.{KeepsBlocks, block_keeps}
@@ -26,12 +27,12 @@ module _ (g : Gathers) (P : Scope g.Reported → Type 0) (named : (s : Scope g.R
   blocks = record {
     marks = record { order = fact P; later = λ s name e. named s name Later; ahead = λ s name e. named s name Ahead };
     names = record {
-      types = record { order = fact P; shaped = shaped; listed = λ s name t n e. named s name _ };
+      types = by_shapes g (record { order = fact P; shaped = shaped; listed = λ s name t n e. named s name _ });
       begun = λ s name e. named s name Begun;
       constant_ends = λ s c e. named s c.name.name _;
       type_ends = λ s name t n e. named s name _;
-      varied = varied;
     };
+    varied = varied;
     variable_ends = λ s name t l e h. named (with_variable_type s t) name _ (varied s t h);
     local_ends = λ s name t l e h. named (with_variable_type s t) name _ (varied s t h);
     procedure = λ s name t l e h. named (with_procedure_type s t) name _ (headed s t h);

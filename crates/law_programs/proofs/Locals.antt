@@ -1,5 +1,5 @@
 -- The declarations of a procedure's block bring local names alone: constants, types, local variables and procedures.
-use Rattle.std.proofs.Common.{◌≡◌, ℕ, Bool, true, false, cond, List, [], ◌∷◌, Option, Some, None, Result, Ok, Err, refl, sym, ◌∙◌}
+use Rattle.std.proofs.Common.{length, ◌≡◌, ℕ, Bool, true, false, cond, List, [], ◌∷◌, Option, Some, None, Result, Ok, Err, refl, sym, ◌∙◌}
 use Rattle.m2_tree.specs.declared.decl.Field.{Field}
 use Rattle.typed_tree.specs.declared.types.TypeNo.{TypeNo}
 use Rattle.check_scope.specs.Elaborated.{Gathers}
@@ -9,6 +9,7 @@ use Rattle.check_scope.specs.declared.known.Known.TheVariants.{Later, Ahead, Beg
 use Rattle.check_scope.specs.declared.known.Origin.TheVariants.{Here, Module, Export}
 use Rattle.check_scope.specs.declared.scope.Scope.{Scope}
 use Rattle.check_type_expr.specs.Made.{with_shape, enumeration_constant}
+use Rattle.law_folds.proofs.TypeSteps.{by_shapes}
 use Rattle.law_folds.proofs.Orders.{IsOrder}
 use Rattle.law_folds.proofs.NameSteps.{AtLevel, level_order, varied_level, level_names}
 use Rattle.law_folds.proofs.BlockSteps.{KeepsBlocks, headed_level, block_keeps}
@@ -109,16 +110,16 @@ module _ (g : Gathers) where
       ahead = λ s name e. (refl, λ l. known_stays s name Ahead (λ h. tt));
     };
     names = level_names g false (record {
-      types = record {
+      types = by_shapes g (record {
         order = order;
         shaped = shape_stays;
         listed = λ s name t n e. known_stays s name (Declared Here (Ok (enumeration_constant t n))) (λ h. fine _ tt);
-      };
+      });
       begun = λ s name e. known_stays s name Begun (λ h. tt);
       constant_ends = λ s c e. known_stays s c.name.name _ (λ h. then_holds (any_holds _) (λ x k. fine (meaning.Constant x) tt));
       type_ends = λ s name t n e. known_stays s name _ (λ h. then_holds (any_holds t) (λ x k. fine (meaning.Type x n) tt));
-      varied = varied;
     });
+    varied = λ s t. (varied_level s t, λ l. varied s t);
     variable_ends = λ s name t l e. (varied_level s t, λ k. absurd (let z : true ≡ false = sym l ∙ k in cc));
     local_ends = λ s name t l e. (varied_level s t, λ k. stays_then (varied s t) (known_stays (with_variable_type s t) name _ (λ h.
         then_holds (any_holds t) (λ x k. fine (meaning.Local (record { level = s.level; number = length s.variables; kind = local.Variable; of = x })) tt))));

@@ -20,6 +20,7 @@ use Rattle.check_expr.specs.Meanings.{part}
 use Rattle.check_type_expr.specs.Made.{with_shape, enumeration_constant}
 use Rattle.check_definition.specs.Declare.{with_variable_type, with_procedure_type}
 use Rattle.check_block.specs.Declarations.{declared_block}
+use Rattle.law_folds.proofs.TypeSteps.{by_shapes}
 use Rattle.law_folds.proofs.Orders.{fact}
 use Rattle.law_folds.proofs.BlockSteps.{KeepsBlocks}
 use Rattle.law_folds.proofs.BlockSteps as all_blocks
@@ -73,12 +74,12 @@ module _ (g : Gathers) (P : Scope g.Reported → Type 0) (named : (s : Scope g.R
   blocks = record {
     marks = record { order = fact P; later = λ s name e. named s name Later tt; ahead = λ s name e. named s name Ahead tt };
     names = record {
-      types = record { order = fact P; shaped = shaped; listed = λ s name t n e. named s name _ (fine (enumeration_constant t n) tt) };
+      types = by_shapes g (record { order = fact P; shaped = shaped; listed = λ s name t n e. named s name _ (fine (enumeration_constant t n) tt) });
       begun = λ s name e. named s name Begun tt;
       constant_ends = λ s c e. named s c.name.name _ (outer_by (constant g s (part g c.value)) (λ v. meaning.Constant v) (λ v. tt));
       type_ends = λ s name t n e. named s name _ (outer_by t (λ v. meaning.Type v n) (λ v. tt));
-      varied = varied;
     };
+    varied = varied;
     variable_ends = λ s name t l e h. named (with_variable_type s t) name _
         (outer_by t (λ v. meaning.Variable (record { home = s.types.home; number = length s.variables; of = v })) (λ v. tt)) (varied s t h);
     local_ends = λ s name t l e h. named (with_variable_type s t) name _

@@ -25,6 +25,7 @@ use Rattle.check_type_expr.specs.Made.{with_shape, enumeration_constant}
 use Rattle.check_definition.specs.Declare.{with_variable_type, with_procedure_type}
 use Rattle.check_block.specs.Naming.{marked_decl}
 use Rattle.check_block.specs.Declarations.{Course, with_decl}
+use Rattle.law_folds.proofs.TypeSteps.{by_shapes}
 use Rattle.law_folds.proofs.Orders.{IsOrder, steps}
 use Rattle.law_folds.proofs.MarkSteps.{KeepsMarks, decl_layer_marks}
 use Rattle.law_folds.proofs.BlockSteps.{KeepsBlocks, decls_keep}
@@ -201,16 +202,16 @@ module _ (g : Gathers) where
   blocks = record {
     marks = marks;
     names = record {
-      types = record {
+      types = by_shapes g (record {
         order = order;
         shaped = shape_keeps;
         listed = λ s name t n e. known_keeps s name (Declared Here (Ok (enumeration_constant t n))) tt;
-      };
+      });
       begun = λ s name e. known_keeps s name Begun tt;
       constant_ends = λ s c e. known_keeps s c.name.name _ (fits_by s.level (constant g s (part g c.value)) (λ x. meaning.Constant x) (λ x. tt));
       type_ends = λ s name t n e. known_keeps s name _ (fits_by s.level t (λ x. meaning.Type x n) (λ x. tt));
-      varied = varied;
     };
+    varied = varied;
     variable_ends = λ s name t l e.
         let v : Scope g.Reported = with_variable_type s t in
         let mine = varied s t in

@@ -10,6 +10,7 @@ use Rattle.check_scope.specs.declared.scope.Scope.{Scope}
 use Rattle.check_scope.specs.Elaborated.{Gathers}
 use Rattle.check_scope.specs.Scopes.{State}
 use Rattle.check_definition.specs.Declare.{with_variable_type, with_procedure_type, with_def}
+use Rattle.law_folds.proofs.TypeSteps.{by_shapes}
 use Rattle.law_folds.proofs.Orders.{fact}
 use Rattle.law_folds.proofs.DefinitionSteps.{KeepsDefinitions}
 use Rattle.law_folds.proofs.DefinitionSteps as all_definitions
@@ -29,16 +30,16 @@ module _ (g : Gathers) (P : List (List ℕ × Known g.Reported) → Type 0) (mor
   definitions : KeepsDefinitions g Stays
   definitions = record {
     names = record {
-      types = record {
+      types = by_shapes g (record {
         order = fact (λ s. P s.own);
         shaped = λ s m h. h;
         listed = λ s name t n e h. more name _ s.own h;
-      };
+      });
       begun = λ s name e h. more name Begun s.own h;
       constant_ends = λ s c e h. more c.name.name _ s.own h;
       type_ends = λ s name t n e h. more name _ s.own h;
-      varied = varied;
     };
+    varied = varied;
     variable_ends = λ s name t e h. more name _ (with_variable_type s t).own (varied s t h);
     headed = headed;
     procedure = λ s name t e h. more name _ (with_procedure_type s t).own (headed s t h);

@@ -25,6 +25,7 @@ use Rattle.check_block.specs.declared.heading.Standing.TheVariants.{Awaited}
 use Rattle.check_block.specs.Headings.{standing_of, standing_elaborated, name_standing, module_procedure}
 use Rattle.check_block.specs.Naming.{marked_layer}
 use Rattle.check_block.specs.Declarations.{local_meaning, Course, decl_layer}
+use Rattle.law_folds.proofs.TypeSteps.{by_shapes}
 use Rattle.law_folds.proofs.Orders.{IsOrder}
 use Rattle.law_folds.proofs.MarkSteps.{decl_layer_marks}
 use Rattle.law_folds.proofs.BlockSteps.{KeepsBlocks, layer_keeps}
@@ -158,16 +159,16 @@ module _ (fs : List Formal) (g : Gathers) where
       ahead = λ s name e. known_grows fs s name Ahead (λ h. tt);
     };
     names = record {
-      types = record {
+      types = by_shapes g (record {
         order = order;
         shaped = shape_grows fs;
         listed = λ s name t n e. known_grows fs s name (Declared Here (Ok (enumeration_constant t n))) (λ h. fine _ tt);
-      };
+      });
       begun = λ s name e. known_grows fs s name Begun (λ h. tt);
       constant_ends = λ s c e. known_grows fs s c.name.name _ (λ h. then_holds (any_holds _) (λ x k. fine (meaning.Constant x) tt));
       type_ends = λ s name t n e. known_grows fs s name _ (λ h. then_holds (any_holds t) (λ x k. fine (meaning.Type x n) tt));
-      varied = variable_type_grows;
     };
+    varied = variable_type_grows;
     variable_ends = λ s name t l e. variable_ends s name t;
     local_ends = λ s name t l e. local_ends s name t;
     procedure = λ s name t l e. module_procedure_grows s name t;

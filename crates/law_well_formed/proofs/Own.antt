@@ -23,6 +23,7 @@ use Rattle.check_type_expr.specs.Made.{enumeration_constant, with_shape}
 use Rattle.check_definition.specs.Marking.{marked_def}
 use Rattle.check_definition.specs.Declare.{constant_meaning, type_meaning, variable_meaning, with_variable_type, procedure_meaning, with_procedure_type, with_def}
 use Rattle.check_definition.specs.Importing.{with_import}
+use Rattle.law_folds.proofs.TypeSteps.{by_shapes}
 use Rattle.law_folds.proofs.Orders.{IsOrder, steps}
 use Rattle.law_folds.proofs.MarkSteps.{KeepsMarks}
 use Rattle.law_folds.proofs.MarkSteps.{def_marks as marked_def_keeps}
@@ -118,16 +119,16 @@ module _ (g : Gathers) where
   definitions : KeepsDefinitions g Leads
   definitions = record {
     names = record {
-      types = record {
+      types = by_shapes g (record {
         order = order;
         shaped = shape_leads;
         listed = λ s name t n e. known_leads name (Declared Here (Ok (enumeration_constant t n))) s tt;
-      };
+      });
       begun = λ s name e. known_leads name Begun s tt;
       constant_ends = λ s c e. known_leads c.name.name _ s (constant_own s.types.home (constant g s (part g c.value)));
       type_ends = λ s name t n e. known_leads name _ s (type_own s.types.home t n);
-      varied = variable_type_leads;
     };
+    varied = variable_type_leads;
     variable_ends = λ s name t e.
         known_leads name _ (with_variable_type s t) (variable_own s (length s.variables) t) ⨾ variable_type_leads s t;
     headed = procedure_type_leads;

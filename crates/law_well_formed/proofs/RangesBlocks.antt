@@ -1,10 +1,8 @@
 -- Marks, imports, whole blocks, and the way into procedures and back.
-use Rattle.std.proofs.Common.{◌≡◌, ℕ, zero, suc, Bool, true, false, cond, List, [], ◌∷◌, ◌++◌, length, Option, Some, None, Result, Ok, Err, refl, sym, subst}
-use Rattle.std.specs.Prelude.{take, drop, slice_get}
+use Rattle.std.proofs.Common.{◌≡◌, ℕ, zero, suc, Bool, true, false, cond, List, [], ◌∷◌, ◌++◌, length, Option, Some, None, Result, Ok, sym, subst, inl, inr}
+use Rattle.std.specs.Prelude.{slice_get}
 use Rattle.std.specs.List.{fold, list_all}
 use Rattle.std.specs.Option.{is_some}
-use Rattle.m2_rule.specs.declared.rule.Rule.TheVariants as rule
-use Rattle.m2_tree.specs.declared.pos.Pos.{Pos}
 use Rattle.m2_tree.specs.declared.name.Ident.{Ident}
 use Rattle.m2_tree.specs.declared.decl.Section.{Section}
 use Rattle.m2_tree.specs.declared.decl.Heading.{Heading}
@@ -17,19 +15,17 @@ use Rattle.typed_tree.specs.declared.meaning.Meaning.{Meaning}
 use Rattle.typed_tree.specs.declared.meaning.Meaning.TheVariants as meaning
 use Rattle.typed_tree.specs.declared.table.Table.{Table}
 use Rattle.typed_tree.specs.declared.known_types.Types.{Types}
-use Rattle.typed_tree.specs.Names.{find_name, enter_name, place_of}
-use Rattle.check_scope.specs.Elaborated.{Gathers, report}
-use Rattle.check_scope.specs.Scopes.{State, is_free, with_known, is_again, import_name}
+use Rattle.typed_tree.specs.Names.{find_name, enter_name}
+use Rattle.check_scope.specs.Elaborated.{Gathers}
+use Rattle.check_scope.specs.Scopes.{State}
 use Rattle.check_scope.specs.declared.known.Known.{Known}
 use Rattle.check_scope.specs.declared.known.Known.TheVariants.{Later, Ahead, Declared}
-use Rattle.check_scope.specs.declared.known.Origin.{Origin}
-use Rattle.check_scope.specs.declared.known.Origin.TheVariants.{Here, Export}
-use Rattle.check_scope.specs.declared.known.Origin.TheVariants as origin
+use Rattle.check_scope.specs.declared.known.Origin.TheVariants.{Here}
 use Rattle.check_scope.specs.declared.scope.Block.{Block}
 use Rattle.check_scope.specs.declared.scope.Scope.{Scope}
 use Rattle.check_type_expr.specs.Headings.{formal_of}
 use Rattle.check_definition.specs.Marking.{marked_def}
-use Rattle.check_definition.specs.Importing.{module_named, with_module_as, with_module_name, with_entry, brings_in, reported_of_taken, unless_taken, from_place, with_from, exports_of, from_module, with_imports, with_import}
+use Rattle.check_definition.specs.Importing.{exports_of, with_import}
 use Rattle.check_definition.specs.Declare.{with_def}
 use Rattle.check_definition.specs.Compiled.{declared_in}
 use Rattle.check_block.specs.Naming.{marked_decl, all_marked}
@@ -37,8 +33,9 @@ use Rattle.check_block.specs.Declarations.{Course, with_decl, declared_block, de
 use Rattle.check_block.specs.declared.inner.Outside.{Outside}
 use Rattle.check_block.specs.Inner.{inwards, formal_kind, formal_meaning, Formals, with_formal, with_section, entered_procedure, split_last, pop_block, left_procedure}
 use Rattle.law_folds.proofs.Orders.{fact}
+use Rattle.law_folds.proofs.ImportSteps.{Among, KeepsExports, imports_bring}
 use Rattle.law_folds.proofs.MarkSteps.{KeepsMarks, defs_marks, decls_marks}
-use Rattle.law_well_formed.specs.Formed.{Holds, fine, broken}
+use Rattle.law_well_formed.specs.Formed.{fine}
 use Rattle.law_well_formed.proofs.Basics.{holds_weaker}
 use Rattle.law_well_formed.specs.FormedRanges.{fits_def, fits_decl, MeaningRanged, KnownRanged, NamesRanged, BlocksRanged, ExportsRanged, TablesRanged, ScopeRanged, StateRanged}
 use Rattle.law_well_formed.proofs.RangesTypes.{both_left, both_right}
@@ -57,85 +54,26 @@ marks = record {
 
 -- ---- imports
 
-take_ranged : (types : Types) (n : ℕ) (es : List (List ℕ × Meaning)) → ExportsRanged types es → ExportsRanged types (take n es)
-take_ranged types zero es p = tt
-take_ranged types (suc n) [] p = tt
-take_ranged types (suc n) (e ∷ es) p = (p.0, take_ranged types n es p.1)
-
-drop_ranged : (types : Types) (n : ℕ) (es : List (List ℕ × Meaning)) → ExportsRanged types es → ExportsRanged types (drop n es)
-drop_ranged types zero es p = p
-drop_ranged types (suc n) [] p = tt
-drop_ranged types (suc n) (e ∷ es) p = drop_ranged types n es p.1
-
 exports_ranged : (types : Types) (ts : List Table) (k : ℕ) → TablesRanged types ts → ExportsRanged types (exports_of (slice_get ts k))
 exports_ranged types [] k p = tt
 exports_ranged types (t ∷ ts) zero p = p.0
 exports_ranged types (t ∷ ts) (suc k) p = exports_ranged types ts k p.1
 
+exported_ranged : (types : Types) (es : List (List ℕ × Meaning)) (x : List ℕ × Meaning) → ExportsRanged types es → Among x es → MeaningRanged types x.1
+exported_ranged types [] x p a = absurd a
+exported_ranged types (e ∷ es) x p (inl q) = subst (λ (z : List ℕ × Meaning). MeaningRanged types z.1) (sym q) p.0
+exported_ranged types (e ∷ es) x p (inr a) = exported_ranged types es x p.1 a
+
 module _ (g : Gathers) where
-  -- a scope with these types
-  abbrev Within : Types → Scope g.Reported → Type 0
-  Within types s = ScopeRanged s × (s.types ≡ types)
+  imports : KeepsExports g (λ s t. ScopeRanged s → ScopeRanged t)
+  imports = record {
+    order = fact ScopeRanged;
+    modules = λ s name n e h. known_ranged s name _ h (fine (meaning.Module n) tt);
+    exports = λ s x n e a h. known_ranged s x.0 _ h (fine x.1 (exported_ranged s.types _ x (exports_ranged s.types s.tables n h.tables) a));
+  }
 
-  free_within : (types : Types) (s : Scope g.Reported) (at : Pos) (name : List ℕ) (o : Origin) (m : Meaning) (b : Bool) → Within types s → MeaningRanged types m
-      → Within types (cond {A = State (Unit {0}) g.Reported} b (with_known name (Declared o (Ok m)) s, Ok tt) (s, report g at rule.DeclaredTwice)).0
-  free_within types s at name o m true h p = (known_ranged s name (Declared o (Ok m)) h.0 (fine m (subst (λ (t : Types). MeaningRanged t m) (sym h.1) p)), h.1)
-  free_within types s at name o m false h p = h
-
-  again_within : (types : Types) (s : Scope g.Reported) (x : State (Unit {0}) g.Reported) (b : Bool) → Within types s → Within types x.0 → Within types (cond {A = State (Unit {0}) g.Reported} b (s, Ok tt) x).0
-  again_within types s x true h p = h
-  again_within types s x false h p = p
-
-  imported_within : (types : Types) (s : Scope g.Reported) (at : Pos) (name : List ℕ) (o : Origin) (m : Meaning) → Within types s → MeaningRanged types m → Within types (import_name g s at name o (Ok m)).0
-  imported_within types s at name o m h p = again_within types s _ (is_again (find_name name s.own) o) h (free_within types s at name o m (is_free (find_name name s.own)) h p)
-
-  module_as_ranged : (s : Scope g.Reported) (name : Ident) (r : Result ℕ g.Reported) → ScopeRanged s → ScopeRanged (with_module_as g s name r).0
-  module_as_ranged s name (Ok k) h = (imported_within s.types s name.pos name.name (origin.Module k) (meaning.Module k) (h, refl) tt).0
-  module_as_ranged s name (Err e) h = h
-
-  modules_ranged : (modules : List (List ℕ × ℕ)) (names : List Ident) (st : State (Unit {0}) g.Reported) → StateRanged st → StateRanged (fold (with_module_name g modules) st names)
-  modules_ranged modules [] st p = p
-  modules_ranged modules (x ∷ xs) st p =
-      modules_ranged modules xs (with_module_name g modules st x) (beside_then g (with_module_as g st.0 x (module_named g modules x)).1 p (λ h. const_holds (module_as_ranged st.0 x (module_named g modules x) h) _))
-
-  entries_within : (types : Types) (at : Pos) (k : ℕ) (es : List (List ℕ × Meaning)) (st : State (Unit {0}) g.Reported) → ExportsRanged types es → Holds (λ x. Within types st.0) st.1
-      → Holds (λ x. Within types (fold (with_entry g at k) st es).0) (fold (with_entry g at k) st es).1
-  entries_within types at k [] st q p = p
-  entries_within types at k (e ∷ es) st q p =
-      entries_within types at k es (with_entry g at k st e) q.1 (beside_then g (import_name g st.0 at e.0 (Export k) (Ok e.1)).1 p (λ h. const_holds (imported_within types st.0 at e.0 (Export k) e.1 h q.0) _))
-
-  taken_within : (types : Types) (s : Scope g.Reported) (at : Pos) (k : ℕ) (es : List (List ℕ × Meaning)) (i : ℕ) (o : Option (Result (Unit {0}) g.Reported)) → ExportsRanged types es → Within types s
-      → Holds (λ x. Within types (unless_taken g s at k es i o).0) (unless_taken g s at k es i o).1
-  taken_within types s at k es i (Some j) q h = const_holds h j
-  taken_within types s at k es i None q h =
-      entries_within types at k (take (brings_in (slice_get es i)) (drop i es)) (s, Ok tt) (take_ranged types (brings_in (slice_get es i)) (drop i es) (drop_ranged types i es q)) (fine tt h)
-
-  place_within : (types : Types) (s : Scope g.Reported) (name : Ident) (k : ℕ) (es : List (List ℕ × Meaning)) (o : Option ℕ) → ExportsRanged types es → Within types s
-      → Holds (λ x. Within types (from_place g s name k es o).0) (from_place g s name k es o).1
-  place_within types s name k es None q h = const_holds h _
-  place_within types s name k es (Some i) q h = taken_within types s name.pos k es i (reported_of_taken g name.pos k (find_name name.name s.own)) q h
-
-  abbrev WithExports : Types → List (List ℕ × Meaning) → Scope g.Reported → Type 0
-  WithExports types es s = Within types s × ExportsRanged types es
-
-  from_within : (types : Types) (k : ℕ) (es : List (List ℕ × Meaning)) (names : List Ident) (st : State (Unit {0}) g.Reported) → Holds (λ x. WithExports types es st.0) st.1
-      → Holds (λ x. WithExports types es (fold (with_from g k es) st names).0) (fold (with_from g k es) st names).1
-  from_within types k es [] st p = p
-  from_within types k es (x ∷ xs) st p =
-      from_within types k es xs (with_from g k es st x) (beside_then g (from_place g st.0 x k es (place_of x.name es)).1 p (λ h. holds_weaker (λ u w. (w, h.1)) (place_within types st.0 x k es (place_of x.name es) h.1 h.0)))
-
-  from_module_ranged : (r : Result ℕ g.Reported) (st : State (Unit {0}) g.Reported) (names : List Ident) → StateRanged st → StateRanged (from_module g r st names)
-  from_module_ranged (Ok k) st names p =
-      holds_weaker (λ x w. w.0.0) (from_within st.0.types k (exports_of (slice_get st.0.tables k)) names st (holds_weaker (λ x h. ((h, refl), exports_ranged st.0.types st.0.tables k h.tables)) p))
-  from_module_ranged (Err e) st names p = beside_then g (Err e) p (λ h. broken e)
-
-  with_imports_ranged : (modules : List (List ℕ × ℕ)) (st : State (Unit {0}) g.Reported) (o : Option Ident) (names : List Ident) → StateRanged st → StateRanged (with_imports g modules st o names)
-  with_imports_ranged modules st None names p = modules_ranged modules names st p
-  with_imports_ranged modules st (Some m) names p = from_module_ranged (module_named g modules m) st names p
-
-  imports_ranged : (modules : List (List ℕ × ℕ)) (is : List Import) (st : State (Unit {0}) g.Reported) → StateRanged st → StateRanged (fold (with_import g modules) st is)
-  imports_ranged modules [] st p = p
-  imports_ranged modules (i ∷ is) st p = imports_ranged modules is (with_import g modules st i) (with_imports_ranged modules st i.from i.names p)
+  imports_ranged : (modules : List (List ℕ × ℕ)) (is : List Import) (st : State (Unit {0}) g.Reported) → ScopeRanged st.0 → StateRanged (fold (with_import g modules) st is)
+  imports_ranged modules is st h = const_holds (imports_bring g imports modules is st h) _
 
   -- ---- blocks
 
@@ -149,14 +87,14 @@ module _ (g : Gathers) where
   pub module_ranged : (modules : List (List ℕ × ℕ)) (ends : List ℕ) (s : Scope g.Reported) (m : Module) (ds : List Decl) → list_all fits_decl ds ≡ true → ScopeRanged s
       → StateRanged (let d = declared_module g modules ends s m ds in (d.0, d.1))
   module_ranged modules ends s m ds e h =
-      beside_then g _ (block_ranged ends (fold (with_import g modules) (s, Ok tt) m.imports) 0 ds e (imports_ranged modules m.imports (s, Ok tt) (fine tt h))) (λ k. const_holds k _)
+      beside_then g _ (block_ranged ends (fold (with_import g modules) (s, Ok tt) m.imports) 0 ds e (imports_ranged modules m.imports (s, Ok tt) h)) (λ k. const_holds k _)
 
   defs_ranged : (ds : List Def) (st : State (Unit {0}) g.Reported) → list_all fits_def ds ≡ true → StateRanged st → StateRanged (fold (with_def g) st ds)
   defs_ranged [] st e p = p
   defs_ranged (d ∷ ds) st e p = defs_ranged ds (with_def g st d) (both_right (fits_def d) (list_all fits_def ds) e) (def_ranged g (constants_ranged g) st p d (both_left (fits_def d) (list_all fits_def ds) e))
 
   pub definition_ranged : (m : Module) (modules : List (List ℕ × ℕ)) (s : Scope g.Reported) (ds : List Def) → list_all fits_def ds ≡ true → ScopeRanged s → StateRanged (declared_in g m modules s ds)
-  definition_ranged m modules s ds e h = defs_ranged ds (fold (with_import g modules) (fold marked_def s ds, Ok tt) m.imports) e (imports_ranged modules m.imports (fold marked_def s ds, Ok tt) (fine tt (defs_marks marks ds s h)))
+  definition_ranged m modules s ds e h = defs_ranged ds (fold (with_import g modules) (fold marked_def s ds, Ok tt) m.imports) e (imports_ranged modules m.imports (fold marked_def s ds, Ok tt) (defs_marks marks ds s h))
 
 -- ---- into a procedure, and back
 

@@ -47,6 +47,7 @@ use Rattle.check_block.specs.declared.heading.Standing.TheVariants.{Free, Awaite
 use Rattle.check_block.specs.Headings.{standing_of, name_standing, nested_meaning, set_heading, module_procedure, with_new, nothing_made, reported_of_other, headed_as, with_heading}
 use Rattle.check_block.specs.Naming.{marked_layer}
 use Rattle.check_block.specs.Declarations.{with_locals, Course, with_procedure, decl_layer, is_awaited}
+use Rattle.law_folds.proofs.TypeSteps.{by_shapes}
 use Rattle.law_folds.proofs.Orders.{IsOrder}
 use Rattle.law_folds.proofs.MarkSteps.{KeepsMarks, decl_layer_marks}
 use Rattle.law_folds.proofs.NameSteps.{KeepsNames, constants_keep, types_keep, VariablesEnd, LocalsEnd, variables_of_keep}
@@ -147,15 +148,14 @@ module _ (m : TypedModule) (opens : ℕ → Bool) (g : Gathers) where
 
   names : KeepsNames g Goes
   names = record {
-    types = record {
+    types = by_shapes g (record {
       order = order;
       shaped = shape_leads m opens;
       listed = λ s name t n e. free_leads s name (Declared Here (Ok (enumeration_constant t n))) e refl (fine _ (tt, tt));
-    };
+    });
     begun = λ s name e. free_leads s name Begun e refl tt;
     constant_ends = λ s c e. ended_leads s c.name.name _ (λ x. meaning.Constant x) e (λ x. refl) (λ h x. (tt, tt));
     type_ends = λ s name t n e. ended_leads s name t (λ x. meaning.Type x n) e (λ x. refl) (λ h x. (tt, tt));
-    varied = variable_type_leads;
   }
 
   variable_ends : VariablesEnd g Goes
@@ -234,7 +234,7 @@ module _ (m : TypedModule) (opens : ℕ → Bool) (g : Gathers) where
     pub decl_leads : (ends : List ℕ) (c : Course g.Reported) (y : Decl-F A B) → HeadsAre m opens g c y → Goes c.0 (decl_layer g ends c y).0
     decl_leads ends c (layer.Constants cs) k = constants_keep g names cs (c.0, c.1)
     decl_leads ends c (layer.Types ts) k = types_keep g names ts (c.0, c.1)
-    decl_leads ends c (layer.Variables vs) k = variables_of_keep g names variable_ends local_ends vs (c.0, c.1)
+    decl_leads ends c (layer.Variables vs) k = variables_of_keep g names variable_type_leads variable_ends local_ends vs (c.0, c.1)
     decl_leads ends c (layer.Procedure h b) k = heading_leads c.0 h c.2 k
 
     pub layer_marks : (s : Scope g.Reported) (y : Decl-F A B) → Goes s (marked_layer s y)

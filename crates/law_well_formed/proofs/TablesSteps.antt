@@ -28,7 +28,7 @@ use Rattle.check_type_expr.specs.Made.{enumeration_constant, with_shape, with_ma
 use Rattle.check_definition.specs.Declare.{constant_meaning, with_constant, type_meaning, brings_with, with_type, begun_name, variable_meaning, with_variable_type, finished_variable, with_variables}
 use Rattle.check_definition.specs.Importing.{with_import}
 use Rattle.law_folds.proofs.Orders.{IsOrder, steps}
-use Rattle.law_folds.proofs.TypeSteps.{listed_keeps, type_keeps, field_list_keeps}
+use Rattle.law_folds.proofs.TypeSteps.{KeepsShapes, by_shapes, listed_keeps, type_keeps, field_list_keeps}
 use Rattle.law_folds.proofs.NameSteps.{KeepsNames, VariablesEnd, finish_keeps, constant_keeps, type_decl_keeps, begun_all, variable_keeps, variable_list_keeps}
 use Rattle.law_folds.proofs.ImportSteps.{KeepsImports, imports_keep}
 use Rattle.law_well_formed.proofs.Order.{has, keys, keys_entered, Distinct, distinct_entered, holds_of, TakenIn, taken_entered, is_taken, number_if, number_of, is_done, Order, order_entered}
@@ -128,30 +128,32 @@ module _ (g : Gathers) where
   ended : (s : Scope g.Reported) (name : List ℕ) (m : Result Meaning g.Reported) → number_if m ≡ None → is_begun (find_name name s.own) ≡ true → Goes s (with_known name (Declared Here m) s)
   ended s name m n e = known_goes name (Declared Here m) s n refl (begun_undone (find_name name s.own) e)
 
+  shapes : KeepsShapes g Goes
+  shapes = record {
+    order = order;
+    shaped = shape_goes;
+    listed = λ s name t n e. known_goes name (Declared Here (Ok (enumeration_constant t n))) s refl refl (free_undone (find_name name s.own) e);
+  }
+
   names : KeepsNames g Goes
   names = record {
-    types = record {
-      order = order;
-      shaped = shape_goes;
-      listed = λ s name t n e. known_goes name (Declared Here (Ok (enumeration_constant t n))) s refl refl (free_undone (find_name name s.own) e);
-    };
+    types = by_shapes g shapes;
     begun = λ s name e. known_goes name Begun s refl refl (free_undone (find_name name s.own) e);
     constant_ends = λ s c e. ended s c.name.name _ (constant_none (constant g s (part g c.value))) e;
     type_ends = λ s name t n e. ended s name _ (type_none t n) e;
-    varied = variable_type_goes;
   }
 
   variable_ends : VariablesEnd g Goes
   variable_ends s name t e = ended (with_variable_type s t) name _ (variable_none s.types.home (length s.variables) t) e ⨾ variable_type_goes s t
 
   pub listed_goes : (t : TypeNo) (l : Scope g.Reported × ℕ × Result (Unit {0}) g.Reported) (x : Ident) → Goes l.0 (enumerate_name g t l x).0
-  listed_goes = listed_keeps g names.types
+  listed_goes = listed_keeps g shapes
 
   pub type_of_goes : (t : TypeExpr) (s : Scope g.Reported) → Goes s (type_of g t s).0
-  type_of_goes = type_keeps g names.types
+  type_of_goes = type_keeps g shapes
 
   pub field_list_goes : (f : Field) (st : Scope g.Reported × Fields × Result (Unit {0}) g.Reported) → Goes st.0 (field_list g f st).0
-  field_list_goes = field_list_keeps g names.types
+  field_list_goes = field_list_keeps g shapes
 
   -- a name whose declaration was begun is finished
   pub constant_ends : (b : Scope g.Reported) (c : Constant) → Goes b (finish_name b c.name (constant_meaning (constant g b (part g c.value))))
@@ -173,10 +175,10 @@ module _ (g : Gathers) where
   begun_all_go = begun_all g names
 
   pub variables_end : (b : Scope g.Reported) (v : Variables) → Goes (type_of g v.of b).0 (fold (finished_variable (type_of g v.of b).1) (type_of g v.of b).0 v.names)
-  variables_end b v = let t = type_of g v.of b in steps order (λ s. s) (finished_variable t.1) (variable_keeps g names variable_ends t.1) v.names t.0
+  variables_end b v = let t = type_of g v.of b in steps order (λ s. s) (finished_variable t.1) (variable_keeps g names variable_type_goes variable_ends t.1) v.names t.0
 
   pub variables_go : (st : State (Unit {0}) g.Reported) (v : Variables) → Goes st.0 (with_variables g st v).0
-  variables_go = variable_list_keeps g names variable_ends
+  variables_go = variable_list_keeps g names variable_type_goes variable_ends
 
   -- ---- imports
 
