@@ -21,7 +21,7 @@ use Rattle.check_definition.specs.Predeclared.{predeclared_block}
 use Rattle.check_block.specs.declared.heading.Standing.TheVariants.{Awaited, Taken}
 use Rattle.check_block.specs.Headings.{standing_of, standing_known, name_standing}
 use Rattle.check_body.specs.Own.{with_own_name, own_names, exported_headings}
-use Rattle.law_folds.proofs.ImportSteps.{imports_keep}
+use Rattle.law_folds.proofs.ImportSteps.{KeepsImports, imports_keep}
 use Rattle.law_well_formed.proofs.ImportsLists.{same_is}
 use Rattle.law_well_formed.proofs.Names.{found_self}
 use Rattle.law_well_formed.proofs.HeadingsLists.{found_other}
@@ -67,12 +67,15 @@ module _ {T : Type 0} where
   known_stays : (name : List ℕ) (k : Known T) (s : Scope T) → standing_known k ≡ Taken → Stays s (with_known name k s)
   known_stays name k s t = record { level = refl; outer = refl; withs = refl; home = refl; procedures = refl; awaited = λ y p e. taken_awaits y name k s.own p t e }
 
-pub import_stays : (g : Gathers) (modules : List (List ℕ × ℕ)) (is : List Import) (st : State (Unit {0}) g.Reported) → Stays st.0 (fold (with_import g modules) st is).0
-import_stays g = imports_keep g (record {
+imports : (g : Gathers) → KeepsImports g Stays
+imports g = record {
   order = record { same = same_stays; next = λ a b c p q. q ⨾ p };
   modules = λ s name n e. known_stays name (Declared (Module n) (Ok (meaning.Module n))) s refl;
   exports = λ s name n m e. known_stays name (Declared (Export n) (Ok m)) s refl;
-})
+}
+
+pub import_stays : (g : Gathers) (modules : List (List ℕ × ℕ)) (is : List Import) (st : State (Unit {0}) g.Reported) → Stays st.0 (fold (with_import g modules) st is).0
+import_stays g = imports_keep g (imports g)
 
 -- ---- procedures of the definition
 

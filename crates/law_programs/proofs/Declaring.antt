@@ -12,7 +12,7 @@ use Rattle.m2_tree.specs.declared.decl.Heading.{Heading}
 use Rattle.m2_tree.specs.declared.decl.Import.{Import}
 use Rattle.m2_tree.specs.declared.decl.Module.{Module}
 use Rattle.m2_tree.specs.declared.decl.Def.{Def}
-use Rattle.m2_tree.specs.declared.decl.Decl.{Decl}
+use Rattle.m2_tree.specs.declared.decl.Decl.{Decl, out-Decl}
 use Rattle.m2_tree.specs.declared.decl.Simple.{Simple}
 use Rattle.m2_tree.specs.declared.decl.Simple.TheVariants as simple
 use Rattle.m2_tree.specs.declared.decl.TypeExpr.{TypeExpr, TypeExpr-F}
@@ -31,8 +31,8 @@ use Rattle.typed_tree.specs.declared.table.Table.{Table}
 use Rattle.typed_tree.specs.declared.known_types.Types.{Types}
 use Rattle.typed_tree.specs.Known.{scalar_at, cells_at}
 use Rattle.check_scope.specs.Elaborated.{Gathers, both}
-use Rattle.check_scope.specs.Scopes.{State}
-use Rattle.check_scope.specs.declared.known.Known.TheVariants.{Later, Ahead, Headed, Declared}
+use Rattle.check_scope.specs.Scopes.{State, with_known}
+use Rattle.check_scope.specs.declared.known.Known.TheVariants.{Later, Ahead, Headed, Declared, Begun}
 use Rattle.check_scope.specs.declared.known.Origin.TheVariants.{Here}
 use Rattle.check_scope.specs.declared.scope.Scope.{Scope}
 use Rattle.check_scope.specs.Scopes.{heading_means}
@@ -44,19 +44,19 @@ use Rattle.check_type_expr.specs.Fields.{no_fields}
 use Rattle.check_type_expr.specs.Headings.{procedure_made, with_section, result_of, heading_of}
 use Rattle.check_type_expr.specs.Made.{next_type, with_shape, enumeration_constant, enumeration_scalar, too_many, enumerate_name, simple_type, simple_place, array_of, index_type, record_of, Makes, MakesFields, then_fields, type_layer, field_layer, type_of, field_list}
 use Rattle.check_definition.specs.Marking.{marked_def}
-use Rattle.check_definition.specs.Declare.{variable_meaning, with_variable_type, procedure_meaning, with_procedure_type}
+use Rattle.check_definition.specs.Declare.{variable_meaning, with_variable_type, procedure_meaning, with_procedure_type, with_def}
 use Rattle.check_definition.specs.Importing.{exports_of, with_import}
 use Rattle.check_definition.specs.Compiled.{declared_in}
 use Rattle.check_block.specs.Headings.{nested_meaning}
-use Rattle.check_block.specs.Declarations.{local_meaning, declared_block, declared_module}
+use Rattle.check_block.specs.Declarations.{local_meaning, declared_block, declared_module, Course, with_decl}
 use Rattle.law_folds.proofs.Orders.{IsOrder, steps}
 use Rattle.law_folds.proofs.TypeFolds.{Typed, Fielded, bare, all_trees, types_opened, types_at, fields_at}
 use Rattle.law_folds.proofs.MarkSteps.{KeepsMarks, defs_marks}
 use Rattle.law_folds.proofs.TypeSteps.{unless_keeps, KeepsTypes}
 use Rattle.law_folds.proofs.NameSteps.{KeepsNames, VariablesEnd}
 use Rattle.law_folds.proofs.ImportSteps.{Among, KeepsExports, imports_bring}
-use Rattle.law_folds.proofs.DefinitionSteps.{KeepsDefinitions, defs_keep}
-use Rattle.law_folds.proofs.BlockSteps.{KeepsBlocks, block_keeps}
+use Rattle.law_folds.proofs.DefinitionSteps.{KeepsDefinitions, def_keeps, defs_keep}
+use Rattle.law_folds.proofs.BlockSteps.{KeepsBlocks, layer_keeps, block_keeps}
 use Rattle.law_well_formed.specs.Formed.{Holds, fine, broken}
 use Rattle.law_well_formed.proofs.Basics.{then_holds, holds_weaker, where_holds, both_holds, any_holds, heading_means_holds}
 use Rattle.law_well_formed.proofs.RangesDeclarations.{meant_holds}
@@ -326,6 +326,12 @@ module _ (g : Gathers) where
   imports_carry = imports_bring g imports
 
   -- ---- whole blocks, definitions and modules
+
+  pub def_carries : (st : State (Unit {0}) g.Reported) (d : Def) → Goes st.0 (with_def g st d).0
+  def_carries = def_keeps g definitions
+
+  pub decl_carries : (ends : List ℕ) (c : Course g.Reported) (d : Decl) → Goes c.0 (with_decl g ends c d).0
+  decl_carries ends c d = layer_keeps g blocks ends c (out-Decl d)
 
   pub block_carries : (ends : List ℕ) (st : State (Unit {0}) g.Reported) (first : ℕ) (ds : List Decl) → Goes st.0 (declared_block g ends st first ds).0
   block_carries = block_keeps g blocks
