@@ -1,5 +1,5 @@
 -- What a definition declares: what each entry of a name keeps, the whole definition keeps.
-use Rattle.std.proofs.Common.{◌≡◌, ℕ, true, List, [], length, Result, Ok}
+use Rattle.std.proofs.Common.{◌≡◌, ℕ, true, List, length, Result, Ok}
 use Rattle.std.specs.List.{fold}
 use Rattle.m2_rule.specs.declared.rule.Rule.TheVariants as rule
 use Rattle.m2_tree.specs.declared.decl.Heading.{Heading}

@@ -1,5 +1,5 @@
 -- What names, types, variables and headings keep, declarations keep.
-use Rattle.std.proofs.Common.{ℕ, List, [], Result, Ok}
+use Rattle.std.proofs.Common.{ℕ, List, Result, Ok}
 use Rattle.std.specs.List.{fold}
 use Rattle.m2_tree.specs.declared.decl.Module.{Module}
 use Rattle.m2_tree.specs.declared.decl.Decl.{Decl}

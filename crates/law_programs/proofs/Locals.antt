@@ -1,6 +1,5 @@
 -- The declarations of a procedure's block bring local names alone: constants, types, local variables and procedures.
 use Rattle.std.proofs.Common.{length, ◌≡◌, ℕ, Bool, true, false, cond, List, [], ◌∷◌, Option, Some, None, Result, Ok, Err, refl, sym, ◌∙◌}
-use Rattle.m2_tree.specs.declared.decl.Field.{Field}
 use Rattle.typed_tree.specs.declared.types.TypeNo.{TypeNo}
 use Rattle.check_scope.specs.Elaborated.{Gathers}
 use Rattle.check_scope.specs.Scopes.{with_known}
@@ -15,7 +14,6 @@ use Rattle.law_folds.proofs.NameSteps.{AtLevel, level_order, varied_level, level
 use Rattle.law_folds.proofs.BlockSteps.{KeepsBlocks, headed_level, block_keeps}
 use Rattle.law_well_formed.specs.Formed.{Holds, fine, broken}
 use Rattle.law_well_formed.proofs.Basics.{then_holds, any_holds, heading_means_holds}
-use Rattle.m2_tree.specs.declared.decl.Constant.{Constant}
 use Rattle.typed_tree.specs.declared.meaning.LocalKind.TheVariants as local
 use Rattle.typed_tree.specs.declared.meaning.Meaning.{Meaning}
 use Rattle.typed_tree.specs.declared.meaning.Meaning.TheVariants as meaning
@@ -121,11 +119,17 @@ module _ (g : Gathers) where
     });
     varied = λ s t. (varied_level s t, λ l. varied s t);
     variable_ends = λ s name t l e. (varied_level s t, λ k. absurd (let z : true ≡ false = sym l ∙ k in cc));
-    local_ends = λ s name t l e. (varied_level s t, λ k. stays_then (varied s t) (known_stays (with_variable_type s t) name _ (λ h.
-        then_holds (any_holds t) (λ x k. fine (meaning.Local (record { level = s.level; number = length s.variables; kind = local.Variable; of = x })) tt))));
+    local_ends = λ s name t l e. (
+      varied_level s t,
+      λ k. stays_then (varied s t) (known_stays (with_variable_type s t) name _ (λ h.
+          then_holds (any_holds t) (λ x k. fine (meaning.Local (record { level = s.level; number = length s.variables; kind = local.Variable; of = x })) tt))),
+    );
     procedure = λ s name t l e. (headed_level s t, λ k. absurd (let z : true ≡ false = sym l ∙ k in cc));
-    nested = λ s name n t l e. (refl, λ k. known_stays s name _ (λ h.
-        heading_means_holds true (then_holds (any_holds t) (λ x k. fine (meaning.LocalProcedure (record { level = s.level; number = n; heading = x })) tt))));
+    nested = λ s name n t l e. (
+      refl,
+      λ k. known_stays s name _ (λ h.
+          heading_means_holds true (then_holds (any_holds t) (λ x k. fine (meaning.LocalProcedure (record { level = s.level; number = n; heading = x })) tt))),
+    );
     awaited = λ s name p e. (refl, λ k. known_stays s name _ (λ h. absurd (none_awaited p (find_name name s.own) e (found_local name s.own h))));
   }
 

@@ -1,8 +1,6 @@
 -- What imports bring into the block of a module: declarations keep it.
 use Rattle.std.proofs.Common.{◌≡◌, ℕ, ◌==◌, true, false, List, [], ◌∷◌, length, Result, Ok, Err, sym, ◌∙◌}
-use Rattle.m2_tree.specs.declared.decl.Constant.{Constant}
 use Rattle.m2_tree.specs.declared.decl.Decl.{Decl}
-use Rattle.m2_tree.specs.declared.decl.Field.{Field}
 use Rattle.typed_tree.specs.declared.types.TypeNo.{TypeNo}
 use Rattle.typed_tree.specs.declared.shape.Made.{Made}
 use Rattle.typed_tree.specs.declared.meaning.Meaning.{Meaning}

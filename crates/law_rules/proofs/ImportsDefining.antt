@@ -1,5 +1,5 @@
 -- Where the imports of a definition stand, what it declares is marked alone.
-use Rattle.std.proofs.Common.{◌≡◌, ℕ, true, false, List, [], Some, refl, ap, ◌∙◌}
+use Rattle.std.proofs.Common.{◌≡◌, ℕ, true, false, List, Some, refl, ap, ◌∙◌}
 use Rattle.std.specs.List.{fold}
 use Rattle.typed_tree.specs.Names.{find_name}
 use Rattle.check_scope.specs.declared.known.Known.{Known}

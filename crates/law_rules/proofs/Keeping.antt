@@ -1,5 +1,5 @@
 -- Declarations keep what holds of the names of a scope, if it holds with one name more.
-use Rattle.std.proofs.Common.{ℕ, List, [], Result, Ok, Err}
+use Rattle.std.proofs.Common.{ℕ, List, Result, Ok, Err}
 use Rattle.std.specs.List.{fold}
 use Rattle.m2_tree.specs.declared.decl.Def.{Def}
 use Rattle.typed_tree.specs.declared.types.TypeNo.{TypeNo}

@@ -1,5 +1,5 @@
 -- Imports keep what holds of the names of a scope, if it holds with one name more.
-use Rattle.std.proofs.Common.{ℕ, List, [], Ok}
+use Rattle.std.proofs.Common.{ℕ, List, Ok}
 use Rattle.m2_tree.specs.declared.decl.Import.{Import}
 use Rattle.typed_tree.specs.Names.{enter_name}
 use Rattle.check_scope.specs.declared.known.Known.{Known}

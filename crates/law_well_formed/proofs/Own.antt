@@ -1,5 +1,5 @@
 -- Declarations lead from scopes whose own names are the module's own to such scopes.
-use Rattle.std.proofs.Common.{◌≡◌, ℕ, List, [], length, Result, Ok, Err, refl, sym, subst, ◌∙◌}
+use Rattle.std.proofs.Common.{◌≡◌, ℕ, List, length, Result, Ok, Err, refl, sym, subst, ◌∙◌}
 use Rattle.std.specs.Prelude.{IfOk}
 use Rattle.std.specs.List.{fold, AllByRecursion}
 use Rattle.m2_tree.specs.declared.decl.Import.{Import}
