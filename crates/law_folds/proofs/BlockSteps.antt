@@ -99,7 +99,8 @@ module _ (g : Gathers) {R : Scope g.Reported → Scope g.Reported → Type 0} (o
   new_by true s name n t l f = procedure s name t l (subst (λ es. Frees name es) (sym (headed_own s t)) f)
   new_by false s name n t l f = nested s name n t l f
 
-  heading_by : (s : Scope g.Reported) (h : Heading) (n : ℕ) (p : Standing) → name_standing (find_name h.name.name s.own) ≡ p
+  heading_by : (s : Scope g.Reported) (h : Heading) (n : ℕ) (p : Standing)
+      → name_standing (find_name h.name.name s.own) ≡ p
       → R s (headed_as g s h n (heading_of g s h) p).0
   heading_by s h n Free e =
       let m : State TypeNo g.Reported = with_made s (heading_of g s h) in
@@ -151,7 +152,8 @@ module _ (g : Gathers) {R : Scope g.Reported → Scope g.Reported → Type 0} (k
 
   -- ---- all declarations
 
-  pub layer_keeps : {A B : Type 0} (ends : List ℕ) (c : Course g.Reported) (y : Decl-F A B) → R c.0 (decl_layer g ends c y).0
+  pub layer_keeps : {A B : Type 0} (ends : List ℕ) (c : Course g.Reported) (y : Decl-F A B)
+      → R c.0 (decl_layer g ends c y).0
   layer_keeps ends c (decl.Constants cs) = constants_keep g k.names cs (c.0, c.1)
   layer_keeps ends c (decl.Types ts) = types_keep g k.names ts (c.0, c.1)
   layer_keeps ends c (decl.Variables vs) = variables_of (c.0.level == 0) (c.0, c.1) vs refl
@@ -162,7 +164,8 @@ module _ (g : Gathers) {R : Scope g.Reported → Scope g.Reported → Type 0} (k
   decls_keep ends =
       steps order (λ (c : Course g.Reported). c.0) (with_decl g ends) (λ c d. layer_keeps ends c (out-Decl d))
 
-  pub block_keeps : (ends : List ℕ) (st : St) (first : ℕ) (ds : List Decl) → R st.0 (declared_block g ends st first ds).0
+  pub block_keeps : (ends : List ℕ) (st : St) (first : ℕ) (ds : List Decl)
+      → R st.0 (declared_block g ends st first ds).0
   block_keeps ends st first ds =
       let m : Scope g.Reported = (all_marked marked_decl st.0 ds).0 in
       order.next st.0 m _ (decls_marks k.marks ds (st.0, [])) (decls_keep ends ds (m, st.1, first))

@@ -50,7 +50,8 @@ module _ (g : Gathers) {R : Scope g.Reported → Scope g.Reported → Type 0} (k
   pub def_keeps : (st : St) (d : Def) → R st.0 (with_def g st d).0
   def_keeps st (def.Constants cs) = steps order state (with_constant g) (constant_keeps g k.names) cs st
   def_keeps st (def.Types ts) = steps order state (with_type g) (type_decl_keeps g k.names) ts st
-  def_keeps st (def.Variables vs) = steps order state (with_variables g) (variable_list_keeps g k.names k.varied k.variable_ends) vs st
+  def_keeps st (def.Variables vs) =
+      steps order state (with_variables g) (variable_list_keeps g k.names k.varied k.variable_ends) vs st
   def_keeps st (def.Procedure h) = procedure_keeps st h
 
   pub defs_keep : (ds : List Def) (st : St) → R st.0 (fold (with_def g) st ds).0

@@ -24,7 +24,8 @@ St g = State (Unit {0}) g.Reported
 
 module _ (g : Gathers) {R : Scope g.Reported → Scope g.Reported → Type 0} (o : IsOrder R) where
   import_by : (s : Scope g.Reported) (at : Pos) (name : List ℕ) (from : Origin) (m : Result Meaning g.Reported)
-      → (is_free (find_name name s.own) ≡ true → R s (with_known name (Declared from m) s)) → R s (import_name g s at name from m).0
+      → (is_free (find_name name s.own) ≡ true → R s (with_known name (Declared from m) s))
+      → R s (import_name g s at name from m).0
   import_by s at name from m h =
       let new : State (Unit {0}) g.Reported = (with_known name (Declared from m) s, Ok tt) in
       let old : State (Unit {0}) g.Reported = (s, report g at rule.DeclaredTwice) in
@@ -43,10 +44,12 @@ module _ (g : Gathers) {R : Scope g.Reported → Scope g.Reported → Type 0} (k
   state st = st.0
 
   module_keeps : (s : Scope g.Reported) (name : Ident) (r : Result ℕ g.Reported) → R s (with_module_as g s name r).0
-  module_keeps s name (Ok n) = import_by g k.order s name.pos name.name (Module n) (Ok (meaning.Module n)) (k.modules s name.name n)
+  module_keeps s name (Ok n) =
+      import_by g k.order s name.pos name.name (Module n) (Ok (meaning.Module n)) (k.modules s name.name n)
   module_keeps s name (Err e) = k.order.same s
 
-  module_name_keeps : (modules : List (List ℕ × ℕ)) (st : St g) (name : Ident) → R st.0 (with_module_name g modules st name).0
+  module_name_keeps : (modules : List (List ℕ × ℕ)) (st : St g) (name : Ident)
+      → R st.0 (with_module_name g modules st name).0
   module_name_keeps modules st name = module_keeps st.0 name (module_named g modules name)
 
   entry_keeps : (at : Pos) (n : ℕ) (st : St g) (e : List ℕ × Meaning) → R st.0 (with_entry g at n st e).0
@@ -56,7 +59,8 @@ module _ (g : Gathers) {R : Scope g.Reported → Scope g.Reported → Type 0} (k
       (o : Option (Result (Unit {0}) g.Reported)) → R s (unless_taken g s at n es i o).0
   taken_keeps s at n es i (Some j) = k.order.same s
   taken_keeps s at n es i None =
-      steps k.order state (with_entry g at n) (entry_keeps at n) (take (brings_in (slice_get es i)) (drop i es)) (s, Ok tt)
+      steps k.order state (with_entry g at n) (entry_keeps at n) (take (brings_in (slice_get es i)) (drop i es))
+      (s, Ok tt)
 
   place_keeps : (s : Scope g.Reported) (name : Ident) (n : ℕ) (es : List (List ℕ × Meaning)) (o : Option ℕ)
       → R s (from_place g s name n es o).0
@@ -75,11 +79,14 @@ module _ (g : Gathers) {R : Scope g.Reported → Scope g.Reported → Type 0} (k
 
   import_keeps : (modules : List (List ℕ × ℕ)) (st : St g) (from : Option Ident) (names : List Ident)
       → R st.0 (with_imports g modules st from names).0
-  import_keeps modules st None names = steps k.order state (with_module_name g modules) (module_name_keeps modules) names st
+  import_keeps modules st None names =
+      steps k.order state (with_module_name g modules) (module_name_keeps modules) names st
   import_keeps modules st (Some m) names = from_module_keeps (module_named g modules m) st names
 
-  pub imports_keep : (modules : List (List ℕ × ℕ)) (is : List Import) (st : St g) → R st.0 (fold (with_import g modules) st is).0
-  imports_keep modules is st = steps k.order state (with_import g modules) (λ st i. import_keeps modules st i.from i.names) is st
+  pub imports_keep : (modules : List (List ℕ × ℕ)) (is : List Import) (st : St g)
+      → R st.0 (fold (with_import g modules) st is).0
+  imports_keep modules is st =
+      steps k.order state (with_import g modules) (λ st i. import_keeps modules st i.from i.names) is st
 
 -- ---- the same where something is known of what the tables of the scope export
 
@@ -119,17 +126,21 @@ module _ (g : Gathers) {R : Scope g.Reported → Scope g.Reported → Type 0} (k
       → es ≡ exports_of (slice_get s.tables n) → es ≡ exports_of (slice_get t.tables n)
   exported n es s t e p = p ∙ ap (λ ts. exports_of (slice_get ts n)) (sym e)
 
-  entries_bring : (at : Pos) (n : ℕ) (es xs : List (List ℕ × Meaning)) → ((e : List ℕ × Meaning) → Among e xs → Among e es)
+  entries_bring : (at : Pos) (n : ℕ) (es xs : List (List ℕ × Meaning))
+      → ((e : List ℕ × Meaning) → Among e xs → Among e es)
       → (st : St g) → es ≡ exports_of (slice_get st.0.tables n) → R st.0 (fold (with_entry g at n) st xs).0
   entries_bring at n es [] sub st p = k.order.same st.0
   entries_bring at n es (x ∷ xs) sub st p =
       let one : St g = with_entry g at n st x in
       k.order.next st.0 one.0 _
-      (import_by g k.order st.0 at x.0 (Export n) (Ok x.1) (λ f. k.exports st.0 x n f (subst (λ zs. Among x zs) p (sub x (inl refl)))))
-      (entries_bring at n es xs (λ e a. sub e (inr a)) one (exported n es st.0 one.0 (entry_keeps g tables at n st x) p))
+      (import_by g k.order st.0 at x.0 (Export n) (Ok x.1)
+      (λ f. k.exports st.0 x n f (subst (λ zs. Among x zs) p (sub x (inl refl)))))
+      (entries_bring at n es xs (λ e a. sub e (inr a)) one
+      (exported n es st.0 one.0 (entry_keeps g tables at n st x) p))
 
   taken_brings : (s : Scope g.Reported) (at : Pos) (n : ℕ) (es : List (List ℕ × Meaning)) (i : ℕ)
-      (o : Option (Result (Unit {0}) g.Reported)) → es ≡ exports_of (slice_get s.tables n) → R s (unless_taken g s at n es i o).0
+      (o : Option (Result (Unit {0}) g.Reported)) → es ≡ exports_of (slice_get s.tables n)
+      → R s (unless_taken g s at n es i o).0
   taken_brings s at n es i (Some j) p = k.order.same s
   taken_brings s at n es i None p =
       let m : ℕ = brings_in (slice_get es i) in
@@ -141,7 +152,8 @@ module _ (g : Gathers) {R : Scope g.Reported → Scope g.Reported → Type 0} (k
   place_brings s name n es (Some i) p =
       taken_brings s name.pos n es i (reported_of_taken g name.pos n (find_name name.name s.own)) p
 
-  from_brings : (n : ℕ) (es : List (List ℕ × Meaning)) (names : List Ident) (st : St g) → es ≡ exports_of (slice_get st.0.tables n)
+  from_brings : (n : ℕ) (es : List (List ℕ × Meaning)) (names : List Ident) (st : St g)
+      → es ≡ exports_of (slice_get st.0.tables n)
       → R st.0 (fold (with_from g n es) st names).0
   from_brings n es [] st p = k.order.same st.0
   from_brings n es (x ∷ xs) st p =
@@ -161,10 +173,13 @@ module _ (g : Gathers) {R : Scope g.Reported → Scope g.Reported → Type 0} (k
   import_brings : (modules : List (List ℕ × ℕ)) (st : St g) (from : Option Ident) (names : List Ident)
       → R st.0 (with_imports g modules st from names).0
   import_brings modules st None names =
-      steps k.order (λ (st : St g). st.0) (with_module_name g modules) (λ st x. module_brings st.0 x (module_named g modules x))
+      steps k.order (λ (st : St g). st.0) (with_module_name g modules)
+      (λ st x. module_brings st.0 x (module_named g modules x))
       names st
   import_brings modules st (Some m) names = from_module_brings (module_named g modules m) st names
 
-  pub imports_bring : (modules : List (List ℕ × ℕ)) (is : List Import) (st : St g) → R st.0 (fold (with_import g modules) st is).0
+  pub imports_bring : (modules : List (List ℕ × ℕ)) (is : List Import) (st : St g)
+      → R st.0 (fold (with_import g modules) st is).0
   imports_bring modules is st =
-      steps k.order (λ (st : St g). st.0) (with_import g modules) (λ st i. import_brings modules st i.from i.names) is st
+      steps k.order (λ (st : St g). st.0) (with_import g modules)
+      (λ st i. import_brings modules st i.from i.names) is st

@@ -125,4 +125,5 @@ module _ {T : Type 0} {R : Scope T → Scope T → Type 0} (k : KeepsMarks R) wh
 
   pub decls_marks : (ds : List Decl) (st : Scope T × List ℕ) → R st.0 (fold (with_marks marked_decl) st ds).0
   decls_marks =
-      steps k.order (λ (st : Scope T × List ℕ). st.0) (with_marks marked_decl) (λ st d. decl_layer_marks (out-Decl d) st.0)
+      steps k.order (λ (st : Scope T × List ℕ). st.0) (with_marks marked_decl)
+      (λ st d. decl_layer_marks (out-Decl d) st.0)

@@ -23,14 +23,16 @@ use Rattle.law_folds.proofs.TypeSteps.{unless_keeps, KeepsTypes, by_shapes}
 
 -- a name ends whose declaration was begun
 pub finish_keeps : {T : Type 0} {R : Scope T → Scope T → Type 0} (o : IsOrder R) (s : Scope T) (name : Ident)
-    (m : Result Meaning T) → (is_begun (find_name name.name s.own) ≡ true → R s (with_known name.name (Declared Here m) s))
+    (m : Result Meaning T)
+    → (is_begun (find_name name.name s.own) ≡ true → R s (with_known name.name (Declared Here m) s))
     → R s (finish_name s name m)
 finish_keeps o s name m h =
     either_scope o s (is_begun (find_name name.name s.own)) (with_known name.name (Declared Here m) s) s h (o.same s)
 
 pub record KeepsNames (g : Gathers) (R : Scope g.Reported → Scope g.Reported → Type 0) : Type 0 where
   pub types : KeepsTypes g R
-  pub begun : (s : Scope g.Reported) (name : List ℕ) → is_free (find_name name s.own) ≡ true → R s (with_known name Begun s)
+  pub begun : (s : Scope g.Reported) (name : List ℕ) → is_free (find_name name s.own) ≡ true
+      → R s (with_known name Begun s)
   pub constant_ends : (s : Scope g.Reported) (c : Constant) → is_begun (find_name c.name.name s.own) ≡ true
       → R s (with_known c.name.name (Declared Here (constant_meaning (constant g s (part g c.value)))) s)
   pub type_ends : (s : Scope g.Reported) (name : List ℕ) (t : Result TypeNo g.Reported) (n : ℕ)
@@ -86,7 +88,8 @@ module _ (g : Gathers) {R : Scope g.Reported → Scope g.Reported → Type 0} (k
       let b : Scope g.Reported = (begin_name g st.0 d.name).0 in
       let t : State TypeNo g.Reported = type_of g d.of b in
       order.next st.0 b _ (begin_keeps st.0 d.name) (order.next b t.0 _ (k.types.types d.of b)
-      (finish_keeps order t.0 d.name (type_meaning t.1 (brings_with d.of)) (k.type_ends t.0 d.name.name t.1 (brings_with d.of))))
+      (finish_keeps order t.0 d.name (type_meaning t.1 (brings_with d.of))
+      (k.type_ends t.0 d.name.name t.1 (brings_with d.of))))
 
   pub types_keep : (ts : List TypeDecl) (st : St) → R st.0 (fold (with_type g) st ts).0
   types_keep = steps order state (with_type g) type_decl_keeps
@@ -107,7 +110,8 @@ module _ (g : Gathers) {R : Scope g.Reported → Scope g.Reported → Type 0} (k
   variable_keeps v h t s x =
       let n : Scope g.Reported = with_variable_type s t in
       either_scope order s (is_begun (find_name x.name n.own))
-      (with_known x.name (Declared Here (variable_meaning s.types.home (length s.variables) t)) n) n (h s x.name t) (v s t)
+      (with_known x.name (Declared Here (variable_meaning s.types.home (length s.variables) t)) n) n (h s x.name t)
+      (v s t)
 
   pub variable_list_keeps : Varies g R → VariablesEnd g R → (st : St) (v : Variables) → R st.0 (with_variables g st v).0
   variable_list_keeps v h = variables_by finished_variable (variable_keeps v h)

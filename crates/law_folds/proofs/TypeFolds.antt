@@ -30,7 +30,12 @@ module _ {A B : Type 0} (f : TypeExpr → A) (h : Field → B) (P : TypeExpr →
   abbrev pub opened_field : Field-F TypeExpr Field → Field-F A B
   opened_field x = map-Field TypeExpr Field A B f h x
 
-  module _ (of : TypeExpr-F A B → A) (of_field : Field-F A B → B) (at : (t : TypeExpr) (x : TypeExpr-F TypeExpr Field) → out-TypeExpr t ≡ x → f t ≡ of (opened x)) (at_field : (d : Field) (x : Field-F TypeExpr Field) → out-Field d ≡ x → h d ≡ of_field (opened_field x)) (types : (y : TypeExpr-F Typed Fielded) → P (roll-TypeExpr (bare y)) (of (opened (bare y)))) (fields : (y : Field-F Typed Fielded) → Q (roll-Field (bare_field y)) (of_field (opened_field (bare_field y)))) where
+  module _ (of : TypeExpr-F A B → A) (of_field : Field-F A B → B)
+      (at : (t : TypeExpr) (x : TypeExpr-F TypeExpr Field) → out-TypeExpr t ≡ x → f t ≡ of (opened x))
+      (at_field : (d : Field) (x : Field-F TypeExpr Field) → out-Field d ≡ x → h d ≡ of_field (opened_field x))
+      (types : (y : TypeExpr-F Typed Fielded) → P (roll-TypeExpr (bare y)) (of (opened (bare y))))
+      (fields : (y : Field-F Typed Fielded)
+      → Q (roll-Field (bare_field y)) (of_field (opened_field (bare_field y)))) where
     abbrev PT : TypeExpr → Type 0
     PT t = P t (f t)
 

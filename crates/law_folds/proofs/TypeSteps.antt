@@ -29,7 +29,8 @@ use Rattle.law_folds.proofs.TypeFolds.{Typed, Fielded, bare, all_trees, types_op
 -- a name that is free is declared
 module _ (g : Gathers) {R : Scope g.Reported → Scope g.Reported → Type 0} (o : IsOrder R) where
   pub unless_keeps : (s : Scope g.Reported) (name : Ident) (k : Known g.Reported)
-      → (is_free (find_name name.name s.own) ≡ true → R s (with_known name.name k s)) → R s (unless_declared g s name k).0
+      → (is_free (find_name name.name s.own) ≡ true → R s (with_known name.name k s))
+      → R s (unless_declared g s name k).0
   unless_keeps s name k h =
       either o s (is_free (find_name name.name s.own)) (with_known name.name k s, Ok tt)
       (s, report g name.pos rule.DeclaredTwice) h (o.same s)
@@ -53,7 +54,8 @@ module _ (g : Gathers) {R : Scope g.Reported → Scope g.Reported → Type 0} (k
 
   pub listed_keeps : (t : TypeNo) (l : Listed) (x : Ident) → R l.0 (enumerate_name g t l x).0
   listed_keeps t l x =
-      unless_keeps g k.order l.0 x (Declared Here (Ok (enumeration_constant t (pos l.1)))) (k.listed l.0 x.name t (pos l.1))
+      unless_keeps g k.order l.0 x (Declared Here (Ok (enumeration_constant t (pos l.1))))
+      (k.listed l.0 x.name t (pos l.1))
 
   pub simple_keeps : (s : Scope g.Reported) (t : Simple) → R s (simple_type g s t).0
   simple_keeps s (simple.Named q) = k.order.same s
@@ -88,7 +90,8 @@ module _ (g : Gathers) {R : Scope g.Reported → Scope g.Reported → Type 0} (k
   layer_keeps (layer.Simple t) s = simple_keeps s t
   layer_keeps (layer.Array at index t) s =
       let i : Scope g.Reported = (index_type g s index).0 in
-      k.order.next s i _ (simple_keeps s index) (k.order.next i (type_of g t.0 i).0 _ (t.1 i) (made_keeps (type_of g t.0 i).0 _))
+      k.order.next s i _ (simple_keeps s index)
+      (k.order.next i (type_of g t.0 i).0 _ (t.1 i) (made_keeps (type_of g t.0 i).0 _))
   layer_keeps (layer.Record at fields) s =
       let st : WithFields = (s, no_fields, Ok tt) in k.order.next s _ _ (lists_keep fields st) (made_keeps _ _)
   layer_keeps (layer.Procedure at formals of) s = made_keeps s _
@@ -100,7 +103,8 @@ module _ (g : Gathers) {R : Scope g.Reported → Scope g.Reported → Type 0} (k
 
   pub field_list_keeps : (d : Field) (st : WithFields) → R st.0 (field_list g d st).0
   field_list_keeps d st =
-      subst (λ (f : MakesFields g). R st.0 (f st).0) (sym (fields_at g d (out-Field d) refl)) (type_keeps (out-Field d).of st.0)
+      subst (λ (f : MakesFields g). R st.0 (f st).0) (sym (fields_at g d (out-Field d) refl))
+      (type_keeps (out-Field d).of st.0)
 
 -- ---- types, and the headings of procedures
 
@@ -110,4 +114,5 @@ pub record KeepsTypes (g : Gathers) (R : Scope g.Reported → Scope g.Reported �
   pub headings : (s : Scope g.Reported) (h : Heading) → R s (with_made s (heading_of g s h)).0
 
 pub by_shapes : (g : Gathers) {R : Scope g.Reported → Scope g.Reported → Type 0} → KeepsShapes g R → KeepsTypes g R
-by_shapes g k = record { order = k.order; types = type_keeps g k; headings = λ s h. made_keeps g k s (heading_of g s h) }
+by_shapes g k =
+    record { order = k.order; types = type_keeps g k; headings = λ s h. made_keeps g k s (heading_of g s h) }

@@ -119,7 +119,8 @@ module _ (g : Gathers) (P : Scope g.Reported → Type 0) (frees : (s : Scope g.R
         types = types;
         begun = λ s name. frees s name Begun begun_is;
         constant_ends = λ s c. finishes s c.name.name _
-            (declared_is _ (no_procedure (constant g s (part g c.value)) (λ v. meaning.Constant v) (λ v p e. absurd cc)));
+            (declared_is _ (no_procedure (constant g s (part g c.value)) (λ v. meaning.Constant v)
+            (λ v p e. absurd cc)));
         type_ends = λ s name t n. finishes s name _
             (declared_is _ (no_procedure t (λ v. meaning.Type v n) (λ v p e. absurd cc)));
       }
@@ -135,12 +136,16 @@ module _ (g : Gathers) (P : Scope g.Reported → Type 0) (frees : (s : Scope g.R
       module _ (varied : (s : Scope g.Reported) (t : Result TypeNo g.Reported) → P s → P (with_variable_type s t)) where
         variable_ends : VariablesEnd g (λ s t. P s → P t)
         variable_ends s name t e h = finishes (with_variable_type s t) name _
-            (declared_is _ (no_procedure t (λ v. meaning.Variable (record { home = s.types.home; number = length s.variables; of = v })) (λ v p e. absurd cc)))
+            (declared_is _ (no_procedure t
+            (λ v. meaning.Variable (record { home = s.types.home; number = length s.variables; of = v }))
+            (λ v p e. absurd cc)))
             e (varied s t h)
 
         local_ends : LocalsEnd g (λ s t. P s → P t)
         local_ends s name t e h = finishes (with_variable_type s t) name _
-            (declared_is _ (no_procedure t (λ v. meaning.Local (record { level = s.level; number = length s.variables; kind = kind.Variable; of = v })) (λ v p e. absurd cc)))
+            (declared_is _ (no_procedure t
+            (λ v. meaning.Local (record { level = s.level; number = length s.variables; kind = kind.Variable; of = v }))
+            (λ v p e. absurd cc)))
             e (varied s t h)
 
         pub variables_stay : (st : State (Unit {0}) g.Reported) (vs : List Variables) → P st.0 → P (with_variables_of g st vs).0

@@ -74,7 +74,8 @@ imports g = record {
   exports = λ s name n m e. known_stays name (Declared (Export n) (Ok m)) s refl;
 }
 
-pub import_stays : (g : Gathers) (modules : List (List ℕ × ℕ)) (is : List Import) (st : State (Unit {0}) g.Reported) → Stays st.0 (fold (with_import g modules) st is).0
+pub import_stays : (g : Gathers) (modules : List (List ℕ × ℕ)) (is : List Import) (st : State (Unit {0}) g.Reported)
+    → Stays st.0 (fold (with_import g modules) st is).0
 import_stays g = imports_keep g (imports g)
 
 -- ---- procedures of the definition

@@ -280,8 +280,10 @@ procedure_type_carries s (Ok t) = record {
 procedure_type_carries s (Err e) = carries_refl s
 
 -- a name is entered behind a step that carries on; its slot is asked for what stood before
-pub then_known : {T : Type 0} (a s : Scope T) (name : List ℕ) (k : Known T) → Carries a s → KnownPlaced s.types.home s.variables k → (ScopeWords s → KnownWord k)
-    → ((o : Option (List Formal)) → StandsIn o a → KnownSlot (slots_in o s.variables) s.level k) → Carries a (with_known name k s)
+pub then_known : {T : Type 0} (a s : Scope T) (name : List ℕ) (k : Known T) → Carries a s
+    → KnownPlaced s.types.home s.variables k → (ScopeWords s → KnownWord k)
+    → ((o : Option (List Formal)) → StandsIn o a → KnownSlot (slots_in o s.variables) s.level k)
+    → Carries a (with_known name k s)
 then_known a s name k c p w z = record {
   home = c.home;
   tables = c.tables;

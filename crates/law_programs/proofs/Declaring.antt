@@ -82,14 +82,19 @@ marks = record {
 -- ---- types that are made
 
 module _ (g : Gathers) where
-  listed_carries : (t : TypeNo) (l : Scope g.Reported × ℕ × Result (Unit {0}) g.Reported) (x : Ident) → Carries l.0 (enumerate_name g t l x).0
-  listed_carries t l x = unless_keeps g order l.0 x (Declared Here (Ok (enumeration_constant t (pos l.1)))) (λ e. known_carries l.0 x.name _ (fine _ tt) (λ q. fine _ tt) (λ fs k. fine _ tt))
+  listed_carries : (t : TypeNo) (l : Scope g.Reported × ℕ × Result (Unit {0}) g.Reported) (x : Ident)
+      → Carries l.0 (enumerate_name g t l x).0
+  listed_carries t l x =
+      unless_keeps g order l.0 x (Declared Here (Ok (enumeration_constant t (pos l.1))))
+      (λ e. known_carries l.0 x.name _ (fine _ tt) (λ q. fine _ tt) (λ fs k. fine _ tt))
 
   simple_carries : (s : Scope g.Reported) (t : Simple) → Carries s (simple_type g s t).0
   simple_carries s (simple.Named q) = carries_refl s
   simple_carries s (simple.Enumeration at names) =
       let x : Made = enumeration_scalar (next_type s) names in
-      carries_then (shape_carries s x tt) (steps order (λ (l : Scope g.Reported × ℕ × Result (Unit {0}) g.Reported). l.0) (enumerate_name g (next_type s)) (listed_carries (next_type s)) names (with_shape s x, 0, too_many g names))
+      carries_then (shape_carries s x tt)
+      (steps order (λ (l : Scope g.Reported × ℕ × Result (Unit {0}) g.Reported). l.0) (enumerate_name g (next_type s))
+      (listed_carries (next_type s)) names (with_shape s x, 0, too_many g names))
   simple_carries s (simple.Subrange o at low high) = made_carries s (then_holds (any_holds _) (λ r k. fine _ tt))
 
   -- an index is of a scalar type
@@ -148,7 +153,9 @@ module _ (g : Gathers) where
   types : KeepsTypes g Carries
   types = record {
     order = order;
-    types = all_trees (type_of g) (field_list g) (λ t f. CarriesMakes f) (λ d f. CarriesFields f) (type_layer g) (field_layer g) (types_at g) (fields_at g)
+    types =
+        all_trees (type_of g) (field_list g) (λ t f. CarriesMakes f) (λ d f. CarriesFields f) (type_layer g)
+        (field_layer g) (types_at g) (fields_at g)
         type_carries (λ y st. y.of.1 st.0);
     headings = λ s h. made_carries s (heading_plain s h);
   }
@@ -164,10 +171,13 @@ module _ (g : Gathers) where
     begun = λ s name e. known_carries s name Begun tt (λ q. tt) (λ fs l. tt);
     constant_ends = λ s c e.
         let v : Result Value g.Reported = constant g s (part g c.value) in
-        known_carries s c.name.name _ (meant_holds (λ u. meaning.Constant u) (λ u. tt) v) (λ q. then_holds (constants_words g s q c.value) (λ u w. fine (meaning.Constant u) w))
+        known_carries s c.name.name _ (meant_holds (λ u. meaning.Constant u) (λ u. tt) v)
+        (λ q. then_holds (constants_words g s q c.value) (λ u w. fine (meaning.Constant u) w))
         (λ fs l. meant_holds (λ u. meaning.Constant u) (λ u. tt) v);
     type_ends = λ s name t n e.
-        known_carries s name _ (meant_holds (λ u. meaning.Type u n) (λ u. tt) t) (λ q. meant_holds (λ u. meaning.Type u n) (λ u. tt) t) (λ fs l. meant_holds (λ u. meaning.Type u n) (λ u. tt) t);
+        known_carries s name _ (meant_holds (λ u. meaning.Type u n) (λ u. tt) t)
+        (λ q. meant_holds (λ u. meaning.Type u n) (λ u. tt) t)
+        (λ fs l. meant_holds (λ u. meaning.Type u n) (λ u. tt) t);
   }
 
   variable_placed : (s : Scope g.Reported) (t : Result TypeNo g.Reported) → Holds (MeaningPlaced (with_variable_type s t).types.home (with_variable_type s t).variables) (variable_meaning s.types.home (length s.variables) t)
@@ -176,8 +186,11 @@ module _ (g : Gathers) where
 
   variable_ends : VariablesEnd g Goes
   variable_ends s name t e =
-      let m : TypeNo → Meaning = λ u. meaning.Variable (record { home = s.types.home; number = length s.variables; of = u }) in
-      carries_then (variable_type_carries s t) (known_carries (with_variable_type s t) name _ (variable_placed s t) (λ q. meant_holds m (λ u. tt) t) (λ fs l. meant_holds m (λ u. tt) t))
+      let m : TypeNo → Meaning =
+      λ u. meaning.Variable (record { home = s.types.home; number = length s.variables; of = u }) in
+      carries_then (variable_type_carries s t)
+      (known_carries (with_variable_type s t) name _ (variable_placed s t) (λ q. meant_holds m (λ u. tt) t)
+      (λ fs l. meant_holds m (λ u. tt) t))
 
   -- the scope of a procedure
   abbrev Nested : Scope g.Reported → Type 0
@@ -211,28 +224,39 @@ module _ (g : Gathers) where
   local_ends : (s : Scope g.Reported) (name : List ℕ) (t : Result TypeNo g.Reported) → (s.level == 0) ≡ false
       → Goes s (with_known name (Declared Here (local_meaning s.level (length s.variables) t)) (with_variable_type s t))
   local_ends s name t l =
-      then_known s (with_variable_type s t) name _ (variable_type_carries s t) (local_placed s t) (λ q. local_word s t) (local_slot s t (nested_by s l))
+      then_known s (with_variable_type s t) name _ (variable_type_carries s t) (local_placed s t) (λ q. local_word s t)
+      (local_slot s t (nested_by s l))
 
   -- ---- procedures
 
   procedure_heads : (s : Scope g.Reported) (name : List ℕ) (t : Result TypeNo g.Reported)
-      → Goes s (with_known name (Headed (heading_means false (procedure_meaning s.types.home (length s.procedures) t))) (with_procedure_type s t))
+      → Goes s (with_known name (Headed (heading_means false (procedure_meaning s.types.home (length s.procedures) t)))
+      (with_procedure_type s t))
   procedure_heads s name t =
-      let m : TypeNo → Meaning = λ u. meaning.Procedure (record { home = s.types.home; number = length s.procedures; heading = u }) in
+      let m : TypeNo → Meaning =
+      λ u. meaning.Procedure (record { home = s.types.home; number = length s.procedures; heading = u }) in
       carries_then (procedure_type_carries s t)
-      (known_carries (with_procedure_type s t) name _ (heading_means_holds false (meant_holds m (λ u. tt) t)) (λ q. heading_means_holds false (meant_holds m (λ u. tt) t)) (λ fs l. heading_means_holds false (meant_holds m (λ u. tt) t)))
+      (known_carries (with_procedure_type s t) name _ (heading_means_holds false (meant_holds m (λ u. tt) t))
+      (λ q. heading_means_holds false (meant_holds m (λ u. tt) t))
+      (λ fs l. heading_means_holds false (meant_holds m (λ u. tt) t)))
 
   nested_heads : (s : Scope g.Reported) (name : List ℕ) (n : ℕ) (t : Result TypeNo g.Reported)
       → Goes s (with_known name (Headed (heading_means true (nested_meaning s.level n t))) s)
   nested_heads s name n t =
       let m : TypeNo → Meaning = λ u. meaning.LocalProcedure (record { level = s.level; number = n; heading = u }) in
-      known_carries s name _ (heading_means_holds true (meant_holds m (λ u. tt) t)) (λ q. heading_means_holds true (meant_holds m (λ u. tt) t)) (λ fs l. heading_means_holds true (meant_holds m (λ u. tt) t))
+      known_carries s name _ (heading_means_holds true (meant_holds m (λ u. tt) t))
+      (λ q. heading_means_holds true (meant_holds m (λ u. tt) t))
+      (λ fs l. heading_means_holds true (meant_holds m (λ u. tt) t))
 
   procedure_ends : (s : Scope g.Reported) (name : List ℕ) (t : Result TypeNo g.Reported)
-      → Goes s (with_known name (Declared Here (procedure_meaning s.types.home (length s.procedures) t)) (with_procedure_type s t))
+      → Goes s (with_known name (Declared Here (procedure_meaning s.types.home (length s.procedures) t))
+      (with_procedure_type s t))
   procedure_ends s name t =
-      let m : TypeNo → Meaning = λ u. meaning.Procedure (record { home = s.types.home; number = length s.procedures; heading = u }) in
-      carries_then (procedure_type_carries s t) (known_carries (with_procedure_type s t) name _ (meant_holds m (λ u. tt) t) (λ q. meant_holds m (λ u. tt) t) (λ fs l. meant_holds m (λ u. tt) t))
+      let m : TypeNo → Meaning =
+      λ u. meaning.Procedure (record { home = s.types.home; number = length s.procedures; heading = u }) in
+      carries_then (procedure_type_carries s t)
+      (known_carries (with_procedure_type s t) name _ (meant_holds m (λ u. tt) t) (λ q. meant_holds m (λ u. tt) t)
+      (λ fs l. meant_holds m (λ u. tt) t))
 
   -- ---- all declarations
 
@@ -245,7 +269,9 @@ module _ (g : Gathers) where
     local_ends = λ s name t l e. local_ends s name t l;
     procedure = λ s name t l e. procedure_heads s name t;
     nested = λ s name n t l e. nested_heads s name n t;
-    awaited = λ s name p e. known_carries s name (Headed (Ok (meaning.Procedure p))) (fine (meaning.Procedure p) tt) (λ q. fine (meaning.Procedure p) tt) (λ fs l. fine (meaning.Procedure p) tt);
+    awaited =
+        λ s name p e. known_carries s name (Headed (Ok (meaning.Procedure p))) (fine (meaning.Procedure p) tt)
+        (λ q. fine (meaning.Procedure p) tt) (λ fs l. fine (meaning.Procedure p) tt);
   }
 
   definitions : KeepsDefinitions g Goes
@@ -293,7 +319,8 @@ module _ (g : Gathers) where
   exports_words (t ∷ ts) zero p = p.0
   exports_words (t ∷ ts) (suc k) p = exports_words ts k p.1
 
-  exported_elsewhere : (home : ℕ) (es : List (List ℕ × Meaning)) (x : List ℕ × Meaning) → ExportsElsewhere home es → Among x es → IsElsewhere home x.1
+  exported_elsewhere : (home : ℕ) (es : List (List ℕ × Meaning)) (x : List ℕ × Meaning) → ExportsElsewhere home es
+      → Among x es → IsElsewhere home x.1
   exported_elsewhere home [] x p a = absurd a
   exported_elsewhere home (e ∷ es) x p (inl q) = subst (λ (z : List ℕ × Meaning). IsElsewhere home z.1) (sym q) p.0
   exported_elsewhere home (e ∷ es) x p (inr a) = exported_elsewhere home es x p.1 a
@@ -309,19 +336,28 @@ module _ (g : Gathers) where
 
   elsewhere_on : (a b : Scope g.Reported) → Carries a b → FromElsewhere a → FromElsewhere b
   elsewhere_on a b c p =
-      subst (λ (n : ℕ). TablesElsewhere n b.tables) (sym c.home) (subst (λ (ts : List Table). TablesElsewhere a.types.home ts) (sym c.tables) p)
+      subst (λ (n : ℕ). TablesElsewhere n b.tables) (sym c.home)
+      (subst (λ (ts : List Table). TablesElsewhere a.types.home ts) (sym c.tables) p)
 
   imports : KeepsExports g (λ s t. FromElsewhere s → Carries s t)
   imports = record {
-    order = record { same = λ s p. carries_refl s; next = λ a b c p q e. carries_then (p e) (q (elsewhere_on a b (p e) e)) };
-    modules = λ s name n e p. known_carries s name _ (fine (meaning.Module n) tt) (λ q. fine (meaning.Module n) tt) (λ fs l. fine (meaning.Module n) tt);
+    order = record {
+      same = λ s p. carries_refl s;
+      next = λ a b c p q e. carries_then (p e) (q (elsewhere_on a b (p e) e));
+    };
+    modules =
+        λ s name n e p. known_carries s name _ (fine (meaning.Module n) tt) (λ q. fine (meaning.Module n) tt)
+        (λ fs l. fine (meaning.Module n) tt);
     exports = λ s x n e a p.
-        let away : IsElsewhere s.types.home x.1 = exported_elsewhere s.types.home _ x (exports_elsewhere s.types.home s.tables n p) a in
-        known_carries s x.0 _ (fine x.1 (elsewhere_placed s.types.home s.variables x.1 away)) (λ q. fine x.1 (exported_word _ x (exports_words s.tables n q.tables) a))
+        let away : IsElsewhere s.types.home x.1 =
+        exported_elsewhere s.types.home _ x (exports_elsewhere s.types.home s.tables n p) a in
+        known_carries s x.0 _ (fine x.1 (elsewhere_placed s.types.home s.variables x.1 away))
+        (λ q. fine x.1 (exported_word _ x (exports_words s.tables n q.tables) a))
         (λ fs l. fine x.1 (elsewhere_slot s.types.home (slots_in fs s.variables) s.level x.1 away));
   }
 
-  imports_carry : (modules : List (List ℕ × ℕ)) (is : List Import) (st : State (Unit {0}) g.Reported) → FromElsewhere st.0 → Goes st.0 (fold (with_import g modules) st is).0
+  imports_carry : (modules : List (List ℕ × ℕ)) (is : List Import) (st : State (Unit {0}) g.Reported)
+      → FromElsewhere st.0 → Goes st.0 (fold (with_import g modules) st is).0
   imports_carry = imports_bring g imports
 
   -- ---- whole blocks, definitions and modules
@@ -332,14 +368,16 @@ module _ (g : Gathers) where
   pub decl_carries : (ends : List ℕ) (c : Course g.Reported) (d : Decl) → Goes c.0 (with_decl g ends c d).0
   decl_carries ends c d = layer_keeps g blocks ends c (out-Decl d)
 
-  pub block_carries : (ends : List ℕ) (st : State (Unit {0}) g.Reported) (first : ℕ) (ds : List Decl) → Goes st.0 (declared_block g ends st first ds).0
+  pub block_carries : (ends : List ℕ) (st : State (Unit {0}) g.Reported) (first : ℕ) (ds : List Decl)
+      → Goes st.0 (declared_block g ends st first ds).0
   block_carries = block_keeps g blocks
 
   pub definition_carries : (m : Module) (modules : List (List ℕ × ℕ)) (s : Scope g.Reported) (ds : List Def) → TablesElsewhere s.types.home s.tables → Goes s (declared_in g m modules s ds).0
   definition_carries m modules s ds p =
       let one = defs_marks marks ds s in
       let there : FromElsewhere (fold marked_def s ds) = elsewhere_on s (fold marked_def s ds) one p in
-      carries_then one (carries_then (imports_carry modules m.imports (fold marked_def s ds, Ok tt) there) (defs_keep g definitions ds (fold (with_import g modules) (fold marked_def s ds, Ok tt) m.imports)))
+      carries_then one (carries_then (imports_carry modules m.imports (fold marked_def s ds, Ok tt) there)
+      (defs_keep g definitions ds (fold (with_import g modules) (fold marked_def s ds, Ok tt) m.imports)))
 
   pub module_carries_on : (modules : List (List ℕ × ℕ)) (ends : List ℕ) (s : Scope g.Reported) (m : Module) (ds : List Decl) → TablesElsewhere s.types.home s.tables → Goes s (declared_module g modules ends s m ds).0
   module_carries_on modules ends s m ds p = carries_then (imports_carry modules m.imports (s, Ok tt) p) (block_carries ends (fold (with_import g modules) (s, Ok tt) m.imports) 0 ds)

@@ -127,11 +127,16 @@ module _ {T : Type 0} where
   order : IsOrder {T = T} (Stays [])
   order = record { same = same_stays []; next = λ a b c p q. q ⨾ p }
 
-  new_stays : (s : Scope T) (name : List ℕ) (k : Known T) → counted_of k ≡ [] → is_begun (Some k) ≡ false → find_name name s.own ≡ None → Stays [] s (with_known name k s)
+  new_stays : (s : Scope T) (name : List ℕ) (k : Known T) → counted_of k ≡ [] → is_begun (Some k) ≡ false
+      → find_name name s.own ≡ None → Stays [] s (with_known name k s)
   new_stays s name k n b e = known_stays name k s n b (ap (holds_of is_settled) e) (ap is_begun e)
 
   marks : KeepsMarks {T = T} (Stays [])
-  marks = record { order = order; later = λ s name e. new_stays s name Later refl refl e; ahead = λ s name e. new_stays s name Ahead refl refl e }
+  marks = record {
+    order = order;
+    later = λ s name e. new_stays s name Later refl refl e;
+    ahead = λ s name e. new_stays s name Ahead refl refl e;
+  }
 
 pub all_marks : (T : Type 0) (ds : List Def) (s : Scope T) → Stays [] s (fold marked_def s ds)
 all_marks T = defs_marks marks
@@ -142,7 +147,12 @@ module _ (g : Gathers) where
       either (name.name ∷ []) s (is_free (find_name name.name s.own)) (with_known name.name Begun s, Ok tt) (s, report g name.pos rule.DeclaredTwice) (λ e. own_stays name.name Begun s refl (free_unsettled (find_name name.name s.own) e)) (same_stays (name.name ∷ []) s)
 
   pub type_of_stays : (t : TypeExpr) (s : Scope g.Reported) → Stays [] s (type_of g t s).0
-  type_of_stays = type_keeps g (record { order = order; shaped = shape_stays; listed = λ s name t n e. free_stays name _ s refl refl e })
+  type_of_stays =
+      type_keeps g (record {
+        order = order;
+        shaped = shape_stays;
+        listed = λ s name t n e. free_stays name _ s refl refl e;
+      })
 
   -- ---- constants and types
 

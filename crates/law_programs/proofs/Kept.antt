@@ -19,7 +19,11 @@ use Rattle.law_folds.proofs.Orders.{fact}
 use Rattle.law_folds.proofs.ImportSteps.{KeepsImports, imports_keep}
 use Rattle.law_folds.proofs.BlockSteps.{KeepsBlocks, block_keeps}
 
-module _ (g : Gathers) (P : Scope g.Reported → Type 0) (named : (s : Scope g.Reported) (name : List ℕ) (k : Known g.Reported) → P s → P (with_known name k s)) (shaped : (s : Scope g.Reported) (m : Made) → P s → P (with_shape s m)) (varied : (s : Scope g.Reported) (t : Result TypeNo g.Reported) → P s → P (with_variable_type s t)) (headed : (s : Scope g.Reported) (t : Result TypeNo g.Reported) → P s → P (with_procedure_type s t)) where
+module _ (g : Gathers) (P : Scope g.Reported → Type 0)
+    (named : (s : Scope g.Reported) (name : List ℕ) (k : Known g.Reported) → P s → P (with_known name k s))
+    (shaped : (s : Scope g.Reported) (m : Made) → P s → P (with_shape s m))
+    (varied : (s : Scope g.Reported) (t : Result TypeNo g.Reported) → P s → P (with_variable_type s t))
+    (headed : (s : Scope g.Reported) (t : Result TypeNo g.Reported) → P s → P (with_procedure_type s t)) where
   abbrev Stays : Scope g.Reported → Scope g.Reported → Type 0
   Stays s t = P s → P t
 
@@ -43,6 +47,8 @@ module _ (g : Gathers) (P : Scope g.Reported → Type 0) (named : (s : Scope g.R
   imports : KeepsImports g Stays
   imports = record { order = fact P; modules = λ s name n e. named s name _; exports = λ s name n m e. named s name _ }
 
-  pub module_keeps : (modules : List (List ℕ × ℕ)) (ends : List ℕ) (s : Scope g.Reported) (m : Module) (ds : List Decl) → P s → P (declared_module g modules ends s m ds).0
+  pub module_keeps : (modules : List (List ℕ × ℕ)) (ends : List ℕ) (s : Scope g.Reported) (m : Module)
+      (ds : List Decl) → P s → P (declared_module g modules ends s m ds).0
   module_keeps modules ends s m ds h =
-      block_keeps g blocks ends (fold (with_import g modules) (s, Ok tt) m.imports) 0 ds (imports_keep g imports modules m.imports (s, Ok tt) h)
+      block_keeps g blocks ends (fold (with_import g modules) (s, Ok tt) m.imports) 0 ds
+      (imports_keep g imports modules m.imports (s, Ok tt) h)

@@ -114,23 +114,37 @@ module _ (g : Gathers) where
         listed = λ s name t n e. known_stays s name (Declared Here (Ok (enumeration_constant t n))) (λ h. fine _ tt);
       });
       begun = λ s name e. known_stays s name Begun (λ h. tt);
-      constant_ends = λ s c e. known_stays s c.name.name _ (λ h. then_holds (any_holds _) (λ x k. fine (meaning.Constant x) tt));
-      type_ends = λ s name t n e. known_stays s name _ (λ h. then_holds (any_holds t) (λ x k. fine (meaning.Type x n) tt));
+      constant_ends =
+          λ s c e. known_stays s c.name.name _ (λ h. then_holds (any_holds _) (λ x k. fine (meaning.Constant x) tt));
+      type_ends =
+          λ s name t n e. known_stays s name _ (λ h. then_holds (any_holds t) (λ x k. fine (meaning.Type x n) tt));
     });
     varied = λ s t. (varied_level s t, λ l. varied s t);
     variable_ends = λ s name t l e. (varied_level s t, λ k. absurd (let z : true ≡ false = sym l ∙ k in cc));
     local_ends = λ s name t l e. (
       varied_level s t,
       λ k. stays_then (varied s t) (known_stays (with_variable_type s t) name _ (λ h.
-          then_holds (any_holds t) (λ x k. fine (meaning.Local (record { level = s.level; number = length s.variables; kind = local.Variable; of = x })) tt))),
+          then_holds (any_holds t) (λ x k. fine
+          (meaning.Local (record {
+            level = s.level;
+            number = length s.variables;
+            kind = local.Variable;
+            of = x;
+          })) tt))),
     );
     procedure = λ s name t l e. (headed_level s t, λ k. absurd (let z : true ≡ false = sym l ∙ k in cc));
     nested = λ s name n t l e. (
       refl,
       λ k. known_stays s name _ (λ h.
-          heading_means_holds true (then_holds (any_holds t) (λ x k. fine (meaning.LocalProcedure (record { level = s.level; number = n; heading = x })) tt))),
+          heading_means_holds true (then_holds (any_holds t)
+          (λ x k. fine (meaning.LocalProcedure (record { level = s.level; number = n; heading = x })) tt))),
     );
-    awaited = λ s name p e. (refl, λ k. known_stays s name _ (λ h. absurd (none_awaited p (find_name name s.own) e (found_local name s.own h))));
+    awaited =
+        λ s name p e. (
+          refl,
+          λ k. known_stays s name _
+              (λ h. absurd (none_awaited p (find_name name s.own) e (found_local name s.own h))),
+        );
   }
 
   pub locals_stay : LocalsStay g

@@ -64,30 +64,46 @@ outer_by : {A T : Type 0} (r : Result A T) (f : A → Meaning) → ((x : A) → 
 outer_by (Ok x) f k = fine (f x) (k x)
 outer_by (Err e) f k = broken e
 
-module _ (g : Gathers) (P : Scope g.Reported → Type 0) (named : (s : Scope g.Reported) (name : List ℕ) (k : Known g.Reported) → IsPlain k → P s → P (with_known name k s)) (outermost : (s : Scope g.Reported) → P s → (s.level == 0) ≡ true) (shaped : (s : Scope g.Reported) (m : Made) → P s → P (with_shape s m)) (varied : (s : Scope g.Reported) (t : Result TypeNo g.Reported) → P s → P (with_variable_type s t)) (headed : (s : Scope g.Reported) (t : Result TypeNo g.Reported) → P s → P (with_procedure_type s t)) where
+module _ (g : Gathers) (P : Scope g.Reported → Type 0)
+    (named : (s : Scope g.Reported) (name : List ℕ) (k : Known g.Reported) → IsPlain k → P s → P (with_known name k s))
+    (outermost : (s : Scope g.Reported) → P s → (s.level == 0) ≡ true)
+    (shaped : (s : Scope g.Reported) (m : Made) → P s → P (with_shape s m))
+    (varied : (s : Scope g.Reported) (t : Result TypeNo g.Reported) → P s → P (with_variable_type s t))
+    (headed : (s : Scope g.Reported) (t : Result TypeNo g.Reported) → P s → P (with_procedure_type s t)) where
   abbrev Stays : Scope g.Reported → Scope g.Reported → Type 0
   Stays s t = P s → P t
 
   blocks : KeepsBlocks g Stays
   blocks = record {
-    marks = record { order = fact P; later = λ s name e. named s name Later tt; ahead = λ s name e. named s name Ahead tt };
+    marks =
+        record { order = fact P; later = λ s name e. named s name Later tt; ahead = λ s name e. named s name Ahead tt };
     names = record {
-      types = by_shapes g (record { order = fact P; shaped = shaped; listed = λ s name t n e. named s name _ (fine (enumeration_constant t n) tt) });
+      types = by_shapes g (record {
+        order = fact P;
+        shaped = shaped;
+        listed = λ s name t n e. named s name _ (fine (enumeration_constant t n) tt);
+      });
       begun = λ s name e. named s name Begun tt;
-      constant_ends = λ s c e. named s c.name.name _ (outer_by (constant g s (part g c.value)) (λ v. meaning.Constant v) (λ v. tt));
+      constant_ends =
+          λ s c e. named s c.name.name _ (outer_by (constant g s (part g c.value)) (λ v. meaning.Constant v) (λ v. tt));
       type_ends = λ s name t n e. named s name _ (outer_by t (λ v. meaning.Type v n) (λ v. tt));
     };
     varied = varied;
     variable_ends = λ s name t l e h. named (with_variable_type s t) name _
-        (outer_by t (λ v. meaning.Variable (record { home = s.types.home; number = length s.variables; of = v })) (λ v. tt)) (varied s t h);
+        (outer_by t (λ v. meaning.Variable (record { home = s.types.home; number = length s.variables; of = v }))
+        (λ v. tt)) (varied s t h);
     local_ends = λ s name t l e h. named (with_variable_type s t) name _
-        (outer_by t (λ v. meaning.Local (record { level = s.level; number = length s.variables; kind = kind.Variable; of = v })) (λ v. tt)) (varied s t h);
+        (outer_by t (λ v. meaning.Local
+        (record { level = s.level; number = length s.variables; kind = kind.Variable; of = v })) (λ v. tt))
+        (varied s t h);
     procedure = λ s name t l e h. named (with_procedure_type s t) name _
-        (heading_means_holds false (outer_by t (λ v. meaning.Procedure (record { home = s.types.home; number = length s.procedures; heading = v })) (λ v. tt)))
+        (heading_means_holds false (outer_by t
+        (λ v. meaning.Procedure (record { home = s.types.home; number = length s.procedures; heading = v })) (λ v. tt)))
         (headed s t h);
     nested = λ s name n t l e h. absurd (let z : true ≡ false = sym (outermost s h) ∙ l in cc);
     awaited = λ s name p e. named s name _ (fine (meaning.Procedure p) tt);
   }
 
-  pub block_keeps : (ends : List ℕ) (st : State (Unit {0}) g.Reported) (first : ℕ) (ds : List Decl) → P st.0 → P (declared_block g ends st first ds).0
+  pub block_keeps : (ends : List ℕ) (st : State (Unit {0}) g.Reported) (first : ℕ) (ds : List Decl) → P st.0
+      → P (declared_block g ends st first ds).0
   block_keeps = all_blocks.block_keeps g blocks

@@ -170,7 +170,11 @@ order : {T : Type 0} → IsOrder {T = T} Keeps
 order = record { same = keeps_refl; next = λ a b c p q. keeps_then p q }
 
 marks : {T : Type 0} → KeepsMarks {T = T} Keeps
-marks = record { order = order; later = λ s name e. known_keeps s name Later tt; ahead = λ s name e. known_keeps s name Ahead tt }
+marks = record {
+  order = order;
+  later = λ s name e. known_keeps s name Later tt;
+  ahead = λ s name e. known_keeps s name Ahead tt;
+}
 
 pub marks_keep : (T : Type 0) (ds : List Decl) (s : Scope T) → Keeps s (fold marked_decl s ds)
 marks_keep T = steps order (λ s. s) marked_decl (λ s d. decl_layer_marks marks (out-Decl d) s)
@@ -185,17 +189,34 @@ module _ (g : Gathers) where
   fits_by l (Ok x) f h = h x
   fits_by l (Err e) f h = tt
 
-  heads_by : (l : ℕ) (b : Bool) (r : Result TypeNo g.Reported) (f : TypeNo → Meaning) → ((t : TypeNo) → IsProc (f t)) → Fits {T = g.Reported} l (Headed (heading_means b (r ▷ λ x. Ok (f x))))
+  heads_by : (l : ℕ) (b : Bool) (r : Result TypeNo g.Reported) (f : TypeNo → Meaning) → ((t : TypeNo) → IsProc (f t))
+      → Fits {T = g.Reported} l (Headed (heading_means b (r ▷ λ x. Ok (f x))))
   heads_by l b (Ok t) f h = h t
   heads_by l b (Err e) f h = tt
 
   varied : (s : Scope g.Reported) (t : Result TypeNo g.Reported) → Goes s (with_variable_type s t)
   varied s (Err e) = keeps_refl s
-  varied s (Ok t) = record { tables = refl; outer = refl; level = refl; withs = refl; home = refl; grows = grows_refl s.own; entries = λ n k e. inl e }
+  varied s (Ok t) = record {
+    tables = refl;
+    outer = refl;
+    level = refl;
+    withs = refl;
+    home = refl;
+    grows = grows_refl s.own;
+    entries = λ n k e. inl e;
+  }
 
   headed : (s : Scope g.Reported) (t : Result TypeNo g.Reported) → Goes s (with_procedure_type s t)
   headed s (Err e) = keeps_refl s
-  headed s (Ok t) = record { tables = refl; outer = refl; level = refl; withs = refl; home = refl; grows = grows_refl s.own; entries = λ n k e. inl e }
+  headed s (Ok t) = record {
+    tables = refl;
+    outer = refl;
+    level = refl;
+    withs = refl;
+    home = refl;
+    grows = grows_refl s.own;
+    entries = λ n k e. inl e;
+  }
 
   blocks : KeepsBlocks g Goes
   blocks = record {
@@ -207,7 +228,9 @@ module _ (g : Gathers) where
         listed = λ s name t n e. known_keeps s name (Declared Here (Ok (enumeration_constant t n))) tt;
       });
       begun = λ s name e. known_keeps s name Begun tt;
-      constant_ends = λ s c e. known_keeps s c.name.name _ (fits_by s.level (constant g s (part g c.value)) (λ x. meaning.Constant x) (λ x. tt));
+      constant_ends =
+          λ s c e. known_keeps s c.name.name _
+          (fits_by s.level (constant g s (part g c.value)) (λ x. meaning.Constant x) (λ x. tt));
       type_ends = λ s name t n e. known_keeps s name _ (fits_by s.level t (λ x. meaning.Type x n) (λ x. tt));
     };
     varied = varied;
@@ -215,17 +238,24 @@ module _ (g : Gathers) where
         let v : Scope g.Reported = with_variable_type s t in
         let mine = varied s t in
         keeps_then mine (known_keeps v name _
-        (fits_by v.level t (λ x. meaning.Variable (record { home = s.types.home; number = length s.variables; of = x })) (λ x. ap (λ (n : ℕ). n == 0) mine.level ∙ l)));
+        (fits_by v.level t (λ x. meaning.Variable (record { home = s.types.home; number = length s.variables; of = x }))
+        (λ x. ap (λ (n : ℕ). n == 0) mine.level ∙ l)));
     local_ends = λ s name t l e.
         let v : Scope g.Reported = with_variable_type s t in
         let mine = varied s t in
         keeps_then mine (known_keeps v name _
-        (fits_by v.level t (λ x. meaning.Local (record { level = s.level; number = length s.variables; kind = kind.Variable; of = x })) (λ x. (sym mine.level, ap (λ (n : ℕ). n == 0) mine.level ∙ l))));
+        (fits_by v.level t (λ x. meaning.Local
+        (record { level = s.level; number = length s.variables; kind = kind.Variable; of = x }))
+        (λ x. (sym mine.level, ap (λ (n : ℕ). n == 0) mine.level ∙ l))));
     procedure = λ s name t l e.
         let p : Scope g.Reported = with_procedure_type s t in
         keeps_then (headed s t) (known_keeps p name _
-        (heads_by p.level false t (λ x. meaning.Procedure (record { home = s.types.home; number = length s.procedures; heading = x })) (λ x. tt)));
-    nested = λ s name n t l e. known_keeps s name _ (heads_by s.level true t (λ x. meaning.LocalProcedure (record { level = s.level; number = n; heading = x })) (λ x. tt));
+        (heads_by p.level false t (λ x. meaning.Procedure
+        (record { home = s.types.home; number = length s.procedures; heading = x })) (λ x. tt)));
+    nested =
+        λ s name n t l e. known_keeps s name _
+        (heads_by s.level true t (λ x. meaning.LocalProcedure (record { level = s.level; number = n; heading = x }))
+        (λ x. tt));
     awaited = λ s name p e. known_keeps s name (Headed (Ok (meaning.Procedure p))) tt;
   }
 

@@ -30,8 +30,10 @@ leaves_refl s = record { rest = refl; free = λ f. f }
 leaves_then : {T : Type 0} {s t u : Scope T} → Leaves s t → Leaves t u → Leaves s u
 leaves_then {T = T} {u = u} a b = record { rest = b.rest ∙ ap (λ (t : Scope T). record t { own = u.own }) a.rest; free = λ f. b.free (a.free f) }
 
-new_leaves : {T : Type 0} (s : Scope T) (name : List ℕ) (k : Known T) → is_free (Some k) ≡ true → Leaves s (with_known name k s)
-new_leaves s name k h = record { rest = refl; free = λ f. entered_all (λ n o. is_free o ≡ true) name k s.own h (λ n c. f n) }
+new_leaves : {T : Type 0} (s : Scope T) (name : List ℕ) (k : Known T) → is_free (Some k) ≡ true
+    → Leaves s (with_known name k s)
+new_leaves s name k h =
+    record { rest = refl; free = λ f. entered_all (λ n o. is_free o ≡ true) name k s.own h (λ n c. f n) }
 
 marks : {T : Type 0} → KeepsMarks {T = T} Leaves
 marks = record {

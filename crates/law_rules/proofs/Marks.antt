@@ -75,16 +75,20 @@ module _ (T : Type 0) where
   simple_marks (simple.Enumeration at names) s = refl
   simple_marks (simple.Subrange of at low high) s = refl
 
-  fields_mark : (fs : List SF) (s : Scope T) → fold then_marks s (map (marked_field {T = T}) (map (λ (f : SF). f.0) fs)) ≡ marked s (all_listed (map constants_in_field (map (λ (f : SF). f.0) fs)))
+  fields_mark : (fs : List SF) (s : Scope T)
+      → fold then_marks s (map (marked_field {T = T}) (map (λ (f : SF). f.0) fs)) ≡ marked s
+      (all_listed (map constants_in_field (map (λ (f : SF). f.0) fs)))
   fields_mark [] s = refl
   fields_mark (f ∷ fs) s =
       ap (λ (t : Scope T). fold then_marks t (map (marked_field {T = T}) (map (λ (f : SF). f.0) fs))) (f.1 s)
-      ∙ fields_mark fs (marked s (constants_in_field f.0)) ∙ fold_both marked_later s (constants_in_field f.0) (all_listed (map constants_in_field (map (λ (f : SF). f.0) fs)))
+      ∙ fields_mark fs (marked s (constants_in_field f.0)) ∙ fold_both marked_later s (constants_in_field f.0)
+      (all_listed (map constants_in_field (map (λ (f : SF). f.0) fs)))
 
   abbrev listed : TypeExpr-F TypeExpr Field → List Ident
   listed x = constants_layer (map-TypeExpr TypeExpr Field (List Ident) (List Ident) constants_in constants_in_field x)
 
-  layer_marks : (y : TypeExpr-F ST SF) (s : Scope T) → marking.type_layer (marks_opened (shut y)) s ≡ marked s (listed (shut y))
+  layer_marks : (y : TypeExpr-F ST SF) (s : Scope T)
+      → marking.type_layer (marks_opened (shut y)) s ≡ marked s (listed (shut y))
   layer_marks (layer.Simple x) s = simple_marks x s
   layer_marks (layer.Array at index t) s = t.1 (marked_simple index s) ∙ ap (λ (u : Scope T). marked u (constants_in t.0)) (simple_marks index s) ∙ fold_both marked_later s (constants_listed index) (constants_in t.0)
   layer_marks (layer.Record at fields) s = fields_mark fields s
@@ -93,9 +97,11 @@ module _ (T : Type 0) where
   type_step : (y : TypeExpr-F ST SF) → PT (roll-TypeExpr (shut y)) (marking.type_layer (marks_opened (shut y)))
   type_step y s =
       let x : TypeExpr-F TypeExpr Field = shut y in
-      layer_marks y s ∙ sym (ap (λ (xs : List Ident). marked s xs) (constants_at (roll-TypeExpr x) x (out-roll-TypeExpr x)))
+      layer_marks y s ∙ sym (ap (λ (xs : List Ident). marked s xs)
+      (constants_at (roll-TypeExpr x) x (out-roll-TypeExpr x)))
 
-  field_step : (y : Field-F ST SF) → PF (roll-Field (shut_field y)) (marking.field_layer (marks_opened_field (shut_field y)))
+  field_step : (y : Field-F ST SF)
+      → PF (roll-Field (shut_field y)) (marking.field_layer (marks_opened_field (shut_field y)))
   field_step y s =
       let x : Field-F TypeExpr Field = shut_field y in
       y.of.1 s ∙ sym (ap (λ (xs : List Ident). marked s xs) (field_at (roll-Field x) x (out-roll-Field x)))

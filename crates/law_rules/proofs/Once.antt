@@ -15,7 +15,11 @@ use Rattle.law_rules.specs.Importing.{imported_all}
 
 module _ (g : Gathers) (P : List (List ℕ × Known g.Reported) → Type 0) (more : (name : List ℕ) (k : Known g.Reported) (es : List (List ℕ × Known g.Reported)) → P es → P (enter_name name k es)) where
   imports : KeepsImports g (λ s t. P s.own → P t.own)
-  imports = record { order = fact (λ s. P s.own); modules = λ s name n e. more name _ s.own; exports = λ s name n m e. more name _ s.own }
+  imports = record {
+    order = fact (λ s. P s.own);
+    modules = λ s name n e. more name _ s.own;
+    exports = λ s name n m e. more name _ s.own;
+  }
 
   pub imports_keep : (s : Scope g.Reported) (imports : List Import) → P s.own → P (imported_all g s imports).0.own
   imports_keep s is = all_imports.imports_keep g imports (numbered_modules s.tables).0 is (s, Ok tt)

@@ -88,21 +88,25 @@ module _ (g : Gathers) where
   constants_change : (cs : List Constant) (st : State (Unit {0}) g.Reported) → Changes (λ z. fold marked_constant z cs) st.0 (fold (with_constant g) st cs).0
   constants_change [] st = changes_refl _ st.0
   constants_change (c ∷ cs) st =
-      changes_then (changes_first (λ z. marked_constant z c) (λ z. fold marked_constant z cs) (constants_marks keeps_marks cs) (constant_changes st c))
+      changes_then (changes_first (λ z. marked_constant z c) (λ z. fold marked_constant z cs)
+      (constants_marks keeps_marks cs) (constant_changes st c))
       (changes_second (λ z. marked_constant z c) (λ z. fold marked_constant z cs) (constants_change cs (with_constant g st c)))
 
   type_changes : (st : State (Unit {0}) g.Reported) (d : TypeDecl) → Changes (λ z. marked_type z d) st.0 (with_type g st d).0
   type_changes st d =
       let b : Scope g.Reported = (begin_name g st.0 d.name).0 in
       let t : State TypeNo g.Reported = type_of g d.of b in
-      changes_then (changes_first (λ z. marked_later z d.name) (marked_in d.of) (type_marks keeps_marks d.of) (begun_changes g st.0 d.name Later))
+      changes_then (changes_first (λ z. marked_later z d.name) (marked_in d.of) (type_marks keeps_marks d.of)
+      (begun_changes g st.0 d.name Later))
       (changes_then (changes_second (λ z. marked_later z d.name) (marked_in d.of) (type_changed g d.of b))
-      (changes_first (λ z. marked_later z d.name) (marked_in d.of) (type_marks keeps_marks d.of) (finished_changes t.0 d.name Later (type_meaning t.1 (brings_with d.of)))))
+      (changes_first (λ z. marked_later z d.name) (marked_in d.of) (type_marks keeps_marks d.of)
+      (finished_changes t.0 d.name Later (type_meaning t.1 (brings_with d.of)))))
 
   types_change : (ts : List TypeDecl) (st : State (Unit {0}) g.Reported) → Changes (λ z. fold marked_type z ts) st.0 (fold (with_type g) st ts).0
   types_change [] st = changes_refl _ st.0
   types_change (t ∷ ts) st =
-      changes_then (changes_first (λ z. marked_type z t) (λ z. fold marked_type z ts) (types_marks keeps_marks ts) (type_changes st t))
+      changes_then (changes_first (λ z. marked_type z t) (λ z. fold marked_type z ts) (types_marks keeps_marks ts)
+      (type_changes st t))
       (changes_second (λ z. marked_type z t) (λ z. fold marked_type z ts) (types_change ts (with_type g st t)))
 
   -- ---- variables
@@ -110,7 +114,8 @@ module _ (g : Gathers) where
   begun_all : (names : List Ident) (st : State (Unit {0}) g.Reported) → Changes (λ z. fold marked_later z names) st.0 (fold (begun_name g) st names).0
   begun_all [] st = changes_refl _ st.0
   begun_all (x ∷ xs) st =
-      changes_then (changes_first (λ z. marked_later z x) (λ z. fold marked_later z xs) (names_marks keeps_marks xs) (begun_changes g st.0 x Later))
+      changes_then (changes_first (λ z. marked_later z x) (λ z. fold marked_later z xs) (names_marks keeps_marks xs)
+      (begun_changes g st.0 x Later))
       (changes_second (λ z. marked_later z x) (λ z. fold marked_later z xs) (begun_all xs (begun_name g st x)))
 
   variable_type_changes : (marks : Marks g.Reported) (s : Scope g.Reported) (t : Result TypeNo g.Reported) → Changes marks s (with_variable_type s t)
@@ -122,7 +127,8 @@ module _ (g : Gathers) where
     finished_all : (names : List Ident) (s : Scope g.Reported) → Changes (λ z. fold marked_later z names) s (fold finish s names)
     finished_all [] s = changes_refl _ s
     finished_all (x ∷ xs) s =
-        changes_then (changes_first (λ z. marked_later z x) (λ z. fold marked_later z xs) (names_marks keeps_marks xs) (one s x))
+        changes_then (changes_first (λ z. marked_later z x) (λ z. fold marked_later z xs) (names_marks keeps_marks xs)
+        (one s x))
         (changes_second (λ z. marked_later z x) (λ z. fold marked_later z xs) (finished_all xs (finish s x)))
 
   variable_changes : (t : Result TypeNo g.Reported) (s : Scope g.Reported) (x : Ident) → Changes (λ z. marked_later z x) s (finished_variable t s x)
@@ -137,20 +143,24 @@ module _ (g : Gathers) where
   list_changes st v finish one =
       let b : State (Unit {0}) g.Reported = fold (begun_name g) st v.names in
       let t : State TypeNo g.Reported = type_of g v.of b.0 in
-      changes_then (changes_first (λ z. fold marked_later z v.names) (marked_in v.of) (type_marks keeps_marks v.of) (begun_all v.names st))
+      changes_then (changes_first (λ z. fold marked_later z v.names) (marked_in v.of) (type_marks keeps_marks v.of)
+      (begun_all v.names st))
       (changes_then (changes_second (λ z. fold marked_later z v.names) (marked_in v.of) (type_changed g v.of b.0))
-      (changes_first (λ z. fold marked_later z v.names) (marked_in v.of) (type_marks keeps_marks v.of) (finished_all (finish t.1) (one t.1) v.names t.0)))
+      (changes_first (λ z. fold marked_later z v.names) (marked_in v.of) (type_marks keeps_marks v.of)
+      (finished_all (finish t.1) (one t.1) v.names t.0)))
 
   variables_change : (vs : List Variables) (st : State (Unit {0}) g.Reported) → Changes (λ z. fold marked_variables z vs) st.0 (fold (with_variables g) st vs).0
   variables_change [] st = changes_refl _ st.0
   variables_change (v ∷ vs) st =
-      changes_then (changes_first (λ z. marked_variables z v) (λ z. fold marked_variables z vs) (lists_marks keeps_marks vs) (list_changes st v (λ t. finished_variable t) variable_changes))
+      changes_then (changes_first (λ z. marked_variables z v) (λ z. fold marked_variables z vs)
+      (lists_marks keeps_marks vs) (list_changes st v (λ t. finished_variable t) variable_changes))
       (changes_second (λ z. marked_variables z v) (λ z. fold marked_variables z vs) (variables_change vs (with_variables g st v)))
 
   locals_change : (vs : List Variables) (st : State (Unit {0}) g.Reported) → Changes (λ z. fold marked_variables z vs) st.0 (fold (with_locals g) st vs).0
   locals_change [] st = changes_refl _ st.0
   locals_change (v ∷ vs) st =
-      changes_then (changes_first (λ z. marked_variables z v) (λ z. fold marked_variables z vs) (lists_marks keeps_marks vs) (list_changes st v (λ t. finished_local t) local_changes))
+      changes_then (changes_first (λ z. marked_variables z v) (λ z. fold marked_variables z vs)
+      (lists_marks keeps_marks vs) (list_changes st v (λ t. finished_local t) local_changes))
       (changes_second (λ z. marked_variables z v) (λ z. fold marked_variables z vs) (locals_change vs (with_locals g st v)))
 
   variables_by : (b : Bool) (st : State (Unit {0}) g.Reported) (vs : List Variables) → Changes (λ z. fold marked_variables z vs) st.0 (cond {A = State (Unit {0}) g.Reported} b (fold (with_variables g) st vs) (fold (with_locals g) st vs)).0

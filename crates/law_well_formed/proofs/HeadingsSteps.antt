@@ -145,7 +145,8 @@ same_by : {T : Type 0} (s : Scope T) (name : List ℕ) (v : Known T) (other : Li
 same_by s name v other k true b n e = let z : find_name other s.own ≡ None = ap (λ (x : List ℕ). find_name x s.own) (same_is other name b) ∙ n in absurd (let y : None ≡ Some k = sym z ∙ e in cc)
 same_by s name v other k false b n e = found_other name v s.own other b ∙ e
 
-pub new_marked : {T : Type 0} (s : Scope T) (name : List ℕ) (v : Known T) → is_free (Some v) ≡ true → find_name name s.own ≡ None
+pub new_marked : {T : Type 0} (s : Scope T) (name : List ℕ) (v : Known T) → is_free (Some v) ≡ true
+    → find_name name s.own ≡ None
     → Marked s (with_known name v s)
 new_marked s name v f e = record {
   keeps = known_keeps s name v (ap (λ (o : Option (Known _)). holds_of is_settled o) e);

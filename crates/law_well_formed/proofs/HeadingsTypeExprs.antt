@@ -30,7 +30,8 @@ module _ (g : Gathers) where
   listed_all t [] l = changes_refl _ l.0
   listed_all t (x ∷ xs) l =
       changes_then
-      (changes_first (λ z. marked_later z x) (λ z. fold marked_later z xs) (names_marks keeps_marks xs) (unless_changes g l.0 x Later (Declared Here (Ok (enumeration_constant t (pos l.1))))))
+      (changes_first (λ z. marked_later z x) (λ z. fold marked_later z xs) (names_marks keeps_marks xs)
+      (unless_changes g l.0 x Later (Declared Here (Ok (enumeration_constant t (pos l.1))))))
       (changes_second (λ z. marked_later z x) (λ z. fold marked_later z xs) (listed_all t xs (enumerate_name g t l x)))
 
   simple_changes : (s : Scope g.Reported) (t : Simple) → Changes (marked_simple t) s (simple_type g s t).0
@@ -85,10 +86,12 @@ module _ (g : Gathers) where
   fields_change (f ∷ fs) st =
       changes_then (changes_first (marked_field f.0) (field_names fs) (names_marked fs) (f.1 st)) (changes_second (marked_field f.0) (field_names fs) (fields_change fs (field_list g f.0 st)))
 
-  type_changes : (y : TypeExpr-F ST SF) → Makes' (type_layer g (types_opened g (stripped y))) (marking.type_layer (marks_opened (stripped y)))
+  type_changes : (y : TypeExpr-F ST SF)
+      → Makes' (type_layer g (types_opened g (stripped y))) (marking.type_layer (marks_opened (stripped y)))
   type_changes (layer.Simple t) = λ s. simple_changes s t
   type_changes (layer.Array at index t) = λ s.
-      changes_then (changes_first (marked_simple index) (marked_in t.0) (type_marks keeps_marks t.0) (simple_changes s index))
+      changes_then (changes_first (marked_simple index) (marked_in t.0) (type_marks keeps_marks t.0)
+      (simple_changes s index))
       (changes_then (changes_second (marked_simple index) (marked_in t.0) (t.1 (index_type g s index).0)) (made_changes _ (type_of g t.0 (index_type g s index).0).0 _))
   type_changes (layer.Record at fields) = λ s. changes_then (fields_change fields (s, no_fields, Ok tt)) (made_changes _ _ _)
   type_changes (layer.Procedure at formals t) = λ s. made_changes _ s _
@@ -96,12 +99,17 @@ module _ (g : Gathers) where
   type_step : (y : TypeExpr-F ST SF) → PT (roll-TypeExpr (stripped y)) (type_layer g (types_opened g (stripped y)))
   type_step y =
       let x : TypeExpr-F TypeExpr Field = stripped y in
-      subst (λ (m : Marks g.Reported). Makes' (type_layer g (types_opened g x)) m) (sym (marks_at (roll-TypeExpr x) x (out-roll-TypeExpr x))) (type_changes y)
+      subst (λ (m : Marks g.Reported). Makes' (type_layer g (types_opened g x)) m)
+      (sym (marks_at (roll-TypeExpr x) x (out-roll-TypeExpr x))) (type_changes y)
 
-  field_step : (y : Field-F ST SF) → PF (roll-Field (stripped_field y)) (field_layer g (fields_opened g (stripped_field y)))
+  field_step : (y : Field-F ST SF)
+      → PF (roll-Field (stripped_field y)) (field_layer g (fields_opened g (stripped_field y)))
   field_step y =
       let x : Field-F TypeExpr Field = stripped_field y in
-      subst (λ (m : Marks g.Reported). Fields' (field_layer g (fields_opened g x)) m) (sym (marks_at_field (roll-Field x) x (out-roll-Field x))) (λ st. y.of.1 st.0)
+      subst (λ (m : Marks g.Reported). Fields' (field_layer g (fields_opened g x)) m)
+      (sym (marks_at_field (roll-Field x) x (out-roll-Field x))) (λ st. y.of.1 st.0)
 
   pub type_changed : (t : TypeExpr) (s : Scope g.Reported) → Changes (marked_in t) s (type_of g t s).0
-  type_changed = all_trees (type_of g) (field_list g) PT PF (type_layer g) (field_layer g) (types_at g) (fields_at g) type_step field_step
+  type_changed =
+      all_trees (type_of g) (field_list g) PT PF (type_layer g) (field_layer g) (types_at g)
+      (fields_at g) type_step field_step

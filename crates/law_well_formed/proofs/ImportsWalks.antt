@@ -53,7 +53,8 @@ module _ {T X : Type 0} (marks : Scope T → X → Scope T) (declares : Course T
 pub module_keeps : (g : Gathers) (modules : List (List ℕ × ℕ)) (ends : List ℕ) (s : Scope g.Reported) (m : Module) (ds : List Decl) → Keeps s (declared_module g modules ends s m ds).0
 module_keeps g modules ends s m ds =
     let st = fold (with_import g modules) (s, Ok tt) m.imports in
-    declared_keep marked_decl (with_decl g ends) (λ s d. decl_layer_marks marks (out-Decl d) s) (λ c d. layer_keeps g ends c (out-Decl d)) st 0 ds ∙ import_keeps g modules m.imports (s, Ok tt)
+    declared_keep marked_decl (with_decl g ends) (λ s d. decl_layer_marks marks (out-Decl d) s)
+    (λ c d. layer_keeps g ends c (out-Decl d)) st 0 ds ∙ import_keeps g modules m.imports (s, Ok tt)
 
 -- ---- bodies
 
@@ -140,7 +141,11 @@ module _ (g : Gathers) (elaborates : Elaborates g.Reported) (ends : List ℕ) wh
   checks_at (layer.Procedure h b) around seen w = procedure_keeps h (checks_block g elaborates ends b.0) b.1 around seen w
 
   steps_at : (y : Decl-F SD SB) → KeepingSteps (steps_layer g elaborates ends (opened (bare y)))
-  steps_at y = record { marks = λ s. decl_layer_marks marks (opened (bare y)) s; declares = λ c. layer_keeps g ends c (opened (bare y)); checks = checks_at y }
+  steps_at y = record {
+    marks = λ s. decl_layer_marks marks (opened (bare y)) s;
+    declares = λ c. layer_keeps g ends c (opened (bare y));
+    checks = checks_at y;
+  }
 
   all_at : (xs : List SD) → AllKeep (map (steps g elaborates ends) (map (λ (e : SD). e.0) xs))
   all_at [] = tt

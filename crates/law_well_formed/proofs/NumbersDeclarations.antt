@@ -81,11 +81,13 @@ module _ (fs : List Formal) (g : Gathers) where
       }
 
   variable_ends : (s : Scope g.Reported) (name : List ℕ) (t : Result TypeNo g.Reported)
-      → Goes s (with_known name (Declared Here (variable_meaning s.types.home (length s.variables) t)) (with_variable_type s t))
+      → Goes s (with_known name (Declared Here (variable_meaning s.types.home (length s.variables) t))
+      (with_variable_type s t))
   variable_ends s name (Err e) = known_grows fs s name (Declared Here (Err e)) (λ h. broken e)
   variable_ends s name (Ok t) =
       grows_then fs (variable_type_grows s (Ok t))
-      (known_grows fs (with_variable_type s (Ok t)) name _ (λ h. fine (meaning.Variable _) (λ e. get_last s.variables t)))
+      (known_grows fs (with_variable_type s (Ok t)) name _
+      (λ h. fine (meaning.Variable _) (λ e. get_last s.variables t)))
 
   -- ---- headings
 
@@ -100,10 +102,12 @@ module _ (fs : List Formal) (g : Gathers) where
   })
 
   module_procedure_grows : (s : Scope g.Reported) (name : List ℕ) (t : Result TypeNo g.Reported) → Goes s (module_procedure s name t)
-  module_procedure_grows s name (Err e) = known_grows fs s name (Headed (Err (Headless false e))) (λ h. broken (Headless false e))
+  module_procedure_grows s name (Err e) =
+      known_grows fs s name (Headed (Err (Headless false e))) (λ h. broken (Headless false e))
   module_procedure_grows s name (Ok t) =
       grows_then fs (procedure_type_grows s (Ok t))
-      (known_grows fs (with_procedure_type s (Ok t)) name _ (λ h. fine (meaning.Procedure _) (λ e. get_last s.procedures t)))
+      (known_grows fs (with_procedure_type s (Ok t)) name _
+      (λ h. fine (meaning.Procedure _) (λ e. get_last s.procedures t)))
 
   -- ---- a procedure of the definition, which stands among the names already
 
@@ -164,8 +168,10 @@ module _ (fs : List Formal) (g : Gathers) where
         listed = λ s name t n e. known_grows fs s name (Declared Here (Ok (enumeration_constant t n))) (λ h. fine _ tt);
       });
       begun = λ s name e. known_grows fs s name Begun (λ h. tt);
-      constant_ends = λ s c e. known_grows fs s c.name.name _ (λ h. then_holds (any_holds _) (λ x k. fine (meaning.Constant x) tt));
-      type_ends = λ s name t n e. known_grows fs s name _ (λ h. then_holds (any_holds t) (λ x k. fine (meaning.Type x n) tt));
+      constant_ends =
+          λ s c e. known_grows fs s c.name.name _ (λ h. then_holds (any_holds _) (λ x k. fine (meaning.Constant x) tt));
+      type_ends =
+          λ s name t n e. known_grows fs s name _ (λ h. then_holds (any_holds t) (λ x k. fine (meaning.Type x n) tt));
     };
     varied = variable_type_grows;
     variable_ends = λ s name t l e. variable_ends s name t;
@@ -174,7 +180,8 @@ module _ (fs : List Formal) (g : Gathers) where
     nested = λ s name n t l e. known_grows fs s name _ (λ h.
         heading_means_holds true (then_holds (any_holds t) (λ x k. fine (meaning.LocalProcedure _) refl)));
     awaited = λ s name p e. known_grows fs s name _ (λ h.
-        fine (meaning.Procedure p) (awaited_numbered s p (find_name name s.own) e (found_numbered s name s.own h.names)));
+        fine (meaning.Procedure p) (awaited_numbered s p (find_name name s.own) e
+        (found_numbered s name s.own h.names)));
   }
 
   module _ {A B : Type 0} where

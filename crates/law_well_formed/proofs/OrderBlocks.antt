@@ -63,7 +63,8 @@ module _ (base : Types) where
   exports_ordered types (t ∷ ts) zero p = p.0
   exports_ordered types (t ∷ ts) (suc k) p = exports_ordered types ts k p.1
 
-  exported_ordered : (types : Types) (es : List (List ℕ × Meaning)) (x : List ℕ × Meaning) → ExportsOrdered types es → Among x es → MeaningOrdered types x.1
+  exported_ordered : (types : Types) (es : List (List ℕ × Meaning)) (x : List ℕ × Meaning) → ExportsOrdered types es
+      → Among x es → MeaningOrdered types x.1
   exported_ordered types [] x p a = absurd a
   exported_ordered types (e ∷ es) x p (inl q) = subst (λ (z : List ℕ × Meaning). MeaningOrdered types z.1) (sym q) p.0
   exported_ordered types (e ∷ es) x p (inr a) = exported_ordered types es x p.1 a
@@ -73,10 +74,13 @@ module _ (base : Types) where
     imports = record {
       order = fact (λ s. ScopeOrdered base s);
       modules = λ s name n e h. known_ordered base s name _ h (fine (meaning.Module n) tt);
-      exports = λ s x n e a h. known_ordered base s x.0 _ h (fine x.1 (exported_ordered s.types _ x (exports_ordered s.types s.tables n h.tables) a));
+      exports =
+          λ s x n e a h. known_ordered base s x.0 _ h
+          (fine x.1 (exported_ordered s.types _ x (exports_ordered s.types s.tables n h.tables) a));
     }
 
-    imports_ordered : (modules : List (List ℕ × ℕ)) (is : List Import) (st : State (Unit {0}) g.Reported) → ScopeOrdered base st.0 → StateOrdered base (fold (with_import g modules) st is)
+    imports_ordered : (modules : List (List ℕ × ℕ)) (is : List Import) (st : State (Unit {0}) g.Reported)
+        → ScopeOrdered base st.0 → StateOrdered base (fold (with_import g modules) st is)
     imports_ordered modules is st h = const_holds (imports_bring g imports modules is st h) _
 
     -- ---- blocks
@@ -86,19 +90,24 @@ module _ (base : Types) where
     decls_ordered ends (d ∷ ds) c p = decls_ordered ends ds (with_decl g ends c d) (decl_ordered base g ends c p (out-Decl d))
 
     pub block_ordered : (ends : List ℕ) (st : State (Unit {0}) g.Reported) (first : ℕ) (ds : List Decl) → StateOrdered base st → StateOrdered base (let d = declared_block g ends st first ds in (d.0, d.1))
-    block_ordered ends st first ds p = decls_ordered ends ds ((all_marked marked_decl st.0 ds).0, st.1, first) (holds_weaker (λ x h. decls_marks marks ds (st.0, []) h) p)
+    block_ordered ends st first ds p =
+        decls_ordered ends ds ((all_marked marked_decl st.0 ds).0, st.1, first)
+        (holds_weaker (λ x h. decls_marks marks ds (st.0, []) h) p)
 
     pub module_ordered : (modules : List (List ℕ × ℕ)) (ends : List ℕ) (s : Scope g.Reported) (m : Module) (ds : List Decl) → ScopeOrdered base s
         → StateOrdered base (let d = declared_module g modules ends s m ds in (d.0, d.1))
     module_ordered modules ends s m ds h =
-        beside_then g _ (block_ordered ends (fold (with_import g modules) (s, Ok tt) m.imports) 0 ds (imports_ordered modules m.imports (s, Ok tt) h)) (λ k. const_holds k _)
+        beside_then g _ (block_ordered ends (fold (with_import g modules) (s, Ok tt) m.imports) 0 ds
+        (imports_ordered modules m.imports (s, Ok tt) h)) (λ k. const_holds k _)
 
     defs_ordered : (ds : List Def) (st : State (Unit {0}) g.Reported) → StateOrdered base st → StateOrdered base (fold (with_def g) st ds)
     defs_ordered [] st p = p
     defs_ordered (d ∷ ds) st p = defs_ordered ds (with_def g st d) (def_ordered base g st p d)
 
     pub definition_ordered : (m : Module) (modules : List (List ℕ × ℕ)) (s : Scope g.Reported) (ds : List Def) → ScopeOrdered base s → StateOrdered base (declared_in g m modules s ds)
-    definition_ordered m modules s ds h = defs_ordered ds (fold (with_import g modules) (fold marked_def s ds, Ok tt) m.imports) (imports_ordered modules m.imports (fold marked_def s ds, Ok tt) (defs_marks marks ds s h))
+    definition_ordered m modules s ds h =
+        defs_ordered ds (fold (with_import g modules) (fold marked_def s ds, Ok tt) m.imports)
+        (imports_ordered modules m.imports (fold marked_def s ds, Ok tt) (defs_marks marks ds s h))
 
   -- ---- into a procedure, and back
 

@@ -298,5 +298,6 @@ module _ (g : Gathers) where
 
   pub type_of_ordered : (t : TypeExpr) → OrderedMakes (type_of g t)
   type_of_ordered =
-      all_trees (type_of g) (field_list g) (λ t f. OrderedMakes f) (λ d f. OrderedFields f) (type_layer g) (field_layer g) (types_at g) (fields_at g)
+      all_trees (type_of g) (field_list g) (λ t f. OrderedMakes f) (λ d f. OrderedFields f) (type_layer g)
+      (field_layer g) (types_at g) (fields_at g)
       type_ordered field_list_ordered

@@ -133,7 +133,8 @@ module _ (g : Gathers) where
         known_leads name _ (with_variable_type s t) (variable_own s (length s.variables) t) ⨾ variable_type_leads s t;
     headed = procedure_type_leads;
     procedure = λ s name t e.
-        known_leads name _ (with_procedure_type s t) (procedure_own s (length s.procedures) t) ⨾ procedure_type_leads s t;
+        known_leads name _ (with_procedure_type s t) (procedure_own s (length s.procedures) t)
+        ⨾ procedure_type_leads s t;
   }
 
   pub def_leads : (st : State (Unit {0}) g.Reported) (d : Def) → Leads st.0 (with_def g st d).0

@@ -59,7 +59,8 @@ exports_ranged types [] k p = tt
 exports_ranged types (t ∷ ts) zero p = p.0
 exports_ranged types (t ∷ ts) (suc k) p = exports_ranged types ts k p.1
 
-exported_ranged : (types : Types) (es : List (List ℕ × Meaning)) (x : List ℕ × Meaning) → ExportsRanged types es → Among x es → MeaningRanged types x.1
+exported_ranged : (types : Types) (es : List (List ℕ × Meaning)) (x : List ℕ × Meaning) → ExportsRanged types es
+    → Among x es → MeaningRanged types x.1
 exported_ranged types [] x p a = absurd a
 exported_ranged types (e ∷ es) x p (inl q) = subst (λ (z : List ℕ × Meaning). MeaningRanged types z.1) (sym q) p.0
 exported_ranged types (e ∷ es) x p (inr a) = exported_ranged types es x p.1 a
@@ -69,10 +70,13 @@ module _ (g : Gathers) where
   imports = record {
     order = fact ScopeRanged;
     modules = λ s name n e h. known_ranged s name _ h (fine (meaning.Module n) tt);
-    exports = λ s x n e a h. known_ranged s x.0 _ h (fine x.1 (exported_ranged s.types _ x (exports_ranged s.types s.tables n h.tables) a));
+    exports =
+        λ s x n e a h. known_ranged s x.0 _ h
+        (fine x.1 (exported_ranged s.types _ x (exports_ranged s.types s.tables n h.tables) a));
   }
 
-  imports_ranged : (modules : List (List ℕ × ℕ)) (is : List Import) (st : State (Unit {0}) g.Reported) → ScopeRanged st.0 → StateRanged (fold (with_import g modules) st is)
+  imports_ranged : (modules : List (List ℕ × ℕ)) (is : List Import) (st : State (Unit {0}) g.Reported)
+      → ScopeRanged st.0 → StateRanged (fold (with_import g modules) st is)
   imports_ranged modules is st h = const_holds (imports_bring g imports modules is st h) _
 
   -- ---- blocks
@@ -82,19 +86,24 @@ module _ (g : Gathers) where
   decls_ranged ends (d ∷ ds) c e p = decls_ranged ends ds (with_decl g ends c d) (both_right (fits_decl d) (list_all fits_decl ds) e) (decl_ranged g (constants_ranged g) ends c p (out-Decl d) (both_left (fits_decl d) (list_all fits_decl ds) e))
 
   pub block_ranged : (ends : List ℕ) (st : State (Unit {0}) g.Reported) (first : ℕ) (ds : List Decl) → list_all fits_decl ds ≡ true → StateRanged st → StateRanged (let d = declared_block g ends st first ds in (d.0, d.1))
-  block_ranged ends st first ds e p = decls_ranged ends ds ((all_marked marked_decl st.0 ds).0, st.1, first) e (holds_weaker (λ x h. decls_marks marks ds (st.0, []) h) p)
+  block_ranged ends st first ds e p =
+      decls_ranged ends ds ((all_marked marked_decl st.0 ds).0, st.1, first) e
+      (holds_weaker (λ x h. decls_marks marks ds (st.0, []) h) p)
 
   pub module_ranged : (modules : List (List ℕ × ℕ)) (ends : List ℕ) (s : Scope g.Reported) (m : Module) (ds : List Decl) → list_all fits_decl ds ≡ true → ScopeRanged s
       → StateRanged (let d = declared_module g modules ends s m ds in (d.0, d.1))
   module_ranged modules ends s m ds e h =
-      beside_then g _ (block_ranged ends (fold (with_import g modules) (s, Ok tt) m.imports) 0 ds e (imports_ranged modules m.imports (s, Ok tt) h)) (λ k. const_holds k _)
+      beside_then g _ (block_ranged ends (fold (with_import g modules) (s, Ok tt) m.imports) 0 ds e
+      (imports_ranged modules m.imports (s, Ok tt) h)) (λ k. const_holds k _)
 
   defs_ranged : (ds : List Def) (st : State (Unit {0}) g.Reported) → list_all fits_def ds ≡ true → StateRanged st → StateRanged (fold (with_def g) st ds)
   defs_ranged [] st e p = p
   defs_ranged (d ∷ ds) st e p = defs_ranged ds (with_def g st d) (both_right (fits_def d) (list_all fits_def ds) e) (def_ranged g (constants_ranged g) st p d (both_left (fits_def d) (list_all fits_def ds) e))
 
   pub definition_ranged : (m : Module) (modules : List (List ℕ × ℕ)) (s : Scope g.Reported) (ds : List Def) → list_all fits_def ds ≡ true → ScopeRanged s → StateRanged (declared_in g m modules s ds)
-  definition_ranged m modules s ds e h = defs_ranged ds (fold (with_import g modules) (fold marked_def s ds, Ok tt) m.imports) e (imports_ranged modules m.imports (fold marked_def s ds, Ok tt) (defs_marks marks ds s h))
+  definition_ranged m modules s ds e h =
+      defs_ranged ds (fold (with_import g modules) (fold marked_def s ds, Ok tt) m.imports) e
+      (imports_ranged modules m.imports (fold marked_def s ds, Ok tt) (defs_marks marks ds s h))
 
 -- ---- into a procedure, and back
 

@@ -279,21 +279,30 @@ module _ (g : Gathers) (known : ConstantsAreRanged g) where
       let rest : Bool = list_all itself (map fits_fields (map (λ (f : SF). f.0) fs)) in
       fields_all fs (both_right (fits_fields f.0) (list_all itself (map fits_fields (map (λ (f : SF). f.0) fs))) e) (field_list g f.0 st) (f.1 (both_left (fits_fields f.0) (list_all itself (map fits_fields (map (λ (f : SF). f.0) fs))) e) st p)
 
-  type_ranged : (y : TypeExpr-F ST SF) → fits_type_layer (elaborated (stripped y)) ≡ true → RangedMakes (type_layer g (types_opened g (stripped y)))
+  type_ranged : (y : TypeExpr-F ST SF) → fits_type_layer (elaborated (stripped y)) ≡ true
+      → RangedMakes (type_layer g (types_opened g (stripped y)))
   type_ranged (layer.Simple t) e = λ s h. simple_ranged s h t e
   type_ranged (layer.Array at index t) e = λ s h.
       array_ranged at (index_type g s index) (type_of g t.0) (index_ranged s h index (both_left (fits_simple index) (fits_type t.0) e)) (λ k. t.1 (both_right (fits_simple index) (fits_type t.0) e) (index_type g s index).0 k)
   type_ranged (layer.Record at fields) e = λ s h. record_ranged at _ (fields_all fields e (s, no_fields, Ok tt) (fine tt h))
   type_ranged (layer.Procedure at formals t) e = λ s h. made_ranged s (procedure_plain g s h _ _)
 
-  field_ranged : (y : Field-F ST SF) → fits_field (elaborated_field (stripped_field y)) ≡ true → RangedFields (field_layer g (fields_opened g (stripped_field y)))
+  field_ranged : (y : Field-F ST SF) → fits_field (elaborated_field (stripped_field y)) ≡ true
+      → RangedFields (field_layer g (fields_opened g (stripped_field y)))
   field_ranged y e = λ st p. named_ranged (type_of g y.of.0 st.0) y.names st.1 st.2 p (λ h. y.of.1 e st.0 h)
 
   type_step : (y : TypeExpr-F ST SF) → PT (roll-TypeExpr (stripped y)) (type_layer g (types_opened g (stripped y)))
-  type_step y e = let x : TypeExpr-F TypeExpr Field = stripped y in type_ranged y (sym (fits_at (roll-TypeExpr x) x (out-roll-TypeExpr x)) ∙ e)
+  type_step y e =
+      let x : TypeExpr-F TypeExpr Field = stripped y in
+      type_ranged y (sym (fits_at (roll-TypeExpr x) x (out-roll-TypeExpr x)) ∙ e)
 
-  field_step : (y : Field-F ST SF) → PF (roll-Field (stripped_field y)) (field_layer g (fields_opened g (stripped_field y)))
-  field_step y e = let x : Field-F TypeExpr Field = stripped_field y in field_ranged y (sym (fits_at_field (roll-Field x) x (out-roll-Field x)) ∙ e)
+  field_step : (y : Field-F ST SF)
+      → PF (roll-Field (stripped_field y)) (field_layer g (fields_opened g (stripped_field y)))
+  field_step y e =
+      let x : Field-F TypeExpr Field = stripped_field y in
+      field_ranged y (sym (fits_at_field (roll-Field x) x (out-roll-Field x)) ∙ e)
 
   pub type_of_ranged : (t : TypeExpr) → fits_type t ≡ true → RangedMakes (type_of g t)
-  type_of_ranged = all_trees (type_of g) (field_list g) PT PF (type_layer g) (field_layer g) (types_at g) (fields_at g) type_step field_step
+  type_of_ranged =
+      all_trees (type_of g) (field_list g) PT PF (type_layer g) (field_layer g) (types_at g)
+      (fields_at g) type_step field_step

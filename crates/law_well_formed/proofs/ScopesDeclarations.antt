@@ -151,7 +151,8 @@ module _ (m : TypedModule) (opens : ℕ → Bool) (g : Gathers) where
     types = by_shapes g (record {
       order = order;
       shaped = shape_leads m opens;
-      listed = λ s name t n e. free_leads s name (Declared Here (Ok (enumeration_constant t n))) e refl (fine _ (tt, tt));
+      listed =
+          λ s name t n e. free_leads s name (Declared Here (Ok (enumeration_constant t n))) e refl (fine _ (tt, tt));
     });
     begun = λ s name e. free_leads s name Begun e refl tt;
     constant_ends = λ s c e. ended_leads s c.name.name _ (λ x. meaning.Constant x) e (λ x. refl) (λ h x. (tt, tt));
@@ -164,7 +165,8 @@ module _ (m : TypedModule) (opens : ℕ → Bool) (g : Gathers) where
       let mine = variable_type_leads s t in
       let k : ℕ = s.types.home in
       leads_then m opens mine
-      (ended_leads v name t (λ x. meaning.Variable (record { home = k; number = length s.variables; of = x })) e (λ x. refl) (λ h x.
+      (ended_leads v name t (λ x. meaning.Variable (record { home = k; number = length s.variables; of = x })) e
+      (λ x. refl) (λ h x.
       let own : k ≡ m.types.home = sym mine.home ∙ h in
       (ap (λ (b : Bool). b || list_any (λ i. i.number == k) m.imports) (own_home k own), own)))
 
@@ -234,7 +236,8 @@ module _ (m : TypedModule) (opens : ℕ → Bool) (g : Gathers) where
     pub decl_leads : (ends : List ℕ) (c : Course g.Reported) (y : Decl-F A B) → HeadsAre m opens g c y → Goes c.0 (decl_layer g ends c y).0
     decl_leads ends c (layer.Constants cs) k = constants_keep g names cs (c.0, c.1)
     decl_leads ends c (layer.Types ts) k = types_keep g names ts (c.0, c.1)
-    decl_leads ends c (layer.Variables vs) k = variables_of_keep g names variable_type_leads variable_ends local_ends vs (c.0, c.1)
+    decl_leads ends c (layer.Variables vs) k =
+        variables_of_keep g names variable_type_leads variable_ends local_ends vs (c.0, c.1)
     decl_leads ends c (layer.Procedure h b) k = heading_leads c.0 h c.2 k
 
     pub layer_marks : (s : Scope g.Reported) (y : Decl-F A B) → Goes s (marked_layer s y)

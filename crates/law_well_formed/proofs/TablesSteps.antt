@@ -93,7 +93,8 @@ module _ {T : Type 0} where
   order : IsOrder {T = T} Goes
   order = record { same = same_goes; next = λ a b c p q. q ⨾ p }
 
-  pub fold_goes : {A X : Type 0} (at : A → Scope T) (f : A → X → A) → ((a : A) (x : X) → Goes (at a) (at (f a x))) → (xs : List X) (a : A)
+  pub fold_goes : {A X : Type 0} (at : A → Scope T) (f : A → X → A) → ((a : A) (x : X) → Goes (at a) (at (f a x)))
+      → (xs : List X) (a : A)
       → Goes (at a) (at (fold f a xs))
   fold_goes = steps order
 
@@ -125,14 +126,17 @@ module _ {T : Type 0} where
 module _ (g : Gathers) where
   -- ---- declarations
 
-  ended : (s : Scope g.Reported) (name : List ℕ) (m : Result Meaning g.Reported) → number_if m ≡ None → is_begun (find_name name s.own) ≡ true → Goes s (with_known name (Declared Here m) s)
+  ended : (s : Scope g.Reported) (name : List ℕ) (m : Result Meaning g.Reported) → number_if m ≡ None
+      → is_begun (find_name name s.own) ≡ true → Goes s (with_known name (Declared Here m) s)
   ended s name m n e = known_goes name (Declared Here m) s n refl (begun_undone (find_name name s.own) e)
 
   shapes : KeepsShapes g Goes
   shapes = record {
     order = order;
     shaped = shape_goes;
-    listed = λ s name t n e. known_goes name (Declared Here (Ok (enumeration_constant t n))) s refl refl (free_undone (find_name name s.own) e);
+    listed =
+        λ s name t n e. known_goes name (Declared Here (Ok (enumeration_constant t n))) s refl refl
+        (free_undone (find_name name s.own) e);
   }
 
   names : KeepsNames g Goes
@@ -144,9 +148,12 @@ module _ (g : Gathers) where
   }
 
   variable_ends : VariablesEnd g Goes
-  variable_ends s name t e = ended (with_variable_type s t) name _ (variable_none s.types.home (length s.variables) t) e ⨾ variable_type_goes s t
+  variable_ends s name t e =
+      ended (with_variable_type s t) name _ (variable_none s.types.home (length s.variables) t) e
+      ⨾ variable_type_goes s t
 
-  pub listed_goes : (t : TypeNo) (l : Scope g.Reported × ℕ × Result (Unit {0}) g.Reported) (x : Ident) → Goes l.0 (enumerate_name g t l x).0
+  pub listed_goes : (t : TypeNo) (l : Scope g.Reported × ℕ × Result (Unit {0}) g.Reported) (x : Ident)
+      → Goes l.0 (enumerate_name g t l x).0
   listed_goes = listed_keeps g shapes
 
   pub type_of_goes : (t : TypeExpr) (s : Scope g.Reported) → Goes s (type_of g t s).0
@@ -160,7 +167,9 @@ module _ (g : Gathers) where
   constant_ends b c = finish_keeps order b c.name _ (names.constant_ends b c)
 
   pub type_finished : (b : Scope g.Reported) (d : TypeDecl) → Goes (type_of g d.of b).0 (finish_name (type_of g d.of b).0 d.name (type_meaning (type_of g d.of b).1 (brings_with d.of)))
-  type_finished b d = let t = type_of g d.of b in finish_keeps order t.0 d.name _ (names.type_ends t.0 d.name.name t.1 (brings_with d.of))
+  type_finished b d =
+      let t = type_of g d.of b in
+      finish_keeps order t.0 d.name _ (names.type_ends t.0 d.name.name t.1 (brings_with d.of))
 
   pub type_ends : (b : Scope g.Reported) (d : TypeDecl) → Goes b (finish_name (type_of g d.of b).0 d.name (type_meaning (type_of g d.of b).1 (brings_with d.of)))
   type_ends b d = type_finished b d ⨾ type_of_goes d.of b
@@ -175,7 +184,10 @@ module _ (g : Gathers) where
   begun_all_go = begun_all g names
 
   pub variables_end : (b : Scope g.Reported) (v : Variables) → Goes (type_of g v.of b).0 (fold (finished_variable (type_of g v.of b).1) (type_of g v.of b).0 v.names)
-  variables_end b v = let t = type_of g v.of b in steps order (λ s. s) (finished_variable t.1) (variable_keeps g names variable_type_goes variable_ends t.1) v.names t.0
+  variables_end b v =
+      let t = type_of g v.of b in
+      steps order (λ s. s) (finished_variable t.1)
+      (variable_keeps g names variable_type_goes variable_ends t.1) v.names t.0
 
   pub variables_go : (st : State (Unit {0}) g.Reported) (v : Variables) → Goes st.0 (with_variables g st v).0
   variables_go = variable_list_keeps g names variable_type_goes variable_ends
@@ -185,8 +197,11 @@ module _ (g : Gathers) where
   imports : KeepsImports g Goes
   imports = record {
     order = order;
-    modules = λ s name n e. known_goes name (Declared (Module n) (Ok (meaning.Module n))) s refl refl (free_undone (find_name name s.own) e);
-    exports = λ s name n m e. known_goes name (Declared (Export n) (Ok m)) s refl refl (free_undone (find_name name s.own) e);
+    modules =
+        λ s name n e. known_goes name (Declared (Module n) (Ok (meaning.Module n))) s refl refl
+        (free_undone (find_name name s.own) e);
+    exports =
+        λ s name n m e. known_goes name (Declared (Export n) (Ok m)) s refl refl (free_undone (find_name name s.own) e);
   }
 
   pub import_goes : (modules : List (List ℕ × ℕ)) (is : List Import) (st : State (Unit {0}) g.Reported) → Goes st.0 (fold (with_import g modules) st is).0

@@ -246,7 +246,8 @@ module _ (g : Gathers) where
   field_reported f st e =
       let of : State TypeNo g.Reported = type_of g (out-Field f).of st.0 in
       beside_left g st.2 (nothing_of of.1)
-      (fields_reported of (out-Field f).names st.1 st.2 (subst (λ (y : MakesFields g). (y st).2 ≡ Ok tt) (fields_at g f (out-Field f) refl) e))
+      (fields_reported of (out-Field f).names st.1 st.2
+      (subst (λ (y : MakesFields g). (y st).2 ≡ Ok tt) (fields_at g f (out-Field f) refl) e))
 
   abbrev all_fields : List SF → Fielded → Fielded
   all_fields fs st = fold (then_fields g) st (map (field_list g) (map (λ (f : SF). f.0) fs))
@@ -284,13 +285,16 @@ module _ (g : Gathers) where
       let k = then_ok st.2 _ made.0 made.1 in
       all_take fields (s, no_fields, Ok tt) k.1 fin (λ y h. w y ((made_goes st.0 (record_of g at st.1 st.2)).taken y h)) z all
 
-  type_takes : (y : TypeExpr-F ST SF) → Takes (type_layer g (types_opened g (stripped y))) (marking.type_layer (marks_opened (stripped y)))
+  type_takes : (y : TypeExpr-F ST SF)
+      → Takes (type_layer g (types_opened g (stripped y))) (marking.type_layer (marks_opened (stripped y)))
   type_takes (layer.Simple t) = λ s x e fin w z all. simple_takes s t x e fin w z all
   type_takes (layer.Array at index t) = array_takes at index t
   type_takes (layer.Record at fields) = record_takes at fields
   type_takes (layer.Procedure at formals t) = λ s x e fin w z all. all
 
-  field_takes : (y : Field-F ST SF) → TakesFields (field_layer g (fields_opened g (stripped_field y))) (marking.field_layer (marks_opened_field (stripped_field y)))
+  field_takes : (y : Field-F ST SF)
+      → TakesFields (field_layer g (fields_opened g (stripped_field y)))
+      (marking.field_layer (marks_opened_field (stripped_field y)))
   field_takes y st e fin w z all =
       let of : State TypeNo g.Reported = type_of g y.of.0 st.0 in
       let k = then_ok of.1 (λ x. Ok tt) tt (beside_right g st.2 (nothing_of of.1) (fields_reported of y.names st.1 st.2 e)) in
@@ -299,15 +303,20 @@ module _ (g : Gathers) where
   type_step : (y : TypeExpr-F ST SF) → PT (roll-TypeExpr (stripped y)) (type_layer g (types_opened g (stripped y)))
   type_step y =
       let x : TypeExpr-F TypeExpr Field = stripped y in
-      subst (λ (m : Marks g.Reported). Takes (type_layer g (types_opened g x)) m) (sym (marks_at (roll-TypeExpr x) x (out-roll-TypeExpr x))) (type_takes y)
+      subst (λ (m : Marks g.Reported). Takes (type_layer g (types_opened g x)) m)
+      (sym (marks_at (roll-TypeExpr x) x (out-roll-TypeExpr x))) (type_takes y)
 
-  field_step : (y : Field-F ST SF) → PF (roll-Field (stripped_field y)) (field_layer g (fields_opened g (stripped_field y)))
+  field_step : (y : Field-F ST SF)
+      → PF (roll-Field (stripped_field y)) (field_layer g (fields_opened g (stripped_field y)))
   field_step y =
       let x : Field-F TypeExpr Field = stripped_field y in
-      subst (λ (m : Marks g.Reported). TakesFields (field_layer g (fields_opened g x)) m) (sym (marks_at_field (roll-Field x) x (out-roll-Field x))) (field_takes y)
+      subst (λ (m : Marks g.Reported). TakesFields (field_layer g (fields_opened g x)) m)
+      (sym (marks_at_field (roll-Field x) x (out-roll-Field x))) (field_takes y)
 
   type_of_takes : (t : TypeExpr) → PT t (type_of g t)
-  type_of_takes = all_trees (type_of g) (field_list g) PT PF (type_layer g) (field_layer g) (types_at g) (fields_at g) type_step field_step
+  type_of_takes =
+      all_trees (type_of g) (field_list g) PT PF (type_layer g) (field_layer g) (types_at g)
+      (fields_at g) type_step field_step
 
   -- ---- constants, types and variables
 

@@ -31,14 +31,14 @@
 //! Why declarations lead from scopes whose names mean what is there to scopes of the same kind.
 //!
 //! - `specs/FormedScopes` says when names are formed, and what a declaration keeps.
-//! - `proofs/Names` and `proofs/ScopesGrowth` have what one name more and one type more do, `proofs/ScopesTypeExprs` the types that are
-//!   made, and `proofs/ScopesDeclarations` all declarations of a block.
+//! - `proofs/Names` and `proofs/ScopesGrowth` have what one name more and one type more do, and `proofs/ScopesDeclarations` all
+//!   declarations of a block.
 //!
 //! Why names carry the numbers under which their scope has them.
 //!
 //! - `specs/FormedNumbers` says when names are numbered, and what a declaration keeps.
-//! - `proofs/NumbersGrowth` has what one name more and one type more do, `proofs/NumbersTypeExprs` the types that are made, and
-//!   `proofs/NumbersDeclarations` all declarations of a block. `proofs/Entered` has where the block of a procedure begins.
+//! - `proofs/NumbersGrowth` has what one name more and one type more do, and `proofs/NumbersDeclarations` all declarations of a
+//!   block. `proofs/Entered` has where the block of a procedure begins.
 //!
 //! Why a procedure's block begins with the types of its heading.
 //!
