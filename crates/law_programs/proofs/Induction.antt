@@ -1,12 +1,11 @@
 -- Blocks in blocks, by induction.
-use Rattle.std.proofs.Common.{◌≡◌, ℕ, suc, ◌+◌, ◌<◌, ◌≤◌, ◌==◌, Bool, true, false, ◌&&◌, List, [], ◌∷◌, ◌++◌, length, Option, Some, None, Result, Ok, refl, sym, ap, subst, ◌∙◌, append_assoc, arith}
+use Rattle.std.proofs.Common.{◌≡◌, ℕ, suc, ◌+◌, ◌<◌, ◌≤◌, ◌==◌, Bool, true, false, ◌&&◌, List, [], ◌∷◌, length, Option, Some, None, Result, Ok, refl, sym, ap, subst, ◌∙◌, arith}
 use Rattle.std.specs.Prelude.{map, slice_get}
 use Rattle.std.specs.List.{fold, list_all}
-use Rattle.std.proofs.lemmas.List.{append-nil}
 use Rattle.m2_tree.specs.declared.stmt.Stmt.{Stmt}
-use Rattle.m2_tree.specs.declared.decl.Decl.{Decl, Decl-F, out-Decl, roll-Decl, out-roll-Decl, map-Decl, fold_out-Decl, ind-Decl}
+use Rattle.m2_tree.specs.declared.decl.Decl.{Decl, Decl-F, out-Decl, roll-Decl, out-roll-Decl, map-Decl, fold_out-Decl}
 use Rattle.m2_tree.specs.declared.decl.Decl.TheOpen as layer
-use Rattle.m2_tree.specs.declared.decl.Block.{Block, Block-F, out-Block, roll-Block, out-roll-Block, map-Block, fold_out-Block, ind-Block}
+use Rattle.m2_tree.specs.declared.decl.Block.{Block, Block-F, out-Block, roll-Block, out-roll-Block, map-Block, fold_out-Block}
 use Rattle.typed_tree.specs.declared.known_types.Types.{Types}
 use Rattle.typed_tree.specs.declared.shape.Formal.{Formal}
 use Rattle.typed_tree.specs.declared.shape.Made.{Made}
@@ -22,10 +21,10 @@ use Rattle.check_scope.specs.declared.known.Known.{Known}
 use Rattle.check_scope.specs.declared.scope.Block.{Block as Around}
 use Rattle.check_scope.specs.declared.scope.Scope.{Scope}
 use Rattle.check_const.specs.Denote.{exported_meaning}
-use Rattle.check_block.specs.Naming.{marked_layer, marked_decl, with_marks}
+use Rattle.check_block.specs.Naming.{with_marks}
 use Rattle.check_block.specs.Nesting as nesting
 use Rattle.check_block.specs.Nesting.{append_names, within_decl, within}
-use Rattle.check_block.specs.Declarations.{Course, Declared, decl_layer, with_decl, all_declared, declared_block}
+use Rattle.check_block.specs.Declarations.{Course, Declared, decl_layer, all_declared, declared_block}
 use Rattle.check_body.specs.Routines.{numbered_known}
 use Rattle.check_body.specs.declared.procedure.Walk.{Walk}
 use Rattle.check_body.specs.Elaborating.{Elaborates, statements_of}
@@ -33,6 +32,7 @@ use Rattle.check_body.specs.Bodies.{ChecksBlock, Steps, marked_by, declared_by, 
 use Rattle.check_body.specs.Checks.{elaborate_body}
 use Rattle.law_simulation.specs.Passing.{Result as Gives}
 use Rattle.law_simulation.specs.TreesTyped.{Context}
+use Rattle.law_well_formed.proofs.BodyFolds.{OfDecl, OfBlock, bare, bare_block, opened, opened_block, all_decls, all_blocks, declared_same, counted, count_at, count_at_block, total, total_is}
 use Rattle.law_well_formed.specs.Formed.{Holds, fine}
 use Rattle.law_well_formed.proofs.Basics.{holds_weaker}
 use Rattle.law_well_formed.specs.FormedScopes.{AreFormedNames, Leads}
@@ -225,39 +225,11 @@ module _ (g : Gathers) (elaborates : Elaborates g.Reported) (forms : FormsStatem
   abbrev block_of : Block → ChecksBlock g.Reported
   block_of = checks_block g elaborates ends
 
-  abbrev opened : Decl-F Decl Block → Decl-F (Steps g.Reported) (ChecksBlock g.Reported)
-  opened x = map-Decl Decl Block (Steps g.Reported) (ChecksBlock g.Reported) steps_of block_of x
-
-  abbrev opened_block : Block-F Decl Block → Block-F (Steps g.Reported) (ChecksBlock g.Reported)
-  opened_block x = map-Block Decl Block (Steps g.Reported) (ChecksBlock g.Reported) steps_of block_of x
-
-  abbrev counted : Decl-F Decl Block → Decl-F (List ℕ) (List ℕ)
-  counted x = map-Decl Decl Block (List ℕ) (List ℕ) within_decl within x
-
-  abbrev counted_block : Block-F Decl Block → Block-F (List ℕ) (List ℕ)
-  counted_block x = map-Block Decl Block (List ℕ) (List ℕ) within_decl within x
-
   abbrev fitting : Decl-F Decl Block → Decl-F Bool Bool
   fitting x = map-Decl Decl Block Bool Bool fits_inside fits_whole_block x
 
   abbrev fitting_block : Block-F Decl Block → Block-F Bool Bool
   fitting_block x = map-Block Decl Block Bool Bool fits_inside fits_whole_block x
-
-  at : (e : Decl) (x : Decl-F Decl Block) → out-Decl e ≡ x → steps_of e ≡ steps_layer g elaborates ends (opened x)
-  unfolding steps checks_block
-  at e x h = fold_out-Decl (Steps g.Reported) (ChecksBlock g.Reported) (steps_layer g elaborates ends) (block_layer g elaborates ends) e ∙ ap (λ (y : Decl-F Decl Block). steps_layer g elaborates ends (opened y)) h
-
-  at_block : (e : Block) (x : Block-F Decl Block) → out-Block e ≡ x → block_of e ≡ block_layer g elaborates ends (opened_block x)
-  unfolding steps checks_block
-  at_block e x h = fold_out-Block (Steps g.Reported) (ChecksBlock g.Reported) (steps_layer g elaborates ends) (block_layer g elaborates ends) e ∙ ap (λ (y : Block-F Decl Block). block_layer g elaborates ends (opened_block y)) h
-
-  count_at : (e : Decl) (x : Decl-F Decl Block) → out-Decl e ≡ x → within_decl e ≡ nesting.decl_layer (counted x)
-  unfolding within_decl within
-  count_at e x h = fold_out-Decl (List ℕ) (List ℕ) nesting.decl_layer nesting.block_layer e ∙ ap (λ (y : Decl-F Decl Block). nesting.decl_layer (counted y)) h
-
-  count_at_block : (e : Block) (x : Block-F Decl Block) → out-Block e ≡ x → within e ≡ nesting.block_layer (counted_block x)
-  unfolding within_decl within
-  count_at_block e x h = fold_out-Block (List ℕ) (List ℕ) nesting.decl_layer nesting.block_layer e ∙ ap (λ (y : Block-F Decl Block). nesting.block_layer (counted_block y)) h
 
   pub fits_at : (e : Decl) (x : Decl-F Decl Block) → out-Decl e ≡ x → fits_inside e ≡ fits_inside_layer (fitting x)
   unfolding fits_inside fits_whole_block
@@ -266,41 +238,6 @@ module _ (g : Gathers) (elaborates : Elaborates g.Reported) (forms : FormsStatem
   pub fits_at_block : (e : Block) (x : Block-F Decl Block) → out-Block e ≡ x → fits_whole_block e ≡ fits_whole_layer (fitting_block x)
   unfolding fits_inside fits_whole_block
   fits_at_block e x h = fold_out-Block Bool Bool fits_inside_layer fits_whole_layer e ∙ ap (λ (y : Block-F Decl Block). fits_whole_layer (fitting_block y)) h
-
-  layer_marks : (s : Scope g.Reported) (x : Decl-F Decl Block) → marked_layer s (opened x) ≡ marked_layer s x
-  layer_marks s (layer.Constants cs) = refl
-  layer_marks s (layer.Types ts) = refl
-  layer_marks s (layer.Variables vs) = refl
-  layer_marks s (layer.Procedure h b) = refl
-
-  layer_declares : (c : Course g.Reported) (x : Decl-F Decl Block) → decl_layer g ends c (opened x) ≡ decl_layer g ends c x
-  layer_declares c (layer.Constants cs) = refl
-  layer_declares c (layer.Types ts) = refl
-  layer_declares c (layer.Variables vs) = refl
-  layer_declares c (layer.Procedure h b) = refl
-
-  step_marks : (s : Scope g.Reported) (d : Decl) → marked_by s (steps_of d) ≡ marked_decl s d
-  step_marks s d = ap (λ (x : Steps g.Reported). x.marks s) (at d (out-Decl d) refl) ∙ layer_marks s (out-Decl d)
-
-  step_declares : (c : Course g.Reported) (d : Decl) → declared_by c (steps_of d) ≡ with_decl g ends c d
-  step_declares c d = ap (λ (x : Steps g.Reported). x.declares c) (at d (out-Decl d) refl) ∙ layer_declares c (out-Decl d)
-
-  marks_same : (ds : List Decl) (st : Scope g.Reported × List ℕ) → fold (with_marks marked_by) st (map steps_of ds) ≡ fold (with_marks marked_decl) st ds
-  marks_same [] st = refl
-  marks_same (d ∷ ds) st =
-      ap (λ (s : Scope g.Reported). fold (with_marks marked_by) (s, st.1 ++ length st.0.own ∷ []) (map steps_of ds)) (step_marks st.0 d) ∙ marks_same ds (with_marks marked_decl st d)
-
-  declares_same : (ds : List Decl) (c : Course g.Reported) → fold declared_by c (map steps_of ds) ≡ fold (with_decl g ends) c ds
-  declares_same [] c = refl
-  declares_same (d ∷ ds) c = ap (λ (k : Course g.Reported). fold declared_by k (map steps_of ds)) (step_declares c d) ∙ declares_same ds (with_decl g ends c d)
-
-  abbrev behind : Result (Unit {0}) g.Reported → ℕ → List (Steps g.Reported) → Scope g.Reported × List ℕ → Declared g.Reported
-  behind so first xs m = let c = fold declared_by (m.0, so, first) xs in (c.0, c.1, m.1)
-
-  pub declared_same : (ds : List Decl) (st : State (Unit {0}) g.Reported) (first : ℕ) → all_declared marked_by declared_by st first (map steps_of ds) ≡ declared_block g ends st first ds
-  declared_same ds st first =
-      let m : Scope g.Reported × List ℕ = fold (with_marks marked_decl) (st.0, []) ds in
-      ap (behind st.1 first (map steps_of ds)) (marks_same ds (st.0, [])) ∙ ap (λ (c : Course g.Reported). (c.0, c.1, m.1)) (declares_same ds (m.0, st.1, first))
 
   -- ---- trees
 
@@ -332,34 +269,26 @@ module _ (g : Gathers) (elaborates : Elaborates g.Reported) (forms : FormsStatem
     pub numbered : (a : Scope g.Reported) (k : ModuleHeadOf g elaborates ends a.own a.types a.procedures step) → number_of a.own {A = Decl} {B = Block} (out-Decl d) ≡ number_at g elaborates base words ends a step k
 
   module _ (keeps : LocalsStay g) (headings : HeadingsAgree g) where
-    abbrev PD : Decl → Type 0
-    PD d = fits_inside d ≡ true → IsBodied d (steps_of d) (within_decl d)
+    abbrev PD : Decl → Steps g.Reported → Type 0
+    PD d x = fits_inside d ≡ true → IsBodied d x (within_decl d)
 
-    abbrev PB : Block → Type 0
-    PB b = fits_whole_block b ≡ true → TypedBlock g base ends (block_of b) (within b)
+    abbrev PB : Block → ChecksBlock g.Reported → Type 0
+    PB b c = fits_whole_block b ≡ true → TypedBlock g base ends c (within b)
 
     abbrev SD : Type 0
-    SD = (d : Decl) × PD d
+    SD = OfDecl g elaborates ends PD PB
 
     abbrev SB : Type 0
-    SB = (b : Block) × PB b
+    SB = OfBlock g elaborates ends PD PB
 
-    abbrev bare : Decl-F SD SB → Decl-F Decl Block
-    bare x = map-Decl SD SB Decl Block (λ e. e.0) (λ e. e.0) x
+    abbrev stripped : Decl-F SD SB → Decl-F Decl Block
+    stripped y = bare g elaborates ends PD PB y
 
-    abbrev bare_block : Block-F SD SB → Block-F Decl Block
-    bare_block x = map-Block SD SB Decl Block (λ e. e.0) (λ e. e.0) x
+    abbrev stripped_block : Block-F SD SB → Block-F Decl Block
+    stripped_block y = bare_block g elaborates ends PD PB y
 
     abbrev decls_of : List SD → List Decl
     decls_of xs = map (λ (x : SD). x.0) xs
-
-    abbrev total : List SD → List ℕ
-    total [] = []
-    total (x ∷ xs) = within_decl x.0 ++ total xs
-
-    total_is : (so : List ℕ) (xs : List SD) → fold append_names so (map within_decl (decls_of xs)) ≡ so ++ total xs
-    total_is so [] = sym (append-nil so)
-    total_is so (x ∷ xs) = total_is (so ++ within_decl x.0) xs ∙ append_assoc so (within_decl x.0) (total xs)
 
     abbrev Fit : List SD → Type 0
     Fit xs = list_all itself (map fits_inside (decls_of xs)) ≡ true
@@ -394,15 +323,16 @@ module _ (g : Gathers) (elaborates : Elaborates g.Reported) (forms : FormsStatem
     declares : (xs : List SD) (e : Fit xs) → Declares (are_steps xs e)
     declares xs e = record {
       known = λ st first.
-          subst (λ (d : Declared g.Reported). d.1 ≡ Ok tt → ScopeKnown base st.0 → ScopeKnown base d.0) (sym (declared_same (decls_of xs) st first)) (known_declared (decls_of xs) e st first);
+          subst (λ (d : Declared g.Reported). d.1 ≡ Ok tt → ScopeKnown base st.0 → ScopeKnown base d.0) (sym (declared_same g elaborates ends (decls_of xs) st first)) (known_declared (decls_of xs) e st first);
       locals = λ st first.
-          subst (λ (d : Declared g.Reported). (st.0.level == 0) ≡ false → NamesLocal st.0.own → NamesLocal d.0.own) (sym (declared_same (decls_of xs) st first)) (keeps ends st first (decls_of xs));
+          subst (λ (d : Declared g.Reported). (st.0.level == 0) ≡ false → NamesLocal st.0.own → NamesLocal d.0.own) (sym (declared_same g elaborates ends (decls_of xs) st first)) (keeps ends st first (decls_of xs));
       agrees = λ st first.
-          subst (λ (d : Declared g.Reported). IsFresh st.0 → d.1 ≡ Ok tt → StepsAgree g elaborates base ends d.0 d.2 0 (are_steps xs e)) (sym (declared_same (decls_of xs) st first))
+          subst (λ (d : Declared g.Reported). IsFresh st.0 → d.1 ≡ Ok tt → StepsAgree g elaborates base ends d.0 d.2 0 (are_steps xs e)) (sym (declared_same g elaborates ends (decls_of xs) st first))
           (λ fresh ok. they_agree _ _ 0 xs e (headings ends st first (decls_of xs) fresh ok));
     }
 
-    step_at : (d : Decl) (y : Decl-F SD SB) → out-Decl d ≡ bare y → fits_inside_layer (fitting (bare y)) ≡ true → IsBodied d (steps_layer g elaborates ends (opened (bare y))) (nesting.decl_layer (counted (bare y)))
+    step_at : (d : Decl) (y : Decl-F SD SB) → out-Decl d ≡ stripped y → fits_inside_layer (fitting (stripped y)) ≡ true
+        → IsBodied d (steps_layer g elaborates ends (opened g elaborates ends (stripped y))) (nesting.decl_layer (counted (stripped y)))
     step_at d (layer.Constants cs) is e = record { step = constants_step cs; typed = tt; agrees = λ a seen h. tt; numbered = λ a k. ap (λ (x : Decl-F Decl Block). number_of a.own {A = Decl} {B = Block} x) is }
     step_at d (layer.Types ts) is e = record { step = types_step ts; typed = tt; agrees = λ a seen h. tt; numbered = λ a k. ap (λ (x : Decl-F Decl Block). number_of a.own {A = Decl} {B = Block} x) is }
     step_at d (layer.Variables vs) is e = record { step = variables_step vs; typed = tt; agrees = λ a seen h. tt; numbered = λ a k. ap (λ (x : Decl-F Decl Block). number_of a.own {A = Decl} {B = Block} x) is }
@@ -413,29 +343,35 @@ module _ (g : Gathers) (elaborates : Elaborates g.Reported) (forms : FormsStatem
       numbered = λ a k. ap (λ (x : Decl-F Decl Block). number_of a.own {A = Decl} {B = Block} x) is ∙ ap (λ (o : Option (Known g.Reported)). number_in a.own (numbered_known o)) k.1.0;
     }
 
-    block_at : (xs : List SD) (body : Option (List Stmt)) → Fit xs → fits_body body ≡ true
+    block_of_steps : (xs : List SD) (body : Option (List Stmt)) → Fit xs → fits_body body ≡ true
         → TypedBlock g base ends (block_layer g elaborates ends (record { decls = map steps_of (decls_of xs); body = body })) (fold append_names [] (map within_decl (decls_of xs)))
-    block_at xs body e f =
+    block_of_steps xs body e f =
         subst (λ (ks : List ℕ). TypedBlock g base ends (block_layer g elaborates ends (record { decls = map steps_of (decls_of xs); body = body })) ks) (sym (total_is [] xs))
         (of_steps (map steps_of (decls_of xs)) body (total xs) (are_steps xs e) (they_are_typed xs e) (declares xs e) f)
 
-    along : {A B : Type 0} (R : A → B → Type 0) {a a' : A} {b b' : B} → a ≡ a' → b ≡ b' → R a' b' → R a b
-    along R {a' = a'} {b = b} e f r = subst (λ x. R x b) (sym e) (subst (λ y. R a' y) (sym f) r)
+    decl_step : (y : Decl-F SD SB)
+        → PD (roll-Decl (stripped y)) (steps_layer g elaborates ends (opened g elaborates ends (stripped y)))
+    decl_step y e =
+        let x : Decl-F Decl Block = stripped y in
+        let d : Decl = roll-Decl x in
+        let is : out-Decl d ≡ x = out-roll-Decl x in
+        subst (λ (ks : List ℕ). IsBodied d (steps_layer g elaborates ends (opened g elaborates ends x)) ks)
+        (sym (count_at d x is)) (step_at d y is (sym (fits_at d x is) ∙ e))
 
-    step_decl : (x : Decl-F Decl Block) (y : Decl-F SD SB) → bare y ≡ x → PD (roll-Decl x)
-    step_decl x y q =
-        let is : out-Decl (roll-Decl x) ≡ bare y = out-roll-Decl x ∙ sym q in λ e.
-        along (IsBodied (roll-Decl x)) (at (roll-Decl x) (bare y) is) (count_at (roll-Decl x) (bare y) is) (step_at (roll-Decl x) y is (sym (fits_at (roll-Decl x) (bare y) is) ∙ e))
+    block_step : (y : Block-F SD SB)
+        → PB (roll-Block (stripped_block y)) (block_layer g elaborates ends (opened_block g elaborates ends (stripped_block y)))
+    block_step y e =
+        let x : Block-F Decl Block = stripped_block y in
+        let b : Block = roll-Block x in
+        let is : out-Block b ≡ x = out-roll-Block x in
+        let f : fits_whole_layer (fitting_block x) ≡ true = sym (fits_at_block b x is) ∙ e in
+        let ds : Bool = list_all itself (map fits_inside (decls_of y.decls)) in
+        subst (λ (ks : List ℕ). TypedBlock g base ends (block_layer g elaborates ends (opened_block g elaborates ends x)) ks)
+        (sym (count_at_block b x is))
+        (block_of_steps y.decls y.body (both_left ds (fits_body y.body) f) (both_right ds (fits_body y.body) f))
 
-    step_block : (x : Block-F Decl Block) (y : Block-F SD SB) → bare_block y ≡ x → PB (roll-Block x)
-    step_block x y q =
-        let is : out-Block (roll-Block x) ≡ bare_block y = out-roll-Block x ∙ sym q in λ e.
-        let f : fits_whole_layer (fitting_block (bare_block y)) ≡ true = sym (fits_at_block (roll-Block x) (bare_block y) is) ∙ e in
-        along (TypedBlock g base ends) (at_block (roll-Block x) (bare_block y) is) (count_at_block (roll-Block x) (bare_block y) is)
-        (block_at y.decls y.body (both_left (list_all itself (map fits_inside (decls_of y.decls))) (fits_body y.body) f) (both_right (list_all itself (map fits_inside (decls_of y.decls))) (fits_body y.body) f))
+    pub decls_typed : (d : Decl) → PD d (steps_of d)
+    decls_typed = all_decls g elaborates ends PD PB decl_step block_step
 
-    pub decls_typed : (d : Decl) → PD d
-    decls_typed = ind-Decl PD PB step_decl step_block
-
-    pub blocks_typed : (b : Block) → PB b
-    blocks_typed = ind-Block PD PB step_decl step_block
+    pub blocks_typed : (b : Block) → PB b (block_of b)
+    blocks_typed = all_blocks g elaborates ends PD PB decl_step block_step

@@ -38,6 +38,7 @@ use Rattle.check_body.specs.declared.procedure.Walk.{Walk}
 use Rattle.check_body.specs.Elaborating.{Elaborates, statements_of}
 use Rattle.check_body.specs.Bodies.{Steps, marked_by, declared_by, steps}
 use Rattle.check_body.specs.Checks.{elaborate_body}
+use Rattle.law_well_formed.proofs.BodyFolds.{declared_same}
 use Rattle.law_well_formed.specs.Formed.{Holds}
 use Rattle.law_well_formed.proofs.Basics.{holds_weaker}
 use Rattle.law_well_formed.specs.FormedScopes.{Leads}
@@ -67,7 +68,7 @@ use Rattle.law_programs.proofs.Outermost.{AllBodies, AllOther, AllApart, TypedTo
 use Rattle.law_programs.proofs.Locals.{locals_stay}
 use Rattle.law_programs.proofs.Apart.{numbers_apart}
 use Rattle.law_programs.proofs.Agreeing.{words_stay, headings_agree}
-use Rattle.law_programs.proofs.Induction.{elaborated_typed, body_typed, declared_same, fits_at_block, decls_typed}
+use Rattle.law_programs.proofs.Induction.{elaborated_typed, body_typed, fits_at_block, decls_typed}
 
 -- ---- numbers of procedures in procedures
 
@@ -242,7 +243,7 @@ module _ (g : Gathers) (elaborates : Elaborates g.Reported) (forms : FormsStatem
     d = declared_block g ends st 0 ds
 
     leading : Leading d
-    leading = subst (λ (d : Declared g.Reported). Leading d) (declared_same g elaborates forms writes base words ends ds st 0) steps_lead
+    leading = subst (λ (d : Declared g.Reported). Leading d) (declared_same g elaborates ends ds st 0) steps_lead
 
     abbrev start : Walk g.Reported
     start = record { scope = d.0; so_far = beside g d.1 (lack d.0); bodies = no_bodies d.0.procedures }

@@ -9,9 +9,9 @@ use Rattle.m2_rule.specs.declared.rule.Rule.TheVariants as rule
 use Rattle.m2_tree.specs.declared.name.Ident.{Ident}
 use Rattle.m2_tree.specs.declared.stmt.Stmt.{Stmt}
 use Rattle.m2_tree.specs.declared.decl.Heading.{Heading}
-use Rattle.m2_tree.specs.declared.decl.Decl.{Decl, Decl-F, out-Decl, roll-Decl, out-roll-Decl, map-Decl, fold_out-Decl, ind-Decl}
+use Rattle.m2_tree.specs.declared.decl.Decl.{Decl, Decl-F}
 use Rattle.m2_tree.specs.declared.decl.Decl.TheOpen as layer
-use Rattle.m2_tree.specs.declared.decl.Block.{Block, Block-F, out-Block, roll-Block, out-roll-Block, map-Block, fold_out-Block}
+use Rattle.m2_tree.specs.declared.decl.Block.{Block, out-Block}
 use Rattle.m2_tree.specs.declared.decl.Contents.{Contents}
 use Rattle.m2_tree.specs.declared.decl.Contents.TheVariants as contents
 use Rattle.m2_tree.specs.declared.decl.Module.{Module}
@@ -39,6 +39,7 @@ use Rattle.check_body.specs.Inside.{which_of, begun_procedure, with_routine}
 use Rattle.check_body.specs.Bodies.{Checked, Checks, ChecksBlock, Steps, checked_by, with_body, procedure_checked, steps_layer, block_layer, steps, checks_block, checks_decl}
 use Rattle.check_body.specs.Checked.{begun_module, module_or, walk_body, of_body, of_implementation, of_contents}
 use Rattle.check_body.specs.Checks.{elaborate_body, body_module}
+use Rattle.law_well_formed.proofs.BodyFolds.{OfDecl, OfBlock, bare, opened, all_decls}
 use Rattle.law_well_formed.specs.Formed.{Holds, fine, broken}
 use Rattle.law_well_formed.proofs.Basics.{reported_holds}
 use Rattle.law_well_formed.proofs.Places.{set_other}
@@ -146,43 +147,20 @@ module _ (g : Gathers) (elaborates : Elaborates g.Reported) (ends : List ℕ) wh
   abbrev block_of : Block → ChecksBlock g.Reported
   block_of = checks_block g elaborates ends
 
-  abbrev PD : Decl → Type 0
-  PD d = Orders (steps_of d).checks
-
-  abbrev PB : Block → Type 0
-  PB b = OrdersBlock (block_of b)
-
   abbrev SD : Type 0
-  SD = (d : Decl) × PD d
+  SD = OfDecl g elaborates ends (λ d x. Orders x.checks) (λ b c. OrdersBlock c)
 
   abbrev SB : Type 0
-  SB = (b : Block) × PB b
+  SB = OfBlock g elaborates ends (λ d x. Orders x.checks) (λ b c. OrdersBlock c)
 
-  abbrev bare : Decl-F SD SB → Decl-F Decl Block
-  bare x = map-Decl SD SB Decl Block (λ e. e.0) (λ e. e.0) x
-
-  abbrev bare_block : Block-F SD SB → Block-F Decl Block
-  bare_block x = map-Block SD SB Decl Block (λ e. e.0) (λ e. e.0) x
-
-  abbrev opened : Decl-F Decl Block → Decl-F (Steps g.Reported) (ChecksBlock g.Reported)
-  opened x = map-Decl Decl Block (Steps g.Reported) (ChecksBlock g.Reported) steps_of block_of x
-
-  abbrev opened_block : Block-F Decl Block → Block-F (Steps g.Reported) (ChecksBlock g.Reported)
-  opened_block x = map-Block Decl Block (Steps g.Reported) (ChecksBlock g.Reported) steps_of block_of x
-
-  at : (e : Decl) (x : Decl-F Decl Block) → out-Decl e ≡ x → steps_of e ≡ steps_layer g elaborates ends (opened x)
-  unfolding steps checks_block
-  at e x h = fold_out-Decl (Steps g.Reported) (ChecksBlock g.Reported) (steps_layer g elaborates ends) (block_layer g elaborates ends) e ∙ ap (λ (y : Decl-F Decl Block). steps_layer g elaborates ends (opened y)) h
-
-  at_block : (e : Block) (x : Block-F Decl Block) → out-Block e ≡ x → block_of e ≡ block_layer g elaborates ends (opened_block x)
-  unfolding steps checks_block
-  at_block e x h = fold_out-Block (Steps g.Reported) (ChecksBlock g.Reported) (steps_layer g elaborates ends) (block_layer g elaborates ends) e ∙ ap (λ (y : Block-F Decl Block). block_layer g elaborates ends (opened_block y)) h
+  abbrev stripped : Decl-F SD SB → Decl-F Decl Block
+  stripped y = bare g elaborates ends (λ d x. Orders x.checks) (λ b c. OrdersBlock c) y
 
   each_of : (xs : List SD) → EachOrders checked_by (map steps_of (map (λ (x : SD). x.0) xs))
   each_of [] = tt
   each_of (x ∷ xs) = (x.1, each_of xs)
 
-  step_at : (y : Decl-F SD SB) → Orders (steps_layer g elaborates ends (opened (bare y))).checks
+  step_at : (y : Decl-F SD SB) → Orders (steps_layer g elaborates ends (opened g elaborates ends (stripped y))).checks
   step_at (layer.Constants cs) = λ around seen w all. all
   step_at (layer.Types ts) = λ around seen w all. all
   step_at (layer.Variables vs) = λ around seen w all. all
@@ -191,14 +169,9 @@ module _ (g : Gathers) (elaborates : Elaborates g.Reported) (ends : List ℕ) wh
   block_at : (xs : List SD) (body : Option (List Stmt)) → OrdersBlock (block_layer g elaborates ends (record { decls = map steps_of (map (λ (x : SD). x.0) xs); body = body }))
   block_at xs body around returns w all = fold_orders checked_by around _ (map steps_of (map (λ (x : SD). x.0) xs)) (each_of xs) _ all
 
-  step_decl : (x : Decl-F Decl Block) (y : Decl-F SD SB) → bare y ≡ x → PD (roll-Decl x)
-  step_decl x y q = subst (λ (s : Steps g.Reported). Orders s.checks) (sym (at (roll-Decl x) (bare y) (out-roll-Decl x ∙ sym q))) (step_at y)
-
-  step_block : (x : Block-F Decl Block) (y : Block-F SD SB) → bare_block y ≡ x → PB (roll-Block x)
-  step_block x y q = subst (λ (c : ChecksBlock g.Reported). OrdersBlock c) (sym (at_block (roll-Block x) (bare_block y) (out-roll-Block x ∙ sym q))) (block_at y.decls y.body)
-
-  decls_order : (d : Decl) → PD d
-  decls_order = ind-Decl PD PB step_decl step_block
+  decls_order : (d : Decl) → Orders (steps_of d).checks
+  decls_order =
+      all_decls g elaborates ends (λ d x. Orders x.checks) (λ b c. OrdersBlock c) step_at (λ y. block_at y.decls y.body)
 
   each_decl : (ds : List Decl) → EachOrders (checks_decl g elaborates ends) ds
   each_decl [] = tt

@@ -1,5 +1,5 @@
 -- Whole bodies: what the declarations of a block carry on stays in the bodies of its procedures.
-use Rattle.std.proofs.Common.{◌≡◌, ℕ, ◌==◌, Bool, true, false, cond, List, [], ◌∷◌, ◌++◌, length, Option, Some, None, Result, refl, sym, ap, subst, ◌∙◌}
+use Rattle.std.proofs.Common.{◌≡◌, ℕ, ◌==◌, Bool, true, false, cond, List, [], ◌∷◌, ◌++◌, length, Option, Some, None, Result, sym, subst}
 use Rattle.std.specs.Prelude.{map, slice_get}
 use Rattle.std.specs.List.{AllByRecursion, fold}
 use Rattle.std.specs.Option.{unwrap_or}
@@ -9,9 +9,9 @@ use Rattle.m2_tree.specs.declared.decl.Heading.{Heading}
 use Rattle.m2_tree.specs.declared.decl.Module.{Module}
 use Rattle.m2_tree.specs.declared.decl.Contents.{Contents}
 use Rattle.m2_tree.specs.declared.decl.Contents.TheVariants as contents
-use Rattle.m2_tree.specs.declared.decl.Decl.{Decl, Decl-F, out-Decl, roll-Decl, out-roll-Decl, map-Decl, fold_out-Decl, ind-Decl}
+use Rattle.m2_tree.specs.declared.decl.Decl.{Decl, Decl-F}
 use Rattle.m2_tree.specs.declared.decl.Decl.TheOpen as layer
-use Rattle.m2_tree.specs.declared.decl.Block.{Block, Block-F, out-Block, roll-Block, out-roll-Block, map-Block, fold_out-Block}
+use Rattle.m2_tree.specs.declared.decl.Block.{Block, out-Block}
 use Rattle.typed_tree.specs.declared.shape.Made.{Made}
 use Rattle.typed_tree.specs.declared.shape.Shape.{Shape}
 use Rattle.typed_tree.specs.declared.shape.Shape.TheVariants as shape
@@ -22,19 +22,18 @@ use Rattle.typed_tree.specs.declared.typed_module.TypedModule.{TypedModule}
 use Rattle.typed_tree.specs.declared.typed_module.Which.{Which}
 use Rattle.typed_tree.specs.declared.types.TypeNo.{TypeNo}
 use Rattle.check_scope.specs.Elaborated.{Gathers}
-use Rattle.check_scope.specs.Scopes.{State}
 use Rattle.check_scope.specs.declared.scope.Scope.{Scope}
 use Rattle.check_definition.specs.Predeclared.{console, others_of, first_scope}
 use Rattle.check_definition.specs.Importing.{numbered_modules}
 use Rattle.check_block.specs.Nesting.{procedure_ends}
-use Rattle.check_block.specs.Naming.{marked_layer, marked_decl, with_marks}
-use Rattle.check_block.specs.Declarations.{Course, Declared, decl_layer, with_decl, all_declared, declared_block, declared_module}
+use Rattle.check_block.specs.Declarations.{Declared, all_declared, declared_block, declared_module}
 use Rattle.check_body.specs.Own.{shape_copy, made_copy, types_made_in, implementation_scope}
 use Rattle.check_body.specs.declared.procedure.Walk.{Walk}
 use Rattle.check_body.specs.Elaborating.{Elaborates}
 use Rattle.check_body.specs.Inside.{which_of, begun_procedure}
 use Rattle.check_body.specs.Bodies.{ChecksBlock, Steps, marked_by, declared_by, checked_by, with_body, begun_from, procedure_checked, steps_layer, block_layer, steps, checks_block, checks_decl}
 use Rattle.check_body.specs.Checked.{walk_body, of_body, of_contents, body_module}
+use Rattle.law_well_formed.proofs.BodyFolds.{OfDecl, OfBlock, bare, opened, declared_same, all_decls as all_steps_by}
 use Rattle.law_well_formed.specs.Formed.{Holds, fine}
 use Rattle.law_well_formed.proofs.Basics.{then_holds, reported_holds, any_holds}
 use Rattle.law_programs.specs.Carried.{ShapeIndexed, AllIndexed, TypesIndexed, TablesElsewhere, ReachedIndexed, TablesIndexed, implementation_types, BodyBegins}
@@ -72,75 +71,16 @@ module _ (g : Gathers) (elaborates : Elaborates g.Reported) (ends : List ℕ) wh
   abbrev block_of : Block → ChecksBlock g.Reported
   block_of = checks_block g elaborates ends
 
-  abbrev opened : Decl-F Decl Block → Decl-F (Steps g.Reported) (ChecksBlock g.Reported)
-  opened x = map-Decl Decl Block (Steps g.Reported) (ChecksBlock g.Reported) steps_of block_of x
-
-  abbrev opened_block : Block-F Decl Block → Block-F (Steps g.Reported) (ChecksBlock g.Reported)
-  opened_block x = map-Block Decl Block (Steps g.Reported) (ChecksBlock g.Reported) steps_of block_of x
-
-  at : (e : Decl) (x : Decl-F Decl Block) → out-Decl e ≡ x → steps_of e ≡ steps_layer g elaborates ends (opened x)
-  unfolding steps checks_block
-  at e x h = fold_out-Decl (Steps g.Reported) (ChecksBlock g.Reported) (steps_layer g elaborates ends) (block_layer g elaborates ends) e ∙ ap (λ (y : Decl-F Decl Block). steps_layer g elaborates ends (opened y)) h
-
-  at_block : (e : Block) (x : Block-F Decl Block) → out-Block e ≡ x → block_of e ≡ block_layer g elaborates ends (opened_block x)
-  unfolding steps checks_block
-  at_block e x h = fold_out-Block (Steps g.Reported) (ChecksBlock g.Reported) (steps_layer g elaborates ends) (block_layer g elaborates ends) e ∙ ap (λ (y : Block-F Decl Block). block_layer g elaborates ends (opened_block y)) h
-
-  layer_marks : (s : Scope g.Reported) (x : Decl-F Decl Block) → marked_layer s (opened x) ≡ marked_layer s x
-  layer_marks s (layer.Constants cs) = refl
-  layer_marks s (layer.Types ts) = refl
-  layer_marks s (layer.Variables vs) = refl
-  layer_marks s (layer.Procedure h b) = refl
-
-  layer_declares : (c : Course g.Reported) (x : Decl-F Decl Block) → decl_layer g ends c (opened x) ≡ decl_layer g ends c x
-  layer_declares c (layer.Constants cs) = refl
-  layer_declares c (layer.Types ts) = refl
-  layer_declares c (layer.Variables vs) = refl
-  layer_declares c (layer.Procedure h b) = refl
-
-  step_marks : (s : Scope g.Reported) (d : Decl) → marked_by s (steps_of d) ≡ marked_decl s d
-  step_marks s d = ap (λ (x : Steps g.Reported). x.marks s) (at d (out-Decl d) refl) ∙ layer_marks s (out-Decl d)
-
-  step_declares : (c : Course g.Reported) (d : Decl) → declared_by c (steps_of d) ≡ with_decl g ends c d
-  step_declares c d = ap (λ (x : Steps g.Reported). x.declares c) (at d (out-Decl d) refl) ∙ layer_declares c (out-Decl d)
-
-  all_marks : (ds : List Decl) (st : Scope g.Reported × List ℕ) → fold (with_marks marked_by) st (map steps_of ds) ≡ fold (with_marks marked_decl) st ds
-  all_marks [] st = refl
-  all_marks (d ∷ ds) st =
-      ap (λ (s : Scope g.Reported). fold (with_marks marked_by) (s, st.1 ++ length st.0.own ∷ []) (map steps_of ds)) (step_marks st.0 d) ∙ all_marks ds (with_marks marked_decl st d)
-
-  all_declares : (ds : List Decl) (c : Course g.Reported) → fold declared_by c (map steps_of ds) ≡ fold (with_decl g ends) c ds
-  all_declares [] c = refl
-  all_declares (d ∷ ds) c = ap (λ (k : Course g.Reported). fold declared_by k (map steps_of ds)) (step_declares c d) ∙ all_declares ds (with_decl g ends c d)
-
-  abbrev behind : Result (Unit {0}) g.Reported → ℕ → List (Steps g.Reported) → Scope g.Reported × List ℕ → Declared g.Reported
-  behind so first xs m = let c = fold declared_by (m.0, so, first) xs in (c.0, c.1, m.1)
-
-  -- the steps of a block declare what its declarations do
-  pub declared_same : (ds : List Decl) (st : State (Unit {0}) g.Reported) (first : ℕ) → all_declared marked_by declared_by st first (map steps_of ds) ≡ declared_block g ends st first ds
-  declared_same ds st first =
-      let m : Scope g.Reported × List ℕ = fold (with_marks marked_decl) (st.0, []) ds in
-      ap (behind st.1 first (map steps_of ds)) (all_marks ds (st.0, [])) ∙ ap (λ (c : Course g.Reported). (c.0, c.1, m.1)) (all_declares ds (m.0, st.1, first))
-
   -- ---- blocks, by induction
 
-  abbrev PD : Decl → Type 0
-  PD d = StepIndexed (steps_of d)
-
-  abbrev PB : Block → Type 0
-  PB b = BlockIndexed (block_of b)
-
   abbrev SD : Type 0
-  SD = (d : Decl) × PD d
+  SD = OfDecl g elaborates ends (λ d x. StepIndexed x) (λ b c. BlockIndexed c)
 
   abbrev SB : Type 0
-  SB = (b : Block) × PB b
+  SB = OfBlock g elaborates ends (λ d x. StepIndexed x) (λ b c. BlockIndexed c)
 
-  abbrev bare : Decl-F SD SB → Decl-F Decl Block
-  bare x = map-Decl SD SB Decl Block (λ e. e.0) (λ e. e.0) x
-
-  abbrev bare_block : Block-F SD SB → Block-F Decl Block
-  bare_block x = map-Block SD SB Decl Block (λ e. e.0) (λ e. e.0) x
+  abbrev stripped : Decl-F SD SB → Decl-F Decl Block
+  stripped y = bare g elaborates ends (λ d x. StepIndexed x) (λ b c. BlockIndexed c) y
 
   abbrev decls_of : List SD → List Decl
   decls_of xs = map (λ (x : SD). x.0) xs
@@ -152,26 +92,21 @@ module _ (g : Gathers) (elaborates : Elaborates g.Reported) (ends : List ℕ) wh
   block_indexed : (xs : List SD) (body : Option (List Stmt)) → BlockIndexed (block_layer g elaborates ends (record { decls = map steps_of (decls_of xs); body = body }))
   block_indexed xs body around returns w p =
       let first : ℕ = length w.bodies.locals in
-      let is : all_declared marked_by declared_by (w.scope, w.so_far) first (map steps_of (decls_of xs)) ≡ declared_block g ends (w.scope, w.so_far) first (decls_of xs) = declared_same (decls_of xs) (w.scope, w.so_far) first in
+      let is : all_declared marked_by declared_by (w.scope, w.so_far) first (map steps_of (decls_of xs)) ≡ declared_block g ends (w.scope, w.so_far) first (decls_of xs) = declared_same g elaborates ends (decls_of xs) (w.scope, w.so_far) first in
       let start : WalkIndexed (begun_from (all_declared marked_by declared_by (w.scope, w.so_far) first (map steps_of (decls_of xs))) w.bodies)
       = subst (λ (d : Declared g.Reported). WalkIndexed (begun_from d w.bodies)) (sym is) (let c = block_carries g ends (w.scope, w.so_far) first (decls_of xs) in c.indexed p) in
       bodies_indexed (λ (x : Steps g.Reported). checked_by x around) (all_declared marked_by declared_by (w.scope, w.so_far) first (map steps_of (decls_of xs))).2 (map steps_of (decls_of xs)) (all_steps xs around)
       (begun_from (all_declared marked_by declared_by (w.scope, w.so_far) first (map steps_of (decls_of xs))) w.bodies, 0) start
 
-  step_at : (y : Decl-F SD SB) → StepIndexed (steps_layer g elaborates ends (opened (bare y)))
+  step_at : (y : Decl-F SD SB) → StepIndexed (steps_layer g elaborates ends (opened g elaborates ends (stripped y)))
   step_at (layer.Constants cs) = λ around seen w p. p
   step_at (layer.Types ts) = λ around seen w p. p
   step_at (layer.Variables vs) = λ around seen w p. p
   step_at (layer.Procedure h b) = λ around seen w p. procedure_indexed h (block_of b.0) b.1 around seen w p
 
-  step_decl : (x : Decl-F Decl Block) (y : Decl-F SD SB) → bare y ≡ x → PD (roll-Decl x)
-  step_decl x y q = subst StepIndexed (sym (at (roll-Decl x) (bare y) (out-roll-Decl x ∙ sym q))) (step_at y)
-
-  step_block : (x : Block-F Decl Block) (y : Block-F SD SB) → bare_block y ≡ x → PB (roll-Block x)
-  step_block x y q = subst BlockIndexed (sym (at_block (roll-Block x) (bare_block y) (out-roll-Block x ∙ sym q))) (block_indexed y.decls y.body)
-
-  decl_indexed : (d : Decl) → PD d
-  decl_indexed = ind-Decl PD PB step_decl step_block
+  decl_indexed : (d : Decl) → StepIndexed (steps_of d)
+  decl_indexed =
+      all_steps_by g elaborates ends (λ d x. StepIndexed x) (λ b c. BlockIndexed c) step_at (λ y. block_indexed y.decls y.body)
 
   -- ---- modules
 

@@ -1,14 +1,13 @@
 -- The procedures of a block, one after another, and blocks in blocks.
-use Rattle.std.proofs.Common.{◌≡◌, ℕ, suc, ◌+◌, ◌<◌, ◌≤◌, ◌==◌, false, List, [], ◌∷◌, ◌++◌, length, Option, Some, Ok, refl, sym, ap, subst, ◌∙◌, append_assoc, arith}
+use Rattle.std.proofs.Common.{◌≡◌, ℕ, suc, ◌+◌, ◌<◌, ◌≤◌, ◌==◌, false, List, [], ◌∷◌, ◌++◌, length, Option, Some, Ok, refl, sym, ap, subst, ◌∙◌, arith}
 use Rattle.std.specs.Prelude.{map, slice_get}
 use Rattle.std.specs.List.{fold}
 use Rattle.std.specs.Option.{unwrap_or}
-use Rattle.std.proofs.lemmas.List.{append-nil}
 use Rattle.m2_tree.specs.declared.stmt.Stmt.{Stmt}
 use Rattle.m2_tree.specs.declared.decl.Heading.{Heading}
-use Rattle.m2_tree.specs.declared.decl.Decl.{Decl, Decl-F, out-Decl, roll-Decl, out-roll-Decl, map-Decl, fold_out-Decl, ind-Decl}
+use Rattle.m2_tree.specs.declared.decl.Decl.{Decl, Decl-F, roll-Decl, out-roll-Decl}
 use Rattle.m2_tree.specs.declared.decl.Decl.TheOpen as layer
-use Rattle.m2_tree.specs.declared.decl.Block.{Block, Block-F, out-Block, roll-Block, out-roll-Block, map-Block, fold_out-Block, ind-Block}
+use Rattle.m2_tree.specs.declared.decl.Block.{Block, Block-F, roll-Block, out-roll-Block}
 use Rattle.typed_tree.specs.declared.known_types.Types.{Types}
 use Rattle.typed_tree.specs.declared.meaning.Meaning.TheVariants as meaning
 use Rattle.typed_tree.specs.declared.typed_module.Routine.{Routine}
@@ -28,6 +27,7 @@ use Rattle.check_block.specs.Declarations.{Course}
 use Rattle.check_body.specs.declared.procedure.Walk.{Walk}
 use Rattle.check_body.specs.Elaborating.{Elaborates}
 use Rattle.check_body.specs.Bodies.{ChecksBlock, Steps, checked_by, marked_by, declared_by, with_body, steps_layer, block_layer, steps, checks_block}
+use Rattle.law_well_formed.proofs.BodyFolds.{OfDecl, OfBlock, bare, bare_block, opened, opened_block, all_decls, all_blocks, counted, count_at, count_at_block, total, total_is}
 use Rattle.law_well_formed.specs.FormedBodies.{AreNumbered, FormsStatements, Keeps, Adds, Begins}
 use Rattle.law_well_formed.proofs.Places.{is_within}
 use Rattle.law_well_formed.proofs.Parts.{IsStep, constants_step, types_step, variables_step, procedure_step, AreSteps, no_steps, more_steps, numbered_first, numbered_rest, numbered_inner, nothing_at, no_home, nothing_open, all_marks, all_lead, HeadsIn, heads_in}
@@ -197,59 +197,23 @@ module _ (g : Gathers) (elaborates : Elaborates g.Reported) (forms : FormsStatem
     pub step : IsStep g elaborates ends x ks
     pub nests : StepNests g elaborates ends step
 
-  abbrev PD : Decl → Type 0
-  PD d = IsNesting (steps_of d) (within_decl d)
+  abbrev PD : Decl → Steps g.Reported → Type 0
+  PD d x = IsNesting x (within_decl d)
 
-  abbrev PB : Block → Type 0
-  PB b = NestedBlock g ends (block_of b) (within b)
+  abbrev PB : Block → ChecksBlock g.Reported → Type 0
+  PB b c = NestedBlock g ends c (within b)
 
   abbrev SD : Type 0
-  SD = (d : Decl) × PD d
+  SD = OfDecl g elaborates ends PD PB
 
   abbrev SB : Type 0
-  SB = (b : Block) × PB b
+  SB = OfBlock g elaborates ends PD PB
 
-  abbrev bare : Decl-F SD SB → Decl-F Decl Block
-  bare x = map-Decl SD SB Decl Block (λ e. e.0) (λ e. e.0) x
+  abbrev stripped : Decl-F SD SB → Decl-F Decl Block
+  stripped y = bare g elaborates ends PD PB y
 
-  abbrev bare_block : Block-F SD SB → Block-F Decl Block
-  bare_block x = map-Block SD SB Decl Block (λ e. e.0) (λ e. e.0) x
-
-  abbrev opened : Decl-F Decl Block → Decl-F (Steps g.Reported) (ChecksBlock g.Reported)
-  opened x = map-Decl Decl Block (Steps g.Reported) (ChecksBlock g.Reported) steps_of block_of x
-
-  abbrev opened_block : Block-F Decl Block → Block-F (Steps g.Reported) (ChecksBlock g.Reported)
-  opened_block x = map-Block Decl Block (Steps g.Reported) (ChecksBlock g.Reported) steps_of block_of x
-
-  abbrev counted : Decl-F Decl Block → Decl-F (List ℕ) (List ℕ)
-  counted x = map-Decl Decl Block (List ℕ) (List ℕ) within_decl within x
-
-  abbrev counted_block : Block-F Decl Block → Block-F (List ℕ) (List ℕ)
-  counted_block x = map-Block Decl Block (List ℕ) (List ℕ) within_decl within x
-
-  at : (e : Decl) (x : Decl-F Decl Block) → out-Decl e ≡ x → steps_of e ≡ steps_layer g elaborates ends (opened x)
-  unfolding steps checks_block
-  at e x h = fold_out-Decl (Steps g.Reported) (ChecksBlock g.Reported) (steps_layer g elaborates ends) (block_layer g elaborates ends) e ∙ ap (λ (y : Decl-F Decl Block). steps_layer g elaborates ends (opened y)) h
-
-  at_block : (e : Block) (x : Block-F Decl Block) → out-Block e ≡ x → block_of e ≡ block_layer g elaborates ends (opened_block x)
-  unfolding steps checks_block
-  at_block e x h = fold_out-Block (Steps g.Reported) (ChecksBlock g.Reported) (steps_layer g elaborates ends) (block_layer g elaborates ends) e ∙ ap (λ (y : Block-F Decl Block). block_layer g elaborates ends (opened_block y)) h
-
-  count_at : (e : Decl) (x : Decl-F Decl Block) → out-Decl e ≡ x → within_decl e ≡ nesting.decl_layer (counted x)
-  unfolding within_decl within
-  count_at e x h = fold_out-Decl (List ℕ) (List ℕ) nesting.decl_layer nesting.block_layer e ∙ ap (λ (y : Decl-F Decl Block). nesting.decl_layer (counted y)) h
-
-  count_at_block : (e : Block) (x : Block-F Decl Block) → out-Block e ≡ x → within e ≡ nesting.block_layer (counted_block x)
-  unfolding within_decl within
-  count_at_block e x h = fold_out-Block (List ℕ) (List ℕ) nesting.decl_layer nesting.block_layer e ∙ ap (λ (y : Block-F Decl Block). nesting.block_layer (counted_block y)) h
-
-  abbrev total : List SD → List ℕ
-  total [] = []
-  total (x ∷ xs) = within_decl x.0 ++ total xs
-
-  total_is : (so : List ℕ) (xs : List SD) → fold append_names so (map within_decl (map (λ (x : SD). x.0) xs)) ≡ so ++ total xs
-  total_is so [] = sym (append-nil so)
-  total_is so (x ∷ xs) = total_is (so ++ within_decl x.0) xs ∙ append_assoc so (within_decl x.0) (total xs)
+  abbrev stripped_block : Block-F SD SB → Block-F Decl Block
+  stripped_block y = bare_block g elaborates ends PD PB y
 
   are_steps : (xs : List SD) → AreSteps g elaborates ends (map steps_of (map (λ (x : SD). x.0) xs)) (total xs)
   are_steps [] = no_steps
@@ -260,28 +224,32 @@ module _ (g : Gathers) (elaborates : Elaborates g.Reported) (forms : FormsStatem
   they_nest [] = tt
   they_nest (x ∷ xs) = (x.1.nests, they_nest xs)
 
-  step_at : (y : Decl-F SD SB) → IsNesting (steps_layer g elaborates ends (opened (bare y))) (nesting.decl_layer (counted (bare y)))
+  step_at : (y : Decl-F SD SB) → IsNesting (steps_layer g elaborates ends (opened g elaborates ends (stripped y))) (nesting.decl_layer (counted (stripped y)))
   step_at (layer.Constants cs) = record { step = constants_step cs; nests = tt }
   step_at (layer.Types ts) = record { step = types_step ts; nests = tt }
   step_at (layer.Variables vs) = record { step = variables_step vs; nests = tt }
   step_at (layer.Procedure h b) = record { step = procedure_step h (block_of b.0) (within b.0) (blocks_formed g elaborates forms ends b.0); nests = b.1 }
 
-  block_at : (xs : List SD) (body : Option (List Stmt)) → NestedBlock g ends (block_layer g elaborates ends (record { decls = map steps_of (map (λ (x : SD). x.0) xs); body = body })) (fold append_names [] (map within_decl (map (λ (x : SD). x.0) xs)))
-  block_at xs body =
+  block_of_steps : (xs : List SD) (body : Option (List Stmt)) → NestedBlock g ends (block_layer g elaborates ends (record { decls = map steps_of (map (λ (x : SD). x.0) xs); body = body })) (fold append_names [] (map within_decl (map (λ (x : SD). x.0) xs)))
+  block_of_steps xs body =
       subst (λ (ks : List ℕ). NestedBlock g ends (block_layer g elaborates ends (record { decls = map steps_of (map (λ (x : SD). x.0) xs); body = body })) ks) (sym (total_is [] xs))
       (of_steps (map steps_of (map (λ (x : SD). x.0) xs)) body (total xs) (are_steps xs) (they_nest xs))
 
-  along : {A B : Type 0} (R : A → B → Type 0) {a a' : A} {b b' : B} → a ≡ a' → b ≡ b' → R a' b' → R a b
-  along R {a' = a'} {b = b} e f r = subst (λ x. R x b) (sym e) (subst (λ y. R a' y) (sym f) r)
+  decl_step : (y : Decl-F SD SB) → PD (roll-Decl (stripped y)) (steps_layer g elaborates ends (opened g elaborates ends (stripped y)))
+  decl_step y =
+      let x : Decl-F Decl Block = stripped y in
+      subst (λ (ks : List ℕ). IsNesting (steps_layer g elaborates ends (opened g elaborates ends x)) ks)
+      (sym (count_at (roll-Decl x) x (out-roll-Decl x))) (step_at y)
 
-  step_decl : (x : Decl-F Decl Block) (y : Decl-F SD SB) → bare y ≡ x → PD (roll-Decl x)
-  step_decl x y q = along IsNesting (at (roll-Decl x) (bare y) (out-roll-Decl x ∙ sym q)) (count_at (roll-Decl x) (bare y) (out-roll-Decl x ∙ sym q)) (step_at y)
+  block_step : (y : Block-F SD SB)
+      → PB (roll-Block (stripped_block y)) (block_layer g elaborates ends (opened_block g elaborates ends (stripped_block y)))
+  block_step y =
+      let x : Block-F Decl Block = stripped_block y in
+      subst (λ (ks : List ℕ). NestedBlock g ends (block_layer g elaborates ends (opened_block g elaborates ends x)) ks)
+      (sym (count_at_block (roll-Block x) x (out-roll-Block x))) (block_of_steps y.decls y.body)
 
-  step_block : (x : Block-F Decl Block) (y : Block-F SD SB) → bare_block y ≡ x → PB (roll-Block x)
-  step_block x y q = along (NestedBlock g ends) (at_block (roll-Block x) (bare_block y) (out-roll-Block x ∙ sym q)) (count_at_block (roll-Block x) (bare_block y) (out-roll-Block x ∙ sym q)) (block_at y.decls y.body)
+  pub decls_nest : (d : Decl) → PD d (steps_of d)
+  decls_nest = all_decls g elaborates ends PD PB decl_step block_step
 
-  pub decls_nest : (d : Decl) → PD d
-  decls_nest = ind-Decl PD PB step_decl step_block
-
-  pub blocks_nest : (b : Block) → PB b
-  blocks_nest = ind-Block PD PB step_decl step_block
+  pub blocks_nest : (b : Block) → PB b (block_of b)
+  blocks_nest = all_blocks g elaborates ends PD PB decl_step block_step

@@ -1,12 +1,12 @@
 -- Walks over bodies keep the tables of a scope, and which module it is of.
-use Rattle.std.proofs.Common.{◌≡◌, ℕ, List, [], ◌∷◌, length, Option, None, Result, Ok, refl, sym, ap, subst, ◌∙◌}
+use Rattle.std.proofs.Common.{ℕ, List, [], ◌∷◌, length, Option, None, Result, Ok, refl, ◌∙◌}
 use Rattle.std.specs.Prelude.{map}
 use Rattle.std.specs.List.{fold}
 use Rattle.m2_tree.specs.declared.stmt.Stmt.{Stmt}
 use Rattle.m2_tree.specs.declared.decl.Heading.{Heading}
-use Rattle.m2_tree.specs.declared.decl.Decl.{Decl, Decl-F, out-Decl, roll-Decl, out-roll-Decl, map-Decl, fold_out-Decl, ind-Decl}
+use Rattle.m2_tree.specs.declared.decl.Decl.{Decl, Decl-F, out-Decl}
 use Rattle.m2_tree.specs.declared.decl.Decl.TheOpen as layer
-use Rattle.m2_tree.specs.declared.decl.Block.{Block, Block-F, out-Block, roll-Block, out-roll-Block, map-Block, fold_out-Block}
+use Rattle.m2_tree.specs.declared.decl.Block.{Block, out-Block}
 use Rattle.m2_tree.specs.declared.decl.Module.{Module}
 use Rattle.typed_tree.specs.declared.types.TypeNo.{TypeNo}
 use Rattle.typed_tree.specs.declared.typed_module.Which.{Which}
@@ -24,6 +24,7 @@ use Rattle.check_body.specs.Checked.{begun_module, walk_body}
 use Rattle.law_folds.proofs.MarkSteps.{decl_layer_marks}
 use Rattle.law_folds.proofs.BlockSteps.{KeepsBlocks}
 use Rattle.law_folds.proofs.BlockSteps as all_blocks
+use Rattle.law_well_formed.proofs.BodyFolds.{OfDecl, OfBlock, bare, opened, all_decls}
 use Rattle.law_well_formed.proofs.NamedTables.{Keeps, fold_keeps, marks, variable_type_keeps, procedure_type_keeps, definitions, import_keeps}
 
 -- ---- declarations of blocks
@@ -102,48 +103,25 @@ module _ (g : Gathers) (elaborates : Elaborates g.Reported) (ends : List ℕ) wh
       let m = all_marked marked_by w.scope xs in
       checks_all around d.2 xs all (begun_from d w.bodies, 0) ∙ (declares_all xs all (m.0, w.so_far, length w.bodies.locals) ∙ marks_all xs all (w.scope, []))
 
-  abbrev PD : Decl → Type 0
-  PD d = KeepingSteps (steps g elaborates ends d)
-
-  abbrev PB : Block → Type 0
-  PB b = KeepingBlock (checks_block g elaborates ends b)
-
   abbrev SD : Type 0
-  SD = (d : Decl) × PD d
+  SD = OfDecl g elaborates ends (λ d x. KeepingSteps x) (λ b c. KeepingBlock c)
 
   abbrev SB : Type 0
-  SB = (b : Block) × PB b
+  SB = OfBlock g elaborates ends (λ d x. KeepingSteps x) (λ b c. KeepingBlock c)
 
-  abbrev bare : Decl-F SD SB → Decl-F Decl Block
-  bare x = map-Decl SD SB Decl Block (λ e. e.0) (λ e. e.0) x
+  abbrev stripped : Decl-F SD SB → Decl-F Decl Block
+  stripped y = bare g elaborates ends (λ d x. KeepingSteps x) (λ b c. KeepingBlock c) y
 
-  abbrev bare_block : Block-F SD SB → Block-F Decl Block
-  bare_block x = map-Block SD SB Decl Block (λ e. e.0) (λ e. e.0) x
-
-  abbrev opened : Decl-F Decl Block → Decl-F (Steps g.Reported) (ChecksBlock g.Reported)
-  opened x = map-Decl Decl Block (Steps g.Reported) (ChecksBlock g.Reported) (steps g elaborates ends) (checks_block g elaborates ends) x
-
-  abbrev opened_block : Block-F Decl Block → Block-F (Steps g.Reported) (ChecksBlock g.Reported)
-  opened_block x = map-Block Decl Block (Steps g.Reported) (ChecksBlock g.Reported) (steps g elaborates ends) (checks_block g elaborates ends) x
-
-  at : (e : Decl) (x : Decl-F Decl Block) → out-Decl e ≡ x → steps g elaborates ends e ≡ steps_layer g elaborates ends (opened x)
-  unfolding steps checks_block
-  at e x h = fold_out-Decl (Steps g.Reported) (ChecksBlock g.Reported) (steps_layer g elaborates ends) (block_layer g elaborates ends) e ∙ ap (λ (y : Decl-F Decl Block). steps_layer g elaborates ends (opened y)) h
-
-  at_block : (e : Block) (x : Block-F Decl Block) → out-Block e ≡ x → checks_block g elaborates ends e ≡ block_layer g elaborates ends (opened_block x)
-  unfolding steps checks_block
-  at_block e x h = fold_out-Block (Steps g.Reported) (ChecksBlock g.Reported) (steps_layer g elaborates ends) (block_layer g elaborates ends) e ∙ ap (λ (y : Block-F Decl Block). block_layer g elaborates ends (opened_block y)) h
-
-  checks_at : (y : Decl-F SD SB) → KeepingChecks (checks_layer g elaborates ends (opened (bare y)))
+  checks_at : (y : Decl-F SD SB) → KeepingChecks (checks_layer g elaborates ends (opened g elaborates ends (stripped y)))
   checks_at (layer.Constants cs) around seen w = refl
   checks_at (layer.Types ts) around seen w = refl
   checks_at (layer.Variables vs) around seen w = refl
   checks_at (layer.Procedure h b) around seen w = procedure_keeps h (checks_block g elaborates ends b.0) b.1 around seen w
 
-  steps_at : (y : Decl-F SD SB) → KeepingSteps (steps_layer g elaborates ends (opened (bare y)))
+  steps_at : (y : Decl-F SD SB) → KeepingSteps (steps_layer g elaborates ends (opened g elaborates ends (stripped y)))
   steps_at y = record {
-    marks = λ s. decl_layer_marks marks (opened (bare y)) s;
-    declares = λ c. layer_keeps g ends c (opened (bare y));
+    marks = λ s. decl_layer_marks marks (opened g elaborates ends (stripped y)) s;
+    declares = λ c. layer_keeps g ends c (opened g elaborates ends (stripped y));
     checks = checks_at y;
   }
 
@@ -151,14 +129,10 @@ module _ (g : Gathers) (elaborates : Elaborates g.Reported) (ends : List ℕ) wh
   all_at [] = tt
   all_at (x ∷ xs) = (x.1, all_at xs)
 
-  step_decl : (x : Decl-F Decl Block) (y : Decl-F SD SB) → bare y ≡ x → PD (roll-Decl x)
-  step_decl x y q = subst KeepingSteps (sym (at (roll-Decl x) (bare y) (out-roll-Decl x ∙ sym q))) (steps_at y)
-
-  step_block : (x : Block-F Decl Block) (y : Block-F SD SB) → bare_block y ≡ x → PB (roll-Block x)
-  step_block x y q = subst KeepingBlock (sym (at_block (roll-Block x) (bare_block y) (out-roll-Block x ∙ sym q))) (block_keeps _ y.body (all_at y.decls))
-
-  steps_keep : (d : Decl) → PD d
-  steps_keep = ind-Decl PD PB step_decl step_block
+  steps_keep : (d : Decl) → KeepingSteps (steps g elaborates ends d)
+  steps_keep =
+      all_decls g elaborates ends (λ d x. KeepingSteps x) (λ b c. KeepingBlock c) steps_at
+      (λ y. block_keeps _ y.body (all_at y.decls))
 
   pub walk_keeps : (modules : List (List ℕ × ℕ)) (s : Scope g.Reported) (m : Module) (b : Block) → Keeps s (walk_body g elaborates modules ends s m b).0.scope
   walk_keeps modules s m b =

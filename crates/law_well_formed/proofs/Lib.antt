@@ -4,6 +4,7 @@ pub mod Calls
 pub mod Meanings
 pub mod ImportsLists
 pub mod NamedTables
+pub mod BodyFolds
 pub mod ImportsWalks
 pub mod NamedImports
 pub mod Own
