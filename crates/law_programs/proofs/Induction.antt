@@ -323,16 +323,20 @@ module _ (g : Gathers) (elaborates : Elaborates g.Reported) (forms : FormsStatem
     declares : (xs : List SD) (e : Fit xs) → Declares (are_steps xs e)
     declares xs e = record {
       known = λ st first.
-          subst (λ (d : Declared g.Reported). d.1 ≡ Ok tt → ScopeKnown base st.0 → ScopeKnown base d.0) (sym (declared_same g elaborates ends (decls_of xs) st first)) (known_declared (decls_of xs) e st first);
+          subst (λ (d : Declared g.Reported). d.1 ≡ Ok tt → ScopeKnown base st.0 → ScopeKnown base d.0)
+          (sym (declared_same g elaborates ends (decls_of xs) st first)) (known_declared (decls_of xs) e st first);
       locals = λ st first.
-          subst (λ (d : Declared g.Reported). (st.0.level == 0) ≡ false → NamesLocal st.0.own → NamesLocal d.0.own) (sym (declared_same g elaborates ends (decls_of xs) st first)) (keeps ends st first (decls_of xs));
+          subst (λ (d : Declared g.Reported). (st.0.level == 0) ≡ false → NamesLocal st.0.own → NamesLocal d.0.own)
+          (sym (declared_same g elaborates ends (decls_of xs) st first)) (keeps ends st first (decls_of xs));
       agrees = λ st first.
-          subst (λ (d : Declared g.Reported). IsFresh st.0 → d.1 ≡ Ok tt → StepsAgree g elaborates base ends d.0 d.2 0 (are_steps xs e)) (sym (declared_same g elaborates ends (decls_of xs) st first))
+          subst (λ (d : Declared g.Reported). IsFresh st.0 → d.1 ≡ Ok tt → StepsAgree g elaborates base ends d.0 d.2 0
+          (are_steps xs e)) (sym (declared_same g elaborates ends (decls_of xs) st first))
           (λ fresh ok. they_agree _ _ 0 xs e (headings ends st first (decls_of xs) fresh ok));
     }
 
     step_at : (d : Decl) (y : Decl-F SD SB) → out-Decl d ≡ stripped y → fits_inside_layer (fitting (stripped y)) ≡ true
-        → IsBodied d (steps_layer g elaborates ends (opened g elaborates ends (stripped y))) (nesting.decl_layer (counted (stripped y)))
+        → IsBodied d (steps_layer g elaborates ends (opened g elaborates ends (stripped y)))
+        (nesting.decl_layer (counted (stripped y)))
     step_at d (layer.Constants cs) is e = record { step = constants_step cs; typed = tt; agrees = λ a seen h. tt; numbered = λ a k. ap (λ (x : Decl-F Decl Block). number_of a.own {A = Decl} {B = Block} x) is }
     step_at d (layer.Types ts) is e = record { step = types_step ts; typed = tt; agrees = λ a seen h. tt; numbered = λ a k. ap (λ (x : Decl-F Decl Block). number_of a.own {A = Decl} {B = Block} x) is }
     step_at d (layer.Variables vs) is e = record { step = variables_step vs; typed = tt; agrees = λ a seen h. tt; numbered = λ a k. ap (λ (x : Decl-F Decl Block). number_of a.own {A = Decl} {B = Block} x) is }
@@ -359,14 +363,16 @@ module _ (g : Gathers) (elaborates : Elaborates g.Reported) (forms : FormsStatem
         (sym (count_at d x is)) (step_at d y is (sym (fits_at d x is) ∙ e))
 
     block_step : (y : Block-F SD SB)
-        → PB (roll-Block (stripped_block y)) (block_layer g elaborates ends (opened_block g elaborates ends (stripped_block y)))
+        → PB (roll-Block (stripped_block y))
+        (block_layer g elaborates ends (opened_block g elaborates ends (stripped_block y)))
     block_step y e =
         let x : Block-F Decl Block = stripped_block y in
         let b : Block = roll-Block x in
         let is : out-Block b ≡ x = out-roll-Block x in
         let f : fits_whole_layer (fitting_block x) ≡ true = sym (fits_at_block b x is) ∙ e in
         let ds : Bool = list_all itself (map fits_inside (decls_of y.decls)) in
-        subst (λ (ks : List ℕ). TypedBlock g base ends (block_layer g elaborates ends (opened_block g elaborates ends x)) ks)
+        subst (λ (ks : List ℕ). TypedBlock g base ends
+        (block_layer g elaborates ends (opened_block g elaborates ends x)) ks)
         (sym (count_at_block b x is))
         (block_of_steps y.decls y.body (both_left ds (fits_body y.body) f) (both_right ds (fits_body y.body) f))
 

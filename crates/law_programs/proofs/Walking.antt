@@ -92,7 +92,9 @@ module _ (g : Gathers) (elaborates : Elaborates g.Reported) (ends : List ℕ) wh
   block_indexed : (xs : List SD) (body : Option (List Stmt)) → BlockIndexed (block_layer g elaborates ends (record { decls = map steps_of (decls_of xs); body = body }))
   block_indexed xs body around returns w p =
       let first : ℕ = length w.bodies.locals in
-      let is : all_declared marked_by declared_by (w.scope, w.so_far) first (map steps_of (decls_of xs)) ≡ declared_block g ends (w.scope, w.so_far) first (decls_of xs) = declared_same g elaborates ends (decls_of xs) (w.scope, w.so_far) first in
+      let is : all_declared marked_by declared_by (w.scope, w.so_far) first (map steps_of (decls_of xs))
+      ≡ declared_block g ends (w.scope, w.so_far) first (decls_of xs) =
+      declared_same g elaborates ends (decls_of xs) (w.scope, w.so_far) first in
       let start : WalkIndexed (begun_from (all_declared marked_by declared_by (w.scope, w.so_far) first (map steps_of (decls_of xs))) w.bodies)
       = subst (λ (d : Declared g.Reported). WalkIndexed (begun_from d w.bodies)) (sym is) (let c = block_carries g ends (w.scope, w.so_far) first (decls_of xs) in c.indexed p) in
       bodies_indexed (λ (x : Steps g.Reported). checked_by x around) (all_declared marked_by declared_by (w.scope, w.so_far) first (map steps_of (decls_of xs))).2 (map steps_of (decls_of xs)) (all_steps xs around)
@@ -106,7 +108,8 @@ module _ (g : Gathers) (elaborates : Elaborates g.Reported) (ends : List ℕ) wh
 
   decl_indexed : (d : Decl) → StepIndexed (steps_of d)
   decl_indexed =
-      all_steps_by g elaborates ends (λ d x. StepIndexed x) (λ b c. BlockIndexed c) step_at (λ y. block_indexed y.decls y.body)
+      all_steps_by g elaborates ends (λ d x. StepIndexed x) (λ b c. BlockIndexed c) step_at
+      (λ y. block_indexed y.decls y.body)
 
   -- ---- modules
 

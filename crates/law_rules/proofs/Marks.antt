@@ -108,7 +108,8 @@ module _ (T : Type 0) where
 
   type_marked : (t : TypeExpr) (s : Scope T) → marked_in t s ≡ marked s (constants_in t)
   type_marked =
-      all_trees marked_in marked_field PT PF marking.type_layer marking.field_layer marks_at marks_at_field type_step field_step
+      all_trees marked_in marked_field PT PF marking.type_layer marking.field_layer marks_at
+      marks_at_field type_step field_step
 
   -- ---- keys
 

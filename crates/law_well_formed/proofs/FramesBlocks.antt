@@ -224,25 +224,32 @@ module _ (g : Gathers) (elaborates : Elaborates g.Reported) (forms : FormsStatem
   they_nest [] = tt
   they_nest (x ∷ xs) = (x.1.nests, they_nest xs)
 
-  step_at : (y : Decl-F SD SB) → IsNesting (steps_layer g elaborates ends (opened g elaborates ends (stripped y))) (nesting.decl_layer (counted (stripped y)))
+  step_at : (y : Decl-F SD SB)
+      → IsNesting (steps_layer g elaborates ends (opened g elaborates ends (stripped y)))
+      (nesting.decl_layer (counted (stripped y)))
   step_at (layer.Constants cs) = record { step = constants_step cs; nests = tt }
   step_at (layer.Types ts) = record { step = types_step ts; nests = tt }
   step_at (layer.Variables vs) = record { step = variables_step vs; nests = tt }
   step_at (layer.Procedure h b) = record { step = procedure_step h (block_of b.0) (within b.0) (blocks_formed g elaborates forms ends b.0); nests = b.1 }
 
-  block_of_steps : (xs : List SD) (body : Option (List Stmt)) → NestedBlock g ends (block_layer g elaborates ends (record { decls = map steps_of (map (λ (x : SD). x.0) xs); body = body })) (fold append_names [] (map within_decl (map (λ (x : SD). x.0) xs)))
+  block_of_steps : (xs : List SD) (body : Option (List Stmt))
+      → NestedBlock g ends (block_layer g elaborates ends
+      (record { decls = map steps_of (map (λ (x : SD). x.0) xs); body = body }))
+      (fold append_names [] (map within_decl (map (λ (x : SD). x.0) xs)))
   block_of_steps xs body =
       subst (λ (ks : List ℕ). NestedBlock g ends (block_layer g elaborates ends (record { decls = map steps_of (map (λ (x : SD). x.0) xs); body = body })) ks) (sym (total_is [] xs))
       (of_steps (map steps_of (map (λ (x : SD). x.0) xs)) body (total xs) (are_steps xs) (they_nest xs))
 
-  decl_step : (y : Decl-F SD SB) → PD (roll-Decl (stripped y)) (steps_layer g elaborates ends (opened g elaborates ends (stripped y)))
+  decl_step : (y : Decl-F SD SB)
+      → PD (roll-Decl (stripped y)) (steps_layer g elaborates ends (opened g elaborates ends (stripped y)))
   decl_step y =
       let x : Decl-F Decl Block = stripped y in
       subst (λ (ks : List ℕ). IsNesting (steps_layer g elaborates ends (opened g elaborates ends x)) ks)
       (sym (count_at (roll-Decl x) x (out-roll-Decl x))) (step_at y)
 
   block_step : (y : Block-F SD SB)
-      → PB (roll-Block (stripped_block y)) (block_layer g elaborates ends (opened_block g elaborates ends (stripped_block y)))
+      → PB (roll-Block (stripped_block y))
+      (block_layer g elaborates ends (opened_block g elaborates ends (stripped_block y)))
   block_step y =
       let x : Block-F Decl Block = stripped_block y in
       subst (λ (ks : List ℕ). NestedBlock g ends (block_layer g elaborates ends (opened_block g elaborates ends x)) ks)

@@ -112,7 +112,8 @@ module _ (g : Gathers) (elaborates : Elaborates g.Reported) (ends : List ℕ) wh
   abbrev stripped : Decl-F SD SB → Decl-F Decl Block
   stripped y = bare g elaborates ends (λ d x. KeepingSteps x) (λ b c. KeepingBlock c) y
 
-  checks_at : (y : Decl-F SD SB) → KeepingChecks (checks_layer g elaborates ends (opened g elaborates ends (stripped y)))
+  checks_at : (y : Decl-F SD SB)
+      → KeepingChecks (checks_layer g elaborates ends (opened g elaborates ends (stripped y)))
   checks_at (layer.Constants cs) around seen w = refl
   checks_at (layer.Types ts) around seen w = refl
   checks_at (layer.Variables vs) around seen w = refl

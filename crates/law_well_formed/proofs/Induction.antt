@@ -180,25 +180,32 @@ module _ (g : Gathers) (elaborates : Elaborates g.Reported) (forms : FormsStatem
   are_steps [] = no_steps
   are_steps (x ∷ xs) = more_steps (steps_of x.0) (map steps_of (map (λ (x : SD). x.0) xs)) (within_decl x.0) (total xs) x.1 (are_steps xs)
 
-  step_at : (y : Decl-F SD SB) → IsStep g elaborates ends (steps_layer g elaborates ends (opened g elaborates ends (stripped y))) (nesting.decl_layer (counted (stripped y)))
+  step_at : (y : Decl-F SD SB)
+      → IsStep g elaborates ends (steps_layer g elaborates ends (opened g elaborates ends (stripped y)))
+      (nesting.decl_layer (counted (stripped y)))
   step_at (layer.Constants cs) = constants_step cs
   step_at (layer.Types ts) = types_step ts
   step_at (layer.Variables vs) = variables_step vs
   step_at (layer.Procedure h b) = procedure_step h (block_of b.0) (within b.0) b.1
 
-  block_of_steps : (xs : List SD) (body : Option (List Stmt)) → FormedBlock g ends (block_layer g elaborates ends (record { decls = map steps_of (map (λ (x : SD). x.0) xs); body = body })) (fold append_names [] (map within_decl (map (λ (x : SD). x.0) xs)))
+  block_of_steps : (xs : List SD) (body : Option (List Stmt))
+      → FormedBlock g ends (block_layer g elaborates ends
+      (record { decls = map steps_of (map (λ (x : SD). x.0) xs); body = body }))
+      (fold append_names [] (map within_decl (map (λ (x : SD). x.0) xs)))
   block_of_steps xs body =
       subst (λ (ks : List ℕ). FormedBlock g ends (block_layer g elaborates ends (record { decls = map steps_of (map (λ (x : SD). x.0) xs); body = body })) ks) (sym (total_is [] xs))
       (of_steps (map steps_of (map (λ (x : SD). x.0) xs)) body (total xs) (are_steps xs))
 
-  decl_step : (y : Decl-F SD SB) → PD (roll-Decl (stripped y)) (steps_layer g elaborates ends (opened g elaborates ends (stripped y)))
+  decl_step : (y : Decl-F SD SB)
+      → PD (roll-Decl (stripped y)) (steps_layer g elaborates ends (opened g elaborates ends (stripped y)))
   decl_step y =
       let x : Decl-F Decl Block = stripped y in
       subst (λ (ks : List ℕ). IsStep g elaborates ends (steps_layer g elaborates ends (opened g elaborates ends x)) ks)
       (sym (count_at (roll-Decl x) x (out-roll-Decl x))) (step_at y)
 
   block_step : (y : Block-F SD SB)
-      → PB (roll-Block (stripped_block y)) (block_layer g elaborates ends (opened_block g elaborates ends (stripped_block y)))
+      → PB (roll-Block (stripped_block y))
+      (block_layer g elaborates ends (opened_block g elaborates ends (stripped_block y)))
   block_step y =
       let x : Block-F Decl Block = stripped_block y in
       subst (λ (ks : List ℕ). FormedBlock g ends (block_layer g elaborates ends (opened_block g elaborates ends x)) ks)

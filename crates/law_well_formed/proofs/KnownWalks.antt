@@ -1,5 +1,5 @@
 -- The bodies of procedures keep what a scope knows of types.
-use Rattle.std.proofs.Common.{◌≡◌, ℕ, suc, ◌+◌, ◌<◌, Bool, true, false, ◌&&◌, List, [], ◌∷◌, ◌++◌, length, Option, Some, None, Result, refl, sym, ap, subst, ◌∙◌, arith}
+use Rattle.std.proofs.Common.{◌≡◌, ℕ, suc, ◌<◌, Bool, true, false, ◌&&◌, List, [], ◌∷◌, ◌++◌, length, Option, Some, None, Result, refl, sym, ap, subst, ◌∙◌, arith}
 use Rattle.std.specs.Prelude.{map, slice_get}
 use Rattle.std.specs.List.{AllByRecursion, fold, list_all}
 use Rattle.std.specs.Option.{unwrap_or}
@@ -200,7 +200,9 @@ module _ (g : Gathers) (elaborates : Elaborates g.Reported) (ends : List ℕ) wh
   block_formed : (xs : List SD) (body : Option (List Stmt)) → list_all itself (map fits_within (decls_of xs)) ≡ true → BlockFormed (block_layer g elaborates ends (record { decls = map steps_of (decls_of xs); body = body }))
   block_formed xs body e base around returns w p =
       let first : ℕ = length w.bodies.locals in
-      let is : all_declared marked_by declared_by (w.scope, w.so_far) first (map steps_of (decls_of xs)) ≡ declared_block g ends (w.scope, w.so_far) first (decls_of xs) = declared_same g elaborates ends (decls_of xs) (w.scope, w.so_far) first in
+      let is : all_declared marked_by declared_by (w.scope, w.so_far) first (map steps_of (decls_of xs))
+      ≡ declared_block g ends (w.scope, w.so_far) first (decls_of xs) =
+      declared_same g elaborates ends (decls_of xs) (w.scope, w.so_far) first in
       let start : WalkFormed base (begun_from (all_declared marked_by declared_by (w.scope, w.so_far) first (map steps_of (decls_of xs))) w.bodies)
       = subst (λ (d : Declared g.Reported). WalkFormed base (begun_from d w.bodies)) (sym is) (declared_formed base (decls_of xs) e (w.scope, w.so_far) first p) in
       bodies_formed base (λ (x : Steps g.Reported). checked_by x around) (all_declared marked_by declared_by (w.scope, w.so_far) first (map steps_of (decls_of xs))).2 (map steps_of (decls_of xs)) (all_steps xs e around)
@@ -213,11 +215,14 @@ module _ (g : Gathers) (elaborates : Elaborates g.Reported) (ends : List ℕ) wh
   step_at (layer.Variables vs) e = λ around base seen w p. p
   step_at (layer.Procedure h b) e = λ around base seen w p. procedure_formed h (block_of b.0) (b.1 e) around base seen w p
 
-  decl_step : (y : Decl-F SD SB) → PD (roll-Decl (stripped y)) (steps_layer g elaborates ends (opened g elaborates ends (stripped y)))
-  decl_step y e = let x : Decl-F Decl Block = stripped y in step_at y (sym (fits_at (roll-Decl x) x (out-roll-Decl x)) ∙ e)
+  decl_step : (y : Decl-F SD SB)
+      → PD (roll-Decl (stripped y)) (steps_layer g elaborates ends (opened g elaborates ends (stripped y)))
+  decl_step y e =
+      let x : Decl-F Decl Block = stripped y in step_at y (sym (fits_at (roll-Decl x) x (out-roll-Decl x)) ∙ e)
 
   block_step : (y : Block-F SD SB)
-      → PB (roll-Block (stripped_block y)) (block_layer g elaborates ends (opened_block g elaborates ends (stripped_block y)))
+      → PB (roll-Block (stripped_block y))
+      (block_layer g elaborates ends (opened_block g elaborates ends (stripped_block y)))
   block_step y e =
       let x : Block-F Decl Block = stripped_block y in
       block_formed y.decls y.body (sym (fits_at_block (roll-Block x) x (out-roll-Block x)) ∙ e)

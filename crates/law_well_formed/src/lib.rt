@@ -10,7 +10,8 @@
 //! Why a module stands on the modules that it imports, and on no others.
 //!
 //! - `specs/FormedImports` says what is proved.
-//! - `proofs/NamedTables` and `proofs/ImportsWalks` have a lemma for each definition: none changes the tables of a scope.
+//! - `proofs/NamedTables` and `proofs/ImportsWalks` say that no declaration and no body changes the tables of a scope, and
+//!   `proofs/BodyFolds` has the induction over bodies.
 //! - `proofs/ImportsLists` has what is done with lists of names, and `proofs/NamedImports` the laws.
 //!
 //! What the table of a definition exports.
