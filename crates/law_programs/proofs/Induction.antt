@@ -24,7 +24,7 @@ use Rattle.check_const.specs.Denote.{exported_meaning}
 use Rattle.check_block.specs.Naming.{with_marks}
 use Rattle.check_block.specs.Nesting as nesting
 use Rattle.check_block.specs.Nesting.{append_names, within_decl, within}
-use Rattle.check_block.specs.Declarations.{Course, Declared, decl_layer, all_declared, declared_block}
+use Rattle.check_block.specs.Declarations.{Course, Declared, all_declared, declared_block}
 use Rattle.check_body.specs.Routines.{numbered_known}
 use Rattle.check_body.specs.declared.procedure.Walk.{Walk}
 use Rattle.check_body.specs.Elaborating.{Elaborates, statements_of}
