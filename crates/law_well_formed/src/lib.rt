@@ -10,7 +10,7 @@
 //! Why a module stands on the modules that it imports, and on no others.
 //!
 //! - `specs/FormedImports` says what is proved.
-//! - `proofs/NamedTables` and `proofs/ImportsWalks` say that no declaration and no body changes the tables of a scope, and
+//! - `proofs/NamedTables` and `proofs/ImportsWalks` say that no declaration and no body changes the tables of a scope.
 //!   `proofs/BodyFolds` has the induction over bodies.
 //! - `proofs/ImportsLists` has what is done with lists of names, and `proofs/NamedImports` the laws.
 //!
@@ -32,14 +32,14 @@
 //! Why declarations lead from scopes whose names mean what is there to scopes of the same kind.
 //!
 //! - `specs/FormedScopes` says when names are formed, and what a declaration keeps.
-//! - `proofs/Names` and `proofs/ScopesGrowth` have what one name more and one type more do, and `proofs/ScopesDeclarations` all
-//!   declarations of a block.
+//! - `proofs/Names` and `proofs/ScopesGrowth` have what one name more and one type more do, and
+//!   `proofs/ScopesDeclarations` all declarations of a block.
 //!
 //! Why names carry the numbers under which their scope has them.
 //!
 //! - `specs/FormedNumbers` says when names are numbered, and what a declaration keeps.
-//! - `proofs/NumbersGrowth` has what one name more and one type more do, and `proofs/NumbersDeclarations` all declarations of a
-//!   block. `proofs/Entered` has where the block of a procedure begins.
+//! - `proofs/NumbersGrowth` has what one name more and one type more do, and `proofs/NumbersDeclarations` all
+//!   declarations of a block. `proofs/Entered` has where the block of a procedure begins.
 //!
 //! Why a procedure's block begins with the types of its heading.
 //!
