@@ -23,8 +23,8 @@ fn push_token(text: &[u8], tokens: &mut Vec<u8>) -> Result<usize, AllocError> {
     }
 }
 
-/// The tokens of a text as they are written, with a blank behind each.
-fn tokens_of(alloc: Global, text: &[u8]) -> Result<Vec<u8>, AllocError> {
+/// The tokens of a text as they are written, with a blank behind each. The only error is that memory ran out.
+pub fn tokens_of(alloc: Global, text: &[u8]) -> Result<Vec<u8>, AllocError> {
     let mut tokens = Vec::new(alloc);
     let mut at: usize = 0;
     for _ in 0..text.len() {

@@ -1,10 +1,9 @@
 //! The modules of a program, found by the imports that were kept: a text that did not change is not read for what it imports.
 
-use crate::kept::Kept;
 use crate::spreading::numbers_of;
 use find_modules::{FindFault, FoundModule, MAX_MODULES, ModuleFolders, Part, Sources, imports_of};
 use indexmap::IndexMap;
-use link_parts::sum_of;
+use kept_modules::{Kept, short_sum};
 use m2_tree::{MAX_NAME, Name, is_console};
 use std::alloc::{AllocError, Global};
 
@@ -74,9 +73,9 @@ fn sums_of(alloc: Global, sources: &Option<Sources>) -> Result<Sums, AllocError>
         body: String::new(alloc),
     };
     if let Some(sources) = sources {
-        sums.definition = sum_of(alloc, &sources.definition)?;
+        sums.definition = short_sum(alloc, &sources.definition)?;
         if let Some(body) = &sources.implementation {
-            sums.body = sum_of(alloc, body)?;
+            sums.body = short_sum(alloc, body)?;
         }
     }
     Ok(sums)
@@ -235,7 +234,7 @@ pub fn find_kept<F: ModuleFolders>(
         definitions: numbers_of(alloc, kept)?,
         bodies: bodies_of(alloc, kept)?,
     };
-    let text = sum_of(alloc, program)?;
+    let text = short_sum(alloc, program)?;
     let names = match known.program_imports(text.as_str()) {
         Some(words) => names_of(alloc, words)?,
         None => imports_of(alloc, program)?,

@@ -1,11 +1,9 @@
 //! Which bodies have to be compiled.
 
-use crate::kept::Kept;
-use crate::names::files_by_name;
 use crate::spreading::{cause_for, causes_of, numbers_of};
 use build_jobs::SourceFile;
 use indexmap::IndexMap;
-use link_parts::{Part, interface_sum, sum_of};
+use kept_modules::{Kept, Part, definition_sum, files_by_name, short_sum};
 use std::alloc::{AllocError, Global};
 
 /// How many bytes of bodies are compiled one by one, however small the program is.
@@ -62,7 +60,7 @@ pub enum Planned {
 pub fn sums_of(alloc: Global, files: &[SourceFile]) -> Result<Vec<String>, AllocError> {
     let mut sums = Vec::new(alloc);
     for file in files {
-        sums.push(sum_of(alloc, &file.bytes)?)?;
+        sums.push(short_sum(alloc, &file.bytes)?)?;
     }
     Ok(sums)
 }
@@ -122,7 +120,7 @@ fn tokens_now(
     let (kept_text, kept_tokens) = kept;
     match file {
         Some(file) if kept_text.as_bytes() != text.as_bytes() => {
-            interface_sum(alloc, &file.bytes)
+            definition_sum(alloc, &file.bytes)
         }
         _ => String::from_str(alloc, kept_tokens),
     }

@@ -1,15 +1,13 @@
 //! What has to be compiled is compiled, and all is linked.
 
-use crate::kept::{Definition, Kept};
-use crate::linked::linked_by;
-use crate::names::defined_by;
 use crate::planning::Plan;
 use crate::spreading::numbers_of;
 use crate::trees::{Trees, Whole};
 use build_jobs::{Read, SourceFile, read_text};
 use compile_module::{Made, compile_trees};
 use indexmap::IndexMap;
-use link_parts::{LinkFault, Part, Sizes, link_modules, sum_of};
+use kept_modules::{Definition, Kept, Part, defined_by, linked_by, short_sum};
+use link_parts::{LinkFault, Sizes, link_modules};
 use list_imports::add_imports;
 use m2_emit::ModuleBytes;
 use m2_tree::Module;
@@ -119,7 +117,7 @@ fn part_of(
             slots: module.slots,
         },
         text: String::from_str(alloc, text)?,
-        code: sum_of(alloc, module.bytes.as_slice())?,
+        code: short_sum(alloc, module.bytes.as_slice())?,
         imports,
         interfaces: Vec::new(alloc),
     })

@@ -1,8 +1,7 @@
 //! Which definitions are reached by a change in one of them.
 
-use crate::kept::{Definition, Kept};
 use indexmap::IndexMap;
-use link_parts::Part;
+use kept_modules::{Definition, Kept, Part};
 use std::alloc::{AllocError, Global};
 
 /// Definitions by the names of their modules.

@@ -1,9 +1,9 @@
 //! The trees of definitions, each read once.
 
-use crate::kept::Kept;
 use crate::planning::Plan;
 use build_jobs::{Read, SourceFile, read_text};
 use indexmap::IndexMap;
+use kept_modules::Kept;
 use list_imports::add_imports;
 use m2_tree::{Contents, Module};
 use std::alloc::{AllocError, Global};

@@ -3,15 +3,41 @@
 use crate::wanted::Wanted;
 use command_words::{Exit, VERSION};
 use find_files::{Places, Program, program_of_modules, program_of_text, say_find_fault};
-use renew_modules::{
-    Found, Kept, Part, PartFault, Plan, Planned, Renewal, Stale, Why, find_kept, plan_of,
-    read_kept, renew, stem_of, sum_of, write_kept,
-};
+use kept_modules::{Kept, Part, PartFault, read_kept, short_sum, stem_of, write_kept};
+use renew_modules::{Found, Plan, Planned, Renewal, Stale, Why, find_kept, plan_of, renew};
 use std::alloc::AllocError;
 use std::fs;
+use std::fs::Metadata;
 use std::rt::Files;
+use std::time::UNIX_EPOCH;
 use tool_output::write_changed;
 use tool_words::{PROGRAM, Setting};
+
+/// The file of the program that runs, under the name that the system has for it.
+const OWN_FILE: &str = "/proc/self/exe";
+
+/// When a file was written, in nanoseconds since 1970. 0 if that is not known.
+fn time_of(found: &Metadata) -> u128 {
+    let Ok(time) = found.modified() else {
+        return 0;
+    };
+    match time.duration_since(UNIX_EPOCH) {
+        Ok(since) => since.as_nanos(),
+        Err(_) => 0,
+    }
+}
+
+/// Which m2 this is: its version, and how long its file is and when it was written, if the system says that. So two of one version are
+/// told apart.
+fn own_version<R: Files + AllocGlobal>(rt: &R) -> Result<String, AllocError> {
+    match fs::metadata(rt, OWN_FILE) {
+        Ok(found) => {
+            let (length, time) = (found.len(), time_of(&found));
+            format!(in rt.alloc(); "{VERSION} {length} {time}")
+        }
+        Err(_) => String::from_str(rt.alloc(), VERSION),
+    }
+}
 
 /// Where it stands what is kept of the program of this file: in the folder of its modules, under the name of the file.
 pub fn kept_path<R: AllocGlobal>(rt: &R, file: &str, out: &str) -> Result<String, AllocError> {
@@ -63,11 +89,12 @@ fn kept_in<R: Files + Eprint + AllocGlobal>(
         say_whole(rt, setting, "nothing was kept");
         return Ok(None);
     };
-    match read_kept(rt.alloc(), VERSION, &text) {
+    let version = own_version(rt)?;
+    match read_kept(rt.alloc(), version.as_str(), &text) {
         Ok(kept) => Ok(Some(kept)),
         Err(PartFault::NoMemory) => Err(AllocError),
         Err(PartFault::Version) => {
-            say_whole(rt, setting, "another version of m2 built it before");
+            say_whole(rt, setting, "another m2 built it before");
             Ok(None)
         }
         Err(PartFault::Altered) => {
@@ -89,7 +116,7 @@ fn code_in<R: Files + AllocGlobal>(rt: &R, out: &str, body: &Part) -> Result<Str
         return Ok(String::new(rt.alloc()));
     }
     match fs::read(rt, path.as_str()) {
-        Ok(bytes) => sum_of(rt.alloc(), &bytes),
+        Ok(bytes) => short_sum(rt.alloc(), &bytes),
         Err(_) => Ok(String::new(rt.alloc())),
     }
 }
@@ -201,7 +228,8 @@ pub fn write_kept_file<R: Files + Eprint + AllocGlobal>(
     path: &str,
     kept: &Kept,
 ) -> Result<(), AllocError> {
-    let text = write_kept(rt.alloc(), VERSION, kept)?;
+    let version = own_version(rt)?;
+    let text = write_kept(rt.alloc(), version.as_str(), kept)?;
     if let Err(error) = write_changed(rt, path, text.as_bytes()) {
         let _ = eprintln!(rt;
             "{PROGRAM}: cannot write {path}: {error}; the next build compiles all modules"

@@ -1,8 +1,9 @@
 //! What is read of the text that was kept.
 
 use crate::kept::{Definition, Kept};
+use crate::sums::short_sum;
 use crate::writing::{BETWEEN, FORM};
-use link_parts::{PartFault, name_in, opened, part_of};
+use link_parts::{PartFault, behind_first, name_in, part_of, unsealed};
 use std::alloc::Global;
 
 /// Reads a line of this word and this value.
@@ -57,12 +58,16 @@ fn add_module(alloc: Global, lines: &str, kept: &mut Kept) -> Result<(), PartFau
 /// `Version` if its first line is that of another form or version, else `Altered` if the checksum in its last line is not that of the
 /// text in front of it, or a line is none that `write_kept` writes. `NoMemory` if memory ran out.
 pub fn read_kept(alloc: Global, version: &str, text: &[u8]) -> Result<Kept, PartFault> {
-    let lines = opened(alloc, FORM, version, text)?;
+    let (front, found) = unsealed(FORM, version, text)?;
+    let sum = short_sum(alloc, front.as_bytes())?;
+    if found.as_bytes() != sum.as_bytes() {
+        return Err(PartFault::Altered);
+    }
     let mut kept = Kept {
         definitions: Vec::new(alloc),
         bodies: Vec::new(alloc),
     };
-    for module in lines.split(BETWEEN) {
+    for module in behind_first(front).split(BETWEEN) {
         add_module(alloc, module, &mut kept)?;
     }
     Ok(kept)

@@ -1,12 +1,13 @@
 //! The text in which it stands what is kept.
 
 use crate::kept::{Definition, Kept};
-use link_parts::{begun, push_imports, push_part, sealed};
+use crate::sums::short_sum;
+use link_parts::{begun, push_imports, push_part, sealed_by};
 use std::alloc::{AllocError, Global};
 use std::fmt::Write;
 
 /// What the first line begins with, and the version of this form.
-pub const FORM: &str = "m2-kept 1";
+pub const FORM: &str = "m2-kept 2";
 
 /// What stands between two modules: an empty line.
 pub const BETWEEN: &str = "\n\n";
@@ -40,5 +41,6 @@ pub fn write_kept(alloc: Global, version: &str, kept: &Kept) -> Result<String, A
         push_part(&mut page, body)?;
         page.push('\n')?;
     }
-    sealed(alloc, page)
+    let sum = short_sum(alloc, page.as_bytes())?;
+    sealed_by(page, sum.as_str())
 }

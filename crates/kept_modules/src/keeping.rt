@@ -4,9 +4,10 @@ use crate::heads::imports_in;
 use crate::kept::{Definition, Kept};
 use crate::linked::{Linked, linked_by};
 use crate::names::{defined_by, files_by_name};
+use crate::sums::{definition_sum, short_sum};
 use build_jobs::{Read, SourceFile, read_text};
 use indexmap::IndexMap;
-use link_parts::{LinkFault, Part, interface_sum, link_modules, sum_of};
+use link_parts::{LinkFault, Part, link_modules};
 use list_imports::add_imports;
 use std::alloc::{AllocError, Global};
 
@@ -29,8 +30,8 @@ fn definition_of(alloc: Global, name: &str, text: &[u8]) -> Result<Option<Defini
     };
     Ok(Some(Definition {
         name: String::from_str(alloc, name)?,
-        text: sum_of(alloc, text)?,
-        tokens: interface_sum(alloc, text)?,
+        text: short_sum(alloc, text)?,
+        tokens: definition_sum(alloc, text)?,
         imports,
     }))
 }
@@ -73,8 +74,8 @@ fn part_of(
         name: String::from_str(alloc, linked.name.as_str())?,
         is_program,
         sizes: linked.sizes,
-        text: sum_of(alloc, text)?,
-        code: sum_of(alloc, code)?,
+        text: short_sum(alloc, text)?,
+        code: short_sum(alloc, code)?,
         imports,
         interfaces: Vec::new(alloc),
     }))
