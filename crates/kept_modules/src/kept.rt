@@ -14,7 +14,8 @@ pub struct Definition {
     pub imports: Vec<String>,
 }
 
-/// What is kept of a program. All bodies were compiled with the same definitions, so no body names those that it needs.
+/// What is kept of a program. All bodies were compiled with the same definitions, so no body names those that it needs. Checksums are
+/// those of `short_sum`, and those of tokens of `definition_sum`.
 #[derive(Drop)]
 pub struct Kept {
     /// The definitions, in the order of the program's files.
