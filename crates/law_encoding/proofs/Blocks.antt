@@ -280,8 +280,8 @@ module _ (way : Way) where
         let b = begun_procedure g w seen h in
         let r = adds (which_of b.1.procedure) b.1.returns b.0 k (begun_most way k w.scope.level w.bodies p) in
         procedure_sum way _ k r.0 r.1 n (with_routine_most (k ⊕ r.0) r.1 (block (which_of b.1.procedure) b.1.returns
-            b.0).0.scope h.name around b.1.formals b.1.procedure (block (which_of b.1.procedure) b.1.returns
-            b.0).0.bodies r.3 r.4) r.2
+        b.0).0.scope h.name around b.1.formals b.1.procedure (block (which_of b.1.procedure) b.1.returns
+        b.0).0.bodies r.3 r.4) r.2
 
     -- ---- a block
 
@@ -300,7 +300,7 @@ module _ (way : Way) where
     bodies_most around seen (n ∷ ns) [] st k p all = absurd all
     bodies_most around seen (n ∷ ns) (x ∷ xs) st k p all =
         le_trans _ _ _ (bodies_most around seen ns xs (with_body (λ (x : Steps g.Reported). checked_by x around) seen st
-            x) (k ⊕ n) (all.0 around _ st.0 k p) all.1) (all_again way k n ns)
+        x) (k ⊕ n) (all.0 around _ st.0 k p) all.1) (all_again way k n ns)
 
     -- ---- the induction
 
@@ -366,9 +366,14 @@ module _ (way : Way) where
           let ds = map steps_of (map (λ (x : SD). x.0) y.decls) in
           let ns = map (bound_decl way) (map (λ (x : SD). x.0) y.decls) in
           let d = all_declared marked_by declared_by (w.scope, w.so_far) (length w.bodies.locals) ds in
-          let e = with_bodies (λ (x : Steps g.Reported). checked_by x around) d.2 (begun_from d w.bodies) ds in
-          (total_of way ns, bound_body way y.body, of_block way (bare_block y), bodies_most around d.2 ns ds
-          (begun_from d w.bodies, 0) k p (all_add y.decls), statements_most e.scope returns y.body)
+          let e = with_bodies (λ (x : Steps g.Reported). checked_by x around) d.2 (begun_from d w.bodies) ds in (
+            total_of way ns,
+            bound_body way y.body,
+            of_block way (bare_block y),
+            bodies_most around d.2 ns ds
+                (begun_from d w.bodies, 0) k p (all_add y.decls),
+            statements_most e.scope returns y.body,
+          )
 
       step_decl : (x : Decl-F Decl Block) (y : Decl-F SD SB) → bare y ≡ x → PD (roll-Decl x)
       step_decl x y q =
@@ -381,7 +386,7 @@ module _ (way : Way) where
       step_block x y q =
           let e = out-roll-Block x ∙ sym q in
           subst (λ (n : ℕ). AddsBlock n (block_of (roll-Block x)))
-              (sym (block_opened way (roll-Block x) (bare_block y) e))
+          (sym (block_opened way (roll-Block x) (bare_block y) e))
           (subst (AddsBlock (block_form way (bare_block y))) (sym (at_block (roll-Block x) (bare_block y) e))
           (block_most y))
 
@@ -397,8 +402,8 @@ module _ (way : Way) where
       written_most around seen [] st k p = le_trans _ k _ p (no_more way (bound_decl way) k)
       written_most around seen (d ∷ ds) st k p =
           le_trans _ _ _ (written_most around seen ds (with_body (λ (d : Decl). checks_decl g elaborates ends d around)
-              seen st d) (k ⊕ bound_decl way d) (decls_most d around _ st.0 k p))
-              (sum_again way (bound_decl way) k d ds)
+          seen st d) (k ⊕ bound_decl way d) (decls_most d around _ st.0 k p))
+          (sum_again way (bound_decl way) k d ds)
 
       abbrev begins : (modules : List (List ℕ × ℕ)) (s : Scope g.Reported) (m : Module) (ds : List Decl)
           → Walk g.Reported × List ℕ
@@ -415,7 +420,7 @@ module _ (way : Way) where
         ≤ bound_block way b
     block_sum b =
         subst (λ (n : ℕ). n ⊕ bound_body way (out-Block b).body ≤ bound_block way b)
-            (total_all way (bound_decl way) (out-Block b).decls)
+        (total_all way (bound_decl way) (out-Block b).decls)
         (omega (arith, of_block way (out-Block b), block_opened way b (out-Block b) refl))
 
     of_walk_most : (modules : List (List ℕ × ℕ)) (s : Scope g.Reported) (own : Option Table) (m : Module) (b : Block)

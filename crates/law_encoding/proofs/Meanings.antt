@@ -464,14 +464,14 @@ module _ (w : Way) where
     step_expr x y q =
         let e = out-roll-Expr x ∙ sym q in
         subst (λ (n : ℕ). FM g s n (meanings_of g (roll-Expr x))) (sym (expr_opened w (roll-Expr x) (bare y) e))
-            (subst (FM g s (counted y)) (sym (at_expr (roll-Expr x) (bare y) e)) (expr_most y))
+        (subst (FM g s (counted y)) (sym (at_expr (roll-Expr x) (bare y) e)) (expr_most y))
 
     step_selector : (x : Selector-F Expr Selector Designator Item) (y : Selector-F SE SS SD SI) → bare_selector y ≡ x
         → PS (roll-Selector x)
     step_selector x y q =
         let e = out-roll-Selector x ∙ sym q in
         subst (λ (n : ℕ). FP g s n (picks g (roll-Selector x)))
-            (sym (selector_opened w (roll-Selector x) (bare_selector y) e))
+        (sym (selector_opened w (roll-Selector x) (bare_selector y) e))
         (subst (FP g s (selector_form w (bare_selector y))) (sym (at_selector (roll-Selector x) (bare_selector y) e))
         (selector_most y))
 
@@ -480,7 +480,7 @@ module _ (w : Way) where
     step_designator x y q =
         let e = out-roll-Designator x ∙ sym q in
         subst (λ (n : ℕ). FM g s (node w ⊕ n) (head g (roll-Designator x)))
-            (sym (designator_opened w (roll-Designator x) (bare_designator y) e))
+        (sym (designator_opened w (roll-Designator x) (bare_designator y) e))
         (subst (FM g s (node w ⊕ designator_form w (bare_designator y)))
         (sym (at_designator (roll-Designator x) (bare_designator y) e)) (designator_most y))
 

@@ -336,12 +336,12 @@ module _ (w : Way) where
         (armed_all arms)) (else_most s a near body))
     stmt_most_layer (layer.While c body) = λ s a near.
         at_more (of_while w c (map (λ (e : SS). e.0) body)) (while_most (bound_expr w c) (count_of body)
-            (condition_most w g s (bound_expr w c) (meanings_of g c) (meant_most w g s near c))
-            (body_most s a near body))
+        (condition_most w g s (bound_expr w c) (meanings_of g c) (meant_most w g s near c))
+        (body_most s a near body))
     stmt_most_layer (layer.Repeat body c) = λ s a near.
         at_more (of_repeat w (map (λ (e : SS). e.0) body) c) (until_most (bound_expr w c) (count_of body)
-            (body_most s a near body) (condition_most w g s (bound_expr w c) (meanings_of g c)
-            (meant_most w g s near c)))
+        (body_most s a near body) (condition_most w g s (bound_expr w c) (meanings_of g c)
+        (meant_most w g s near c)))
     stmt_most_layer (layer.Loop body) = λ s a near. at_more (of_loop w (map (λ (e : SS). e.0) body))
         (looped_most (count_of body) (body_most s (in_loop a) near body))
     stmt_most_layer (layer.Exit at) = λ s a near. at_more (of_exit w at) (exited_most w g s at a)
@@ -374,7 +374,7 @@ module _ (w : Way) where
         → AtMost (weight_arm w) (labels w n ⊕ m) (arm_of g ls body)
     armed_most n m p q =
         then_most (both_most g w (at_mapped {h = λ (xs : List Label). labels w (length xs)}
-            (λ xs l. labels_less w (length xs) n l) p) q)
+        (λ xs l. labels_less w (length xs) n l) p) q)
         (λ v l. fine (record { labels = v.0; body = v.1 }) (le_by _ _ (labels w n ⊕ m)
         (arm_sum w (record { labels = v.0; body = v.1 })) l))
 
@@ -390,21 +390,21 @@ module _ (w : Way) where
     step_rest x y q =
         let e = out-roll-Rest x ∙ sym q in
         subst (λ (n : ℕ). Rest_ n (rest g (roll-Rest x))) (sym (rest_opened w (roll-Rest x) (bare_rest y) e))
-            (subst (Rest_ (rest_form w (bare_rest y))) (sym (at_rest (roll-Rest x) (bare_rest y) e))
-            (rest_most_layer y))
+        (subst (Rest_ (rest_form w (bare_rest y))) (sym (at_rest (roll-Rest x) (bare_rest y) e))
+        (rest_most_layer y))
 
     step_stmt : (x : Stmt-F Rest Stmt Arm) (y : Stmt-F SR SS SA) → bare_stmt y ≡ x → PS (roll-Stmt x)
     step_stmt x y q =
         let e = out-roll-Stmt x ∙ sym q in
         subst (λ (n : ℕ). Elaborates_ n (stmt g (roll-Stmt x))) (sym (stmt_opened w (roll-Stmt x) (bare_stmt y) e))
-            (subst (Elaborates_ (stmt_form w (bare_stmt y))) (sym (at_stmt (roll-Stmt x) (bare_stmt y) e))
-            (stmt_most_layer y))
+        (subst (Elaborates_ (stmt_form w (bare_stmt y))) (sym (at_stmt (roll-Stmt x) (bare_stmt y) e))
+        (stmt_most_layer y))
 
     step_arm : (x : Arm-F Rest Stmt Arm) (y : Arm-F SR SS SA) → bare_arm y ≡ x → PA (roll-Arm x)
     step_arm x y q =
         let e = out-roll-Arm x ∙ sym q in
         subst (λ (n : ℕ). Arm_ n (arm g (roll-Arm x))) (sym (arm_opened w (roll-Arm x) (bare_arm y) e))
-            (subst (Arm_ (arm_form w (bare_arm y))) (sym (at_arm (roll-Arm x) (bare_arm y) e)) (arm_most_layer y))
+        (subst (Arm_ (arm_form w (bare_arm y))) (sym (at_arm (roll-Arm x) (bare_arm y) e)) (arm_most_layer y))
 
     pub stmt_most : (x : Stmt) → PS x
     stmt_most = ind-Stmt PR PS PA step_rest step_stmt step_arm
