@@ -45,10 +45,22 @@ def copy_entry(folder, files, room):
             raise Unkept(f"{folder} is damaged")
 
 
+def walk_once(walk):
+    """What a walk from a crate finds, found once: `rt` walks each way to a crate again, of which there are millions."""
+
+    def found(crate):
+        if "found_below" not in vars(crate):
+            crate.found_below = walk(crate)
+        return list(crate.found_below)
+
+    return found
+
+
 def crates_and_kept():
     """The crates by name as `rt` sees them, and what it keeps."""
     rt = script_of_kit()
     try:
+        rt.Crate.below = walk_once(rt.Crate.below)
         rt.Crate.allowed = rt.handles_of(TOP)
         every = {it.name: it for it in rt.crates_of(TOP)}
         return every, rt.Kept(every.values())

@@ -1,6 +1,7 @@
 -- What expressions of bodies mean: each has a value, or names what has none, or breaks rules.
-use Rattle.std.specs.Prelude.{ℕ, cond, List, [], ◌∷◌, map, length, Option, Some, None, Result, Ok}
+use Rattle.std.specs.Prelude.{ℕ, false, cond, List, [], ◌∷◌, map, length, Option, Some, None, Result, Ok, Err}
 use Rattle.std.specs.List.{fold}
+use Rattle.m2_rule.specs.Breaches.{breach}
 use Rattle.m2_rule.specs.declared.rule.Rule.TheVariants as rule
 use Rattle.m2_tree.specs.declared.pos.Pos.{Pos}
 use Rattle.m2_tree.specs.declared.name.Ident.{Ident}
@@ -22,8 +23,11 @@ use Rattle.typed_tree.specs.declared.shape.Scalar.{Scalar as Range}
 use Rattle.typed_tree.specs.declared.meaning.Value.{Value}
 use Rattle.typed_tree.specs.declared.shape.Signature.{Signature}
 use Rattle.typed_tree.specs.declared.meaning.Standard.{Standard}
+use Rattle.typed_tree.specs.declared.meaning.Meaning.{Meaning}
+use Rattle.typed_tree.specs.declared.meaning.Meaning.TheVariants as meaning
 use Rattle.typed_tree.specs.declared.known_types.Types.{Types}
 use Rattle.check_scope.specs.declared.meaningless.Meaningless.{Meaningless}
+use Rattle.check_scope.specs.declared.meaningless.Meaningless.TheVariants.{Headless}
 use Rattle.check_scope.specs.Elaborated.{Gathers, least, report, reported_beside, both, beside, ahead, of_sort, of_heading, of_value, of_sort_of_value, plain, ◌▷◌}
 use Rattle.check_scope.specs.declared.scope.Scope.{Scope}
 use Rattle.check_scope.specs.Scopes.{looked_up}
@@ -86,6 +90,18 @@ relation_value g types o at x at' y = operation_between g types (op.Relation o.o
 abbrev pub first_name : (g : Gathers) → Scope g.Reported → Ident
     → Result Designated (Meaningless g.Reported)
 first_name g s name = looked_up g s name ▷ λ m. plain (designated_by g s.level name.pos m)
+
+-- A procedure has no components, in front of its heading as behind it.
+abbrev pub leading_meaning : (g : Gathers) → (level : ℕ) → Pos → Meaning
+    → Result Designated (Meaningless g.Reported)
+leading_meaning g level at meaning.Ahead = Err (Headless false (g.one (breach at rule.Undeclared)))
+leading_meaning g level at other = plain (designated_by g level at other)
+
+-- the first name in front of these components
+abbrev pub leading_name : (g : Gathers) → Scope g.Reported → Ident → {X : Type 0} → List X
+    → Result Designated (Meaningless g.Reported)
+leading_name g s name [] = first_name g s name
+leading_name g s name (x ∷ xs) = looked_up g s name ▷ leading_meaning g s.level name.pos
 
 abbrev pub name_in_module : (g : Gathers) → Scope g.Reported → ℕ → Ident
     → Result Designated g.Reported
@@ -324,7 +340,8 @@ module _ (g : Gathers) where
 
   abbrev pub designation : Scope g.Reported → Ident → List (Picks g.Reported)
       → Result Designated (Meaningless g.Reported)
-  designation s name selectors = fold (λ x p. p.picks s x) (first_name g s name) selectors
+  designation s name selectors =
+      fold (λ x p. p.picks s x) (leading_name g s name selectors) selectors
 
   abbrev pub denotation : Scope g.Reported → Ident → List (Picks g.Reported)
       → Result Denoted g.Reported

@@ -2,10 +2,12 @@
 
 ghost use Rattle.std.specs.Prelude.{◌≡◌, IfOk, Ok};
 ghost use Rattle.std.specs.Option.{option_copied};
-ghost use Rattle.check_scope.specs.Elaborated.{least, of_sort, of_heading, of_sort_of_value, ◌▷◌};
+ghost use Rattle.check_scope.specs.Elaborated.{least, plain, of_sort, of_heading, of_sort_of_value, ◌▷◌};
+ghost use Rattle.check_scope.specs.Scopes.{looked_up};
+ghost use Rattle.check_operator.specs.Values.{designated_by};
 ghost use Rattle.check_const.specs.Parts as constants;
 ghost use Rattle.check_call.specs.Functions.{type_named, high_of, unary_at};
-ghost use Rattle.check_expr.specs.Meanings.{part, meanings_of, head, of_computed, signed_first, relation_value, first_name, field_of, field_at, index_at, formals_of, argument_by, call_given, type_of};
+ghost use Rattle.check_expr.specs.Meanings.{part, meanings_of, head, of_computed, signed_first, relation_value, first_name, leading_meaning, field_of, field_at, index_at, formals_of, argument_by, call_given, type_of};
 ghost use Rattle.m2_rule.specs.declared.rule.Rule.TheVariants as rule;
 
 use check_call::{Callee, Unary, actual, call_by, high_of, type_named, unary_at};
@@ -23,7 +25,9 @@ use m2_rule::{Breach, Rule};
 use m2_tree::{Designator, Expr, Ident, Operator, Pos, RelOp, Sign};
 use std::alloc::{AllocError, Global};
 use tree_parts::{Boxed, Items};
-use typed_tree::{Argument, Formal, Scalar, Signature, Standard, TypeNo, TypedExpr, Types, Value};
+use typed_tree::{
+    Argument, Formal, Meaning, Scalar, Signature, Standard, TypeNo, TypedExpr, Types, Value,
+};
 
 /// The place of an expression's first token.
 #[tactic(auto, using(crate::proofs::Variants::places))]
@@ -104,6 +108,18 @@ pub fn relation_value(
     )
 }
 
+/// What a name of this meaning stands for.
+fn named(
+    alloc: Global,
+    level: usize,
+    at: Pos,
+    meaning: Meaning,
+) -> Result<Sought<Designated>, AllocError>
+    ensures { IfOk result (λ d. d ≡ plain (designated_by least level at meaning)) }
+{
+    Ok(plain(designated_by(alloc, level, at, meaning)?))
+}
+
 /// What the first name of a designator stands for.
 pub fn first_name(
     alloc: Global,
@@ -114,10 +130,46 @@ pub fn first_name(
 {
     match looked_up(scope, name)? {
         Err(meaningless) => Ok(Err(meaningless)),
-        Ok(meaning) => match designated_by(alloc, scope.level, name.pos, meaning)? {
-            Err(breach) => Ok(Err(Meaningless::Broken(breach))),
-            Ok(designated) => Ok(Ok(designated)),
-        },
+        Ok(meaning) => named(alloc, scope.level, name.pos, meaning),
+    }
+}
+
+/// What a name of this meaning stands for in front of components, of which a procedure has none.
+fn leading_meaning(
+    alloc: Global,
+    level: usize,
+    at: Pos,
+    meaning: Meaning,
+) -> Result<Sought<Designated>, AllocError>
+    ensures { IfOk result (λ d. d ≡ leading_meaning least level at meaning) }
+{
+    match meaning {
+        Meaning::Ahead => Ok(Err(Meaningless::Headless(false, Breach::at(at, Rule::Undeclared)))),
+        Meaning::Constant(_)
+        | Meaning::Type(_, _)
+        | Meaning::Variable(_)
+        | Meaning::Local(_)
+        | Meaning::Field(_)
+        | Meaning::Procedure(_)
+        | Meaning::LocalProcedure(_)
+        | Meaning::Standard(_)
+        | Meaning::Module(_) => named(alloc, level, at, meaning),
+    }
+}
+
+/// What the first name of a designator stands for, if components stand behind it.
+pub fn leading_name(
+    alloc: Global,
+    scope: &Scope<Breach>,
+    name: &Ident,
+) -> Result<Sought<Designated>, AllocError>
+    ensures { IfOk result (λ d.
+        d
+        ≡ looked_up least scope.now name.now ▷ leading_meaning least scope.now.level name.now.pos) }
+{
+    match looked_up(scope, name)? {
+        Err(meaningless) => Ok(Err(meaningless)),
+        Ok(meaning) => leading_meaning(alloc, scope.level, name.pos, meaning),
     }
 }
 

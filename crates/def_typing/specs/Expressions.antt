@@ -1,5 +1,5 @@
 -- What expressions stand for, and which rules are broken in them.
-use Rattle.std.specs.Prelude.{◌≡◌, ℕ, ℤ, pos, Bool, List, [], ◌∷◌, length, Option, Some, None}
+use Rattle.std.specs.Prelude.{◌≡◌, ℕ, ℤ, pos, Bool, false, List, [], ◌∷◌, length, Option, Some, None}
 use Rattle.m2_rule.specs.declared.rule.Rule.TheVariants as rule
 use Rattle.m2_tree.specs.declared.pos.Pos.{Pos}
 use Rattle.m2_tree.specs.declared.name.Ident.{Ident}
@@ -27,7 +27,7 @@ use Rattle.def_typing.specs.Parts.{first, Operand, factors, addends, Among, IsIn
 use Rattle.def_typing.specs.Constants.{Fixed, AConstant, Fixes, FixedReads, FixedFails, FixedScalar, IsFixedPart, IsTypePart}
 use Rattle.def_typing.specs.Amounts.{Constant, Value}
 use Rattle.def_typing.specs.Operators.{◌!◌, Kind, Scalar, Text, operand, Makes, Misused, Misapplied, MaySign, SignMakes, Negates}
-use Rattle.def_typing.specs.Things.{Thing, AValue, AVariable, AnOpenArray, AStandard, Headless, Standing, Known, Misnamed, Taken, Mistaken, IsAssignable, Misassigned, Picks, Indexes}
+use Rattle.def_typing.specs.Things.{Thing, AValue, AVariable, AnOpenArray, AStandard, Headless, Standing, Known, Ahead, Misnamed, Taken, Mistaken, IsAssignable, Misassigned, Picks, Indexes}
 use Rattle.def_typing.specs.Functions.{Applies, Misapplies, NamesScalar, BoundOf, Converts, Misconverts, IsOfOne, TakesValue, TakesType, result_kind, HasHeading, IsFunctionOf, Mispassed, IsPassed}
 
 -- ---- parts
@@ -55,6 +55,12 @@ pub data IsPart (x : Expr) : Expr-F Expr Selector Designator Item → Type 0 whe
 pub data HasComponents : Expr → Type 0 where
   has_components : {e : Expr} {d : Designator} {s : Selector} {ss : List Selector}
       → out-Expr e ≡ layer.Use d None → (out-Designator d).selectors ≡ s ∷ ss → HasComponents e
+
+-- What the first name of a designator stands for, if it has these components. A procedure has none,
+-- in front of its heading as behind it.
+abbrev pub leading : List Selector → Standing → Standing
+leading (s ∷ ss) Ahead = Known (Headless false)
+leading ss other = other
 
 -- ---- what expressions stand for
 
@@ -214,10 +220,11 @@ module _ (types : Types) (names : Ident → Standing) (exports : ℕ → Ident �
     -- have a meaning.
     pub data Fails : Expr-F Expr Selector Designator Item → Breach → Type 0 where
       at_name : {d : Designator} {args : Option (List Expr)} {f : Breach}
-          → Misnamed (out-Designator d).name.pos (names (out-Designator d).name) f
+          → Misnamed (out-Designator d).name.pos
+          (leading (out-Designator d).selectors (names (out-Designator d).name)) f
           → Fails (layer.Use d args) f
       at_selector : {d : Designator} {args : Option (List Expr)} {x : Thing} {f : Breach}
-          → names (out-Designator d).name ≡ Known x
+          → leading (out-Designator d).selectors (names (out-Designator d).name) ≡ Known x
           → SelectionFails x (out-Designator d).selectors f → Fails (layer.Use d args) f
       at_call : {d : Designator} {args : List Expr} {x : Thing} {f : Breach} → Denotes d x
           → Miscalled (out-Designator d).name.pos x args f → Fails (layer.Use d (Some args)) f

@@ -49,7 +49,8 @@ use Rattle.check_operator.specs.Classes.{class_at}
 use Rattle.check_operator.specs.Selection.{component, record_field, field_named, typed_field, indices, array_indexed, element_of_array, element_at_index}
 use Rattle.check_operator.specs.Suits.{sort_suits, value_suited, value_in}
 use Rattle.check_operator.specs.Values.{designated_by, local_by}
-use Rattle.check_expr.specs.Meanings.{Meant, Picks, meanings_of, picks, head, value_of, first_name, name_in_module, field_of, field_at, index_at}
+use Rattle.check_expr.proofs.Leading.{leading_keeps}
+use Rattle.check_expr.specs.Meanings.{Meant, Picks, meanings_of, picks, head, value_of, first_name, leading_name, name_in_module, field_of, field_at, index_at}
 use Rattle.def_typing.specs.Shapes.{IsMade, shape_at}
 use Rattle.def_typing.specs.Operators.{◌!◌, Kind, operand}
 use Rattle.def_typing.specs.Parts.{Among, here, later}
@@ -158,6 +159,9 @@ module _ (g : Gathers) (j : Judges g) (lawful : Lawful g j) (names : Ident → S
 
   first_so : (name : Ident) → IfMeant (λ x. named_of x ≡ Called name) (first_name g s name)
   first_so name = if_then (by_equal (looked_up g s name) (λ m e. e)) (λ m e. if_plain (if_as (λ x q. q ∙ sym (level_so (senses.of_names name) (grasps.of_names name m e))) (named_so g s.level name.pos m)))
+
+  leading_so : (name : Ident) (ss : List Selector) → IfMeant (λ x. named_of x ≡ Called name) (leading_name g s name (map (picks g) ss))
+  leading_so name ss = leading_keeps g s name (IfMeant (λ x. named_of x ≡ Called name)) (λ e. not_meant e) (map (picks g) ss) (first_so name)
 
   exported_so : (k : ℕ) (name : Ident) → IfMeant (λ x. named_of x ≡ named senses.level (senses.of_exports k name)) (name_in_module g s k name)
   exported_so k name = by_export (exported_by name.name (slice_get s.tables k)) refl
@@ -336,7 +340,7 @@ module _ (g : Gathers) (j : Judges g) (lawful : Lawful g j) (names : Ident → S
   fold_picks (y ∷ ys) d = fold_picks ys _
 
   pub names_so : (d : Designator) → AreIndexed (out-Designator d).selectors → IfMeant (IsNamed (Names s.types names exports senses d)) ((head g d).means s)
-  names_so d h = subst (IfMeant (IsNamed (Names s.types names exports senses d))) (sym (ap (λ (m : Meant g.Reported). m.means s) (head_is g d) ∙ fold_picks (out-Designator d).selectors (first_name g s (out-Designator d).name))) (by_first (first_so (out-Designator d).name))
+  names_so d h = subst (IfMeant (IsNamed (Names s.types names exports senses d))) (sym (ap (λ (m : Meant g.Reported). m.means s) (head_is g d) ∙ fold_picks (out-Designator d).selectors (leading_name g s (out-Designator d).name (map (picks g) (out-Designator d).selectors)))) (by_first (leading_so (out-Designator d).name (out-Designator d).selectors))
     where
       ended : (x y : Designated) → named_of x ≡ Called (out-Designator d).name → AllBehind x (out-Designator d).selectors y → IsNamed (Names s.types names exports senses d) y
       ended x y e a = record { holds = λ n q. let r = a.holds n q in rules.by_name (sym e ∙ r.1) r.2; alone = λ n r. alone n r }
@@ -408,5 +412,6 @@ module _ (g : Gathers) (j : Judges g) (lawful : Lawful g j) (names : Ident → S
   codeless_all (y ∷ ys) (not_meant r) = if_refused (all_refused (y ∷ ys) (is_refused r))
 
   pub head_codeless : (d : Designator) → IfMeant IsCodeless ((head g d).means s)
-  head_codeless d = subst (IfMeant IsCodeless) (sym (ap (λ (m : Meant g.Reported). m.means s) (head_is g d) ∙ fold_picks (out-Designator d).selectors (first_name g s (out-Designator d).name)))
-      (codeless_all (out-Designator d).selectors (if_then {P = λ m. Unit {0}} (by_equal (looked_up g s (out-Designator d).name) (λ m e. tt)) (λ m u. if_plain (codeless_meaning (out-Designator d).name.pos m))))
+  head_codeless d = subst (IfMeant IsCodeless) (sym (ap (λ (m : Meant g.Reported). m.means s) (head_is g d) ∙ fold_picks (out-Designator d).selectors (leading_name g s (out-Designator d).name (map (picks g) (out-Designator d).selectors))))
+      (codeless_all (out-Designator d).selectors (leading_keeps g s (out-Designator d).name (IfMeant IsCodeless) (λ e. not_meant e) (map (picks g) (out-Designator d).selectors)
+      (if_then {P = λ m. Unit {0}} (by_equal (looked_up g s (out-Designator d).name) (λ m e. tt)) (λ m u. if_plain (codeless_meaning (out-Designator d).name.pos m)))))

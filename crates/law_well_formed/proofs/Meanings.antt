@@ -53,10 +53,11 @@ use Rattle.check_call.specs.declared.callee.Called.TheVariants as called
 use Rattle.check_call.specs.declared.standard.Form.{Form}
 use Rattle.check_call.specs.declared.standard.Form.TheVariants as form
 use Rattle.check_call.specs.declared.standard.Unary.{Unary}
-use Rattle.check_expr.specs.Meanings.{Meant, Picks, of_computed, signed_first, first_name, field_of, formals_of, passed_for, argument_by, call_given, as_constant, value_of, breaches_in_all, with_actual, actuals, routine_called, unary, bound, conversion, high, by_form, callee_value, call_in_expression, factor, term, relation, expr_layer, selector_layer, designator_layer, item_layer, meanings_of, picks, head, item}
+use Rattle.check_expr.proofs.Leading.{leading_keeps}
+use Rattle.check_expr.specs.Meanings.{Meant, Picks, of_computed, signed_first, first_name, leading_name, field_of, formals_of, passed_for, argument_by, call_given, as_constant, value_of, breaches_in_all, with_actual, actuals, routine_called, unary, bound, conversion, high, by_form, callee_value, call_in_expression, factor, term, relation, expr_layer, selector_layer, designator_layer, item_layer, meanings_of, picks, head, item}
 use Rattle.def_scheme.specs.Exprs.{is_there}
 use Rattle.law_modules.specs.WellFormed.{FunctionCall, AreArguments, no_arguments, FieldOf}
-use Rattle.law_well_formed.specs.Formed.{Holds, fine, FormedMeaning, FormedValue, FormedDesignated, IsFormed}
+use Rattle.law_well_formed.specs.Formed.{Holds, fine, broken, FormedMeaning, FormedValue, FormedDesignated, IsFormed}
 use Rattle.law_well_formed.proofs.Basics.{then_holds, reported_holds, both_holds, refused_holds, reported_beside_holds, ahead_holds, sort_holds, of_heading_holds, of_value_holds, sort_of_value_holds, plain_holds, any_holds, heading_kept}
 use Rattle.law_well_formed.proofs.Operators.{behind_formed, rooted_formed, signed_formed, negated_formed, combined_formed, field_formed, indexed_formed}
 use Rattle.law_well_formed.proofs.Calls.{given_formed, taken_formed, actual_formed, arguments_more, FormedCallee, FormedCalled, callee_formed, call_formed, unary_formed, bound_formed, conversion_formed, high_formed}
@@ -117,6 +118,9 @@ module _ (g : Gathers) (m : TypedModule) (opens : ℕ → Bool) (w : ℕ) (s : S
 
   named_formed : (name : Ident) → Designated_ (first_name g s name)
   named_formed name = then_holds (h.names name) (λ x p. plain_holds (by_meaning s.level name.pos x p))
+
+  leading_formed : (name : Ident) (ps : List (Picks g.Reported)) → Designated_ (leading_name g s name ps)
+  leading_formed name ps = leading_keeps g s name (λ d. Designated_ d) (λ e. broken e) ps (named_formed name)
 
   field_of_formed : (at : Pos) (name : Ident) (d : Designated) → FormedDesignated m opens w d → Designated_ (field_of g s at name d)
   field_of_formed at name (designated.Module k) p = then_holds (h.members k name p) (λ x q. by_meaning s.level name.pos x q)
@@ -320,7 +324,7 @@ module _ (g : Gathers) (m : TypedModule) (opens : ℕ → Bool) (w : ℕ) (s : S
   selector_formed (layer.Index p e) = λ d q. plain_holds (indexed_formed m w g opens s.types p (meanings_of g e.0).fixed.at (sort_holds g p rule.WrongType q) (value_formed (meanings_of g e.0) e.1))
 
   designator_formed : (y : Designator-F SE SS SD SI) → FM (designator_layer g (opened_designator (bare_designator y)))
-  designator_formed y = picks_formed (map (picks g) (map (λ (e : SS). e.0) y.selectors)) (first_name g s y.name) (named_formed y.name) (all_picks y.selectors)
+  designator_formed y = picks_formed (map (picks g) (map (λ (e : SS). e.0) y.selectors)) (leading_name g s y.name (map (picks g) (map (λ (e : SS). e.0) y.selectors))) (leading_formed y.name (map (picks g) (map (λ (e : SS). e.0) y.selectors))) (all_picks y.selectors)
 
   -- ---- the induction
 

@@ -35,10 +35,7 @@ where
     P: Print + Drop,
 {
     match request {
-        RunRequest::Run { given, steps, told } => {
-            let program = given.program.as_str();
-            run_file(rt, &given.setting, program, &given.input, *steps, told, out)
-        }
+        RunRequest::Run { given, steps, told } => run_file(rt, given, *steps, told, out),
         RunRequest::Cost {
             program,
             inputs,
@@ -46,10 +43,7 @@ where
             steps,
             plot,
         } => cost_file(rt, setting, program.as_str(), inputs, *steps, plot, out),
-        RunRequest::Debug { given, steps } => {
-            let (setting, program) = (&given.setting, given.program.as_str());
-            debug_file(rt, setting, program, &given.input, *steps, is_typed, out)
-        }
+        RunRequest::Debug { given, steps } => debug_file(rt, given, *steps, is_typed, out),
         RunRequest::Adapt { setting, steps } => serve_debugger(rt, setting, *steps, out),
     }
 }
@@ -76,10 +70,7 @@ where
             };
             build_into(rt, &given.setting, given.program.as_str(), &wanted)
         }
-        BuildRequest::Single { given, host, out } => {
-            let (setting, program) = (&given.setting, given.program.as_str());
-            build_single(rt, setting, program, &given.input, *host, out.as_str())
-        }
+        BuildRequest::Single { given, host, out } => build_single(rt, given, *host, out.as_str()),
         BuildRequest::Compile {
             file,
             setting,

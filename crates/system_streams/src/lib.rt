@@ -11,4 +11,4 @@ pub use notes::Notes;
 pub use reading::InFolder;
 pub use sources::{is_stream, read_text};
 pub use stream::{ByteStream, LineStream};
-pub use writing::OutFolder;
+pub use writing::{OutFolder, remove_if_there};

@@ -3,9 +3,24 @@
 ghost use Rattle.std.specs.Prelude.{◌≡◌, []};
 
 use crate::notes::{Notes, nothing, with_removal, with_write};
+use std::io::ErrorKind;
 use std::rt::Files;
 use std::{fs, io};
 use write_directory::OutDir;
+
+/// Removes the file of this path, if it is there.
+pub fn remove_if_there<R: Files>(rt: &R, path: &str) -> io::Result<()> {
+    match fs::remove_file(rt, path) {
+        Ok(()) => Ok(()),
+        Err(error) => {
+            if error.kind() == ErrorKind::NotFound {
+                Ok(())
+            } else {
+                Err(error)
+            }
+        }
+    }
+}
 
 /// A folder into which files are written.
 #[derive(Drop)]
@@ -48,10 +63,7 @@ impl<'a, R: Files + AllocGlobal> OutFolder<'a, R> {
     /// Removes the file of this name, if it is there.
     fn remove_file(&self, name: &str) -> io::Result<()> {
         let path = self.path_of(name)?;
-        if fs::exists(self.rt, path.as_str())? {
-            fs::remove_file(self.rt, path.as_str())?;
-        }
-        Ok(())
+        remove_if_there(self.rt, path.as_str())
     }
 
     /// Writes the file of this name.

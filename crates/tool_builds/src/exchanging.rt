@@ -74,5 +74,5 @@ where
     give_file(rt, input, &mut program)?;
     let built = build_found(rt, setting, READER_FILE, program)?;
     let Modules { link, others, .. } = exchanged(rt, folder, input_of(rt.alloc(), built))?;
-    Ok(save_modules(rt, &link, others, folder))
+    Ok(save_modules(rt, &link, others, folder)?)
 }

@@ -14,10 +14,10 @@ mod renewing;
 mod saving;
 mod wanted;
 
-pub use building::{Modules, build_program, say_fault, show_refused};
+pub use building::{Modules, build_program, say_fault};
 pub use checking::check_all;
 pub use exchanging::exchange_input;
-pub use giving::give_input;
+pub use giving::{Ready, give_input, load_given};
 pub use linking::build_single;
 pub use saving::build_into;
 pub use wanted::Wanted;

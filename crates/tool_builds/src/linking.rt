@@ -1,14 +1,13 @@
 //! `m2 build --single`: a program as one module, written into a file.
 
 use crate::building::build_found;
-use crate::giving::give_input;
+use crate::giving::find_given;
 use command_words::{Exit, FAILED};
-use find_files::find_program;
 use link_single::{Host, single_module};
 use std::fs;
 use std::rt::Files;
 use std::thread::Threads;
-use tool_words::{PROGRAM, Setting};
+use tool_words::{Given, PROGRAM};
 
 /// The status if the module is written.
 const WRITTEN: u8 = 0;
@@ -34,20 +33,13 @@ fn write_module<R: Files + Eprint>(rt: &R, bytes: &[u8], out: &str) -> u8 {
     }
 }
 
-/// Builds the program of this file, with this input, and writes it as one module over this host into the file `out`. The status.
-pub fn build_single<R>(
-    rt: &R,
-    setting: &Setting,
-    path: &str,
-    input: &Option<String>,
-    host: Host,
-    out: &str,
-) -> Result<u8, Exit>
+/// Builds a program, and writes it as one module over this host into the file `out`. The status.
+pub fn build_single<R>(rt: &R, given: &Given, host: Host, out: &str) -> Result<u8, Exit>
 where
     R: Files + Input + Print + Eprint + AllocGlobal + Threads + Sync,
 {
-    let mut program = find_program(rt, setting, path)?;
-    give_input(rt, path, input, &mut program)?;
+    let (setting, path) = (&given.setting, given.program.as_str());
+    let program = find_given(rt, setting, path, &given.input)?;
     let modules = build_found(rt, setting, path, program)?;
     match single_module(rt.alloc(), host, &modules.link, &modules.others) {
         Ok(bytes) => Ok(write_module(rt, &bytes, out)),

@@ -8,7 +8,7 @@ use crate::wanted::Wanted;
 use anyhow::Result;
 use command_words::{Exit, FAILED};
 use find_files::{Program, text_of_program};
-use kept_modules::{Kept, keep};
+use kept_modules::{Kept, keep, short_sum};
 use m2c::{SaveFault, SourceFile, save};
 use renew_modules::{Renewal, sums_of};
 use std::alloc::AllocError;
@@ -21,6 +21,12 @@ use tool_words::{PROGRAM, Setting};
 
 /// The status if the modules are written.
 const BUILT: u8 = 0;
+
+/// How often modules are written, if another build writes into their folder.
+const MOST_TURNS: usize = 16;
+
+/// The base of the digits of a checksum.
+const SIXTEEN: u8 = 16;
 
 /// The name of the module that a program begins with.
 const LINK: &str = "link";
@@ -58,20 +64,79 @@ where
     }
 }
 
+/// Modules whose files hold their bytes, and modules whose files do not.
+#[derive(Drop)]
+struct Divided {
+    held: Vec<(String, Vec<u8>)>,
+    others: Vec<(String, Vec<u8>)>,
+}
+
+/// Tells apart which modules stand in this folder as they are.
+fn divide<R: Files + AllocGlobal>(
+    rt: &R,
+    modules: Vec<(String, Vec<u8>)>,
+    out: &str,
+) -> Result<Divided, AllocError> {
+    let mut held = Vec::new(rt.alloc());
+    let mut others = Vec::new(rt.alloc());
+    for module in modules {
+        if is_kept(rt, out, module.0.as_str(), &module.1) {
+            held.push(module)?;
+        } else {
+            others.push(module)?;
+        }
+    }
+    Ok(Divided { held, others })
+}
+
+/// How often a build looks whether so many modules are there, before it writes them once more: another number for each build and each
+/// turn, so that two builds do not go on overwriting each other. Its checksum has these digits.
+fn looks_of(digits: &[u8], turn: usize, modules: usize) -> usize {
+    let digit = digits.get(turn).map_or(0, |it| usize::from(it % SIXTEEN));
+    digit.saturating_mul(turn).saturating_mul(modules)
+}
+
+/// Looks so often whether modules are there, or until they are.
+fn look<R: Files + AllocGlobal>(rt: &R, modules: &[(String, Vec<u8>)], out: &str, looks: usize) {
+    for _ in 0..looks {
+        if modules
+            .iter()
+            .all(|it| is_kept(rt, out, it.0.as_str(), &it.1))
+        {
+            return;
+        }
+    }
+}
+
 /// Writes modules into this folder, link last, and answers the status. A file that holds the bytes of its module already keeps its
-/// time; if any other is written, link is removed first and written last. If none is, nothing is touched.
+/// time; if any other is written, link is removed first and written last. If none is, nothing is touched. What was written is read once
+/// more, and written again if another build wrote something else in the meantime: so the last one that writes has all its modules there.
 pub fn save_modules<R: Files + Eprint + AllocGlobal>(
     rt: &R,
     link: &[u8],
     modules: Vec<(String, Vec<u8>)>,
     out: &str,
-) -> u8 {
-    let mut others = modules;
-    others.retain(|it| !is_kept(rt, out, it.0.as_str(), &it.1));
-    if others.is_empty() && is_kept(rt, out, LINK, link) {
-        return BUILT;
+) -> Result<u8, AllocError> {
+    let mut modules = modules;
+    for turn in 0..MOST_TURNS {
+        let Divided { held, mut others } = divide(rt, modules, out)?;
+        if others.is_empty() && is_kept(rt, out, LINK, link) {
+            return Ok(BUILT);
+        }
+        if let Some(first) = others.first() {
+            let sum = short_sum(rt.alloc(), &first.1)?;
+            let looks = looks_of(sum.as_bytes(), turn, others.len());
+            look(rt, &others, out, looks);
+        }
+        let status = save_changed(rt, link, &others, out);
+        if status != BUILT {
+            return Ok(status);
+        }
+        modules = held;
+        modules.append(&mut others)?;
     }
-    save_changed(rt, link, &others, out)
+    let _ = eprintln!(rt; "{PROGRAM}: another build writes into {out}: build once more");
+    Ok(FAILED)
 }
 
 /// The files of the modules of these names in a folder, link first.
@@ -167,7 +232,7 @@ fn save_renewal<R: Files + Eprint + AllocGlobal>(
         )?;
     }
     let is_same = compiled.is_empty() && is_kept(rt, wanted.out, LINK, &link);
-    let status = save_modules(rt, &link, compiled, wanted.out);
+    let status = save_modules(rt, &link, compiled, wanted.out)?;
     if status != BUILT {
         return Ok(Some(status));
     }
@@ -215,7 +280,7 @@ where
         pages,
     )?;
     let Modules { link, others, .. } = modules;
-    let status = save_modules(rt, &link, others, wanted.out);
+    let status = save_modules(rt, &link, others, wanted.out)?;
     if status == BUILT {
         if let Some(kept) = kept {
             write_kept_file(rt, path, &kept)?;

@@ -3,15 +3,12 @@
 use anyhow::Result;
 use command_words::{Exit, FAILED};
 use debug_protocol::{Program, Session, follow};
-use find_files::find_program;
-use pool_board::Open;
-use run_program::{Loaded, load_program};
 use std::io;
 use std::rt::Files;
 use std::thread::Threads;
-use tool_builds::{give_input, say_fault, show_refused};
+use tool_builds::{Ready, load_given};
 use tool_output::say_output_fault;
-use tool_words::{PROGRAM, Setting, Style};
+use tool_words::{Given, PROGRAM, Style};
 
 /// The status of a session that is over.
 const ENDED: u8 = 0;
@@ -93,13 +90,11 @@ where
     answer_lines(rt, &mut session, terminal)
 }
 
-/// A session with the program of this file, which reads this input and makes at most `steps` reductions. Commands come from standard
-/// input, and answers go to this stream. The status.
+/// A session with a program, which makes at most `steps` reductions. Commands come from standard input, and answers go to this
+/// stream. The status.
 pub fn debug_file<R, P>(
     rt: &R,
-    setting: &Setting,
-    path: &str,
-    input: &Option<String>,
+    given: &Given,
     steps: u64,
     is_typed: bool,
     out: P,
@@ -108,16 +103,9 @@ where
     R: Files + Input + Print + Eprint + AllocGlobal + Threads + Sync,
     P: Print + Drop,
 {
-    let mut found = find_program(rt, setting, path)?;
-    give_input(rt, path, input, &mut found)?;
-    match load_program(rt, rt.alloc(), &found.files, setting.options, &Open) {
-        Ok(Loaded::Refused(refusals)) => return show_refused(rt, setting, &found, &refusals),
-        Ok(Loaded::Ready(_)) => {}
-        Err(fault) => {
-            say_fault(rt, path, fault);
-            return Ok(FAILED);
-        }
-    }
+    let (setting, path) = (&given.setting, given.program.as_str());
+    let Ready { found, program } = load_given(rt, setting, path, &given.input)?;
+    drop(program);
     let Some(followed) = follow(rt, &found.files, setting.options)? else {
         return Ok(say_unwatched(rt, path));
     };

@@ -4,9 +4,9 @@ use build_jobs::SourceFile;
 use command_words::{Exit, FAILED, VERSION};
 use link_parts::{Part, write_part};
 use std::alloc::AllocError;
-use std::io::ErrorKind;
 use std::rt::Files;
 use std::{fs, io};
+use system_streams::remove_if_there;
 use tool_output::{holds_bytes, write_changed, write_depends};
 use tool_words::PROGRAM;
 
@@ -33,20 +33,6 @@ struct Paths {
     program: String,
 }
 
-/// Removes a file, if it is there.
-fn remove<R: Files>(rt: &R, path: &str) -> io::Result<()> {
-    match fs::remove_file(rt, path) {
-        Ok(()) => Ok(()),
-        Err(error) => {
-            if error.kind() == ErrorKind::NotFound {
-                Ok(())
-            } else {
-                Err(error)
-            }
-        }
-    }
-}
-
 /// Writes the two files of a module, M.link last. If another program was linked from what stood there, its link is removed first.
 fn write_files<R: Files + AllocGlobal>(
     rt: &R,
@@ -56,8 +42,8 @@ fn write_files<R: Files + AllocGlobal>(
 ) -> io::Result<()> {
     let (wasm, link) = (paths.wasm.as_str(), paths.link.as_str());
     if !(holds_bytes(rt, wasm, code) && holds_bytes(rt, link, text.as_bytes())) {
-        remove(rt, paths.program.as_str())?;
-        remove(rt, link)?;
+        remove_if_there(rt, paths.program.as_str())?;
+        remove_if_there(rt, link)?;
     }
     write_changed(rt, wasm, code)?;
     fs::write(rt, link, text.as_bytes())

@@ -1,16 +1,14 @@
 //! `m2 run --cost`: what runs with several inputs cost.
 
 use command_words::{Exit, FAILED};
-use find_files::{Program as FoundProgram, find_program};
-use pool_board::Open;
 use run_directory::end_word;
-use run_program::{End, Loaded, Program, load_program};
+use run_program::{End, Program};
 use show_profile::{Cost, cost_plot, cost_table};
 use std::alloc::Global;
 use std::fs;
 use std::rt::Files;
 use std::thread::Threads;
-use tool_builds::{give_input, say_fault, show_refused};
+use tool_builds::{Ready, load_given};
 use tool_output::say_output_fault;
 use tool_words::{PROGRAM, Setting};
 use wasm_engine::Sink;
@@ -143,41 +141,21 @@ where
     }
 }
 
-/// What comes of a program with an input.
-#[derive(Clone, Copy)]
-enum Outcome {
-    Counted(Cost),
-    /// It has ended already, with this status.
-    Over(u8),
-}
-
-/// Builds the program of this file with an input, and counts its run.
+/// Builds the program of this file with an input, and counts its run. That a run did not end well is said, and nothing is answered.
 fn count_file<R>(
     rt: &R,
     setting: &Setting,
     path: &str,
     input: &String,
     steps: u64,
-) -> Result<Outcome, Exit>
+) -> Result<Option<Cost>, Exit>
 where
     R: Files + Input + Print + Eprint + AllocGlobal + Threads + Sync,
 {
-    let mut found: FoundProgram = find_program(rt, setting, path)?;
     let named = Some(String::from_str(rt.alloc(), input.as_str())?);
-    give_input(rt, path, &named, &mut found)?;
-    match load_program(rt, rt.alloc(), &found.files, setting.options, &Open) {
-        Ok(Loaded::Refused(refusals)) => {
-            Ok(Outcome::Over(show_refused(rt, setting, &found, &refusals)?))
-        }
-        Ok(Loaded::Ready(program)) => Ok(match cost_of(rt, &program, input.as_str(), steps) {
-            Some(cost) => Outcome::Counted(cost),
-            None => Outcome::Over(FAULTED),
-        }),
-        Err(fault) => {
-            say_fault(rt, path, fault);
-            Ok(Outcome::Over(FAILED))
-        }
-    }
+    let Ready { found, program } = load_given(rt, setting, path, &named)?;
+    drop(found);
+    Ok(cost_of(rt, &program, input.as_str(), steps))
 }
 
 /// Writes the plot, if a file is named for it. The status.
@@ -214,10 +192,10 @@ where
 {
     let mut costs = Vec::new(rt.alloc());
     for input in inputs {
-        match count_file(rt, setting, path, input, steps)? {
-            Outcome::Counted(cost) => costs.push(cost)?,
-            Outcome::Over(status) => return Ok(status),
-        }
+        let Some(cost) = count_file(rt, setting, path, input, steps)? else {
+            return Ok(FAULTED);
+        };
+        costs.push(cost)?;
     }
     let table = cost_table(rt.alloc(), &costs)?;
     let mut out = out;

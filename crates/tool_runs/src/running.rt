@@ -6,15 +6,14 @@ use crate::measuring::say_measured;
 use crate::tracing::trace_program;
 use command_words::{Exit, FAILED};
 use debug_runs::explain_run;
-use find_files::{Program as FoundProgram, find_program};
-use pool_board::Open;
+use find_files::Program as FoundProgram;
 use run_directory::end_word;
-use run_program::{End, Instances, Loaded, Program, load_program};
+use run_program::{End, Instances, Program};
 use std::rt::Files;
 use std::thread::Threads;
-use tool_builds::{give_input, say_fault, show_refused};
+use tool_builds::{Ready, load_given, say_fault};
 use tool_output::{Screen, say_output_fault};
-use tool_words::{Measured, PROGRAM, Setting, Style};
+use tool_words::{Given, Measured, PROGRAM, Setting, Style};
 use wasm_engine::RunFault;
 
 /// The status of a program that ended by itself or by HALT.
@@ -186,44 +185,10 @@ where
     };
 }
 
-/// Executes the program of the file of this name, if it is ready, and else shows what is refused of it. The status.
-fn finish<R, P>(
-    rt: &R,
-    setting: &Setting,
-    path: &str,
-    found: &FoundProgram,
-    loaded: Loaded,
-    steps: u64,
-    told: &Measured,
-    out: P,
-) -> Result<u8, Exit>
-where
-    R: Files + Print + Eprint + AllocGlobal + Threads + Sync,
-    P: Print + Drop,
-{
-    match loaded {
-        Loaded::Refused(refusals) => show_refused(rt, setting, found, &refusals),
-        Loaded::Ready(program) => {
-            let mut screen = Screen::new(rt.alloc(), out)?;
-            let (status, end) = execute(rt, path, &program, steps, &mut screen);
-            drop(program);
-            if let Some(end) = end.filter(|it| has_place(*it)) {
-                say_place(rt, setting, found, end, steps);
-            }
-            let is_told = say_measured(rt, setting, found, steps, told)?;
-            let is_traced = trace_program(rt, setting, found, steps, &told.trace, told.most_lines)?;
-            Ok(if is_told && is_traced { status } else { FAILED })
-        }
-    }
-}
-
-/// Builds the program of this file in memory, with this input, and executes it for at most `steps` reductions. It prints on
-/// this stream. The status.
+/// Builds a program in memory, and executes it for at most `steps` reductions. It prints on this stream. The status.
 pub fn run_file<R, P>(
     rt: &R,
-    setting: &Setting,
-    path: &str,
-    input: &Option<String>,
+    given: &Given,
     steps: u64,
     told: &Measured,
     out: P,
@@ -232,13 +197,15 @@ where
     R: Files + Input + Print + Eprint + AllocGlobal + Threads + Sync,
     P: Print + Drop,
 {
-    let mut found = find_program(rt, setting, path)?;
-    give_input(rt, path, input, &mut found)?;
-    match load_program(rt, rt.alloc(), &found.files, setting.options, &Open) {
-        Ok(loaded) => finish(rt, setting, path, &found, loaded, steps, told, out),
-        Err(fault) => {
-            say_fault(rt, path, fault);
-            Ok(FAILED)
-        }
+    let (setting, path) = (&given.setting, given.program.as_str());
+    let Ready { found, program } = load_given(rt, setting, path, &given.input)?;
+    let mut screen = Screen::new(rt.alloc(), out)?;
+    let (status, end) = execute(rt, path, &program, steps, &mut screen);
+    drop(program);
+    if let Some(end) = end.filter(|it| has_place(*it)) {
+        say_place(rt, setting, &found, end, steps);
     }
+    let is_told = say_measured(rt, setting, &found, steps, told)?;
+    let is_traced = trace_program(rt, setting, &found, steps, &told.trace, told.most_lines)?;
+    Ok(if is_told && is_traced { status } else { FAILED })
 }
