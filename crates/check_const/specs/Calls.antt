@@ -10,7 +10,7 @@ use Rattle.typed_tree.specs.declared.meaning.Standard.TheVariants.{Abs, Cap, Chr
 use Rattle.typed_tree.specs.declared.known_types.Types.{Types}
 use Rattle.typed_tree.specs.Known.{scalar_at}
 use Rattle.check_scope.specs.Elaborated.{Gathers, report, both, ◌▷◌}
-use Rattle.check_const_ops.specs.Standards.{absolute, capital, character, is_odd, ordinal_of, bound_of, conversion_of}
+use Rattle.check_const.specs.Standards.{absolute, capital, character, is_odd, ordinal_of, bound_of, conversion_of}
 use Rattle.check_const.specs.declared.denoted.Denoted.{Denoted}
 use Rattle.check_const.specs.declared.denoted.Denoted.TheVariants as denoted
 use Rattle.check_const.specs.declared.call.Sort.{Sort}

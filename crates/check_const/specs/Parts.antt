@@ -22,12 +22,12 @@ use Rattle.typed_tree.specs.Types.{char}
 use Rattle.check_scope.specs.Elaborated.{Gathers, report, both, of_sort, ◌▷◌}
 use Rattle.check_scope.specs.declared.scope.Scope.{Scope}
 use Rattle.check_scope.specs.Scopes.{looked_up}
-use Rattle.check_const_ops.specs.declared.operand.Ordinal.{Ordinal}
-use Rattle.check_const_ops.specs.declared.operator.BinaryOp.TheVariants as op
-use Rattle.check_const_ops.specs.Operators.{mul_op, add_op}
-use Rattle.check_const_ops.specs.Operands.{number_value}
-use Rattle.check_const_ops.specs.Operate.{constant_operation, with_sign, negation}
-use Rattle.check_const_ops.specs.Sets.{set_element, single, span_of}
+use Rattle.check_const.specs.declared.operand.Ordinal.{Ordinal}
+use Rattle.check_const.specs.declared.operator.BinaryOp.TheVariants as op
+use Rattle.check_const.specs.Operators.{mul_op, add_op}
+use Rattle.check_const.specs.Operands.{number_value}
+use Rattle.check_const.specs.Operate.{constant_operation, with_sign, negation}
+use Rattle.check_const.specs.Sets.{set_element, single, span_of}
 use Rattle.check_const.specs.declared.denoted.Denoted.{Denoted}
 use Rattle.check_const.specs.declared.denoted.Denoted.TheVariants as denoted
 use Rattle.check_const.specs.declared.call.Sort.{Sort}

@@ -5,7 +5,7 @@ ghost use Rattle.check_scope.specs.Elaborated.{least, ◌▷◌};
 ghost use Rattle.check_const.specs.Calls.{sort_of, scalar_type, type_in, type_argument, unary_of, unary, bound_by, bound, conversion_call};
 
 use crate::denoted::Denoted;
-use check_const_ops::{absolute, bound_of, capital, character, conversion_of, is_odd, ordinal_of};
+use crate::standard::{absolute, bound_of, capital, character, conversion_of, is_odd, ordinal_of};
 use check_scope::{Elaborated, both, report};
 use m2_rule::Rule;
 use m2_tree::Pos;

@@ -8,8 +8,11 @@ ghost use Rattle.check_const.specs.Parts.{relation_value, sign_place, signed_fir
 
 use crate::call::type_in;
 use crate::denoted::{Denoted, component, denoted_by, denoted_of, is_bitset, of_value};
+use crate::elements::{set_element, single};
+use crate::operand::Ordinal;
+use crate::operate::{constant_operation, with_sign};
+use crate::operator::BinaryOp;
 use crate::qualified::exported_meaning;
-use check_const_ops::{BinaryOp, Ordinal, constant_operation, set_element, single, with_sign};
 use check_scope::{Elaborated, Scope, both, looked_up, of_sort};
 use m2_rule::{Breach, Rule};
 use m2_tree::{Ident, Operator, Pos, Quoted, RelOp, Sign};

@@ -10,8 +10,8 @@ use Rattle.check_scope.specs.declared.meaningless.Meaningless.{Meaningless}
 use Rattle.check_scope.specs.declared.scope.Scope.{Scope}
 use Rattle.check_scope.specs.Elaborated.{Gathers, plain, ◌▷◌}
 use Rattle.check_scope.specs.Scopes.{looked_up}
-use Rattle.check_operator.specs.declared.computed.Designated.{Designated}
-use Rattle.check_operator.specs.Values.{designated_by}
+use Rattle.check_value.specs.declared.computed.Designated.{Designated}
+use Rattle.check_value.specs.Values.{designated_by}
 use Rattle.check_expr.specs.Meanings.{first_name, leading_meaning, leading_name}
 
 module _ (g : Gathers) (s : Scope g.Reported) (name : Ident) where

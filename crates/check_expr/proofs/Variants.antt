@@ -27,16 +27,16 @@ use Rattle.typed_tree.specs.declared.types.TypeNo.{TypeNo}
 use Rattle.typed_tree.specs.declared.meaning.Value.{Value}
 use Rattle.typed_tree.specs.declared.meaning.Value.TheVariants as value
 use Rattle.typed_tree.specs.Types.{char}
-use Rattle.check_const_ops.specs.Operands.{number_value}
-use Rattle.check_const_ops.specs.Operate as values
+use Rattle.check_const.specs.Operands.{number_value}
+use Rattle.check_const.specs.Operate as values
 use Rattle.check_const.specs.declared.denoted.Denoted.{Denoted}
 use Rattle.check_const.specs.declared.denoted.Denoted.TheVariants as denoted
 use Rattle.check_const.specs.Denote.{of_value, component}
 use Rattle.check_const.specs.Parts.{Part, Pick, Adds, constant, named_type, set_of, set_type, set_place, sign_place}
 use Rattle.check_const.specs.Parts as constants
-use Rattle.check_operator.specs.declared.computed.Computed.{Computed}
-use Rattle.check_operator.specs.declared.computed.Designated.{Designated}
-use Rattle.check_operator.specs.Signs.{negation}
+use Rattle.check_value.specs.declared.computed.Computed.{Computed}
+use Rattle.check_value.specs.declared.computed.Designated.{Designated}
+use Rattle.check_value.specs.Signs.{negation}
 use Rattle.check_expr.specs.Meanings.{Meant, Picks, meanings_of, picks, head, item, part, type_of, names_by, with_look, breaches_in_all, look_in, value_standing, constant_factor_in, constant_term_in, constant_pick_in, item_in, of_computed, signed_first, relation, relation_value, leading_name, field_at, index_at, as_constant, value_of, factor, term, call_in_expression, with_actual, factor_in, term_in, pick_in, actual_in, use_with}
 use Rattle.check_expr.proofs.Leading.{leading_mapped}
 use Rattle.check_expr.proofs.Layers.{at, at_selector, at_designator, at_item}

@@ -18,12 +18,12 @@ use Rattle.typed_tree.specs.declared.statement.TypedStmt.TheVariants as step
 use Rattle.typed_tree.specs.Types.{cardinal}
 use Rattle.check_scope.specs.Elaborated.{Gathers, reported_beside, ahead, of_sort, of_heading, ◌▷◌}
 use Rattle.check_scope.specs.declared.scope.Scope.{Scope}
-use Rattle.check_operator.specs.Classes.{signature_at}
-use Rattle.check_call.specs.declared.callee.Callee.{Callee}
-use Rattle.check_call.specs.declared.callee.Called.{Called}
-use Rattle.check_call.specs.declared.callee.Called.TheVariants as called
-use Rattle.check_call.specs.Callees.{callee_of, proper_of, call_by}
-use Rattle.check_call.specs.Effects.{change_target, amount, change_by, set_variable, set_element, membership_of, put}
+use Rattle.check_value.specs.Classes.{signature_at}
+use Rattle.check_value.specs.declared.callee.Callee.{Callee}
+use Rattle.check_value.specs.declared.callee.Called.{Called}
+use Rattle.check_value.specs.declared.callee.Called.TheVariants as called
+use Rattle.check_value.specs.Callees.{callee_of, proper_of, call_by}
+use Rattle.check_value.specs.Effects.{change_target, amount, change_by, set_variable, set_element, membership_of, put}
 use Rattle.check_expr.specs.Meanings.{Meant, value_of, breaches_in_all, wrong_count, actuals, formals_of}
 
 abbrev pub call_done : {T : Type 0} → Callee → Result (List Argument) T → Result TypedStmt T

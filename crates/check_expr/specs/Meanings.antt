@@ -31,30 +31,30 @@ use Rattle.check_scope.specs.declared.meaningless.Meaningless.TheVariants.{Headl
 use Rattle.check_scope.specs.Elaborated.{Gathers, least, report, reported_beside, both, beside, ahead, of_sort, of_heading, of_value, of_sort_of_value, plain, ◌▷◌}
 use Rattle.check_scope.specs.declared.scope.Scope.{Scope}
 use Rattle.check_scope.specs.Scopes.{looked_up}
-use Rattle.check_const_ops.specs.declared.operator.BinaryOp.TheVariants as op
-use Rattle.check_const_ops.specs.Operators.{mul_op, add_op}
+use Rattle.check_const.specs.declared.operator.BinaryOp.TheVariants as op
+use Rattle.check_const.specs.Operators.{mul_op, add_op}
 use Rattle.check_const.specs.declared.denoted.Denoted.{Denoted}
 use Rattle.check_const.specs.Denote.{exported_meaning}
 use Rattle.check_const.specs.Parts.{Part, Pick, Adds, constant, named_type, sign_place}
 use Rattle.check_const.specs.Parts as constants
-use Rattle.check_operator.specs.declared.computed.Computed.{Computed}
-use Rattle.check_operator.specs.declared.computed.Computed.TheVariants as value
-use Rattle.check_operator.specs.declared.computed.Designated.{Designated}
-use Rattle.check_operator.specs.declared.computed.Designated.TheVariants as designated
-use Rattle.check_operator.specs.Classes.{signature_at}
-use Rattle.check_operator.specs.Values.{designated_by, function_result, value_at_place}
-use Rattle.check_operator.specs.Operations.{operation_between}
-use Rattle.check_operator.specs.Signs.{with_sign, negation}
-use Rattle.check_operator.specs.Selection.{field, indices, element_at_index}
-use Rattle.check_call.specs.declared.callee.Callee.{Callee}
-use Rattle.check_call.specs.declared.callee.Called.{Called}
-use Rattle.check_call.specs.declared.callee.Called.TheVariants as called
-use Rattle.check_call.specs.declared.standard.Unary.{Unary}
-use Rattle.check_call.specs.declared.standard.Form.{Form}
-use Rattle.check_call.specs.declared.standard.Form.TheVariants as form
-use Rattle.check_call.specs.Callees.{callee_of, function_of, call_by}
-use Rattle.check_call.specs.Actuals.{actual, next_formal, with_argument}
-use Rattle.check_call.specs.Functions.{form_of, unary_at, type_named, bound_at, conversion_at, high_of}
+use Rattle.check_value.specs.declared.computed.Computed.{Computed}
+use Rattle.check_value.specs.declared.computed.Computed.TheVariants as value
+use Rattle.check_value.specs.declared.computed.Designated.{Designated}
+use Rattle.check_value.specs.declared.computed.Designated.TheVariants as designated
+use Rattle.check_value.specs.Classes.{signature_at}
+use Rattle.check_value.specs.Values.{designated_by, function_result, value_at_place}
+use Rattle.check_value.specs.Operations.{operation_between}
+use Rattle.check_value.specs.Signs.{with_sign, negation}
+use Rattle.check_value.specs.Selection.{field, indices, element_at_index}
+use Rattle.check_value.specs.declared.callee.Callee.{Callee}
+use Rattle.check_value.specs.declared.callee.Called.{Called}
+use Rattle.check_value.specs.declared.callee.Called.TheVariants as called
+use Rattle.check_value.specs.declared.standard.Unary.{Unary}
+use Rattle.check_value.specs.declared.standard.Form.{Form}
+use Rattle.check_value.specs.declared.standard.Form.TheVariants as form
+use Rattle.check_value.specs.Callees.{callee_of, function_of, call_by}
+use Rattle.check_value.specs.Actuals.{actual, next_formal, with_argument}
+use Rattle.check_value.specs.Functions.{form_of, unary_at, type_named, bound_at, conversion_at, high_of}
 
 -- an expression or a designator: what it is as a constant expression, with the place of its first
 -- token, and what it stands for in a scope

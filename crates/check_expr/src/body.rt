@@ -4,13 +4,13 @@ ghost use Rattle.std.specs.Prelude.{◌≡◌, [], Ok, IfOk, map};
 ghost use Rattle.std.specs.List.{fold};
 ghost use Rattle.m2_rule.specs.declared.rule.Rule.TheVariants as rule;
 ghost use Rattle.check_scope.specs.Elaborated.{least, of_sort_of_value, reported_beside, ◌▷◌};
-ghost use Rattle.check_const_ops.specs.Operate as values;
+ghost use Rattle.check_const.specs.Operate as values;
 ghost use Rattle.check_const.specs.Denote.{of_value};
 ghost use Rattle.check_const.specs.Calls.{sort_of};
 ghost use Rattle.check_const.specs.Calls as calls;
 ghost use Rattle.check_const.specs.Parts.{value_at};
 ghost use Rattle.check_const.specs.Parts as constants;
-ghost use Rattle.check_call.specs.Functions.{form_of, unary_at, bound_at, high_of};
+ghost use Rattle.check_value.specs.Functions.{form_of, unary_at, bound_at, high_of};
 ghost use Rattle.check_expr.specs.Meanings.{part, meanings_of, picks, head, item, as_constant, of_computed, value_standing, value_of, scalar_named, actual_in, look_in, breaches_in_all, wrong_count, routine_called, by_form, call_in_expression, factor_in, term_in, pick_in, constant_factor_in, constant_term_in, item_in};
 
 use crate::fixed::denotation;
@@ -19,25 +19,21 @@ use crate::pieces::{
     index_at, leading_name, of_computed, place_of, related_parts, relation_value, signed_first,
     type_at, type_of, unary_of,
 };
-use check_call::{
-    Called, Callee, Form, Unary, bound_at, callee_of, conversion_at, form_of, function_of,
-    next_formal, with_argument,
-};
 use check_const::{
-    Denoted, Sort, bound as bound_by, constant_by, conversion_call, element_of, joined_bits,
-    named_type, of_value, set_of, set_type, sign_place, signed_first as constant_signed, single_of,
-    sort_of, text_of, type_argument, unary as unary_by, value_at,
-};
-use check_const_ops::{
-    add_op, constant_operation as combined_constants, mul_op, negation as negated_constant,
-    number_value, span_of,
-};
-use check_operator::{
-    Computed, Designated, negation, operation_between, signature_of, value_at_place,
+    Denoted, Sort, add_op, bound as bound_by, constant_by,
+    constant_operation as combined_constants, conversion_call, element_of, joined_bits, mul_op,
+    named_type, negation as negated_constant, number_value, of_value, set_of, set_type, sign_place,
+    signed_first as constant_signed, single_of, sort_of, span_of, text_of, type_argument,
+    unary as unary_by, value_at,
 };
 use check_scope::{
     Elaborated, Meaningless, Scope, Sought, beside, of_heading, plain, refusal_beside, report,
     reported_beside,
+};
+use check_value::{
+    Called, Callee, Computed, Designated, Form, Unary, bound_at, callee_of, conversion_at, form_of,
+    function_of, negation, next_formal, operation_between, signature_of, value_at_place,
+    with_argument,
 };
 use m2_rule::{Breach, Rule};
 use m2_tree::{AddOp, Designator, Expr, Ident, Item, MulOp, Operator, Pos, Selector};

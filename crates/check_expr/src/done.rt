@@ -2,18 +2,17 @@
 
 ghost use Rattle.std.specs.Prelude.{◌≡◌, IfOk, map};
 ghost use Rattle.check_scope.specs.Elaborated.{least, ◌▷◌};
-ghost use Rattle.check_call.specs.Effects.{amount, change_by, set_element, membership_of};
+ghost use Rattle.check_value.specs.Effects.{amount, change_by, set_element, membership_of};
 ghost use Rattle.check_expr.specs.Meanings.{meanings_of, head, value_of, wrong_count};
 ghost use Rattle.check_expr.specs.Effects.{routine_done, change_target_in, change_statement, set_in, member_by, put_by, standard_done, call_statement};
 
 use crate::body::{actuals, breaches_in_all, designation, stands_for, value_of};
 use crate::pieces::{first_of, formals_of, place_of};
-use check_call::{
-    Called, Callee, amount, call_by, callee_of, change_by, change_target, membership_of, proper_of,
-    put, set_element, set_variable,
-};
-use check_operator::signature_of;
 use check_scope::{Elaborated, Scope, of_heading, of_sort, refusal_beside, reported_beside};
+use check_value::{
+    Called, Callee, amount, call_by, callee_of, change_by, change_target, membership_of, proper_of,
+    put, set_element, set_variable, signature_of,
+};
 use m2_rule::{Breach, Rule};
 use m2_tree::{Designator, Expr, Pos};
 use std::alloc::{AllocError, Global};

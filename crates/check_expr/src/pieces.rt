@@ -4,22 +4,20 @@ ghost use Rattle.std.specs.Prelude.{◌≡◌, IfOk, Ok};
 ghost use Rattle.std.specs.Option.{option_copied};
 ghost use Rattle.check_scope.specs.Elaborated.{least, plain, of_sort, of_heading, of_sort_of_value, ◌▷◌};
 ghost use Rattle.check_scope.specs.Scopes.{looked_up};
-ghost use Rattle.check_operator.specs.Values.{designated_by};
+ghost use Rattle.check_value.specs.Values.{designated_by};
 ghost use Rattle.check_const.specs.Parts as constants;
-ghost use Rattle.check_call.specs.Functions.{type_named, high_of, unary_at};
+ghost use Rattle.check_value.specs.Functions.{type_named, high_of, unary_at};
 ghost use Rattle.check_expr.specs.Meanings.{part, meanings_of, head, of_computed, signed_first, relation_value, first_name, leading_meaning, field_of, field_at, index_at, formals_of, argument_by, call_given, type_of};
 ghost use Rattle.m2_rule.specs.declared.rule.Rule.TheVariants as rule;
 
-use check_call::{Callee, Unary, actual, call_by, high_of, type_named, unary_at};
-use check_const::{Denoted, exported_meaning, set_place, sign_place};
-use check_const_ops::BinaryOp;
-use check_operator::{
-    Computed, Designated, designated_by, element_at_index, field, function_result, indices,
-    operation_between, with_sign,
-};
+use check_const::{BinaryOp, Denoted, exported_meaning, set_place, sign_place};
 use check_scope::{
     Elaborated, Meaningless, Scope, Sought, looked_up, of_heading, of_sort, of_sort_of_value,
     of_value, plain, report,
+};
+use check_value::{
+    Callee, Computed, Designated, Unary, actual, call_by, designated_by, element_at_index, field,
+    function_result, high_of, indices, operation_between, type_named, unary_at, with_sign,
 };
 use m2_rule::{Breach, Rule};
 use m2_tree::{Designator, Expr, Ident, Operator, Pos, RelOp, Sign};
@@ -109,7 +107,7 @@ pub fn relation_value(
 }
 
 /// What a name of this meaning stands for.
-fn named(
+fn standing_of(
     alloc: Global,
     level: usize,
     at: Pos,
@@ -130,7 +128,7 @@ pub fn first_name(
 {
     match looked_up(scope, name)? {
         Err(meaningless) => Ok(Err(meaningless)),
-        Ok(meaning) => named(alloc, scope.level, name.pos, meaning),
+        Ok(meaning) => standing_of(alloc, scope.level, name.pos, meaning),
     }
 }
 
@@ -153,7 +151,7 @@ fn leading_meaning(
         | Meaning::Procedure(_)
         | Meaning::LocalProcedure(_)
         | Meaning::Standard(_)
-        | Meaning::Module(_) => named(alloc, level, at, meaning),
+        | Meaning::Module(_) => standing_of(alloc, level, at, meaning),
     }
 }
 

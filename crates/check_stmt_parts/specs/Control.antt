@@ -20,20 +20,20 @@ use Rattle.typed_tree.specs.Chains.{root_place}
 use Rattle.check_scope.specs.Elaborated.{Gathers, report, reported_where, both, of_sort, ◌▷◌}
 use Rattle.check_scope.specs.declared.scope.Scope.{Scope}
 use Rattle.check_scope.specs.Scopes.{looked_up}
-use Rattle.check_const_ops.specs.declared.operand.Ordinal.{Ordinal}
-use Rattle.check_const_ops.specs.Numbers.{fits}
-use Rattle.check_const_ops.specs.Standards.{whole_number}
+use Rattle.check_const.specs.declared.operand.Ordinal.{Ordinal}
+use Rattle.check_const.specs.Numbers.{fits}
+use Rattle.check_const.specs.Standards.{whole_number}
 use Rattle.check_const.specs.Parts.{constant}
-use Rattle.check_operator.specs.declared.class.Class.{Class}
-use Rattle.check_operator.specs.declared.class.Class.TheVariants as class
-use Rattle.check_operator.specs.declared.computed.Computed.{Computed}
-use Rattle.check_operator.specs.declared.side.Amount.TheVariants.{Known, Run}
-use Rattle.check_operator.specs.declared.side.Side.{Side}
-use Rattle.check_operator.specs.declared.side.Side.TheVariants as side
-use Rattle.check_operator.specs.Classes.{class_at}
-use Rattle.check_operator.specs.Values.{slot_of}
-use Rattle.check_operator.specs.Sides.{side_of}
-use Rattle.check_operator.specs.Suits.{sort_suits, bases_suit, value_suited}
+use Rattle.check_value.specs.declared.class.Class.{Class}
+use Rattle.check_value.specs.declared.class.Class.TheVariants as class
+use Rattle.check_value.specs.declared.computed.Computed.{Computed}
+use Rattle.check_value.specs.declared.side.Amount.TheVariants.{Known, Run}
+use Rattle.check_value.specs.declared.side.Side.{Side}
+use Rattle.check_value.specs.declared.side.Side.TheVariants as side
+use Rattle.check_value.specs.Classes.{class_at}
+use Rattle.check_value.specs.Values.{slot_of}
+use Rattle.check_value.specs.Sides.{side_of}
+use Rattle.check_value.specs.Suits.{sort_suits, bases_suit, value_suited}
 use Rattle.check_expr.specs.Meanings.{Meant, value_of}
 use Rattle.check_stmt_parts.specs.declared.control.Control.{Control}
 use Rattle.check_stmt_parts.specs.declared.control.Course.{Course}

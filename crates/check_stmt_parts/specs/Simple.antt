@@ -22,17 +22,17 @@ use Rattle.typed_tree.specs.Types.{boolean}
 use Rattle.check_scope.specs.Elaborated.{Gathers, report, reported_where, reported_beside, both, of_sort, ◌▷◌}
 use Rattle.check_scope.specs.declared.scope.Scope.{Scope}
 use Rattle.check_scope.specs.Scopes.{fields_at}
-use Rattle.check_operator.specs.declared.computed.Computed.{Computed}
-use Rattle.check_operator.specs.declared.computed.Designated.{Designated}
-use Rattle.check_operator.specs.declared.computed.Designated.TheVariants as designated
-use Rattle.check_operator.specs.declared.side.Amount.{Amount}
-use Rattle.check_operator.specs.declared.side.Amount.TheVariants.{Known, Run}
-use Rattle.check_operator.specs.declared.side.Side.{Side}
-use Rattle.check_operator.specs.declared.side.Side.TheVariants as side
-use Rattle.check_operator.specs.Classes.{array_at}
-use Rattle.check_operator.specs.Sides.{side_of}
-use Rattle.check_operator.specs.Suits.{value_suited}
-use Rattle.check_call.specs.Effects.{type_of_number, target_at, assignment_of}
+use Rattle.check_value.specs.declared.computed.Computed.{Computed}
+use Rattle.check_value.specs.declared.computed.Designated.{Designated}
+use Rattle.check_value.specs.declared.computed.Designated.TheVariants as designated
+use Rattle.check_value.specs.declared.side.Amount.{Amount}
+use Rattle.check_value.specs.declared.side.Amount.TheVariants.{Known, Run}
+use Rattle.check_value.specs.declared.side.Side.{Side}
+use Rattle.check_value.specs.declared.side.Side.TheVariants as side
+use Rattle.check_value.specs.Classes.{array_at}
+use Rattle.check_value.specs.Sides.{side_of}
+use Rattle.check_value.specs.Suits.{value_suited}
+use Rattle.check_value.specs.Effects.{type_of_number, target_at, assignment_of}
 use Rattle.check_expr.specs.Meanings.{Meant, meanings_of, value_of, first_name, field_of}
 use Rattle.check_stmt_parts.specs.declared.around.Around.{Around}
 

@@ -2,17 +2,17 @@
 
 ghost use Rattle.std.specs.Prelude.{◌≡◌, IfOk, Some};
 ghost use Rattle.check_scope.specs.Elaborated.{least};
-ghost use Rattle.check_operator.specs.declared.side.Side.TheVariants as side;
+ghost use Rattle.check_value.specs.declared.side.Side.TheVariants as side;
 ghost use Rattle.check_expr.specs.Meanings.{meanings_of, value_of};
 ghost use Rattle.check_stmt_parts.specs.Simple.{meant_if};
 ghost use Rattle.check_stmt_parts.specs.Control.{control_variable, is_own, control_by, control_of, start_at, limit_by, limit_at, step_by, step_of, type_of, base_of, course_of, repeated_for};
 
-use check_const_ops::{fits, whole_number};
+use check_const::{fits, whole_number};
 use check_expr::{constant_of, place_of, value_of};
-use check_operator::{
+use check_scope::{Elaborated, Scope, both, looked_up, of_sort, report};
+use check_value::{
     Amount, Class, Computed, Side, bases_suit, class_of, side_of, slot_of, sort_suits, value_suited,
 };
-use check_scope::{Elaborated, Scope, both, looked_up, of_sort, report};
 use m2_rule::{Breach, Rule};
 use m2_tree::{Expr, Ident, Pos};
 use std::alloc::{AllocError, Global};

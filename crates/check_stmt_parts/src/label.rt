@@ -3,16 +3,16 @@
 ghost use Rattle.std.specs.Prelude.{◌≡◌, IfOk, Some, Ok};
 ghost use Rattle.check_scope.specs.Elaborated.{least, ◌▷◌};
 ghost use Rattle.check_expr.specs.Meanings.{meanings_of};
-ghost use Rattle.check_const_ops.specs.Common.{common};
-ghost use Rattle.check_operator.specs.Classes.{class_at};
+ghost use Rattle.check_const.specs.Common.{common};
+ghost use Rattle.check_value.specs.Classes.{class_at};
 ghost use Rattle.check_stmt_parts.specs.Labels.{no_constant, suits_selector, suits_without, without_number, constant_bound, value_bound, bound_by, bound_of, suits_if, bound_suits, bounds_of, ordered_both, bounds_ordered, label_range, label_between, base_of, module_of, point_of, enter_label, item_label, with_item, labels_in};
 
 use crate::lists::with_next;
 use crate::{Point, Ranges};
-use check_const_ops::{Operand, Ordinal, are_ordered, fits_base, is_of_base, operand_of};
+use check_const::{Operand, Ordinal, are_ordered, fits_base, is_of_base, operand_of};
 use check_expr::{place_of, stands_for};
-use check_operator::{Class, Computed, Designated, class_of};
 use check_scope::{Elaborated, Meaningless, Scope, beside, both, report};
+use check_value::{Class, Computed, Designated, class_of};
 use m2_rule::{Breach, Rule};
 use m2_tree::{Expr, Item, Pos};
 use std::alloc::{AllocError, Global};

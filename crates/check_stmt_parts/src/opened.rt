@@ -6,8 +6,8 @@ ghost use Rattle.check_stmt_parts.specs.Simple.{element_of, component_behind, re
 
 use crate::simple::is_record;
 use check_expr::{field_of, first_name};
-use check_operator::{Designated, array_of};
 use check_scope::Scope;
+use check_value::{Designated, array_of};
 use m2_rule::Breach;
 use m2_tree::{Designator, Selector};
 use std::alloc::{AllocError, Global};

@@ -8,11 +8,13 @@ ghost use Rattle.check_expr.specs.Meanings.{meanings_of, head};
 ghost use Rattle.check_expr.specs.Effects.{call_statement};
 ghost use Rattle.check_stmt_parts.specs.Simple.{meant_if, given_back, return_statement, condition, assignment, or_none, selector_of, case_selector, record_of, into_record, out_of_record};
 
-use check_call::{assignment_of, target_at, type_of_number};
 use check_expr::{call_statement, designation, first_of, place_of, value_of};
-use check_operator::{Amount, Computed, Designated, Side, side_of, value_suited};
 use check_scope::{
     Elaborated, OpenedRecord, Scope, both, fields_of, of_sort, report, reported_beside,
+};
+use check_value::{
+    Amount, Computed, Designated, Side, assignment_of, side_of, target_at, type_of_number,
+    value_suited,
 };
 use m2_rule::{Breach, Rule};
 use m2_tree::{Designator, Expr, Pos};

@@ -24,7 +24,7 @@ use Rattle.check_scope.specs.declared.scope.Scope.{Scope}
 use Rattle.typed_tree.specs.Known.{scalar_at, cells_at}
 use Rattle.check_scope.specs.Scopes.{State, declare_name}
 use Rattle.check_scope.specs.Elaborated.{Gathers, least, report, reported_where, both, beside, ◌▷◌}
-use Rattle.check_const_ops.specs.declared.operand.Ordinal.{Ordinal}
+use Rattle.check_const.specs.declared.operand.Ordinal.{Ordinal}
 use Rattle.check_const.specs.Parts.{Part, constant}
 use Rattle.check_expr.specs.Meanings.{part}
 use Rattle.check_type_expr.specs.declared.field.Fields.{Fields}

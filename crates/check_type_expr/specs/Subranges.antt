@@ -7,13 +7,13 @@ use Rattle.typed_tree.specs.declared.shape.Scalar.{Scalar}
 use Rattle.typed_tree.specs.declared.meaning.Value.{Value}
 use Rattle.typed_tree.specs.Types.{are_same, is_numeric, integer, cardinal}
 use Rattle.check_scope.specs.Elaborated.{Gathers, report, reported_where, both, beside, ◌▷◌}
-use Rattle.check_const_ops.specs.declared.operand.Ordinal.{Ordinal}
-use Rattle.check_const_ops.specs.declared.operand.Operand.{Operand}
-use Rattle.check_const_ops.specs.declared.operand.Operand.TheVariants as operands
-use Rattle.check_const_ops.specs.Operands.{operand_of}
-use Rattle.check_const_ops.specs.Numbers.{is_between, fits}
-use Rattle.check_const_ops.specs.Common.{common}
-use Rattle.check_const_ops.specs.Bounds.{ordinal_in, is_of_base, fits_base, bounds_in_order, are_ordered}
+use Rattle.check_const.specs.declared.operand.Ordinal.{Ordinal}
+use Rattle.check_const.specs.declared.operand.Operand.{Operand}
+use Rattle.check_const.specs.declared.operand.Operand.TheVariants as operands
+use Rattle.check_const.specs.Operands.{operand_of}
+use Rattle.check_const.specs.Numbers.{is_between, fits}
+use Rattle.check_const.specs.Common.{common}
+use Rattle.check_const.specs.Bounds.{ordinal_in, is_of_base, fits_base, bounds_in_order, are_ordered}
 
 -- ---- bounds
 

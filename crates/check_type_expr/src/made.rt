@@ -11,7 +11,7 @@ use crate::field::{Fields, no_fields, with_names};
 use crate::heading::procedure_type;
 use crate::named::{first_of, named_type};
 use crate::subrange::{bound_of, subrange_between, under};
-use check_const_ops::Ordinal;
+use check_const::Ordinal;
 use check_expr::{constant_of, place_of};
 use check_scope::{Elaborated, Scope, beside, both, declare, report};
 use m2_rule::{Breach, Rule};

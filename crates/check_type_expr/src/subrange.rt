@@ -4,7 +4,7 @@ ghost use Rattle.std.specs.Prelude.{◌≡◌};
 ghost use Rattle.check_scope.specs.Elaborated.{least, ◌▷◌};
 ghost use Rattle.check_type_expr.specs.Subranges.{bound_of, between, subrange_between, bound_in, are_bounds, under};
 
-use check_const_ops::{
+use check_const::{
     Ordinal, are_ordered, bounds_in_order, common, fits_base, is_of_base, operand_of, ordinal_in,
 };
 use check_scope::{Elaborated, beside, both, report};

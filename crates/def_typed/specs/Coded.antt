@@ -20,8 +20,8 @@ use Rattle.typed_tree.specs.declared.meaning.Standard.TheVariants.{Abs, Cap, Chr
 use Rattle.typed_tree.specs.declared.known_types.Types.{Types}
 use Rattle.typed_tree.specs.Chains.{link_operand}
 use Rattle.typed_tree.specs.Types.{bitset, boolean, cardinal}
-use Rattle.check_const_ops.specs.declared.operator.BinaryOp.{BinaryOp}
-use Rattle.check_const_ops.specs.declared.operator.BinaryOp.TheVariants.{Plus, Minus, Times, Over, Div, Mod, And, Or, Relation}
+use Rattle.check_const.specs.declared.operator.BinaryOp.{BinaryOp}
+use Rattle.check_const.specs.declared.operator.BinaryOp.TheVariants.{Plus, Minus, Times, Over, Div, Mod, And, Or, Relation}
 use Rattle.def_typing.specs.Amounts.{Amount, Constant, Value, sort_of, GoTogether}
 use Rattle.def_typing.specs.Operators.{Kind, Scalar, Set, Routine, Procedure, AreRoutines}
 

@@ -34,7 +34,7 @@ use Rattle.typed_tree.specs.declared.known_types.Types.{Types}
 use Rattle.typed_tree.specs.Chains.{behind, root_place}
 use Rattle.typed_tree.specs.Names.{place_of}
 use Rattle.typed_tree.specs.Types.{cardinal, char}
-use Rattle.check_const_ops.specs.declared.operator.BinaryOp.TheVariants as op
+use Rattle.check_const.specs.declared.operator.BinaryOp.TheVariants as op
 use Rattle.def_typing.specs.Parts.{Operand, factors, addends}
 use Rattle.def_typing.specs.Shapes.{IsMade}
 use Rattle.def_typing.specs.Amounts.{Value}

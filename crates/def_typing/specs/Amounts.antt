@@ -6,10 +6,10 @@ use Rattle.m2_tree.specs.declared.expr.Sign.{Sign}
 use Rattle.m2_tree.specs.declared.expr.Sign.TheVariants as sign
 use Rattle.typed_tree.specs.declared.types.TypeNo.{TypeNo}
 use Rattle.typed_tree.specs.Types.{integer, cardinal, boolean}
-use Rattle.check_const_ops.specs.declared.operator.BinaryOp.{BinaryOp}
-use Rattle.check_const_ops.specs.declared.operator.BinaryOp.TheVariants.{Plus, Minus, Times, Div, Mod, And, Or, Relation}
-use Rattle.check_const_ops.specs.Numbers.{quotient, remainder}
-use Rattle.check_const_ops.specs.Operate.{holds_between}
+use Rattle.check_const.specs.declared.operator.BinaryOp.{BinaryOp}
+use Rattle.check_const.specs.declared.operator.BinaryOp.TheVariants.{Plus, Minus, Times, Div, Mod, And, Or, Relation}
+use Rattle.check_const.specs.Numbers.{quotient, remainder}
+use Rattle.check_const.specs.Operate.{holds_between}
 
 -- A scalar is a constant, by its base type and its ordinal number, or a value of a base type. A
 -- constant that is made of number literals alone is a number, and has no type.

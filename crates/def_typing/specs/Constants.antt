@@ -21,8 +21,8 @@ use Rattle.typed_tree.specs.declared.shape.Shape.TheVariants as shape
 use Rattle.typed_tree.specs.declared.known_types.Types.{Types}
 use Rattle.typed_tree.specs.Types.{bitset, char}
 use Rattle.m2_rule.specs.declared.breach.Breach.{Breach}
-use Rattle.check_const_ops.specs.declared.operator.BinaryOp.TheVariants as op
-use Rattle.check_const_ops.specs.Sets.{with_span}
+use Rattle.check_const.specs.declared.operator.BinaryOp.TheVariants as op
+use Rattle.check_const.specs.Sets.{with_span}
 use Rattle.def_typing.specs.Shapes.{IsMade}
 use Rattle.def_typing.specs.Amounts.{Constant, IsNumber, GoTogether, Within}
 use Rattle.def_typing.specs.Operators.{◌!◌, Kind, Scalar, Set, Text, operand, Makes, Misused, Misapplied, MaySign, SignMakes, Negates}

@@ -22,7 +22,7 @@ use Rattle.typed_tree.specs.declared.shape.Signature.{Signature}
 use Rattle.typed_tree.specs.declared.known_types.Types.{Types}
 use Rattle.typed_tree.specs.Types.{cardinal, char}
 use Rattle.m2_rule.specs.declared.breach.Breach.{Breach}
-use Rattle.check_const_ops.specs.declared.operator.BinaryOp.TheVariants as op
+use Rattle.check_const.specs.declared.operator.BinaryOp.TheVariants as op
 use Rattle.def_typing.specs.Parts.{first, Operand, factors, addends, Among, IsInner}
 use Rattle.def_typing.specs.Constants.{Fixed, AConstant, Fixes, FixedReads, FixedFails, FixedScalar, IsFixedPart, IsTypePart}
 use Rattle.def_typing.specs.Amounts.{Constant, Value}

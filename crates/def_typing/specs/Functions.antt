@@ -15,7 +15,7 @@ use Rattle.typed_tree.specs.declared.shape.Signature.{Signature}
 use Rattle.typed_tree.specs.declared.known_types.Types.{Types}
 use Rattle.typed_tree.specs.Types.{boolean, cardinal, char}
 use Rattle.m2_rule.specs.declared.breach.Breach.{Breach}
-use Rattle.check_const_ops.specs.Standards.{upper}
+use Rattle.check_const.specs.Standards.{upper}
 use Rattle.def_typing.specs.Shapes.{shape_at, IsMade}
 use Rattle.def_typing.specs.Amounts.{Amount, Constant, Value, sort_of, IsNumber, Within, InRange, truth}
 use Rattle.def_typing.specs.Operators.{◌!◌, Kind, Scalar, Set, Text, Routine, Whole, Untaken, operand, Misapplied}

@@ -10,9 +10,9 @@ use Rattle.typed_tree.specs.declared.types.TypeNo.{TypeNo}
 use Rattle.typed_tree.specs.declared.known_types.Types.{Types}
 use Rattle.typed_tree.specs.Types.{boolean, char}
 use Rattle.m2_rule.specs.declared.breach.Breach.{Breach}
-use Rattle.check_const_ops.specs.declared.operator.BinaryOp.{BinaryOp}
-use Rattle.check_const_ops.specs.declared.operator.BinaryOp.TheVariants.{Plus, Minus, Times, Over, Relation}
-use Rattle.check_const_ops.specs.Sets.{without, has}
+use Rattle.check_const.specs.declared.operator.BinaryOp.{BinaryOp}
+use Rattle.check_const.specs.declared.operator.BinaryOp.TheVariants.{Plus, Minus, Times, Over, Relation}
+use Rattle.check_const.specs.Sets.{without, has}
 use Rattle.def_typing.specs.Shapes.{Agree}
 use Rattle.def_typing.specs.Amounts.{Amount, Constant, Value, sort_of, IsNumber, Within, InRange, Suits, Fits, IsArithmetic, IsDivision, BelowOne, Evaluates, AreRight, Gives, truth, TakesSign, Signs}
 

@@ -12,8 +12,8 @@ use Rattle.m2_tree.specs.declared.expr.Designator.{Designator}
 use Rattle.m2_tree.specs.declared.expr.Item.{Item}
 use Rattle.m2_tree.specs.declared.expr.Expr.{Expr, Expr-F, fold-Expr}
 use Rattle.m2_tree.specs.declared.expr.Expr.TheOpen as layer
-use Rattle.check_const_ops.specs.declared.operator.BinaryOp.{BinaryOp}
-use Rattle.check_const_ops.specs.Operators.{mul_op, add_op}
+use Rattle.check_const.specs.declared.operator.BinaryOp.{BinaryOp}
+use Rattle.check_const.specs.Operators.{mul_op, add_op}
 
 -- ---- places
 

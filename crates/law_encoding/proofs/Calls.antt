@@ -18,25 +18,25 @@ use Rattle.typed_tree.specs.declared.shape.Scalar.{Scalar as Range}
 use Rattle.typed_tree.specs.declared.types.TypeNo.{TypeNo}
 use Rattle.typed_tree.specs.Types.{is_numeric, cardinal}
 use Rattle.check_scope.specs.Elaborated.{Gathers}
-use Rattle.check_operator.specs.Classes.{class_at}
-use Rattle.check_operator.specs.Values.{given_as, function_result, loaded_as, variable_value, value_at_place}
-use Rattle.check_operator.specs.declared.class.Class.{Class}
-use Rattle.check_operator.specs.declared.class.Class.TheVariants as class
-use Rattle.check_operator.specs.declared.computed.Computed.{Computed}
-use Rattle.check_operator.specs.declared.computed.Computed.TheVariants as value
-use Rattle.check_operator.specs.declared.computed.Designated.{Designated}
-use Rattle.check_operator.specs.declared.computed.Designated.TheVariants as designated
-use Rattle.check_call.specs.Actuals.{variable_passed, open_passed, text_argument, text_passed, open_value, whole_passed}
-use Rattle.check_call.specs.Actuals.{simple_passed, passed_as, value_passed, actual}
-use Rattle.check_call.specs.Callees.{callee_in_variable, callee_of, call_by}
-use Rattle.check_call.specs.Functions.{unary_takes, unary_built, unary_at, bound_at, converted_value, conversion_at}
-use Rattle.check_call.specs.Functions.{high_of}
-use Rattle.check_call.specs.declared.callee.Callee.{Callee}
-use Rattle.check_call.specs.declared.callee.Callee.TheVariants as callee
-use Rattle.check_call.specs.declared.callee.Called.{Called}
-use Rattle.check_call.specs.declared.callee.Called.TheVariants as called
-use Rattle.check_call.specs.declared.standard.Unary.{Unary}
-use Rattle.check_call.specs.declared.standard.Unary.TheVariants as unary
+use Rattle.check_value.specs.Classes.{class_at}
+use Rattle.check_value.specs.Values.{given_as, function_result, loaded_as, variable_value, value_at_place}
+use Rattle.check_value.specs.declared.class.Class.{Class}
+use Rattle.check_value.specs.declared.class.Class.TheVariants as class
+use Rattle.check_value.specs.declared.computed.Computed.{Computed}
+use Rattle.check_value.specs.declared.computed.Computed.TheVariants as value
+use Rattle.check_value.specs.declared.computed.Designated.{Designated}
+use Rattle.check_value.specs.declared.computed.Designated.TheVariants as designated
+use Rattle.check_value.specs.Actuals.{variable_passed, open_passed, text_argument, text_passed, open_value, whole_passed}
+use Rattle.check_value.specs.Actuals.{simple_passed, passed_as, value_passed, actual}
+use Rattle.check_value.specs.Callees.{callee_in_variable, callee_of, call_by}
+use Rattle.check_value.specs.Functions.{unary_takes, unary_built, unary_at, bound_at, converted_value, conversion_at}
+use Rattle.check_value.specs.Functions.{high_of}
+use Rattle.check_value.specs.declared.callee.Callee.{Callee}
+use Rattle.check_value.specs.declared.callee.Callee.TheVariants as callee
+use Rattle.check_value.specs.declared.callee.Called.{Called}
+use Rattle.check_value.specs.declared.callee.Called.TheVariants as called
+use Rattle.check_value.specs.declared.standard.Unary.{Unary}
+use Rattle.check_value.specs.declared.standard.Unary.TheVariants as unary
 use Rattle.law_encoding.specs.Counted.{AtMost, fine}
 use Rattle.law_encoding.proofs.Sums.{le_by}
 use Rattle.law_encoding.proofs.Ways.{Way, ◌⊕⟨◌⟩◌, node, up, all_of, weight_typed, weight_place, weight_call}

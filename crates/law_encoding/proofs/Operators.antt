@@ -28,37 +28,37 @@ use Rattle.typed_tree.specs.Chains.{linked_to, link_operand, root_place, behind}
 use Rattle.typed_tree.specs.Types.{are_same, is_integer, is_numeric, boolean, bitset}
 use Rattle.check_scope.specs.Elaborated.{Gathers, ◌▷◌}
 use Rattle.check_scope.specs.Scopes.{fields_at}
-use Rattle.check_const_ops.specs.Common.{common}
-use Rattle.check_const_ops.specs.Operands.{operand_of, is_number}
-use Rattle.check_const_ops.specs.declared.operand.Operand.{Operand}
-use Rattle.check_const_ops.specs.declared.operand.Operand.TheVariants as operand
-use Rattle.check_const_ops.specs.declared.operator.BinaryOp.{BinaryOp}
-use Rattle.check_operator.specs.Classes.{class_at, array_at}
-use Rattle.check_operator.specs.Sides.{known_of, constant_side, side_of, sort_of, or_cardinal, run_of}
-use Rattle.check_operator.specs.Signs.{signed_scalar, signed_value, with_sign, negated_value, negation}
-use Rattle.check_operator.specs.Operations.{of_value, truth_of, step_of, set_step_of, equality_of, is_in, step_result}
-use Rattle.check_operator.specs.Operations.{fitting_both, step_or_refusal, on_amounts, element_fits, member, set_built}
-use Rattle.check_operator.specs.Operations.{on_sets, on_procedures, with_scalar, set_in, with_set, partner_of}
-use Rattle.check_operator.specs.Operations.{routine_of, with_partner, between, by_known, operation_between}
-use Rattle.check_operator.specs.Selection.{record_field, field, array_indexed, indices, index_type, element_of_array}
-use Rattle.check_operator.specs.Selection.{element_at_index}
-use Rattle.check_operator.specs.Suits.{scalar_suited, set_suited, procedure_suited, value_in, value_suited}
-use Rattle.check_operator.specs.declared.class.Class.{Class}
-use Rattle.check_operator.specs.declared.class.Class.TheVariants as class
-use Rattle.check_operator.specs.declared.computed.Computed.{Computed}
-use Rattle.check_operator.specs.declared.computed.Computed.TheVariants as value
-use Rattle.check_operator.specs.declared.computed.Designated.{Designated}
-use Rattle.check_operator.specs.declared.computed.Designated.TheVariants as designated
-use Rattle.check_operator.specs.declared.operate.SetStep.{SetStep}
-use Rattle.check_operator.specs.declared.operate.SetStep.TheVariants as set_step
-use Rattle.check_operator.specs.declared.operate.Step.{Step}
-use Rattle.check_operator.specs.declared.operate.Step.TheVariants as step
-use Rattle.check_operator.specs.declared.select.Subscripted.{Subscripted}
-use Rattle.check_operator.specs.declared.select.Subscripted.TheVariants as indexes
-use Rattle.check_operator.specs.declared.side.Amount.{Amount}
-use Rattle.check_operator.specs.declared.side.Amount.TheVariants.{Known, Run}
-use Rattle.check_operator.specs.declared.side.Side.{Side}
-use Rattle.check_operator.specs.declared.side.Side.TheVariants as side
+use Rattle.check_const.specs.Common.{common}
+use Rattle.check_const.specs.Operands.{operand_of, is_number}
+use Rattle.check_const.specs.declared.operand.Operand.{Operand}
+use Rattle.check_const.specs.declared.operand.Operand.TheVariants as operand
+use Rattle.check_const.specs.declared.operator.BinaryOp.{BinaryOp}
+use Rattle.check_value.specs.Classes.{class_at, array_at}
+use Rattle.check_value.specs.Sides.{known_of, constant_side, side_of, sort_of, or_cardinal, run_of}
+use Rattle.check_value.specs.Signs.{signed_scalar, signed_value, with_sign, negated_value, negation}
+use Rattle.check_value.specs.Operations.{of_value, truth_of, step_of, set_step_of, equality_of, is_in, step_result}
+use Rattle.check_value.specs.Operations.{fitting_both, step_or_refusal, on_amounts, element_fits, member, set_built}
+use Rattle.check_value.specs.Operations.{on_sets, on_procedures, with_scalar, set_in, with_set, partner_of}
+use Rattle.check_value.specs.Operations.{routine_of, with_partner, between, by_known, operation_between}
+use Rattle.check_value.specs.Selection.{record_field, field, array_indexed, indices, index_type, element_of_array}
+use Rattle.check_value.specs.Selection.{element_at_index}
+use Rattle.check_value.specs.Suits.{scalar_suited, set_suited, procedure_suited, value_in, value_suited}
+use Rattle.check_value.specs.declared.class.Class.{Class}
+use Rattle.check_value.specs.declared.class.Class.TheVariants as class
+use Rattle.check_value.specs.declared.computed.Computed.{Computed}
+use Rattle.check_value.specs.declared.computed.Computed.TheVariants as value
+use Rattle.check_value.specs.declared.computed.Designated.{Designated}
+use Rattle.check_value.specs.declared.computed.Designated.TheVariants as designated
+use Rattle.check_value.specs.declared.operate.SetStep.{SetStep}
+use Rattle.check_value.specs.declared.operate.SetStep.TheVariants as set_step
+use Rattle.check_value.specs.declared.operate.Step.{Step}
+use Rattle.check_value.specs.declared.operate.Step.TheVariants as step
+use Rattle.check_value.specs.declared.select.Subscripted.{Subscripted}
+use Rattle.check_value.specs.declared.select.Subscripted.TheVariants as indexes
+use Rattle.check_value.specs.declared.side.Amount.{Amount}
+use Rattle.check_value.specs.declared.side.Amount.TheVariants.{Known, Run}
+use Rattle.check_value.specs.declared.side.Side.{Side}
+use Rattle.check_value.specs.declared.side.Side.TheVariants as side
 use Rattle.typed_tree.specs.declared.computed.TypedExpr.{out-TypedExpr}
 use Rattle.typed_tree.specs.declared.computed.Argument.TheOpen as layer
 use Rattle.law_encoding.specs.Counted.{AtMost, fine}

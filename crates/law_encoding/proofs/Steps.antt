@@ -17,19 +17,19 @@ use Rattle.typed_tree.specs.Chains.{root_place}
 use Rattle.typed_tree.specs.Types.{boolean}
 use Rattle.check_scope.specs.Elaborated.{Gathers, reported_where}
 use Rattle.check_scope.specs.declared.scope.Scope.{Scope}
-use Rattle.check_operator.specs.Classes.{class_at}
-use Rattle.check_operator.specs.Sides.{side_of}
-use Rattle.check_operator.specs.Suits.{sort_suits, bases_suit}
-use Rattle.check_operator.specs.Values.{slot_of}
-use Rattle.check_operator.specs.declared.class.Class.{Class}
-use Rattle.check_operator.specs.declared.class.Class.TheVariants as class
-use Rattle.check_operator.specs.declared.computed.Computed.{Computed}
-use Rattle.check_operator.specs.declared.computed.Designated.{Designated}
-use Rattle.check_operator.specs.declared.computed.Designated.TheVariants as designated
-use Rattle.check_operator.specs.declared.side.Amount.{Amount}
-use Rattle.check_operator.specs.declared.side.Amount.TheVariants.{Known, Run}
-use Rattle.check_operator.specs.declared.side.Side.{Side}
-use Rattle.check_operator.specs.declared.side.Side.TheVariants as side
+use Rattle.check_value.specs.Classes.{class_at}
+use Rattle.check_value.specs.Sides.{side_of}
+use Rattle.check_value.specs.Suits.{sort_suits, bases_suit}
+use Rattle.check_value.specs.Values.{slot_of}
+use Rattle.check_value.specs.declared.class.Class.{Class}
+use Rattle.check_value.specs.declared.class.Class.TheVariants as class
+use Rattle.check_value.specs.declared.computed.Computed.{Computed}
+use Rattle.check_value.specs.declared.computed.Designated.{Designated}
+use Rattle.check_value.specs.declared.computed.Designated.TheVariants as designated
+use Rattle.check_value.specs.declared.side.Amount.{Amount}
+use Rattle.check_value.specs.declared.side.Amount.TheVariants.{Known, Run}
+use Rattle.check_value.specs.declared.side.Side.{Side}
+use Rattle.check_value.specs.declared.side.Side.TheVariants as side
 use Rattle.check_expr.specs.Meanings.{Meant}
 use Rattle.check_stmt_parts.specs.Simple.{exit_statement, given_back, return_statement, condition, selector_amount}
 use Rattle.check_stmt_parts.specs.Simple.{selector_of, case_selector, record_by, record_of}

@@ -11,10 +11,10 @@ use Rattle.typed_tree.specs.declared.computed.Root.{Root}
 use Rattle.typed_tree.specs.declared.computed.TypedExpr.{TypedExpr}
 use Rattle.typed_tree.specs.declared.statement.TypedArm.{TypedArm}
 use Rattle.typed_tree.specs.declared.statement.TypedStmt.{TypedStmt}
-use Rattle.check_operator.specs.declared.computed.Computed.{Computed}
-use Rattle.check_operator.specs.declared.computed.Computed.TheVariants as value
-use Rattle.check_operator.specs.declared.computed.Designated.{Designated}
-use Rattle.check_operator.specs.declared.computed.Designated.TheVariants as designated
+use Rattle.check_value.specs.declared.computed.Computed.{Computed}
+use Rattle.check_value.specs.declared.computed.Computed.TheVariants as value
+use Rattle.check_value.specs.declared.computed.Designated.{Designated}
+use Rattle.check_value.specs.declared.computed.Designated.TheVariants as designated
 use Rattle.law_encoding.specs.Sizes.{sum_of, total}
 use Rattle.law_encoding.specs.Nesting.{◌⊔◌, deepest_of, deepest}
 use Rattle.law_encoding.specs.TypedSizes.{size_typed, size_place, size_component, size_link, size_call, size_passed}

@@ -1,9 +1,9 @@
 -- How many procedures outwards what the checker makes of expressions goes.
 use Rattle.std.specs.Prelude.{ℕ}
-use Rattle.check_operator.specs.declared.computed.Computed.{Computed}
-use Rattle.check_operator.specs.declared.computed.Computed.TheVariants as value
-use Rattle.check_operator.specs.declared.computed.Designated.{Designated}
-use Rattle.check_operator.specs.declared.computed.Designated.TheVariants as designated
+use Rattle.check_value.specs.declared.computed.Computed.{Computed}
+use Rattle.check_value.specs.declared.computed.Computed.TheVariants as value
+use Rattle.check_value.specs.declared.computed.Designated.{Designated}
+use Rattle.check_value.specs.declared.computed.Designated.TheVariants as designated
 use Rattle.law_encoding.specs.Outward.{outward_typed, outward_place}
 
 abbrev pub outward_value : Computed → ℕ

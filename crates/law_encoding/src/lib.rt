@@ -8,7 +8,7 @@
 //!   they go. `proofs/WaySums` says what sums of weights come to, `proofs/WayTrees` how much trees allow, and `proofs/Weighed`
 //!   what typed trees weigh by their variants.
 //! - One proof has the bounds of all three. `proofs/Operators` and `proofs/Calls` have a lemma for each definition of
-//!   `check_operator` and `check_call`, and `proofs/Meanings` the lemmas of `check_expr`, with the induction over expressions.
+//!   `check_value`, and `proofs/Meanings` the lemmas of `check_expr`, with the induction over expressions.
 //!   `proofs/Effects` and `proofs/Steps` have a lemma for each definition of assignments, calls and `check_stmt_parts`, and
 //!   `proofs/Statements` the induction over statements. `proofs/Blocks` has the bodies of procedures, with the induction over
 //!   blocks, and whole modules. `proofs/Bounds` says it of each way, and `proofs/Bounded` has the bound of all texts.

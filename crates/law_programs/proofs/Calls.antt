@@ -23,27 +23,27 @@ use Rattle.typed_tree.specs.declared.types.TypeNo.{TypeNo}
 use Rattle.typed_tree.specs.Known.{scalar_at}
 use Rattle.typed_tree.specs.Types.{are_same, is_numeric, integer, cardinal, boolean, char}
 use Rattle.check_scope.specs.Elaborated.{Gathers}
-use Rattle.check_const_ops.specs.Numbers.{is_between}
-use Rattle.check_const_ops.specs.Standards.{whole_number, bound_of, converted_part}
-use Rattle.check_const_ops.specs.declared.operand.Ordinal.{Ordinal}
+use Rattle.check_const.specs.Numbers.{is_between}
+use Rattle.check_const.specs.Standards.{whole_number, bound_of, converted_part}
+use Rattle.check_const.specs.declared.operand.Ordinal.{Ordinal}
 use Rattle.check_const.specs.Calls.{scalar_type, unary_of, bound_by}
-use Rattle.check_operator.specs.Classes.{class_at, array_at}
-use Rattle.check_operator.specs.Values.{given_as, function_result, loaded_as, variable_value, value_at_place}
-use Rattle.check_operator.specs.declared.class.Class.{Class}
-use Rattle.check_operator.specs.declared.class.Class.TheVariants as class
-use Rattle.check_operator.specs.declared.computed.Computed.{Computed}
-use Rattle.check_operator.specs.declared.computed.Computed.TheVariants as value
-use Rattle.check_operator.specs.declared.computed.Designated.{Designated}
-use Rattle.check_operator.specs.declared.computed.Designated.TheVariants as designated
-use Rattle.check_call.specs.Actuals.{starts_at_zero, elements_suit_in, elements_suit, variable_passed, open_passed, text_argument, text_passed, open_value, whole_passed, simple_passed, passed_as, value_passed, actual}
-use Rattle.check_call.specs.Callees.{callee_in_variable, callee_of, call_by}
-use Rattle.check_call.specs.Functions.{unary_takes, unary_built, unary_at, type_named, bound_at, converted_value, conversion_at, high_of}
-use Rattle.check_call.specs.declared.callee.Callee.{Callee}
-use Rattle.check_call.specs.declared.callee.Callee.TheVariants as callee
-use Rattle.check_call.specs.declared.callee.Called.{Called}
-use Rattle.check_call.specs.declared.callee.Called.TheVariants as called
-use Rattle.check_call.specs.declared.standard.Unary.{Unary}
-use Rattle.check_call.specs.declared.standard.Unary.TheVariants as unary
+use Rattle.check_value.specs.Classes.{class_at, array_at}
+use Rattle.check_value.specs.Values.{given_as, function_result, loaded_as, variable_value, value_at_place}
+use Rattle.check_value.specs.declared.class.Class.{Class}
+use Rattle.check_value.specs.declared.class.Class.TheVariants as class
+use Rattle.check_value.specs.declared.computed.Computed.{Computed}
+use Rattle.check_value.specs.declared.computed.Computed.TheVariants as value
+use Rattle.check_value.specs.declared.computed.Designated.{Designated}
+use Rattle.check_value.specs.declared.computed.Designated.TheVariants as designated
+use Rattle.check_value.specs.Actuals.{starts_at_zero, elements_suit_in, elements_suit, variable_passed, open_passed, text_argument, text_passed, open_value, whole_passed, simple_passed, passed_as, value_passed, actual}
+use Rattle.check_value.specs.Callees.{callee_in_variable, callee_of, call_by}
+use Rattle.check_value.specs.Functions.{unary_takes, unary_built, unary_at, type_named, bound_at, converted_value, conversion_at, high_of}
+use Rattle.check_value.specs.declared.callee.Callee.{Callee}
+use Rattle.check_value.specs.declared.callee.Callee.TheVariants as callee
+use Rattle.check_value.specs.declared.callee.Called.{Called}
+use Rattle.check_value.specs.declared.callee.Called.TheVariants as called
+use Rattle.check_value.specs.declared.standard.Unary.{Unary}
+use Rattle.check_value.specs.declared.standard.Unary.TheVariants as unary
 use Rattle.layout_storage.specs.Shapes.{elements_of, tree}
 use Rattle.layout_storage.specs.Types.{Ty, Callable, Cell, Array, Heading}
 use Rattle.def_scheme.specs.Cells.{base_of}

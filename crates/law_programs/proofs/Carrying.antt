@@ -22,7 +22,7 @@ use Rattle.check_scope.specs.Scopes.{with_known}
 use Rattle.check_scope.specs.declared.known.Known.{Known}
 use Rattle.check_scope.specs.declared.known.Known.TheVariants.{Later, Ahead, Begun, Headed, Declared}
 use Rattle.check_scope.specs.declared.scope.Scope.{Scope}
-use Rattle.check_operator.specs.Classes.{array_shape, array_made, array_at}
+use Rattle.check_value.specs.Classes.{array_shape, array_made, array_at}
 use Rattle.check_type_expr.specs.Made.{with_shape, with_made}
 use Rattle.check_definition.specs.Declare.{with_variable_type, with_procedure_type}
 use Rattle.law_well_formed.specs.Formed.{Holds, fine, broken}

@@ -35,13 +35,13 @@ use Rattle.check_scope.specs.declared.meaningless.Meaningless.{Meaningless}
 use Rattle.check_scope.specs.declared.meaningless.Meaningless.TheVariants.{Broken, Headless}
 use Rattle.check_scope.specs.Elaborated.{Gathers, report, both}
 use Rattle.check_scope.specs.Scopes.{or_outside, Sight, seen_at, in_block, nearer, known_outside, or_around, sight_of, means_seen, means_as, open_field, means_or, looked_up}
-use Rattle.check_const_ops.specs.declared.operand.Ordinal.{Ordinal}
-use Rattle.check_const_ops.specs.declared.operator.BinaryOp.{BinaryOp}
-use Rattle.check_const_ops.specs.declared.operator.BinaryOp.TheVariants as op
-use Rattle.check_const_ops.specs.Operands.{operand_of, number_value}
-use Rattle.check_const_ops.specs.Operate.{constant_operation}
-use Rattle.check_const_ops.specs.Operators.{mul_op, add_op}
-use Rattle.check_const_ops.specs.Standards.{whole_number, bound_of, converted_part}
+use Rattle.check_const.specs.declared.operand.Ordinal.{Ordinal}
+use Rattle.check_const.specs.declared.operator.BinaryOp.{BinaryOp}
+use Rattle.check_const.specs.declared.operator.BinaryOp.TheVariants as op
+use Rattle.check_const.specs.Operands.{operand_of, number_value}
+use Rattle.check_const.specs.Operate.{constant_operation}
+use Rattle.check_const.specs.Operators.{mul_op, add_op}
+use Rattle.check_const.specs.Standards.{whole_number, bound_of, converted_part}
 use Rattle.check_const.specs.declared.denoted.Denoted.{Denoted}
 use Rattle.check_const.specs.declared.denoted.Denoted.TheVariants as denoted
 use Rattle.check_const.specs.declared.call.Sort.{Sort}

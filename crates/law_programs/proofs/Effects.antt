@@ -29,29 +29,29 @@ use Rattle.typed_tree.specs.Known.{scalar_at}
 use Rattle.typed_tree.specs.Types.{are_same, is_numeric, cardinal, char, bitset}
 use Rattle.check_scope.specs.Elaborated.{Gathers, reported_where, ahead}
 use Rattle.check_scope.specs.declared.scope.Scope.{Scope}
-use Rattle.check_const_ops.specs.declared.operand.Operand.{Operand}
-use Rattle.check_const_ops.specs.declared.operand.Operand.TheVariants as operand
-use Rattle.check_const_ops.specs.declared.operand.Ordinal.{Ordinal}
-use Rattle.check_const_ops.specs.Numbers.{is_between}
-use Rattle.check_const_ops.specs.Operands.{operand_of, is_number}
-use Rattle.check_const_ops.specs.Standards.{scalar_part, if_number}
-use Rattle.check_operator.specs.Classes.{class_at, array_at, signature_at}
-use Rattle.check_operator.specs.Suits.{text_within, text_fits_in, text_fits, text_suited, whole_suited, of_expr, value_suited, suited_in}
-use Rattle.check_operator.specs.declared.class.Class.{Class}
-use Rattle.check_operator.specs.declared.class.Class.TheVariants as class
-use Rattle.check_operator.specs.declared.computed.Computed.{Computed}
-use Rattle.check_operator.specs.declared.computed.Computed.TheVariants as value
-use Rattle.check_operator.specs.declared.computed.Designated.{Designated}
-use Rattle.check_operator.specs.declared.computed.Designated.TheVariants as designated
-use Rattle.check_operator.specs.declared.places.Accepted.{Accepted}
-use Rattle.check_operator.specs.declared.places.Accepted.TheVariants as accepted
-use Rattle.check_call.specs.Callees.{proper_with, proper_of, call_by}
-use Rattle.check_call.specs.Effects.{target_of, target_at, store_statement, assignment_to, assignment_of, change_target_as, change_target, type_of_number, known_amount, amount, change_by, set_as, set_variable, element_known, set_element, membership_of}
-use Rattle.check_call.specs.declared.callee.Callee.{Callee}
-use Rattle.check_call.specs.declared.callee.Called.{Called}
-use Rattle.check_call.specs.declared.callee.Called.TheVariants as called
-use Rattle.check_call.specs.declared.effect.Target.{Target}
-use Rattle.check_call.specs.declared.effect.Target.TheVariants as target
+use Rattle.check_const.specs.declared.operand.Operand.{Operand}
+use Rattle.check_const.specs.declared.operand.Operand.TheVariants as operand
+use Rattle.check_const.specs.declared.operand.Ordinal.{Ordinal}
+use Rattle.check_const.specs.Numbers.{is_between}
+use Rattle.check_const.specs.Operands.{operand_of, is_number}
+use Rattle.check_const.specs.Standards.{scalar_part, if_number}
+use Rattle.check_value.specs.Classes.{class_at, array_at, signature_at}
+use Rattle.check_value.specs.Suits.{text_within, text_fits_in, text_fits, text_suited, whole_suited, of_expr, value_suited, suited_in}
+use Rattle.check_value.specs.declared.class.Class.{Class}
+use Rattle.check_value.specs.declared.class.Class.TheVariants as class
+use Rattle.check_value.specs.declared.computed.Computed.{Computed}
+use Rattle.check_value.specs.declared.computed.Computed.TheVariants as value
+use Rattle.check_value.specs.declared.computed.Designated.{Designated}
+use Rattle.check_value.specs.declared.computed.Designated.TheVariants as designated
+use Rattle.check_value.specs.declared.places.Accepted.{Accepted}
+use Rattle.check_value.specs.declared.places.Accepted.TheVariants as accepted
+use Rattle.check_value.specs.Callees.{proper_with, proper_of, call_by}
+use Rattle.check_value.specs.Effects.{target_of, target_at, store_statement, assignment_to, assignment_of, change_target_as, change_target, type_of_number, known_amount, amount, change_by, set_as, set_variable, element_known, set_element, membership_of}
+use Rattle.check_value.specs.declared.callee.Callee.{Callee}
+use Rattle.check_value.specs.declared.callee.Called.{Called}
+use Rattle.check_value.specs.declared.callee.Called.TheVariants as called
+use Rattle.check_value.specs.declared.effect.Target.{Target}
+use Rattle.check_value.specs.declared.effect.Target.TheVariants as target
 use Rattle.check_expr.specs.Meanings.{Meant, formals_of, value_of, breaches_in_all, actuals}
 use Rattle.check_expr.specs.Effects.{call_done, routine_done, change_target_in, change_statement, set_in, member_by, halt_statement, put_by, standard_done, callee_statement, call_statement}
 use Rattle.layout_storage.specs.Types.{Ty, Natural, Callable, Cell, Array}

@@ -14,9 +14,9 @@ use Rattle.typed_tree.specs.declared.types.TypeNo.{TypeNo}
 use Rattle.typed_tree.specs.Known.{made_in, made_at, scalar_at, scalar_shape, scalar_made, scalar_from, predeclared_scalar, is_result, is_result_shape, is_result_made}
 use Rattle.typed_tree.specs.Types.{are_same, is_integer, integer}
 use Rattle.check_scope.specs.Scopes.{fields_shape, fields_made, fields_at}
-use Rattle.check_operator.specs.declared.class.Class.{Class}
-use Rattle.check_operator.specs.declared.class.Class.TheVariants as class
-use Rattle.check_operator.specs.Classes.{class_shape, class_made, class_range, class_from, class_at, signature_shape, signature_made, signature_at, array_shape, array_made, array_at}
+use Rattle.check_value.specs.declared.class.Class.{Class}
+use Rattle.check_value.specs.declared.class.Class.TheVariants as class
+use Rattle.check_value.specs.Classes.{class_shape, class_made, class_range, class_from, class_at, signature_shape, signature_made, signature_at, array_shape, array_made, array_at}
 use Rattle.layout_storage.specs.Types.{Ty, Scalar, Natural, Callable, Cell, Array, Heading, row}
 use Rattle.layout_storage.specs.Shapes.{scalar_kind, elements_of, heading_tree, shape_tree, known_trees, tree}
 use Rattle.law_memory.specs.Relation.{heading_in, heading_made, heading_at}

@@ -14,19 +14,19 @@ use Rattle.check_scope.specs.declared.meaningless.Meaningless.{Meaningless}
 use Rattle.check_scope.specs.declared.meaningless.Meaningless.TheVariants.{Broken, Headless}
 use Rattle.check_scope.specs.Elaborated.{Gathers, report, reported_where, beside}
 use Rattle.check_scope.specs.declared.scope.Scope.{Scope}
-use Rattle.check_const_ops.specs.declared.operand.Operand.{Operand}
-use Rattle.check_const_ops.specs.declared.operand.Operand.TheVariants as operand
-use Rattle.check_const_ops.specs.declared.operand.Ordinal.{Ordinal}
-use Rattle.check_const_ops.specs.Operands.{operand_of}
-use Rattle.check_const_ops.specs.Common.{common}
-use Rattle.check_const_ops.specs.Bounds.{fits_base, is_of_base, ordered_if}
-use Rattle.check_operator.specs.Classes.{class_at}
-use Rattle.check_operator.specs.declared.class.Class.{Class}
-use Rattle.check_operator.specs.declared.class.Class.TheVariants as class
-use Rattle.check_operator.specs.declared.computed.Computed.{Computed}
-use Rattle.check_operator.specs.declared.computed.Computed.TheVariants as value
-use Rattle.check_operator.specs.declared.computed.Designated.{Designated}
-use Rattle.check_operator.specs.declared.computed.Designated.TheVariants as designated
+use Rattle.check_const.specs.declared.operand.Operand.{Operand}
+use Rattle.check_const.specs.declared.operand.Operand.TheVariants as operand
+use Rattle.check_const.specs.declared.operand.Ordinal.{Ordinal}
+use Rattle.check_const.specs.Operands.{operand_of}
+use Rattle.check_const.specs.Common.{common}
+use Rattle.check_const.specs.Bounds.{fits_base, is_of_base, ordered_if}
+use Rattle.check_value.specs.Classes.{class_at}
+use Rattle.check_value.specs.declared.class.Class.{Class}
+use Rattle.check_value.specs.declared.class.Class.TheVariants as class
+use Rattle.check_value.specs.declared.computed.Computed.{Computed}
+use Rattle.check_value.specs.declared.computed.Computed.TheVariants as value
+use Rattle.check_value.specs.declared.computed.Designated.{Designated}
+use Rattle.check_value.specs.declared.computed.Designated.TheVariants as designated
 use Rattle.check_expr.specs.Meanings.{Meant, meanings_of}
 use Rattle.layout_storage.specs.Types.{Ty}
 use Rattle.law_simulation.specs.Scene.{IsLabel, AreLabels}

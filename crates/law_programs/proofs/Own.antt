@@ -19,7 +19,7 @@ use Rattle.check_scope.specs.declared.known.Known.{Known}
 use Rattle.check_scope.specs.declared.known.Known.TheVariants.{Later, Ahead, Begun, Headed, Declared}
 use Rattle.check_scope.specs.declared.known.Origin.TheVariants as origin
 use Rattle.layout_storage.specs.Shapes.{tree}
-use Rattle.check_operator.specs.Values.{slot_of, nested_by}
+use Rattle.check_value.specs.Values.{slot_of, nested_by}
 use Rattle.check_block.specs.Inner as inner
 use Rattle.law_memory.specs.Relation.{heading_at}
 use Rattle.law_simulation.specs.Frames.{Kind, Kept, Alias, Open, Kinds, formal_kind, kind_at}

@@ -29,7 +29,7 @@ use Rattle.check_scope.specs.declared.scope.Block.{Block}
 use Rattle.check_scope.specs.declared.scope.OpenedRecord.{OpenedRecord}
 use Rattle.check_scope.specs.declared.scope.Scope.{Scope}
 use Rattle.check_const.specs.Denote.{exported_meaning}
-use Rattle.check_operator.specs.Classes.{signature_shape, signature_made, signature_at}
+use Rattle.check_value.specs.Classes.{signature_shape, signature_made, signature_at}
 use Rattle.law_simulation.specs.TreesTyped.{Context}
 use Rattle.law_well_formed.specs.Formed.{Holds, fine}
 use Rattle.law_well_formed.proofs.Basics.{holds_weaker, reported_holds, plain_holds}

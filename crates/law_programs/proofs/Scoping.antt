@@ -24,7 +24,7 @@ use Rattle.check_scope.specs.declared.known.Known.TheVariants.{Later, Ahead, Beg
 use Rattle.check_scope.specs.declared.scope.Block.{Block}
 use Rattle.check_scope.specs.declared.scope.OpenedRecord.{OpenedRecord}
 use Rattle.check_scope.specs.declared.scope.Scope.{Scope}
-use Rattle.check_operator.specs.Values.{nested_by}
+use Rattle.check_value.specs.Values.{nested_by}
 use Rattle.layout_storage.specs.Frames.{formals_of}
 use Rattle.layout_storage.specs.Shapes.{tree}
 use Rattle.law_simulation.specs.Frames.{Kind, Kept, Kinds, or_none, kind_at, formal_kind as kind_in_frame, kinds_of}

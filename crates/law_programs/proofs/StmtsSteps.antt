@@ -23,26 +23,26 @@ use Rattle.typed_tree.specs.Chains.{root_place}
 use Rattle.typed_tree.specs.Types.{are_same, is_numeric, integer, cardinal, boolean}
 use Rattle.check_scope.specs.Elaborated.{Gathers, reported_where, both, ◌▷◌}
 use Rattle.check_scope.specs.declared.scope.Scope.{Scope}
-use Rattle.check_const_ops.specs.declared.operand.Operand.{Operand}
-use Rattle.check_const_ops.specs.declared.operand.Operand.TheVariants as operand
-use Rattle.check_const_ops.specs.declared.operand.Ordinal.{Ordinal}
-use Rattle.check_const_ops.specs.Operands.{operand_of, is_number}
-use Rattle.check_const_ops.specs.Numbers.{is_between, fits as number_fits}
-use Rattle.check_const_ops.specs.Standards.{scalar_part, if_number}
-use Rattle.check_operator.specs.Classes.{class_at}
-use Rattle.check_operator.specs.Sides.{side_of}
-use Rattle.check_operator.specs.Suits.{sort_suits, bases_suit, scalar_suited, value_suited}
-use Rattle.check_operator.specs.Values.{slot_of}
-use Rattle.check_operator.specs.declared.class.Class.{Class}
-use Rattle.check_operator.specs.declared.class.Class.TheVariants as class
-use Rattle.check_operator.specs.declared.computed.Computed.{Computed}
-use Rattle.check_operator.specs.declared.computed.Designated.{Designated}
-use Rattle.check_operator.specs.declared.computed.Designated.TheVariants as designated
-use Rattle.check_operator.specs.declared.side.Amount.{Amount}
-use Rattle.check_operator.specs.declared.side.Amount.TheVariants.{Known, Run}
-use Rattle.check_operator.specs.declared.side.Side.{Side}
-use Rattle.check_operator.specs.declared.side.Side.TheVariants as side
-use Rattle.check_call.specs.Effects.{type_of_number}
+use Rattle.check_const.specs.declared.operand.Operand.{Operand}
+use Rattle.check_const.specs.declared.operand.Operand.TheVariants as operand
+use Rattle.check_const.specs.declared.operand.Ordinal.{Ordinal}
+use Rattle.check_const.specs.Operands.{operand_of, is_number}
+use Rattle.check_const.specs.Numbers.{is_between, fits as number_fits}
+use Rattle.check_const.specs.Standards.{scalar_part, if_number}
+use Rattle.check_value.specs.Classes.{class_at}
+use Rattle.check_value.specs.Sides.{side_of}
+use Rattle.check_value.specs.Suits.{sort_suits, bases_suit, scalar_suited, value_suited}
+use Rattle.check_value.specs.Values.{slot_of}
+use Rattle.check_value.specs.declared.class.Class.{Class}
+use Rattle.check_value.specs.declared.class.Class.TheVariants as class
+use Rattle.check_value.specs.declared.computed.Computed.{Computed}
+use Rattle.check_value.specs.declared.computed.Designated.{Designated}
+use Rattle.check_value.specs.declared.computed.Designated.TheVariants as designated
+use Rattle.check_value.specs.declared.side.Amount.{Amount}
+use Rattle.check_value.specs.declared.side.Amount.TheVariants.{Known, Run}
+use Rattle.check_value.specs.declared.side.Side.{Side}
+use Rattle.check_value.specs.declared.side.Side.TheVariants as side
+use Rattle.check_value.specs.Effects.{type_of_number}
 use Rattle.check_expr.specs.Meanings.{Meant, meanings_of, value_of}
 use Rattle.layout_storage.specs.Types.{Ty, Scalar, Cell}
 use Rattle.layout_storage.specs.Shapes.{tree}

@@ -18,17 +18,17 @@ use Rattle.typed_tree.specs.declared.meaning.Value.TheVariants as value
 use Rattle.typed_tree.specs.Types.{cardinal}
 use Rattle.check_scope.specs.Elaborated.{Gathers}
 use Rattle.check_scope.specs.declared.scope.Scope.{Scope}
-use Rattle.check_const_ops.specs.declared.operand.Ordinal.{Ordinal}
-use Rattle.check_const_ops.specs.declared.operand.Operand.{Operand}
-use Rattle.check_const_ops.specs.declared.operand.Operand.TheVariants as operands
-use Rattle.check_const_ops.specs.declared.operator.BinaryOp.{BinaryOp}
-use Rattle.check_const_ops.specs.declared.operator.BinaryOp.TheVariants.{Plus, Minus, Times, Over, Div, Mod, And, Or, Relation}
-use Rattle.check_const_ops.specs.Operands.{operand_of, letter, letter_operand, number_value, truth}
-use Rattle.check_const_ops.specs.Numbers.{number_at, whole_arithmetic, quotient, remainder}
-use Rattle.check_const_ops.specs.Common.{common}
-use Rattle.check_const_ops.specs.Sets.{without, set_related, on_sets, member, place, up_to, with_span, set_element, single}
-use Rattle.check_const_ops.specs.Operate.{ordinal_result, ordinal_operation, on_scalars, binary, signed_scalar, signed_value, negated_value}
-use Rattle.check_const_ops.specs.Standards.{scalar_part, whole_number, absolute_part, capital_part, character_part, odd_part, ordinal_part}
+use Rattle.check_const.specs.declared.operand.Ordinal.{Ordinal}
+use Rattle.check_const.specs.declared.operand.Operand.{Operand}
+use Rattle.check_const.specs.declared.operand.Operand.TheVariants as operands
+use Rattle.check_const.specs.declared.operator.BinaryOp.{BinaryOp}
+use Rattle.check_const.specs.declared.operator.BinaryOp.TheVariants.{Plus, Minus, Times, Over, Div, Mod, And, Or, Relation}
+use Rattle.check_const.specs.Operands.{operand_of, letter, letter_operand, number_value, truth}
+use Rattle.check_const.specs.Numbers.{number_at, whole_arithmetic, quotient, remainder}
+use Rattle.check_const.specs.Common.{common}
+use Rattle.check_const.specs.Sets.{without, set_related, on_sets, member, place, up_to, with_span, set_element, single}
+use Rattle.check_const.specs.Operate.{ordinal_result, ordinal_operation, on_scalars, binary, signed_scalar, signed_value, negated_value}
+use Rattle.check_const.specs.Standards.{scalar_part, whole_number, absolute_part, capital_part, character_part, odd_part, ordinal_part}
 use Rattle.check_const.specs.Calls.{unary_of, bound_by}
 use Rattle.check_const.specs.Parts.{Part, Adds, joined_bits, constant, element_or_range, with_item}
 use Rattle.law_well_formed.specs.Formed.{Holds, fine, broken}

@@ -31,7 +31,7 @@ use Rattle.check_scope.specs.declared.known.Known.TheVariants.{Later, Ahead, Beg
 use Rattle.check_scope.specs.declared.scope.Block.{Block}
 use Rattle.check_scope.specs.declared.scope.Scope.{Scope}
 use Rattle.check_const.specs.Parts.{constant}
-use Rattle.check_operator.specs.Classes.{array_at}
+use Rattle.check_value.specs.Classes.{array_at}
 use Rattle.check_expr.specs.Meanings.{part}
 use Rattle.check_type_expr.specs.Headings.{with_section}
 use Rattle.check_type_expr.specs.Named.{named_type}

@@ -19,7 +19,7 @@ use Rattle.check_scope.specs.declared.known.Known.TheVariants.{Later, Ahead, Beg
 use Rattle.check_scope.specs.declared.scope.Block.{Block}
 use Rattle.check_scope.specs.declared.scope.Scope.{Scope}
 use Rattle.check_const.specs.Denote.{exported_meaning}
-use Rattle.check_operator.specs.Classes.{signature_at}
+use Rattle.check_value.specs.Classes.{signature_at}
 use Rattle.layout_storage.specs.Frames.{formals_of}
 use Rattle.layout_storage.specs.Shapes.{tree}
 use Rattle.law_memory.specs.Relation.{heading_at}

@@ -31,12 +31,12 @@ use Rattle.check_scope.specs.Elaborated.{Gathers}
 use Rattle.check_scope.specs.Scopes.{looked_up}
 use Rattle.check_scope.specs.declared.scope.Scope.{Scope}
 use Rattle.check_const.specs.Denote.{exported_meaning}
-use Rattle.check_operator.specs.Classes.{signature_at, array_at}
-use Rattle.check_operator.specs.Values.{slot_of, nested_by}
-use Rattle.check_operator.specs.declared.computed.Computed.{Computed}
-use Rattle.check_operator.specs.declared.computed.Computed.TheVariants as value
-use Rattle.check_operator.specs.declared.computed.Designated.{Designated}
-use Rattle.check_operator.specs.declared.computed.Designated.TheVariants as designated
+use Rattle.check_value.specs.Classes.{signature_at, array_at}
+use Rattle.check_value.specs.Values.{slot_of, nested_by}
+use Rattle.check_value.specs.declared.computed.Computed.{Computed}
+use Rattle.check_value.specs.declared.computed.Computed.TheVariants as value
+use Rattle.check_value.specs.declared.computed.Designated.{Designated}
+use Rattle.check_value.specs.declared.computed.Designated.TheVariants as designated
 use Rattle.check_expr.specs.Meanings.{meanings_of, head}
 use Rattle.layout_storage.specs.Texts.{characters, texts_of, texts_at, texts_called, texts_passed}
 use Rattle.layout_storage.specs.Types.{Ty, Heading, component}

@@ -14,7 +14,7 @@
 //!   where their names say, and sets that are constants have 32 bits. `proofs/Denoting` has constant expressions,
 //!   `proofs/Carrying` and `proofs/Declaring` declarations, `proofs/Bounding` and `proofs/Reaching` procedures and tables,
 //!   `proofs/Exporting` what modules export, and `proofs/Walking` whole bodies.
-//! - `proofs/Operators` and `proofs/Calls` have a lemma for each definition of `check_operator` and `check_call`, and
+//! - `proofs/Operators` and `proofs/Calls` have a lemma for each definition of `check_value`, and
 //!   `proofs/Meanings` the lemmas of `check_expr`, with the induction.
 //!
 //! Why what the checker makes of statements is typed.

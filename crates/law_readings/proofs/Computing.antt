@@ -7,7 +7,7 @@ use Rattle.typed_tree.specs.declared.shape.Scalar.{Scalar as Range}
 use Rattle.typed_tree.specs.declared.known_types.Types.{Types}
 use Rattle.typed_tree.specs.Types.{boolean}
 use Rattle.m2_tree.specs.declared.expr.Sign.{Sign}
-use Rattle.check_const_ops.specs.declared.operator.BinaryOp.{BinaryOp}
+use Rattle.check_const.specs.declared.operator.BinaryOp.{BinaryOp}
 use Rattle.def_typing.specs.Amounts as k
 use Rattle.def_typing.specs.Amounts.{Amount, Constant, Value, GoTogether, AreRight, IsArithmetic, IsLogical, IsComparison, Evaluates, Says, Yields, Gives, Signs, truth}
 use Rattle.def_typing.specs.Operators as rules

@@ -12,8 +12,8 @@ use Rattle.typed_tree.specs.declared.shape.Scalar.{Scalar as Range}
 use Rattle.typed_tree.specs.declared.shape.Shape.{Shape}
 use Rattle.typed_tree.specs.declared.shape.Shape.TheVariants as shape
 use Rattle.typed_tree.specs.declared.known_types.Types.{Types}
-use Rattle.check_const_ops.specs.declared.operator.BinaryOp.{BinaryOp}
-use Rattle.check_const_ops.specs.Sets.{with_span}
+use Rattle.check_const.specs.declared.operator.BinaryOp.{BinaryOp}
+use Rattle.check_const.specs.Sets.{with_span}
 use Rattle.def_typing.specs.Amounts.{Constant}
 use Rattle.def_typing.specs.Operators.{Kind, Scalar, Set, operand, Makes, SignMakes, Negates}
 use Rattle.def_typing.specs.Things.{Standing, Known, Ahead, Undeclared, NotExported, Unknown}

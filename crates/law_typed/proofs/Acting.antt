@@ -26,17 +26,17 @@ use Rattle.check_scope.specs.declared.meaningless.Meaningless.{Meaningless}
 use Rattle.check_scope.specs.declared.meaningless.Meaningless.TheVariants as meaningless
 use Rattle.check_scope.specs.declared.scope.Scope.{Scope}
 use Rattle.check_scope.specs.Elaborated.{Gathers, reported_where, of_heading, ahead, reported_beside, ◌▷◌}
-use Rattle.check_operator.specs.declared.class.Class.{Class}
-use Rattle.check_operator.specs.declared.class.Class.TheVariants as class
-use Rattle.check_operator.specs.declared.computed.Computed.{Computed}
-use Rattle.check_operator.specs.Suits.{value_suited}
-use Rattle.check_operator.specs.declared.computed.Designated.{Designated}
-use Rattle.check_operator.specs.declared.computed.Designated.TheVariants as designated
-use Rattle.check_operator.specs.Classes.{class_at}
-use Rattle.check_call.specs.declared.callee.Callee.{Callee}
-use Rattle.check_call.specs.declared.callee.Callee.TheVariants as callee
-use Rattle.check_call.specs.Callees.{callee_of, callee_in_variable, proper_of, proper_with, call_by}
-use Rattle.check_call.specs.Effects.{change_target, change_target_as, change_by, set_variable, set_as, put}
+use Rattle.check_value.specs.declared.class.Class.{Class}
+use Rattle.check_value.specs.declared.class.Class.TheVariants as class
+use Rattle.check_value.specs.declared.computed.Computed.{Computed}
+use Rattle.check_value.specs.Suits.{value_suited}
+use Rattle.check_value.specs.declared.computed.Designated.{Designated}
+use Rattle.check_value.specs.declared.computed.Designated.TheVariants as designated
+use Rattle.check_value.specs.Classes.{class_at}
+use Rattle.check_value.specs.declared.callee.Callee.{Callee}
+use Rattle.check_value.specs.declared.callee.Callee.TheVariants as callee
+use Rattle.check_value.specs.Callees.{callee_of, callee_in_variable, proper_of, proper_with, call_by}
+use Rattle.check_value.specs.Effects.{change_target, change_target_as, change_by, set_variable, set_as, put}
 use Rattle.check_expr.specs.Meanings.{meanings_of, head, value_of, actuals, formals_of, breaches_in_all}
 use Rattle.check_expr.specs.Effects.{call_done, routine_done, change_target_in, change_statement, set_in, member_by, halt_statement, put_by, standard_done, callee_statement, call_statement}
 use Rattle.def_typing.specs.Shapes.{IsMade}

@@ -22,14 +22,14 @@ use Rattle.check_scope.specs.declared.meaningless.Meaningless.{Meaningless}
 use Rattle.check_scope.specs.declared.meaningless.Meaningless.TheVariants as meaningless
 use Rattle.check_scope.specs.declared.scope.Scope.{Scope}
 use Rattle.check_scope.specs.Elaborated.{Gathers, of_value, of_sort, ◌▷◌}
-use Rattle.check_operator.specs.declared.class.Class.{Class}
-use Rattle.check_operator.specs.declared.computed.Computed.{Computed}
-use Rattle.check_operator.specs.declared.computed.Computed.TheVariants as computed
-use Rattle.check_operator.specs.declared.computed.Designated.{Designated}
-use Rattle.check_operator.specs.declared.computed.Designated.TheVariants as designated
-use Rattle.check_operator.specs.Suits.{value_suited}
-use Rattle.check_operator.specs.Values.{value_at_place}
-use Rattle.check_call.specs.Actuals.{elements_suit, variable_passed, open_passed, open_value, value_passed, passed_as, whole_passed, simple_passed, actual, with_argument, next_formal}
+use Rattle.check_value.specs.declared.class.Class.{Class}
+use Rattle.check_value.specs.declared.computed.Computed.{Computed}
+use Rattle.check_value.specs.declared.computed.Computed.TheVariants as computed
+use Rattle.check_value.specs.declared.computed.Designated.{Designated}
+use Rattle.check_value.specs.declared.computed.Designated.TheVariants as designated
+use Rattle.check_value.specs.Suits.{value_suited}
+use Rattle.check_value.specs.Values.{value_at_place}
+use Rattle.check_value.specs.Actuals.{elements_suit, variable_passed, open_passed, open_value, value_passed, passed_as, whole_passed, simple_passed, actual, with_argument, next_formal}
 use Rattle.check_expr.specs.Meanings.{meanings_of, value_standing, argument_by, with_actual, actuals}
 use Rattle.def_typing.specs.Parts.{Among, here, later}
 use Rattle.def_typing.specs.Shapes.{shape_at}

@@ -25,19 +25,19 @@ use Rattle.check_scope.specs.declared.meaningless.Meaningless.{Meaningless}
 use Rattle.check_scope.specs.declared.meaningless.Meaningless.TheVariants as meaningless
 use Rattle.check_scope.specs.declared.scope.Scope.{Scope}
 use Rattle.check_scope.specs.Elaborated.{Gathers, reported_where, ◌▷◌}
-use Rattle.check_operator.specs.declared.class.Class.{Class}
-use Rattle.check_operator.specs.declared.computed.Computed.{Computed}
-use Rattle.check_operator.specs.declared.computed.Computed.TheVariants as computed
-use Rattle.check_operator.specs.declared.computed.Designated.{Designated}
-use Rattle.check_operator.specs.declared.computed.Designated.TheVariants as designated
-use Rattle.check_operator.specs.declared.places.Accepted.{Accepted}
-use Rattle.check_operator.specs.declared.places.Accepted.TheVariants as accepted
-use Rattle.check_operator.specs.Suits.{value_suited, text_fits, whole_suited, of_expr, suited_in, value_for_place}
-use Rattle.check_call.specs.declared.effect.Target.{Target}
-use Rattle.check_call.specs.declared.effect.Target.TheVariants as target
-use Rattle.check_call.specs.Effects.{target_of, store_statement, assignment_to}
+use Rattle.check_value.specs.declared.class.Class.{Class}
+use Rattle.check_value.specs.declared.computed.Computed.{Computed}
+use Rattle.check_value.specs.declared.computed.Computed.TheVariants as computed
+use Rattle.check_value.specs.declared.computed.Designated.{Designated}
+use Rattle.check_value.specs.declared.computed.Designated.TheVariants as designated
+use Rattle.check_value.specs.declared.places.Accepted.{Accepted}
+use Rattle.check_value.specs.declared.places.Accepted.TheVariants as accepted
+use Rattle.check_value.specs.Suits.{value_suited, text_fits, whole_suited, of_expr, suited_in, value_for_place}
+use Rattle.check_value.specs.declared.effect.Target.{Target}
+use Rattle.check_value.specs.declared.effect.Target.TheVariants as target
+use Rattle.check_value.specs.Effects.{target_of, store_statement, assignment_to}
 use Rattle.check_stmt_parts.specs.Simple.{assignment}
-use Rattle.check_operator.specs.Values.{loaded_as, value_at_place}
+use Rattle.check_value.specs.Values.{loaded_as, value_at_place}
 use Rattle.check_expr.specs.Meanings.{Meant, meanings_of, head, value_of, value_standing, of_computed, expr_layer}
 use Rattle.def_typing.specs.Parts.{Operand, factors, addends}
 use Rattle.def_typing.specs.Shapes.{shape_at}

@@ -32,23 +32,23 @@ use Rattle.check_scope.specs.declared.meaningless.Meaningless.{Meaningless}
 use Rattle.check_scope.specs.declared.meaningless.Meaningless.TheVariants as meaningless
 use Rattle.check_scope.specs.declared.scope.Scope.{Scope}
 use Rattle.check_scope.specs.Elaborated.{Gathers, reported_where, ahead, reported_beside, ◌▷◌}
-use Rattle.check_operator.specs.declared.class.Class.{Class}
-use Rattle.check_operator.specs.declared.class.Class.TheVariants as class
-use Rattle.check_operator.specs.declared.computed.Computed.{Computed}
-use Rattle.check_operator.specs.declared.computed.Computed.TheVariants as computed
-use Rattle.check_operator.specs.declared.computed.Designated.{Designated}
-use Rattle.check_operator.specs.declared.computed.Designated.TheVariants as designated
-use Rattle.check_operator.specs.Classes.{class_at}
-use Rattle.check_operator.specs.Values.{given_as}
-use Rattle.check_call.specs.declared.callee.Callee.{Callee}
-use Rattle.check_call.specs.declared.callee.Callee.TheVariants as callee
-use Rattle.check_call.specs.declared.callee.Called.TheVariants as called
-use Rattle.check_call.specs.Callees.{callee_of, callee_in_variable, function_of, function_with, call_by}
-use Rattle.check_const_ops.specs.Standards.{conversion_of}
+use Rattle.check_value.specs.declared.class.Class.{Class}
+use Rattle.check_value.specs.declared.class.Class.TheVariants as class
+use Rattle.check_value.specs.declared.computed.Computed.{Computed}
+use Rattle.check_value.specs.declared.computed.Computed.TheVariants as computed
+use Rattle.check_value.specs.declared.computed.Designated.{Designated}
+use Rattle.check_value.specs.declared.computed.Designated.TheVariants as designated
+use Rattle.check_value.specs.Classes.{class_at}
+use Rattle.check_value.specs.Values.{given_as}
+use Rattle.check_value.specs.declared.callee.Callee.{Callee}
+use Rattle.check_value.specs.declared.callee.Callee.TheVariants as callee
+use Rattle.check_value.specs.declared.callee.Called.TheVariants as called
+use Rattle.check_value.specs.Callees.{callee_of, callee_in_variable, function_of, function_with, call_by}
+use Rattle.check_const.specs.Standards.{conversion_of}
 use Rattle.check_const.specs.Calls.{scalar_type, unary_of}
-use Rattle.check_call.specs.declared.standard.Unary.{Unary}
-use Rattle.check_call.specs.declared.standard.Unary.TheVariants as unary
-use Rattle.check_call.specs.Functions.{unary_at, unary_built, unary_takes, bound_at, type_named, converted_value, high_of}
+use Rattle.check_value.specs.declared.standard.Unary.{Unary}
+use Rattle.check_value.specs.declared.standard.Unary.TheVariants as unary
+use Rattle.check_value.specs.Functions.{unary_at, unary_built, unary_takes, bound_at, type_named, converted_value, high_of}
 use Rattle.check_expr.specs.Meanings.{meanings_of, head, value_of, actuals, formals_of, call_given, callee_value, breaches_in_all, wrong_count, unary, bound, conversion, high, scalar_named, call_in_expression}
 use Rattle.def_typing.specs.Parts.{Among, here, later}
 use Rattle.def_typing.specs.Shapes.{IsMade}

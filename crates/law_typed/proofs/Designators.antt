@@ -35,20 +35,20 @@ use Rattle.check_scope.specs.declared.scope.Scope.{Scope}
 use Rattle.check_scope.specs.Elaborated.{Gathers, ◌▷◌}
 use Rattle.check_scope.specs.Scopes.{looked_up, fields_at}
 use Rattle.check_const.specs.Denote.{exported_by, export_of, exported_meaning}
-use Rattle.check_const_ops.specs.Numbers.{is_between}
-use Rattle.check_operator.specs.declared.class.Class.{Class}
-use Rattle.check_operator.specs.declared.class.Class.TheVariants as class
-use Rattle.check_operator.specs.declared.computed.Computed.{Computed}
-use Rattle.check_operator.specs.declared.computed.Computed.TheVariants as values
-use Rattle.check_operator.specs.declared.computed.Designated.{Designated}
-use Rattle.check_operator.specs.declared.computed.Designated.TheVariants as designated
-use Rattle.check_operator.specs.declared.side.Side.{Side}
-use Rattle.check_operator.specs.declared.select.Subscripted.{Subscripted}
-use Rattle.check_operator.specs.declared.select.Subscripted.TheVariants as indexes
-use Rattle.check_operator.specs.Classes.{class_at}
-use Rattle.check_operator.specs.Selection.{component, record_field, field_named, typed_field, indices, array_indexed, element_of_array, element_at_index}
-use Rattle.check_operator.specs.Suits.{sort_suits, value_suited, value_in}
-use Rattle.check_operator.specs.Values.{designated_by, local_by}
+use Rattle.check_const.specs.Numbers.{is_between}
+use Rattle.check_value.specs.declared.class.Class.{Class}
+use Rattle.check_value.specs.declared.class.Class.TheVariants as class
+use Rattle.check_value.specs.declared.computed.Computed.{Computed}
+use Rattle.check_value.specs.declared.computed.Computed.TheVariants as values
+use Rattle.check_value.specs.declared.computed.Designated.{Designated}
+use Rattle.check_value.specs.declared.computed.Designated.TheVariants as designated
+use Rattle.check_value.specs.declared.side.Side.{Side}
+use Rattle.check_value.specs.declared.select.Subscripted.{Subscripted}
+use Rattle.check_value.specs.declared.select.Subscripted.TheVariants as indexes
+use Rattle.check_value.specs.Classes.{class_at}
+use Rattle.check_value.specs.Selection.{component, record_field, field_named, typed_field, indices, array_indexed, element_of_array, element_at_index}
+use Rattle.check_value.specs.Suits.{sort_suits, value_suited, value_in}
+use Rattle.check_value.specs.Values.{designated_by, local_by}
 use Rattle.check_expr.proofs.Leading.{leading_keeps}
 use Rattle.check_expr.specs.Meanings.{Meant, Picks, meanings_of, picks, head, value_of, first_name, leading_name, name_in_module, field_of, field_at, index_at}
 use Rattle.def_typing.specs.Shapes.{IsMade, shape_at}

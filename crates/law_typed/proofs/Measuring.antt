@@ -10,19 +10,19 @@ use Rattle.typed_tree.specs.declared.computed.TypedExpr.{TypedExpr}
 use Rattle.typed_tree.specs.declared.meaning.Value.{Value as ConstantValue}
 use Rattle.check_scope.specs.declared.scope.Scope.{Scope}
 use Rattle.check_scope.specs.Elaborated.{Gathers}
-use Rattle.check_const_ops.specs.declared.operand.Ordinal.{Ordinal}
-use Rattle.check_const_ops.specs.declared.operand.Operand.{Operand}
-use Rattle.check_const_ops.specs.declared.operand.Operand.TheVariants as operands
-use Rattle.check_const_ops.specs.Operands.{operand_of, is_number}
-use Rattle.check_const_ops.specs.Standards.{scalar_part, if_number, whole_number}
-use Rattle.check_operator.specs.declared.computed.Computed.{Computed}
-use Rattle.check_operator.specs.declared.computed.Computed.TheVariants as computed
-use Rattle.check_operator.specs.declared.side.Amount.{Amount as Sided}
-use Rattle.check_operator.specs.declared.side.Amount.TheVariants.{Known, Run}
-use Rattle.check_operator.specs.declared.side.Side.{Side}
-use Rattle.check_operator.specs.declared.side.Side.TheVariants as side
-use Rattle.check_operator.specs.Sides.{side_of, constant_side, run_of}
-use Rattle.check_call.specs.Effects.{known_amount, amount, element_known, set_element}
+use Rattle.check_const.specs.declared.operand.Ordinal.{Ordinal}
+use Rattle.check_const.specs.declared.operand.Operand.{Operand}
+use Rattle.check_const.specs.declared.operand.Operand.TheVariants as operands
+use Rattle.check_const.specs.Operands.{operand_of, is_number}
+use Rattle.check_const.specs.Standards.{scalar_part, if_number, whole_number}
+use Rattle.check_value.specs.declared.computed.Computed.{Computed}
+use Rattle.check_value.specs.declared.computed.Computed.TheVariants as computed
+use Rattle.check_value.specs.declared.side.Amount.{Amount as Sided}
+use Rattle.check_value.specs.declared.side.Amount.TheVariants.{Known, Run}
+use Rattle.check_value.specs.declared.side.Side.{Side}
+use Rattle.check_value.specs.declared.side.Side.TheVariants as side
+use Rattle.check_value.specs.Sides.{side_of, constant_side, run_of}
+use Rattle.check_value.specs.Effects.{known_amount, amount, element_known, set_element}
 use Rattle.check_expr.specs.Meanings.{meanings_of}
 use Rattle.check_stmt_parts.specs.Simple.{selector_amount, selector_of, case_selector}
 use Rattle.def_typing.specs.Amounts.{Amount, Constant, Value}

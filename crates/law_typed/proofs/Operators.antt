@@ -19,26 +19,26 @@ use Rattle.typed_tree.specs.declared.meaning.Value.TheVariants as value
 use Rattle.typed_tree.specs.Chains.{link_operand}
 use Rattle.typed_tree.specs.Types.{bitset, boolean}
 use Rattle.check_scope.specs.Elaborated.{Gathers, report}
-use Rattle.check_const_ops.specs.declared.operand.Ordinal.{Ordinal}
-use Rattle.check_const_ops.specs.declared.operand.Operand.{Operand}
-use Rattle.check_const_ops.specs.declared.operator.BinaryOp.{BinaryOp}
-use Rattle.check_const_ops.specs.declared.operator.BinaryOp.TheVariants.{Plus, Minus, Times, Over, Div, Mod, And, Or, Relation}
-use Rattle.check_const_ops.specs.Operands.{is_number}
-use Rattle.check_const_ops.specs.Operate.{binary, takes}
-use Rattle.check_operator.specs.declared.computed.Computed.{Computed}
-use Rattle.check_operator.specs.declared.computed.Computed.TheVariants as computed
-use Rattle.check_operator.specs.declared.side.Amount.{Amount as Sided}
-use Rattle.check_operator.specs.declared.side.Amount.TheVariants.{Known, Run}
-use Rattle.check_operator.specs.declared.side.Side.{Side}
-use Rattle.check_operator.specs.declared.side.Side.TheVariants as side
-use Rattle.check_operator.specs.declared.operate.Step.{Step}
-use Rattle.check_operator.specs.declared.operate.Step.TheVariants as step
-use Rattle.check_operator.specs.declared.operate.SetStep.{SetStep}
-use Rattle.check_operator.specs.declared.operate.SetStep.TheVariants as set_step
-use Rattle.check_operator.specs.Sides as sides
-use Rattle.check_operator.specs.Sides.{side_of, known_of, run_of}
-use Rattle.check_operator.specs.Operations as elaborated
-use Rattle.check_operator.specs.Operations.{step_of, set_step_of, equality_of, is_in, between, by_known, operation_on, of_value}
+use Rattle.check_const.specs.declared.operand.Ordinal.{Ordinal}
+use Rattle.check_const.specs.declared.operand.Operand.{Operand}
+use Rattle.check_const.specs.declared.operator.BinaryOp.{BinaryOp}
+use Rattle.check_const.specs.declared.operator.BinaryOp.TheVariants.{Plus, Minus, Times, Over, Div, Mod, And, Or, Relation}
+use Rattle.check_const.specs.Operands.{is_number}
+use Rattle.check_const.specs.Operate.{binary, takes}
+use Rattle.check_value.specs.declared.computed.Computed.{Computed}
+use Rattle.check_value.specs.declared.computed.Computed.TheVariants as computed
+use Rattle.check_value.specs.declared.side.Amount.{Amount as Sided}
+use Rattle.check_value.specs.declared.side.Amount.TheVariants.{Known, Run}
+use Rattle.check_value.specs.declared.side.Side.{Side}
+use Rattle.check_value.specs.declared.side.Side.TheVariants as side
+use Rattle.check_value.specs.declared.operate.Step.{Step}
+use Rattle.check_value.specs.declared.operate.Step.TheVariants as step
+use Rattle.check_value.specs.declared.operate.SetStep.{SetStep}
+use Rattle.check_value.specs.declared.operate.SetStep.TheVariants as set_step
+use Rattle.check_value.specs.Sides as sides
+use Rattle.check_value.specs.Sides.{side_of, known_of, run_of}
+use Rattle.check_value.specs.Operations as elaborated
+use Rattle.check_value.specs.Operations.{step_of, set_step_of, equality_of, is_in, between, by_known, operation_on, of_value}
 use Rattle.def_typing.specs.Shapes.{Agree}
 use Rattle.def_typing.specs.Amounts as k
 use Rattle.def_typing.specs.Amounts.{Amount, Constant, Value, GoTogether}

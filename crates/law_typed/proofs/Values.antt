@@ -24,16 +24,16 @@ use Rattle.typed_tree.specs.declared.meaning.Value.TheVariants as value
 use Rattle.check_scope.specs.declared.meaningless.Meaningless.{Meaningless}
 use Rattle.check_scope.specs.declared.scope.Scope.{Scope}
 use Rattle.check_scope.specs.Elaborated.{Gathers, both, ◌▷◌}
-use Rattle.check_const_ops.specs.declared.operator.BinaryOp.{BinaryOp}
-use Rattle.check_const_ops.specs.declared.operator.BinaryOp.TheVariants as op
-use Rattle.check_const_ops.specs.Operate.{with_sign as signed_constant, negation as negated_constant}
-use Rattle.check_operator.specs.declared.computed.Computed.{Computed}
-use Rattle.check_operator.specs.declared.computed.Computed.TheVariants as computed
-use Rattle.check_operator.specs.declared.computed.Designated.{Designated}
-use Rattle.check_operator.specs.declared.computed.Designated.TheVariants as designated
-use Rattle.check_operator.specs.Operations.{operation_on, of_value}
-use Rattle.check_operator.specs.Signs as signs
-use Rattle.check_operator.specs.Signs.{with_sign, negation}
+use Rattle.check_const.specs.declared.operator.BinaryOp.{BinaryOp}
+use Rattle.check_const.specs.declared.operator.BinaryOp.TheVariants as op
+use Rattle.check_const.specs.Operate.{with_sign as signed_constant, negation as negated_constant}
+use Rattle.check_value.specs.declared.computed.Computed.{Computed}
+use Rattle.check_value.specs.declared.computed.Computed.TheVariants as computed
+use Rattle.check_value.specs.declared.computed.Designated.{Designated}
+use Rattle.check_value.specs.declared.computed.Designated.TheVariants as designated
+use Rattle.check_value.specs.Operations.{operation_on, of_value}
+use Rattle.check_value.specs.Signs as signs
+use Rattle.check_value.specs.Signs.{with_sign, negation}
 use Rattle.check_expr.specs.Meanings.{Meant, meanings_of, value_of, value_standing, of_computed, expr_layer}
 use Rattle.def_typing.specs.Parts.{Operand, Among, here, later, factors, addends, first}
 use Rattle.def_typing.specs.Amounts.{Value}

@@ -18,11 +18,11 @@ use Rattle.check_scope.specs.declared.scope.Scope.{Scope}
 use Rattle.check_scope.specs.Elaborated.{Gathers, ◌▷◌}
 use Rattle.check_scope.specs.Scopes.{looked_up}
 use Rattle.check_const.specs.Denote.{exported_by}
-use Rattle.check_operator.specs.declared.computed.Computed.{Computed}
-use Rattle.check_operator.specs.declared.computed.Computed.TheVariants as computed
-use Rattle.check_operator.specs.declared.computed.Designated.{Designated}
-use Rattle.check_operator.specs.declared.computed.Designated.TheVariants as designated
-use Rattle.check_operator.specs.Suits.{value_suited}
+use Rattle.check_value.specs.declared.computed.Computed.{Computed}
+use Rattle.check_value.specs.declared.computed.Computed.TheVariants as computed
+use Rattle.check_value.specs.declared.computed.Designated.{Designated}
+use Rattle.check_value.specs.declared.computed.Designated.TheVariants as designated
+use Rattle.check_value.specs.Suits.{value_suited}
 use Rattle.check_expr.specs.Meanings.{meanings_of, head, value_of, actuals}
 use Rattle.check_stmt_parts.specs.declared.around.Around.{Around}
 use Rattle.check_stmt.specs.Statements.{stmt}

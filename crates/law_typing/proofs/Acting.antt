@@ -18,10 +18,10 @@ use Rattle.typed_tree.specs.declared.shape.Shape.TheVariants as shape
 use Rattle.typed_tree.specs.declared.shape.Signature.{Signature}
 use Rattle.check_scope.specs.declared.scope.Scope.{Scope}
 use Rattle.check_scope.specs.Elaborated.{Gathers, reported_where, reported_beside, of_heading, ahead, ◌▷◌}
-use Rattle.check_operator.specs.Classes.{signature_at}
-use Rattle.check_call.specs.declared.callee.Callee.{Callee}
-use Rattle.check_call.specs.declared.callee.Called.{Called}
-use Rattle.check_call.specs.Callees.{callee_of, proper_with, proper_of, call_by}
+use Rattle.check_value.specs.Classes.{signature_at}
+use Rattle.check_value.specs.declared.callee.Callee.{Callee}
+use Rattle.check_value.specs.declared.callee.Called.{Called}
+use Rattle.check_value.specs.Callees.{callee_of, proper_with, proper_of, call_by}
 use Rattle.check_expr.specs.Meanings.{meanings_of, head, breaches_in_all, actuals, formals_of}
 use Rattle.check_expr.specs.Effects.{call_done, callee_statement, call_statement}
 use Rattle.def_typing.specs.Shapes.{IsMade}

@@ -11,8 +11,8 @@ use Rattle.typed_tree.specs.declared.shape.Signature.{Signature}
 use Rattle.typed_tree.specs.declared.known_types.Types.{Types}
 use Rattle.typed_tree.specs.Known.{made_at}
 use Rattle.typed_tree.specs.Types.{are_same}
-use Rattle.check_operator.specs.Agreement.{is_alike, formal_agrees, formals_agree, result_agrees}
-use Rattle.check_operator.specs.Classes.{signature_shape, signature_made}
+use Rattle.check_value.specs.Agreement.{is_alike, formal_agrees, formals_agree, result_agrees}
+use Rattle.check_value.specs.Classes.{signature_shape, signature_made}
 use Rattle.check_block.specs.Agreeing.{is_one, same_formal, same_result, agrees, signature_in, signature_of, agree}
 use Rattle.def_typing.specs.Shapes.{IsMade}
 use Rattle.law_typing.proofs.Combining.{Decided, fails_it, decided_as}

@@ -20,12 +20,12 @@ use Rattle.check_scope.specs.Elaborated.{Gathers, report, of_sort, ◌▷◌}
 use Rattle.check_const.specs.declared.denoted.Denoted.{Denoted}
 use Rattle.check_const.specs.declared.denoted.Denoted.TheVariants as denoted
 use Rattle.check_const.specs.Calls.{type_in, named_scalar, type_argument, unary, unary_of, bound, bound_by, scalar_type, conversion_call}
-use Rattle.check_const_ops.specs.Standards.{conversion_of}
+use Rattle.check_const.specs.Standards.{conversion_of}
 use Rattle.check_const.specs.Parts.{Part, constant, value_at, named_type, one, type_only, conversion, standard_call_value, call_value}
-use Rattle.check_operator.specs.declared.computed.Designated.{Designated}
-use Rattle.check_operator.specs.declared.computed.Designated.TheVariants as designated
-use Rattle.check_call.specs.declared.standard.Unary.{Unary}
-use Rattle.check_call.specs.Functions.{type_named}
+use Rattle.check_value.specs.declared.computed.Designated.{Designated}
+use Rattle.check_value.specs.declared.computed.Designated.TheVariants as designated
+use Rattle.check_value.specs.declared.standard.Unary.{Unary}
+use Rattle.check_value.specs.Functions.{type_named}
 use Rattle.check_expr.specs.Meanings.{Meant, Picks, meanings_of, picks, head, type_of, names_by, scalar_named, expr_layer}
 use Rattle.check_expr.specs.Meanings as meanings
 use Rattle.def_typing.specs.Shapes.{shape_at}

@@ -22,15 +22,15 @@ use Rattle.m2_rule.specs.declared.breach.Breach.{Breach}
 use Rattle.check_scope.specs.declared.meaningless.Meaningless.{Meaningless}
 use Rattle.check_scope.specs.declared.scope.Scope.{Scope}
 use Rattle.check_scope.specs.Elaborated.{Gathers, report, reported_where, ◌▷◌}
-use Rattle.check_operator.specs.declared.class.Class.{Class}
-use Rattle.check_operator.specs.declared.computed.Computed.{Computed}
-use Rattle.check_operator.specs.declared.computed.Designated.{Designated}
-use Rattle.check_operator.specs.declared.places.Accepted.{Accepted}
-use Rattle.check_operator.specs.declared.places.Accepted.TheVariants as accepted
-use Rattle.check_operator.specs.Suits.{text_within, text_fits_in, text_fits, whole_suited, suited_in, value_for_place, value_suited}
-use Rattle.check_call.specs.declared.effect.Target.{Target}
-use Rattle.check_call.specs.declared.effect.Target.TheVariants as target
-use Rattle.check_call.specs.Effects.{target_of, target_at, store_statement, assignment_to, assignment_of}
+use Rattle.check_value.specs.declared.class.Class.{Class}
+use Rattle.check_value.specs.declared.computed.Computed.{Computed}
+use Rattle.check_value.specs.declared.computed.Designated.{Designated}
+use Rattle.check_value.specs.declared.places.Accepted.{Accepted}
+use Rattle.check_value.specs.declared.places.Accepted.TheVariants as accepted
+use Rattle.check_value.specs.Suits.{text_within, text_fits_in, text_fits, whole_suited, suited_in, value_for_place, value_suited}
+use Rattle.check_value.specs.declared.effect.Target.{Target}
+use Rattle.check_value.specs.declared.effect.Target.TheVariants as target
+use Rattle.check_value.specs.Effects.{target_of, target_at, store_statement, assignment_to, assignment_of}
 use Rattle.check_expr.specs.Meanings.{meanings_of, head, value_of}
 use Rattle.def_typing.specs.Shapes.{shape_at, IsMade}
 use Rattle.def_typing.specs.Operators.{◌!◌, Kind, Scalar, Set, Text, Routine, Procedure, Whole, operand}

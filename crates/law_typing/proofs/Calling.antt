@@ -17,12 +17,12 @@ use Rattle.m2_rule.specs.declared.breach.Breach.{Breach}
 use Rattle.check_scope.specs.declared.scope.Scope.{Scope}
 use Rattle.check_scope.specs.Elaborated.{Gathers, report, reported_beside, of_sort, of_sort_of_value, ◌▷◌}
 use Rattle.check_const.specs.Calls.{bound_by, scalar_type}
-use Rattle.check_operator.specs.declared.computed.Computed.{Computed}
-use Rattle.check_operator.specs.declared.computed.Computed.TheVariants as computed
-use Rattle.check_operator.specs.declared.computed.Designated.{Designated}
-use Rattle.check_call.specs.declared.callee.Called.TheVariants as called
-use Rattle.check_call.specs.declared.standard.Unary.{Unary}
-use Rattle.check_call.specs.Functions.{type_named, bound_at, conversion_at, converted_value, high_of, unary_at}
+use Rattle.check_value.specs.declared.computed.Computed.{Computed}
+use Rattle.check_value.specs.declared.computed.Computed.TheVariants as computed
+use Rattle.check_value.specs.declared.computed.Designated.{Designated}
+use Rattle.check_value.specs.declared.callee.Called.TheVariants as called
+use Rattle.check_value.specs.declared.standard.Unary.{Unary}
+use Rattle.check_value.specs.Functions.{type_named, bound_at, conversion_at, converted_value, high_of, unary_at}
 use Rattle.check_expr.specs.Meanings as meanings
 use Rattle.check_expr.specs.Meanings.{meanings_of, value_of, wrong_count, breaches_in_all, with_actual, actuals, call_given, formals_of, routine_called, scalar_named, callee_value, call_in_expression}
 use Rattle.def_typing.specs.Shapes.{shape_at, IsMade}

@@ -26,15 +26,15 @@ use Rattle.typed_tree.specs.declared.known_types.Types.{Types}
 use Rattle.typed_tree.specs.Types.{is_numeric, cardinal, char}
 use Rattle.check_scope.specs.declared.scope.Scope.{Scope}
 use Rattle.check_scope.specs.Elaborated.{Gathers, report, reported_where, reported_beside, of_sort, ◌▷◌}
-use Rattle.check_const_ops.specs.declared.operand.Operand.{Operand}
-use Rattle.check_const_ops.specs.declared.operand.Ordinal.{Ordinal}
-use Rattle.check_const_ops.specs.Operands.{is_number}
-use Rattle.check_const_ops.specs.Numbers.{is_between}
-use Rattle.check_const_ops.specs.Standards.{scalar_part, if_number}
-use Rattle.check_operator.specs.declared.class.Class.{Class}
-use Rattle.check_operator.specs.declared.computed.Computed.{Computed}
-use Rattle.check_operator.specs.declared.computed.Designated.{Designated}
-use Rattle.check_call.specs.Effects.{change_target_as, change_target, known_amount, amount, change_by, set_as, set_variable, element_known, set_element, put}
+use Rattle.check_const.specs.declared.operand.Operand.{Operand}
+use Rattle.check_const.specs.declared.operand.Ordinal.{Ordinal}
+use Rattle.check_const.specs.Operands.{is_number}
+use Rattle.check_const.specs.Numbers.{is_between}
+use Rattle.check_const.specs.Standards.{scalar_part, if_number}
+use Rattle.check_value.specs.declared.class.Class.{Class}
+use Rattle.check_value.specs.declared.computed.Computed.{Computed}
+use Rattle.check_value.specs.declared.computed.Designated.{Designated}
+use Rattle.check_value.specs.Effects.{change_target_as, change_target, known_amount, amount, change_by, set_as, set_variable, element_known, set_element, put}
 use Rattle.check_expr.specs.Meanings.{meanings_of, value_of, breaches_in_all, wrong_count}
 use Rattle.check_expr.specs.Effects.{change_target_in, change_statement, set_in, member_by, halt_statement, put_by, function_done, standard_done}
 use Rattle.def_typing.specs.Shapes.{shape_at, IsMade}

@@ -8,9 +8,9 @@ use Rattle.m2_rule.specs.declared.breach.Breach.{Breach}
 use Rattle.check_scope.specs.declared.meaningless.Meaningless.{Meaningless}
 use Rattle.check_scope.specs.declared.meaningless.Meaningless.TheVariants as meaningless
 use Rattle.check_scope.specs.Elaborated.{Gathers, report, reported_where, both, beside, reported_beside, refusal_beside, ahead, of_sort, of_heading, of_value, of_sort_of_value, plain, ◌▷◌}
-use Rattle.check_operator.specs.declared.computed.Computed.{Computed}
-use Rattle.check_operator.specs.declared.computed.Designated.{Designated}
-use Rattle.check_operator.specs.declared.computed.Designated.TheVariants as designated
+use Rattle.check_value.specs.declared.computed.Computed.{Computed}
+use Rattle.check_value.specs.declared.computed.Designated.{Designated}
+use Rattle.check_value.specs.declared.computed.Designated.TheVariants as designated
 use Rattle.check_expr.specs.Meanings.{of_computed}
 use Rattle.def_typing.specs.Operators.{◌!◌, Kind}
 use Rattle.def_typing.specs.Things.{Thing, AValue, Headless}

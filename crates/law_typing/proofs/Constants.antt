@@ -28,10 +28,10 @@ use Rattle.check_scope.specs.declared.meaningless.Meaningless.{Meaningless}
 use Rattle.check_scope.specs.declared.scope.Scope.{Scope}
 use Rattle.check_scope.specs.Elaborated.{Gathers, report, of_sort, ◌▷◌}
 use Rattle.check_scope.specs.Scopes.{looked_up}
-use Rattle.check_const_ops.specs.declared.operator.BinaryOp.TheVariants as op
-use Rattle.check_const_ops.specs.Operands.{number_value}
-use Rattle.check_const_ops.specs.Operate as operate
-use Rattle.check_const_ops.specs.Sets.{is_element, span_of, with_span}
+use Rattle.check_const.specs.declared.operator.BinaryOp.TheVariants as op
+use Rattle.check_const.specs.Operands.{number_value}
+use Rattle.check_const.specs.Operate as operate
+use Rattle.check_const.specs.Sets.{is_element, span_of, with_span}
 use Rattle.check_const.specs.declared.denoted.Denoted.{Denoted}
 use Rattle.check_const.specs.declared.denoted.Denoted.TheVariants as denoted
 use Rattle.check_const.specs.Denote.{as_constant, of_value, is_bitset}

@@ -7,12 +7,12 @@ use Rattle.typed_tree.specs.declared.types.Home.{Home}
 use Rattle.typed_tree.specs.declared.types.Home.TheVariants.{Predeclared, Module}
 use Rattle.typed_tree.specs.declared.types.TypeNo.{TypeNo}
 use Rattle.typed_tree.specs.Types.{is_one_home, are_same, is_numeric, integer, cardinal, boolean}
-use Rattle.check_const_ops.specs.declared.operator.BinaryOp.{BinaryOp}
-use Rattle.check_const_ops.specs.declared.operator.BinaryOp.TheVariants.{Plus, Minus, Times, Over, Div, Mod, And, Or, Relation}
-use Rattle.check_const_ops.specs.Operands.{is_number, is_truth}
-use Rattle.check_const_ops.specs.Numbers.{fits, is_between}
-use Rattle.check_const_ops.specs.Common.{common}
-use Rattle.check_const_ops.specs.Operate.{takes}
+use Rattle.check_const.specs.declared.operator.BinaryOp.{BinaryOp}
+use Rattle.check_const.specs.declared.operator.BinaryOp.TheVariants.{Plus, Minus, Times, Over, Div, Mod, And, Or, Relation}
+use Rattle.check_const.specs.Operands.{is_number, is_truth}
+use Rattle.check_const.specs.Numbers.{fits, is_between}
+use Rattle.check_const.specs.Common.{common}
+use Rattle.check_const.specs.Operate.{takes}
 use Rattle.def_typing.specs.Amounts as k
 use Rattle.def_typing.specs.Amounts.{IsWhole, IsNumber, Within, InRange, GoTogether, IsArithmetic, IsLogical, IsComparison, Takes, TakesSign, in_numbers, in_integer, in_cardinal, same_type, numbers, number_left, number_right, arithmetic, logical, comparison}
 use Rattle.law_typing.proofs.Combining.{Decided, holds, fails_it, decided_as}

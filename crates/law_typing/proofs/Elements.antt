@@ -7,13 +7,13 @@ use Rattle.typed_tree.specs.declared.types.TypeNo.{TypeNo}
 use Rattle.typed_tree.specs.declared.meaning.Value.{Value as ConstantValue}
 use Rattle.m2_rule.specs.declared.breach.Breach.{Breach}
 use Rattle.check_scope.specs.Elaborated.{Gathers, reported_where, beside, ◌▷◌}
-use Rattle.check_const_ops.specs.declared.operand.Operand.{Operand as Side}
-use Rattle.check_const_ops.specs.declared.operand.Ordinal.{Ordinal}
-use Rattle.check_const_ops.specs.Operands.{is_number}
-use Rattle.check_const_ops.specs.Numbers.{is_between}
-use Rattle.check_const_ops.specs.Common.{common}
-use Rattle.check_const_ops.specs.Standards.{scalar_part, if_number}
-use Rattle.check_const_ops.specs.Sets.{ordinal_or_refusal, set_element, is_element, has_none, in_set, alike_in_order, related_bounds, span_of, with_span}
+use Rattle.check_const.specs.declared.operand.Operand.{Operand as Side}
+use Rattle.check_const.specs.declared.operand.Ordinal.{Ordinal}
+use Rattle.check_const.specs.Operands.{is_number}
+use Rattle.check_const.specs.Numbers.{is_between}
+use Rattle.check_const.specs.Common.{common}
+use Rattle.check_const.specs.Standards.{scalar_part, if_number}
+use Rattle.check_const.specs.Sets.{ordinal_or_refusal, set_element, is_element, has_none, in_set, alike_in_order, related_bounds, span_of, with_span}
 use Rattle.def_typing.specs.Amounts.{Constant, IsNumber, GoTogether, Within}
 use Rattle.def_typing.specs.Operators.{◌!◌, Kind, Scalar, operand}
 use Rattle.law_typing.specs.Exact.{IsConst, is_const}

@@ -22,13 +22,13 @@ use Rattle.m2_rule.specs.declared.breach.Breach.{Breach}
 use Rattle.check_scope.specs.declared.meaningless.Meaningless.{Meaningless}
 use Rattle.check_scope.specs.declared.scope.Scope.{Scope}
 use Rattle.check_scope.specs.Elaborated.{Gathers}
-use Rattle.check_const_ops.specs.declared.operator.BinaryOp.TheVariants as op
-use Rattle.check_operator.specs.declared.computed.Computed.{Computed}
-use Rattle.check_operator.specs.declared.computed.Computed.TheVariants as computed
-use Rattle.check_operator.specs.declared.computed.Designated.{Designated}
-use Rattle.check_operator.specs.declared.computed.Designated.TheVariants as designated
-use Rattle.check_operator.specs.Operations.{operation_between}
-use Rattle.check_operator.specs.Signs.{negation, with_sign}
+use Rattle.check_const.specs.declared.operator.BinaryOp.TheVariants as op
+use Rattle.check_value.specs.declared.computed.Computed.{Computed}
+use Rattle.check_value.specs.declared.computed.Computed.TheVariants as computed
+use Rattle.check_value.specs.declared.computed.Designated.{Designated}
+use Rattle.check_value.specs.declared.computed.Designated.TheVariants as designated
+use Rattle.check_value.specs.Operations.{operation_between}
+use Rattle.check_value.specs.Signs.{negation, with_sign}
 use Rattle.check_expr.proofs.Leading.{leading_mapped}
 use Rattle.check_expr.specs.Meanings.{Meant, Picks, meanings_of, picks, leading_name, head, value_of, of_computed, factor, term as addend, index_at, call_in_expression, expr_layer}
 use Rattle.def_typing.specs.Amounts.{Constant}

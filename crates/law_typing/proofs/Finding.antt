@@ -12,8 +12,8 @@ use Rattle.m2_rule.specs.declared.breach.Breach.{Breach}
 use Rattle.check_scope.specs.declared.meaningless.Meaningless.{Meaningless}
 use Rattle.check_scope.specs.declared.scope.Scope.{Scope}
 use Rattle.check_scope.specs.Elaborated.{Gathers}
-use Rattle.check_operator.specs.declared.computed.Computed.{Computed}
-use Rattle.check_operator.specs.declared.computed.Designated.{Designated}
+use Rattle.check_value.specs.declared.computed.Computed.{Computed}
+use Rattle.check_value.specs.declared.computed.Designated.{Designated}
 use Rattle.check_expr.specs.Meanings.{Meant, meanings_of, value_of, value_standing, of_computed, expr_layer, breaches_in_all, with_look}
 use Rattle.def_typing.specs.Operators.{Kind}
 use Rattle.def_typing.specs.Things.{Thing, AValue, Standing, Taken, Mistaken}

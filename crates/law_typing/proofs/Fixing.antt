@@ -24,15 +24,15 @@ use Rattle.check_scope.specs.declared.meaningless.Meaningless.{Meaningless}
 use Rattle.check_scope.specs.declared.scope.Scope.{Scope}
 use Rattle.check_scope.specs.Elaborated.{Gathers, ◌▷◌}
 use Rattle.check_scope.specs.Scopes.{looked_up}
-use Rattle.check_const_ops.specs.declared.operand.Operand.{Operand as Side}
-use Rattle.check_const_ops.specs.declared.operator.BinaryOp.{BinaryOp}
-use Rattle.check_const_ops.specs.Operands.{operand_of}
-use Rattle.check_const_ops.specs.Operate as operate
+use Rattle.check_const.specs.declared.operand.Operand.{Operand as Side}
+use Rattle.check_const.specs.declared.operator.BinaryOp.{BinaryOp}
+use Rattle.check_const.specs.Operands.{operand_of}
+use Rattle.check_const.specs.Operate as operate
 use Rattle.check_const.specs.declared.denoted.Denoted.{Denoted}
 use Rattle.check_const.specs.declared.denoted.Denoted.TheVariants as denoted
 use Rattle.check_const.specs.Denote.{denoted_by, denoted_of, as_constant, of_value, component, export_of, exported_by}
 use Rattle.check_const.specs.Parts as constants
-use Rattle.check_operator.specs.Operations.{of_value as computed_of}
+use Rattle.check_value.specs.Operations.{of_value as computed_of}
 use Rattle.check_expr.specs.Meanings.{Meant, Picks, picks, head, selector_layer}
 use Rattle.def_typing.specs.Operators.{◌!◌, Kind, operand, Makes, Misused, Misapplied, MaySign, SignMakes, Negates}
 use Rattle.def_typing.specs.Things.{Thing, Standing, Known, Undeclared, NotExported, Misnamed, undeclared, not_exported}

@@ -10,10 +10,10 @@ use Rattle.m2_tree.specs.declared.expr.Item.{Item, out-Item}
 use Rattle.typed_tree.specs.declared.types.TypeNo.{TypeNo}
 use Rattle.check_scope.specs.declared.scope.Scope.{Scope}
 use Rattle.check_scope.specs.Elaborated.{Gathers, reported_where, beside}
-use Rattle.check_const_ops.specs.declared.operand.Ordinal.{Ordinal}
-use Rattle.check_const_ops.specs.Numbers.{fits}
-use Rattle.check_const_ops.specs.Common.{common}
-use Rattle.check_const_ops.specs.Bounds.{fits_base, is_of_base, ordered_if}
+use Rattle.check_const.specs.declared.operand.Ordinal.{Ordinal}
+use Rattle.check_const.specs.Numbers.{fits}
+use Rattle.check_const.specs.Common.{common}
+use Rattle.check_const.specs.Bounds.{fits_base, is_of_base, ordered_if}
 use Rattle.check_expr.specs.Meanings.{meanings_of}
 use Rattle.check_stmt_parts.specs.Simple.{meant_if}
 use Rattle.check_stmt_parts.specs.Labels.{bound_of, suits_if, bound_suits, Bounds, bounds_of, ordered_both, bounds_ordered, single, label_range, label_between, item_label}

@@ -7,7 +7,7 @@ use Rattle.std.proofs.lemmas.Iterator.Adapters.{position_from-zero}
 use Rattle.m2_tree.specs.Names.{same_name}
 use Rattle.typed_tree.specs.declared.types.TypeNo.{TypeNo}
 use Rattle.typed_tree.specs.Names.{find_name, place_of}
-use Rattle.check_operator.specs.Selection.{typed_field, numbered_field}
+use Rattle.check_value.specs.Selection.{typed_field, numbered_field}
 
 module _ {V : Type 0} where
   -- the place of a name, or how many there are

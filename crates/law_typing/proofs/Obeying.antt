@@ -32,7 +32,7 @@ use Rattle.std.specs.Option.{is_some}
 use Rattle.std.specs.Prelude.{not}
 use Rattle.m2_rule.specs.declared.rule.Rule.TheVariants as rule
 use Rattle.check_scope.specs.declared.meaningless.Meaningless.{Meaningless}
-use Rattle.check_operator.specs.declared.computed.Designated.{Designated}
+use Rattle.check_value.specs.declared.computed.Designated.{Designated}
 use Rattle.def_typing.specs.Shapes.{shape_at, IsMade}
 use Rattle.def_typing.specs.Operators.{◌!◌}
 use Rattle.def_typing.specs.Expressions.{Denotes}

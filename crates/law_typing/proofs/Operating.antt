@@ -9,17 +9,17 @@ use Rattle.typed_tree.specs.declared.meaning.Value.{Value as ConstantValue}
 use Rattle.typed_tree.specs.Types.{boolean}
 use Rattle.m2_rule.specs.declared.breach.Breach.{Breach}
 use Rattle.check_scope.specs.Elaborated.{Gathers, report, reported_where, ◌▷◌}
-use Rattle.check_const_ops.specs.declared.operand.Ordinal.{Ordinal}
-use Rattle.check_const_ops.specs.declared.operator.BinaryOp.{BinaryOp}
-use Rattle.check_const_ops.specs.declared.operator.BinaryOp.TheVariants.{Plus, Minus, Times, Over, Div, Mod, And, Or, Relation}
-use Rattle.check_const_ops.specs.Operands.{number_value}
-use Rattle.check_const_ops.specs.Numbers.{fits, number_at}
-use Rattle.check_const_ops.specs.Operate.{takes, fitting, ordinal_result, on_scalars}
-use Rattle.check_operator.specs.declared.computed.Computed.{Computed}
-use Rattle.check_operator.specs.declared.computed.Computed.TheVariants as computed
-use Rattle.check_operator.specs.declared.side.Amount.{Amount as Sided}
-use Rattle.check_operator.specs.declared.side.Amount.TheVariants.{Known, Run}
-use Rattle.check_operator.specs.Operations.{fitting_both, fitting_of, divisor_of, step_or_refusal, on_amounts, of_value, step_of}
+use Rattle.check_const.specs.declared.operand.Ordinal.{Ordinal}
+use Rattle.check_const.specs.declared.operator.BinaryOp.{BinaryOp}
+use Rattle.check_const.specs.declared.operator.BinaryOp.TheVariants.{Plus, Minus, Times, Over, Div, Mod, And, Or, Relation}
+use Rattle.check_const.specs.Operands.{number_value}
+use Rattle.check_const.specs.Numbers.{fits, number_at}
+use Rattle.check_const.specs.Operate.{takes, fitting, ordinal_result, on_scalars}
+use Rattle.check_value.specs.declared.computed.Computed.{Computed}
+use Rattle.check_value.specs.declared.computed.Computed.TheVariants as computed
+use Rattle.check_value.specs.declared.side.Amount.{Amount as Sided}
+use Rattle.check_value.specs.declared.side.Amount.TheVariants.{Known, Run}
+use Rattle.check_value.specs.Operations.{fitting_both, fitting_of, divisor_of, step_or_refusal, on_amounts, of_value, step_of}
 use Rattle.def_typing.specs.Amounts as k
 use Rattle.def_typing.specs.Amounts.{Amount, Constant, Value, IsWhole, IsNumber, InRange, Suits, GoTogether, IsArithmetic, IsLogical, IsComparison, IsDivision, BelowOne, Evaluates, Says, Takes, Fits, AreRight, Yields, IsComputed, Gives, truth}
 use Rattle.m2_rule.specs.declared.rule.Rule.{Rule}

@@ -17,10 +17,10 @@ use Rattle.typed_tree.specs.Types.{are_same, char}
 use Rattle.m2_rule.specs.declared.breach.Breach.{Breach}
 use Rattle.check_scope.specs.declared.meaningless.Meaningless.{Meaningless}
 use Rattle.check_scope.specs.Elaborated.{Gathers, report, reported_where}
-use Rattle.check_operator.specs.declared.class.Class.{Class}
-use Rattle.check_operator.specs.declared.computed.Computed.{Computed}
-use Rattle.check_operator.specs.declared.computed.Designated.{Designated}
-use Rattle.check_call.specs.Actuals.{starts_at_zero, elements_suit_in, elements_suit, variable_passed, open_passed, text_passed, open_value, whole_passed, simple_passed, passed_as, actual}
+use Rattle.check_value.specs.declared.class.Class.{Class}
+use Rattle.check_value.specs.declared.computed.Computed.{Computed}
+use Rattle.check_value.specs.declared.computed.Designated.{Designated}
+use Rattle.check_value.specs.Actuals.{starts_at_zero, elements_suit_in, elements_suit, variable_passed, open_passed, text_passed, open_value, whole_passed, simple_passed, passed_as, actual}
 use Rattle.check_expr.specs.Meanings.{argument_by}
 use Rattle.def_typing.specs.Shapes.{shape_at, IsMade}
 use Rattle.def_typing.specs.Amounts.{Within}

@@ -16,18 +16,18 @@ use Rattle.typed_tree.specs.Types.{are_same}
 use Rattle.m2_rule.specs.declared.breach.Breach.{Breach}
 use Rattle.check_scope.specs.declared.meaningless.Meaningless.{Meaningless}
 use Rattle.check_scope.specs.Elaborated.{Gathers, report, reported_where}
-use Rattle.check_const_ops.specs.Numbers.{is_between}
-use Rattle.check_operator.specs.declared.class.Class.{Class}
-use Rattle.check_operator.specs.declared.computed.Computed.{Computed}
-use Rattle.check_operator.specs.declared.computed.Computed.TheVariants as computed
-use Rattle.check_operator.specs.declared.computed.Designated.{Designated}
-use Rattle.check_operator.specs.declared.side.Amount.TheVariants.{Known, Run}
-use Rattle.check_operator.specs.declared.side.Side.{Side}
-use Rattle.check_operator.specs.Classes.{class_at}
-use Rattle.check_operator.specs.Agreement.{headings_agree}
-use Rattle.check_operator.specs.Sides.{side_of}
-use Rattle.check_operator.specs.Suits.{bases_suit, sort_suits, value_in, value_suited}
-use Rattle.check_operator.specs.Values.{given_as, function_result as elaborated_given, loaded_as, value_at_place}
+use Rattle.check_const.specs.Numbers.{is_between}
+use Rattle.check_value.specs.declared.class.Class.{Class}
+use Rattle.check_value.specs.declared.computed.Computed.{Computed}
+use Rattle.check_value.specs.declared.computed.Computed.TheVariants as computed
+use Rattle.check_value.specs.declared.computed.Designated.{Designated}
+use Rattle.check_value.specs.declared.side.Amount.TheVariants.{Known, Run}
+use Rattle.check_value.specs.declared.side.Side.{Side}
+use Rattle.check_value.specs.Classes.{class_at}
+use Rattle.check_value.specs.Agreement.{headings_agree}
+use Rattle.check_value.specs.Sides.{side_of}
+use Rattle.check_value.specs.Suits.{bases_suit, sort_suits, value_in, value_suited}
+use Rattle.check_value.specs.Values.{given_as, function_result as elaborated_given, loaded_as, value_at_place}
 use Rattle.check_expr.specs.Meanings.{value_standing}
 use Rattle.def_typing.specs.Shapes.{shape_at, IsMade, Agree, agree}
 use Rattle.def_typing.specs.Amounts.{Amount, Constant, sort_of, IsWhole, Within}

@@ -10,7 +10,7 @@ use Rattle.typed_tree.specs.declared.statement.TypedStmt.{TypedStmt}
 use Rattle.typed_tree.specs.declared.statement.TypedStmt.TheVariants as statement
 use Rattle.check_scope.specs.declared.scope.Scope.{Scope}
 use Rattle.check_scope.specs.Elaborated.{Gathers, report, reported_beside, ◌▷◌}
-use Rattle.check_operator.specs.Suits.{value_suited}
+use Rattle.check_value.specs.Suits.{value_suited}
 use Rattle.check_expr.specs.Meanings.{meanings_of, value_of}
 use Rattle.check_stmt_parts.specs.declared.around.Around.{Around}
 use Rattle.check_stmt_parts.specs.Simple.{meant_if, exit_statement, given_back, return_statement}

@@ -22,14 +22,14 @@ use Rattle.m2_rule.specs.declared.breach.Breach.{Breach}
 use Rattle.check_scope.specs.declared.meaningless.Meaningless.{Meaningless}
 use Rattle.check_scope.specs.declared.scope.Scope.{Scope}
 use Rattle.check_scope.specs.Elaborated.{Gathers, report, reported_where, ahead, ◌▷◌}
-use Rattle.check_operator.specs.declared.class.Class.{Class}
-use Rattle.check_operator.specs.declared.computed.Computed.{Computed}
-use Rattle.check_operator.specs.declared.computed.Designated.{Designated}
-use Rattle.check_operator.specs.Classes.{signature_at}
-use Rattle.check_call.specs.declared.callee.Callee.{Callee}
-use Rattle.check_call.specs.declared.callee.Called.{Called}
-use Rattle.check_call.specs.declared.callee.Called.TheVariants as called
-use Rattle.check_call.specs.Callees.{callee_in_variable, callee_of, function_with, function_of, call_by}
+use Rattle.check_value.specs.declared.class.Class.{Class}
+use Rattle.check_value.specs.declared.computed.Computed.{Computed}
+use Rattle.check_value.specs.declared.computed.Designated.{Designated}
+use Rattle.check_value.specs.Classes.{signature_at}
+use Rattle.check_value.specs.declared.callee.Callee.{Callee}
+use Rattle.check_value.specs.declared.callee.Called.{Called}
+use Rattle.check_value.specs.declared.callee.Called.TheVariants as called
+use Rattle.check_value.specs.Callees.{callee_in_variable, callee_of, function_with, function_of, call_by}
 use Rattle.check_expr.specs.Meanings.{meanings_of, breaches_in_all, with_actual, actuals, argument_by, call_given, formals_of, callee_value, call_in_expression}
 use Rattle.def_typing.specs.Shapes.{shape_at, IsMade}
 use Rattle.def_typing.specs.Operators.{◌!◌, Kind}

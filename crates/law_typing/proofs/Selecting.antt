@@ -26,13 +26,13 @@ use Rattle.check_scope.specs.declared.scope.Scope.{Scope}
 use Rattle.check_scope.specs.Elaborated.{Gathers, report, plain, ◌▷◌}
 use Rattle.check_scope.specs.Scopes.{looked_up}
 use Rattle.check_const.specs.Denote.{export_of, exported_by}
-use Rattle.check_operator.specs.declared.computed.Computed.{Computed}
-use Rattle.check_operator.specs.declared.computed.Designated.{Designated}
-use Rattle.check_operator.specs.declared.computed.Designated.TheVariants as designated
-use Rattle.check_operator.specs.declared.select.Subscripted.{Subscripted}
-use Rattle.check_operator.specs.declared.select.Subscripted.TheVariants as indexes
-use Rattle.check_operator.specs.Selection.{numbered_field, field_named, record_field, component, array_indexed, indices, index_type, element_of_array, with_index}
-use Rattle.check_operator.specs.Values.{designated_by, local_by}
+use Rattle.check_value.specs.declared.computed.Computed.{Computed}
+use Rattle.check_value.specs.declared.computed.Designated.{Designated}
+use Rattle.check_value.specs.declared.computed.Designated.TheVariants as designated
+use Rattle.check_value.specs.declared.select.Subscripted.{Subscripted}
+use Rattle.check_value.specs.declared.select.Subscripted.TheVariants as indexes
+use Rattle.check_value.specs.Selection.{numbered_field, field_named, record_field, component, array_indexed, indices, index_type, element_of_array, with_index}
+use Rattle.check_value.specs.Values.{designated_by, local_by}
 use Rattle.check_expr.specs.Meanings.{first_name, leading_meaning, leading_name, field_of, field_at, index_at}
 use Rattle.def_typing.specs.Shapes.{shape_at, IsMade}
 use Rattle.def_typing.specs.Operators.{◌!◌, Kind, operand}

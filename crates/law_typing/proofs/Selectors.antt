@@ -11,10 +11,10 @@ use Rattle.typed_tree.specs.declared.computed.TypedExpr.{TypedExpr}
 use Rattle.typed_tree.specs.Types.{integer, cardinal}
 use Rattle.check_scope.specs.declared.scope.Scope.{Scope}
 use Rattle.check_scope.specs.Elaborated.{Gathers, report, ◌▷◌}
-use Rattle.check_operator.specs.declared.side.Amount.TheVariants.{Known as KnownSide, Run}
-use Rattle.check_operator.specs.declared.side.Side.{Side}
-use Rattle.check_operator.specs.Sides.{side_of}
-use Rattle.check_call.specs.Effects.{type_of_number}
+use Rattle.check_value.specs.declared.side.Amount.TheVariants.{Known as KnownSide, Run}
+use Rattle.check_value.specs.declared.side.Side.{Side}
+use Rattle.check_value.specs.Sides.{side_of}
+use Rattle.check_value.specs.Effects.{type_of_number}
 use Rattle.check_expr.specs.Meanings.{meanings_of, value_of}
 use Rattle.check_stmt_parts.specs.Simple.{selector_amount, selector_of, case_selector}
 use Rattle.def_typing.specs.Amounts.{Amount, Constant, Value}

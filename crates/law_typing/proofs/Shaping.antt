@@ -14,10 +14,10 @@ use Rattle.typed_tree.specs.declared.shape.Signature.{Signature}
 use Rattle.typed_tree.specs.declared.known_types.Types.{Types}
 use Rattle.typed_tree.specs.Known.{made_in, made_from, predeclared_scalar, scalar_at, scalar_from, scalar_made, scalar_shape}
 use Rattle.check_scope.specs.Scopes.{fields_at, fields_made, fields_shape}
-use Rattle.check_operator.specs.declared.class.Class.{Class}
-use Rattle.check_operator.specs.declared.class.Class.TheVariants as class
-use Rattle.check_operator.specs.Classes.{class_at, class_from, class_range, class_made, class_shape, signature_at, signature_made, signature_shape, array_at, array_made, array_shape}
-use Rattle.check_operator.specs.Agreement.{is_alike, formal_agrees, formals_agree, result_agrees, signatures_agree, headings_agree}
+use Rattle.check_value.specs.declared.class.Class.{Class}
+use Rattle.check_value.specs.declared.class.Class.TheVariants as class
+use Rattle.check_value.specs.Classes.{class_at, class_from, class_range, class_made, class_shape, signature_at, signature_made, signature_shape, array_at, array_made, array_shape}
+use Rattle.check_value.specs.Agreement.{is_alike, formal_agrees, formals_agree, result_agrees, signatures_agree, headings_agree}
 use Rattle.def_typing.specs.Shapes.{shape_at, shape_from, predeclared_shape, IsMade, Agree, agree}
 use Rattle.law_typing.proofs.Combining.{Decided, holds, fails_it, decided_as}
 use Rattle.law_typing.proofs.Deciding.{same_decided, both_decided, some_same}

@@ -17,21 +17,21 @@ use Rattle.typed_tree.specs.declared.shape.Scalar.{Scalar as Range}
 use Rattle.typed_tree.specs.Types.{are_same, is_numeric, integer, cardinal, boolean, char}
 use Rattle.m2_rule.specs.declared.breach.Breach.{Breach}
 use Rattle.check_scope.specs.Elaborated.{Gathers, report, reported_where}
-use Rattle.check_const_ops.specs.declared.operand.Ordinal.{Ordinal}
-use Rattle.check_const_ops.specs.declared.operand.Operand.{Operand}
-use Rattle.check_const_ops.specs.declared.operand.Operand.TheVariants as operands
-use Rattle.check_const_ops.specs.declared.operator.BinaryOp.TheVariants.{Minus}
-use Rattle.check_const_ops.specs.Operands.{operand_of, number_value, is_number, is_truth, truth as constant_truth}
-use Rattle.check_const_ops.specs.Numbers.{fits, is_between, number_at, evaluated_at}
-use Rattle.check_const_ops.specs.Operate as constants
-use Rattle.check_const_ops.specs.Standards.{scalar_part, if_number, absolute_part, capital_part, character_part, odd_part, ordinal_part, converted_part, is_char, upper, bound_of}
-use Rattle.check_operator.specs.declared.computed.Computed.{Computed}
-use Rattle.check_operator.specs.declared.computed.Computed.TheVariants as computed
-use Rattle.check_operator.specs.Operations.{of_value}
-use Rattle.check_operator.specs.Signs as signs
-use Rattle.check_call.specs.declared.standard.Unary.{Unary}
-use Rattle.check_call.specs.declared.standard.Unary.TheVariants as unary
-use Rattle.check_call.specs.Functions.{unary_at, unary_scalar, converted_value}
+use Rattle.check_const.specs.declared.operand.Ordinal.{Ordinal}
+use Rattle.check_const.specs.declared.operand.Operand.{Operand}
+use Rattle.check_const.specs.declared.operand.Operand.TheVariants as operands
+use Rattle.check_const.specs.declared.operator.BinaryOp.TheVariants.{Minus}
+use Rattle.check_const.specs.Operands.{operand_of, number_value, is_number, is_truth, truth as constant_truth}
+use Rattle.check_const.specs.Numbers.{fits, is_between, number_at, evaluated_at}
+use Rattle.check_const.specs.Operate as constants
+use Rattle.check_const.specs.Standards.{scalar_part, if_number, absolute_part, capital_part, character_part, odd_part, ordinal_part, converted_part, is_char, upper, bound_of}
+use Rattle.check_value.specs.declared.computed.Computed.{Computed}
+use Rattle.check_value.specs.declared.computed.Computed.TheVariants as computed
+use Rattle.check_value.specs.Operations.{of_value}
+use Rattle.check_value.specs.Signs as signs
+use Rattle.check_value.specs.declared.standard.Unary.{Unary}
+use Rattle.check_value.specs.declared.standard.Unary.TheVariants as unary
+use Rattle.check_value.specs.Functions.{unary_at, unary_scalar, converted_value}
 use Rattle.def_typing.specs.Amounts as k
 use Rattle.def_typing.specs.Amounts.{Amount, Constant, Value, sort_of, IsNumber, InRange, Within, TakesSign, Signs, truth}
 use Rattle.def_typing.specs.Operators as rules

@@ -16,12 +16,12 @@ use Rattle.typed_tree.specs.Known.{scalar_at}
 use Rattle.typed_tree.specs.Types.{integer, cardinal}
 use Rattle.check_scope.specs.declared.scope.Scope.{Scope}
 use Rattle.check_scope.specs.Elaborated.{Gathers, reported_where, beside}
-use Rattle.check_const_ops.specs.declared.operand.Ordinal.{Ordinal}
-use Rattle.check_const_ops.specs.declared.operand.Operand.{Operand}
-use Rattle.check_const_ops.specs.Operands.{operand_of}
-use Rattle.check_const_ops.specs.Numbers.{is_between, fits}
-use Rattle.check_const_ops.specs.Common.{common}
-use Rattle.check_const_ops.specs.Bounds.{bounds_in_order, fits_base, is_of_base, ordered_if, ordinal_in}
+use Rattle.check_const.specs.declared.operand.Ordinal.{Ordinal}
+use Rattle.check_const.specs.declared.operand.Operand.{Operand}
+use Rattle.check_const.specs.Operands.{operand_of}
+use Rattle.check_const.specs.Numbers.{is_between, fits}
+use Rattle.check_const.specs.Common.{common}
+use Rattle.check_const.specs.Bounds.{bounds_in_order, fits_base, is_of_base, ordered_if, ordinal_in}
 use Rattle.check_const.specs.Parts.{constant}
 use Rattle.check_expr.specs.Meanings.{part}
 use Rattle.check_type_expr.specs.Named.{first_of}

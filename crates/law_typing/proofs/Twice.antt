@@ -12,7 +12,7 @@ use Rattle.typed_tree.specs.Types.{are_same}
 use Rattle.typed_tree.specs.declared.statement.Label.{Label}
 use Rattle.check_scope.specs.declared.scope.Scope.{Scope}
 use Rattle.check_scope.specs.Elaborated.{Gathers, reported_where}
-use Rattle.check_const_ops.specs.declared.operand.Ordinal.{Ordinal}
+use Rattle.check_const.specs.declared.operand.Ordinal.{Ordinal}
 use Rattle.check_stmt_parts.specs.Ranges.{is_below, is_at_most, Range, is_met, with_range, enter_range}
 use Rattle.check_stmt_parts.specs.Lists.{with_next}
 use Rattle.check_stmt_parts.specs.Labels.{Bounds, base_of, point_of, Labels, label_by, with_label, with_item, labels_in, item_label}

@@ -27,13 +27,13 @@ use Rattle.check_scope.specs.declared.known.Origin.TheVariants.{Here}
 use Rattle.check_scope.specs.declared.scope.Scope.{Scope}
 use Rattle.check_scope.specs.Elaborated.{Gathers, ◌▷◌}
 use Rattle.check_scope.specs.Scopes.{looked_up}
-use Rattle.check_operator.specs.declared.computed.Computed.{Computed}
-use Rattle.check_operator.specs.declared.computed.Computed.TheVariants as computed
-use Rattle.check_operator.specs.declared.computed.Designated.{Designated}
-use Rattle.check_operator.specs.declared.computed.Designated.TheVariants as designated
+use Rattle.check_value.specs.declared.computed.Computed.{Computed}
+use Rattle.check_value.specs.declared.computed.Computed.TheVariants as computed
+use Rattle.check_value.specs.declared.computed.Designated.{Designated}
+use Rattle.check_value.specs.declared.computed.Designated.TheVariants as designated
 use Rattle.check_const.specs.Parts.{constant}
-use Rattle.check_operator.specs.Suits.{value_suited}
-use Rattle.check_call.specs.Effects.{target_at, assignment_of}
+use Rattle.check_value.specs.Suits.{value_suited}
+use Rattle.check_value.specs.Effects.{target_at, assignment_of}
 use Rattle.typed_tree.specs.declared.statement.TypedStmt.{TypedStmt}
 use Rattle.typed_tree.specs.Types.{boolean}
 use Rattle.def_typing.specs.Constants.{AConstant, Fixes}
@@ -47,7 +47,7 @@ use Rattle.check_stmt_parts.specs.declared.control.Course.{Course}
 use Rattle.check_stmt_parts.specs.Control.{is_own, course_of}
 use Rattle.def_typing.specs.Cases.{IsSelector, BrokenSelector, Number, IsLabelBound, BrokenLabelBound}
 use Rattle.check_stmt_parts.specs.Labels.{bound_of}
-use Rattle.check_const_ops.specs.declared.operand.Ordinal.{Ordinal}
+use Rattle.check_const.specs.declared.operand.Ordinal.{Ordinal}
 use Rattle.def_typing.specs.Loops.{Runs, BrokenRun}
 use Rattle.m2_tree.specs.declared.expr.Qualified.{Qualified}
 use Rattle.check_type_expr.specs.Named.{named_type}

@@ -18,9 +18,9 @@ use Rattle.check_scope.specs.declared.meaningless.Meaningless.{Meaningless}
 use Rattle.check_scope.specs.declared.meaningless.Meaningless.TheVariants.{Broken, Headless}
 use Rattle.check_scope.specs.Elaborated.{Gathers, report, reported_where, both, refusal_beside, reported_beside, ahead, of_sort, of_heading, of_value, of_sort_of_value, plain, ◌▷◌}
 use Rattle.check_scope.specs.Scopes.{heading_means}
-use Rattle.check_operator.specs.declared.class.Class.{Class}
-use Rattle.check_operator.specs.declared.class.Class.TheVariants as class
-use Rattle.check_operator.specs.Classes.{class_shape, class_made, class_from, class_at, signature_shape, signature_made, signature_at}
+use Rattle.check_value.specs.declared.class.Class.{Class}
+use Rattle.check_value.specs.declared.class.Class.TheVariants as class
+use Rattle.check_value.specs.Classes.{class_shape, class_made, class_from, class_at, signature_shape, signature_made, signature_at}
 use Rattle.layout_storage.specs.Frames.{formals_in, formals_made, formals_of}
 use Rattle.def_scheme.specs.Exprs.{is_there, result_in, result_made, has_result}
 use Rattle.law_well_formed.specs.Formed.{Holds, fine, broken}

@@ -36,23 +36,23 @@ use Rattle.check_scope.specs.declared.meaningless.Meaningless.{Meaningless}
 use Rattle.check_scope.specs.Elaborated.{Gathers, reported_where, ahead, of_sort, of_heading, of_value, ◌▷◌}
 use Rattle.check_scope.specs.declared.scope.Scope.{Scope}
 use Rattle.check_const.specs.Parts.{Part, Adds, sign_place}
-use Rattle.check_const_ops.specs.Operators.{mul_op, add_op}
-use Rattle.check_const_ops.specs.declared.operator.BinaryOp.TheVariants as op
-use Rattle.check_operator.specs.Classes.{signature_at}
-use Rattle.check_operator.specs.Values.{slot_of, local_by, designated_by, function_result}
-use Rattle.check_operator.specs.declared.computed.Computed.{Computed}
-use Rattle.check_operator.specs.declared.computed.Computed.TheVariants as value
-use Rattle.check_operator.specs.declared.computed.Designated.{Designated}
-use Rattle.check_operator.specs.declared.computed.Designated.TheVariants as designated
-use Rattle.check_call.specs.Actuals.{with_argument}
-use Rattle.check_call.specs.Callees.{function_with, function_of, call_by}
-use Rattle.check_call.specs.Functions.{form_of}
-use Rattle.check_call.specs.declared.callee.Callee.{Callee}
-use Rattle.check_call.specs.declared.callee.Called.{Called}
-use Rattle.check_call.specs.declared.callee.Called.TheVariants as called
-use Rattle.check_call.specs.declared.standard.Form.{Form}
-use Rattle.check_call.specs.declared.standard.Form.TheVariants as form
-use Rattle.check_call.specs.declared.standard.Unary.{Unary}
+use Rattle.check_const.specs.Operators.{mul_op, add_op}
+use Rattle.check_const.specs.declared.operator.BinaryOp.TheVariants as op
+use Rattle.check_value.specs.Classes.{signature_at}
+use Rattle.check_value.specs.Values.{slot_of, local_by, designated_by, function_result}
+use Rattle.check_value.specs.declared.computed.Computed.{Computed}
+use Rattle.check_value.specs.declared.computed.Computed.TheVariants as value
+use Rattle.check_value.specs.declared.computed.Designated.{Designated}
+use Rattle.check_value.specs.declared.computed.Designated.TheVariants as designated
+use Rattle.check_value.specs.Actuals.{with_argument}
+use Rattle.check_value.specs.Callees.{function_with, function_of, call_by}
+use Rattle.check_value.specs.Functions.{form_of}
+use Rattle.check_value.specs.declared.callee.Callee.{Callee}
+use Rattle.check_value.specs.declared.callee.Called.{Called}
+use Rattle.check_value.specs.declared.callee.Called.TheVariants as called
+use Rattle.check_value.specs.declared.standard.Form.{Form}
+use Rattle.check_value.specs.declared.standard.Form.TheVariants as form
+use Rattle.check_value.specs.declared.standard.Unary.{Unary}
 use Rattle.check_expr.proofs.Leading.{leading_keeps}
 use Rattle.check_expr.specs.Meanings.{Meant, Picks, of_computed, signed_first, first_name, leading_name, field_of, formals_of, passed_for, argument_by, call_given, as_constant, value_of, breaches_in_all, with_actual, actuals, routine_called, unary, bound, conversion, high, by_form, callee_value, call_in_expression, factor, term, relation, expr_layer, selector_layer, designator_layer, item_layer, meanings_of, picks, head, item}
 use Rattle.def_scheme.specs.Exprs.{is_there}

@@ -25,19 +25,19 @@ use Rattle.check_scope.specs.Elaborated.{Gathers, reported_where}
 use Rattle.check_scope.specs.Scopes.{or_outside, fields_at, field_among, field_numbered, field_in, open_field as opened_fields, means_or, means_as, sight_of}
 use Rattle.check_scope.specs.declared.scope.OpenedRecord.{OpenedRecord}
 use Rattle.check_scope.specs.declared.scope.Scope.{Scope}
-use Rattle.check_operator.specs.Classes.{class_at}
-use Rattle.check_operator.specs.Sides.{side_of}
-use Rattle.check_operator.specs.Suits.{sort_suits, bases_suit}
-use Rattle.check_operator.specs.Values.{slot_of}
-use Rattle.check_operator.specs.declared.class.Class.{Class}
-use Rattle.check_operator.specs.declared.class.Class.TheVariants as class
-use Rattle.check_operator.specs.declared.computed.Computed.{Computed}
-use Rattle.check_operator.specs.declared.computed.Designated.{Designated}
-use Rattle.check_operator.specs.declared.computed.Designated.TheVariants as designated
-use Rattle.check_operator.specs.declared.side.Amount.{Amount}
-use Rattle.check_operator.specs.declared.side.Amount.TheVariants.{Known, Run}
-use Rattle.check_operator.specs.declared.side.Side.{Side}
-use Rattle.check_operator.specs.declared.side.Side.TheVariants as side
+use Rattle.check_value.specs.Classes.{class_at}
+use Rattle.check_value.specs.Sides.{side_of}
+use Rattle.check_value.specs.Suits.{sort_suits, bases_suit}
+use Rattle.check_value.specs.Values.{slot_of}
+use Rattle.check_value.specs.declared.class.Class.{Class}
+use Rattle.check_value.specs.declared.class.Class.TheVariants as class
+use Rattle.check_value.specs.declared.computed.Computed.{Computed}
+use Rattle.check_value.specs.declared.computed.Designated.{Designated}
+use Rattle.check_value.specs.declared.computed.Designated.TheVariants as designated
+use Rattle.check_value.specs.declared.side.Amount.{Amount}
+use Rattle.check_value.specs.declared.side.Amount.TheVariants.{Known, Run}
+use Rattle.check_value.specs.declared.side.Side.{Side}
+use Rattle.check_value.specs.declared.side.Side.TheVariants as side
 use Rattle.check_expr.specs.Meanings.{Meant}
 use Rattle.def_scheme.specs.Exprs.{is_there}
 use Rattle.law_modules.specs.WellFormed.{IsScalar, IsExpr, Constant, IsPlace, IsStmt, Exit, Return, Give, For, AreStmts}

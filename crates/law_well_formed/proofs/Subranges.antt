@@ -23,13 +23,13 @@ use Rattle.typed_tree.specs.Types.{are_same, is_one_home, is_integer, is_numeric
 use Rattle.typed_tree.specs.Known.{scalar_at, scalar_from, scalar_made, scalar_shape, in_list, predeclared_scalar, range}
 use Rattle.check_scope.specs.declared.scope.Scope.{Scope}
 use Rattle.check_scope.specs.Elaborated.{Gathers, reported_where, beside}
-use Rattle.check_const_ops.specs.declared.operand.Ordinal.{Ordinal}
-use Rattle.check_const_ops.specs.declared.operand.Operand.{Operand}
-use Rattle.check_const_ops.specs.declared.operand.Operand.TheVariants as operands
-use Rattle.check_const_ops.specs.Operands.{letter, letter_operand, operand_of}
-use Rattle.check_const_ops.specs.Numbers.{is_between, fits as number_fits}
-use Rattle.check_const_ops.specs.Common.{common}
-use Rattle.check_const_ops.specs.Bounds.{fits_base, is_of_base, ordered_if, ordinal_in}
+use Rattle.check_const.specs.declared.operand.Ordinal.{Ordinal}
+use Rattle.check_const.specs.declared.operand.Operand.{Operand}
+use Rattle.check_const.specs.declared.operand.Operand.TheVariants as operands
+use Rattle.check_const.specs.Operands.{letter, letter_operand, operand_of}
+use Rattle.check_const.specs.Numbers.{is_between, fits as number_fits}
+use Rattle.check_const.specs.Common.{common}
+use Rattle.check_const.specs.Bounds.{fits_base, is_of_base, ordered_if, ordinal_in}
 use Rattle.check_expr.specs.Meanings.{part}
 use Rattle.check_type_expr.specs.Named.{first_of, named_type}
 use Rattle.check_type_expr.specs.Subranges.{number_base, subrange_of_base, between, subrange_between, are_bounds, subrange_within, under}

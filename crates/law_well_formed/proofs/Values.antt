@@ -19,17 +19,17 @@ use Rattle.typed_tree.specs.Types.{are_same, is_integer, cardinal, boolean, char
 use Rattle.typed_tree.specs.Known.{scalar_at, range}
 use Rattle.check_scope.specs.declared.scope.Scope.{Scope}
 use Rattle.check_scope.specs.Elaborated.{Gathers, reported_where, both}
-use Rattle.check_const_ops.specs.declared.operand.Ordinal.{Ordinal}
-use Rattle.check_const_ops.specs.declared.operand.Operand.{Operand}
-use Rattle.check_const_ops.specs.declared.operand.Operand.TheVariants as operands
-use Rattle.check_const_ops.specs.declared.operator.BinaryOp.{BinaryOp}
-use Rattle.check_const_ops.specs.declared.operator.BinaryOp.TheVariants.{Plus, Minus, Times, Over, Div, Mod, And, Or, Relation}
-use Rattle.check_const_ops.specs.Operands.{operand_of, number_value, truth, is_number}
-use Rattle.check_const_ops.specs.Numbers.{is_between, fits as number_fits, number_at, whole_arithmetic, evaluated_at, quotient, remainder}
-use Rattle.check_const_ops.specs.Common.{common}
-use Rattle.check_const_ops.specs.Sets.{set_related, on_sets, member}
-use Rattle.check_const_ops.specs.Operate.{takes, holds_between, ordinal_result, ordinal_operation, on_scalars, binary, constant_operation, is_signed, signed_scalar, signed_value, with_sign, negated_value, negation}
-use Rattle.check_const_ops.specs.Standards.{scalar_part, if_number, whole_number, absolute_part, upper, is_char, capital_part, character_part, odd_part, ordinal_part, bound_of, converted_part}
+use Rattle.check_const.specs.declared.operand.Ordinal.{Ordinal}
+use Rattle.check_const.specs.declared.operand.Operand.{Operand}
+use Rattle.check_const.specs.declared.operand.Operand.TheVariants as operands
+use Rattle.check_const.specs.declared.operator.BinaryOp.{BinaryOp}
+use Rattle.check_const.specs.declared.operator.BinaryOp.TheVariants.{Plus, Minus, Times, Over, Div, Mod, And, Or, Relation}
+use Rattle.check_const.specs.Operands.{operand_of, number_value, truth, is_number}
+use Rattle.check_const.specs.Numbers.{is_between, fits as number_fits, number_at, whole_arithmetic, evaluated_at, quotient, remainder}
+use Rattle.check_const.specs.Common.{common}
+use Rattle.check_const.specs.Sets.{set_related, on_sets, member}
+use Rattle.check_const.specs.Operate.{takes, holds_between, ordinal_result, ordinal_operation, on_scalars, binary, constant_operation, is_signed, signed_scalar, signed_value, with_sign, negated_value, negation}
+use Rattle.check_const.specs.Standards.{scalar_part, if_number, whole_number, absolute_part, upper, is_char, capital_part, character_part, odd_part, ordinal_part, bound_of, converted_part}
 use Rattle.check_const.specs.Calls.{unary_of, unary, bound_by, bound, conversion_call}
 use Rattle.law_well_formed.specs.Formed.{Holds, fine, broken}
 use Rattle.law_well_formed.proofs.Basics.{then_holds, reported_holds, where_holds, both_holds, any_holds}

@@ -5,7 +5,7 @@
 //!
 //! - `specs/Formed` says when what the checker makes of a part is well formed, and what a scope is to know for that.
 //! - `proofs/Basics` has results that are as a fact says, `proofs/Operators` and `proofs/Calls` a lemma for each definition of
-//!   `check_operator` and `check_call`, and `proofs/Meanings` the lemmas of `check_expr`, with the induction.
+//!   `check_value`, and `proofs/Meanings` the lemmas of `check_expr`, with the induction.
 //!
 //! Why a module stands on the modules that it imports, and on no others.
 //!

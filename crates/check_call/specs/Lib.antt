@@ -1,4 +1,0 @@
-pub mod Callees
-pub mod Actuals
-pub mod Functions
-pub mod Effects

@@ -1,5 +1,0 @@
-use Rattle.std.proofs.Common.{length}
-use Rattle.check_operator.proofs.agree.+formals_agree.Given as goal
-
-abbrev pub decreases-formals_agree : goal.decreases-formals_agree
-decreases-formals_agree l = length l.first.now

@@ -1,0 +1,12 @@
+pub mod Classes
+pub mod Agreement
+pub mod Values
+pub mod Sides
+pub mod Operations
+pub mod Signs
+pub mod Suits
+pub mod Selection
+pub mod Callees
+pub mod Actuals
+pub mod Functions
+pub mod Effects
