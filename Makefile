@@ -48,7 +48,7 @@ compare: build plain
 
 # Refuses each request for memory in turn, in the calls of the libraries and in the two programs.
 hostile: build
-	tools/build_program test_hostile hostile
+	tools/build_program test_programs hostile
 	tools/hostile
 
 # Tries the hosts of hosts/ on programs that are compiled: the one on node, and the page that runs them, in a headless Chromium.
