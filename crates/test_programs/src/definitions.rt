@@ -9,6 +9,7 @@ use m2_scan::scan;
 use m2_tree::Module;
 use std::alloc::Global;
 use std::fs;
+use std::rt::Files;
 use tree_parts::{Items, Shared};
 use typed_tree::Table;
 
@@ -94,7 +95,7 @@ fn answer_to(alloc: Global, row: &Row) -> Result<String> {
 }
 
 /// Compares what is reported of a row's last text with what is expected.
-fn count_row(rt: &HostRuntime, count: Count, row: &Row) -> Result<Count> {
+fn count_row<R: Eprint + AllocGlobal>(rt: &R, count: Count, row: &Row) -> Result<Count> {
     let answer = answer_to(rt.alloc(), row)?;
     let is_right = answer.as_str() == row.expected.as_str();
     if !is_right {
@@ -107,7 +108,12 @@ fn count_row(rt: &HostRuntime, count: Count, row: &Row) -> Result<Count> {
 }
 
 /// Takes a line, or compiles the definition at the end of a row.
-fn with_next(rt: &HostRuntime, row: &mut Row, count: Count, line: &str) -> Result<Count> {
+fn with_next<R: Eprint + AllocGlobal>(
+    rt: &R,
+    row: &mut Row,
+    count: Count,
+    line: &str,
+) -> Result<Count> {
     match line {
         "%+" => with_import(rt.alloc(), row)?,
         "%%" => {
@@ -121,7 +127,7 @@ fn with_next(rt: &HostRuntime, row: &mut Row, count: Count, line: &str) -> Resul
 }
 
 /// Compiles each row, and compares what is reported of its last definition.
-pub fn check_all(rt: &HostRuntime) -> Result<Count> {
+pub fn check_all<R: Files + Eprint + AllocGlobal>(rt: &R) -> Result<Count> {
     let bytes = fs::read(rt, "definitions.txt").context("cannot read the rows")?;
     let all = String::from_utf8(bytes)?;
     let mut count = Count::none();

@@ -40,7 +40,7 @@ use crate::reading::check_inputs;
 use anyhow::{Context, Result, bail};
 use m2c::SourceFile;
 use std::process::ExitCode;
-use std::rt::Files;
+use std::rt::{Env, Files};
 use std::thread::Threads;
 use std::{env, fs};
 
@@ -63,7 +63,10 @@ const FAILED: u8 = 3;
 const REFUSED: u8 = 90;
 
 /// Prints how many rows of each file there are. The error is that one is not as expected.
-fn check_rows(rt: &HostRuntime) -> Result<()> {
+fn check_rows<R>(rt: &R) -> Result<()>
+where
+    R: Files + Print + Eprint + AllocGlobal + Threads + Sync,
+{
     let definitions = definitions::check_all(rt)?.all_right()?;
     println!(rt; "{definitions} definitions as expected")?;
     for (name, workers) in REFUSALS {
@@ -114,7 +117,10 @@ fn ask_all<R: Files + Print + AllocGlobal + Threads + Sync>(
 }
 
 /// Does what the words say, and answers whether memory sufficed.
-fn check_all(rt: &HostRuntime) -> Result<bool> {
+fn check_all<R>(rt: &R) -> Result<bool>
+where
+    R: Files + Env + Print + Eprint + AllocGlobal + Threads + Sync + Clone + Drop,
+{
     let words: Vec<String> = env::args(rt)?.collect(rt.alloc())?;
     match words.as_slice() {
         [_, first, others @ ..] if first.as_str() == ROWS => {
