@@ -89,20 +89,37 @@ fn divide<R: Files + AllocGlobal>(
     Ok(Divided { held, others })
 }
 
-/// How often a build looks whether so many modules are there, before it writes them once more: another number for each build and each
-/// turn, so that two builds do not go on overwriting each other. Its checksum has these digits.
+/// How often a build looks whether link and so many modules are there, before it writes them once more: another number for each build
+/// and each turn, so that two builds do not go on overwriting each other. Its checksum has these digits.
 fn looks_of(digits: &[u8], turn: usize, modules: usize) -> usize {
     let digit = digits.get(turn).map_or(0, |it| usize::from(it % SIXTEEN));
-    digit.saturating_mul(turn).saturating_mul(modules)
+    let files = modules.saturating_add(1);
+    digit.saturating_mul(turn).saturating_mul(files)
 }
 
-/// Looks so often whether modules are there, or until they are.
-fn look<R: Files + AllocGlobal>(rt: &R, modules: &[(String, Vec<u8>)], out: &str, looks: usize) {
+/// Whether the files of these modules and of link hold their bytes.
+fn are_kept<R: Files + AllocGlobal>(
+    rt: &R,
+    link: &[u8],
+    modules: &[(String, Vec<u8>)],
+    out: &str,
+) -> bool {
+    let all = modules
+        .iter()
+        .all(|it| is_kept(rt, out, it.0.as_str(), &it.1));
+    all && is_kept(rt, out, LINK, link)
+}
+
+/// Looks so often whether link and modules are there, or until they are.
+fn look<R: Files + AllocGlobal>(
+    rt: &R,
+    link: &[u8],
+    modules: &[(String, Vec<u8>)],
+    out: &str,
+    looks: usize,
+) {
     for _ in 0..looks {
-        if modules
-            .iter()
-            .all(|it| is_kept(rt, out, it.0.as_str(), &it.1))
-        {
+        if are_kept(rt, link, modules, out) {
             return;
         }
     }
@@ -123,11 +140,10 @@ pub fn save_modules<R: Files + Eprint + AllocGlobal>(
         if others.is_empty() && is_kept(rt, out, LINK, link) {
             return Ok(BUILT);
         }
-        if let Some(first) = others.first() {
-            let sum = short_sum(rt.alloc(), &first.1)?;
-            let looks = looks_of(sum.as_bytes(), turn, others.len());
-            look(rt, &others, out, looks);
-        }
+        let first = others.first().map_or(link, |it| it.1.as_slice());
+        let sum = short_sum(rt.alloc(), first)?;
+        let looks = looks_of(sum.as_bytes(), turn, others.len());
+        look(rt, link, &others, out, looks);
         let status = save_changed(rt, link, &others, out);
         if status != BUILT {
             return Ok(status);
