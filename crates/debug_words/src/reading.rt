@@ -2,8 +2,8 @@
 
 use crate::command::{Command, Condition, Path, Target};
 use crate::cursor::Cursor;
-use m2_tree::{Symbol, Token};
-use scan_tokens::{ScanError, scan};
+use m2_tree::Symbol;
+use refused_text::tokens_of;
 use std::alloc::{AllocError, Global};
 
 /// What all commands do.
@@ -88,18 +88,9 @@ fn mistake(alloc: Global, words: &str) -> Result<Command, AllocError> {
     Ok(Command::Mistake(String::from_str(alloc, words)?))
 }
 
-/// The tokens of words. None if they do not divide into tokens.
-fn tokens_of(alloc: Global, text: &str) -> Result<Vec<Token>, AllocError> {
-    match scan(alloc, text.as_bytes()) {
-        Ok(tokens) => Ok(tokens),
-        Err(ScanError::Refused(_)) => Ok(Vec::new(alloc)),
-        Err(ScanError::NoMemory) => Err(AllocError),
-    }
-}
-
 /// The variable with its selectors that is typed so. Nothing if it is none. The only error is that memory ran out.
 pub fn read_path(alloc: Global, text: &str) -> Result<Option<Path>, AllocError> {
-    let tokens = tokens_of(alloc, text)?;
+    let tokens = tokens_of(alloc, text.as_bytes())?;
     let mut cursor = Cursor::new(&tokens);
     match cursor.path(alloc)? {
         Some(path) if cursor.is_at_end() => Ok(Some(path)),
@@ -109,7 +100,7 @@ pub fn read_path(alloc: Global, text: &str) -> Result<Option<Path>, AllocError> 
 
 /// Where a breakpoint is to stand. Nothing if that is not said.
 fn target_of(alloc: Global, text: &str) -> Result<Option<Target>, AllocError> {
-    let tokens = tokens_of(alloc, text)?;
+    let tokens = tokens_of(alloc, text.as_bytes())?;
     let mut cursor = Cursor::new(&tokens);
     if let Some(line) = cursor.number() {
         return Ok(Some(Target::Line(None, line)).filter(|_| cursor.is_at_end()));
@@ -136,7 +127,7 @@ fn target_of(alloc: Global, text: &str) -> Result<Option<Target>, AllocError> {
 
 /// The condition of a breakpoint that is typed so. Nothing if it is none. The only error is that memory ran out.
 pub fn read_condition(alloc: Global, text: &str) -> Result<Option<Condition>, AllocError> {
-    let tokens = tokens_of(alloc, text)?;
+    let tokens = tokens_of(alloc, text.as_bytes())?;
     let mut cursor = Cursor::new(&tokens);
     let Some(path) = cursor.path(alloc)? else {
         return Ok(None);

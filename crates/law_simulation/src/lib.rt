@@ -121,7 +121,7 @@ pub fn designator_laws()
     // The record of a WITH, whose address is kept in a local.
     ensures opened { Opened }
     ensures fields { Fields }
-    // An index is checked.
+    // An index is checked: outside of the array both end with fault 3.
     ensures elements { Elements }
     ensures designators { Designators }
 {}
@@ -179,7 +179,7 @@ pub fn slot_laws()
     ensures locals { Locals }
     // A VAR formal is another name of a variable.
     ensures aliases { Aliases }
-    // Open arrays, their elements, and HIGH.
+    // Open arrays, their elements (fault 3 outside), and HIGH.
     ensures open_arrays { OpenArrays }
     ensures open_elements { OpenElements }
     ensures highs { Highs }

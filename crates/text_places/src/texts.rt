@@ -2,7 +2,7 @@
 
 use build_jobs::SourceFile;
 use m2_tree::{Symbol, Token};
-use scan_tokens::{ScanError, scan};
+use refused_text::tokens_of;
 use std::alloc::{AllocError, Global};
 use text_tokens::{is_named, symbol_at};
 
@@ -18,15 +18,6 @@ pub struct Texts<'a> {
 pub struct Text<'a> {
     pub bytes: &'a [u8],
     pub tokens: &'a [Token],
-}
-
-/// The tokens of a text, and none of one that has none.
-fn tokens_of(alloc: Global, text: &[u8]) -> Result<Vec<Token>, AllocError> {
-    match scan(alloc, text) {
-        Ok(tokens) => Ok(tokens),
-        Err(ScanError::Refused(_)) => Ok(Vec::new(alloc)),
-        Err(ScanError::NoMemory) => Err(AllocError),
-    }
 }
 
 /// The number of the token that is the name of a module, if the text of these tokens is a definition.
