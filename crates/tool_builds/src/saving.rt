@@ -94,7 +94,8 @@ fn divide<R: Files + AllocGlobal>(
 fn looks_of(digits: &[u8], turn: usize, modules: usize) -> usize {
     let digit = digits.get(turn).map_or(0, |it| usize::from(it % SIXTEEN));
     let files = modules.saturating_add(1);
-    digit.saturating_mul(turn).saturating_mul(files)
+    let turns = turn.saturating_mul(turn);
+    digit.saturating_mul(turns).saturating_mul(files)
 }
 
 /// Whether the files of these modules and of link hold their bytes.
