@@ -1,7 +1,8 @@
-//! The modules of a program, found by the imports that were kept: a text that did not change is not read for what it imports.
+//! The modules of a program, found by the imports that were kept, or by the begins of texts that changed.
 
+use crate::begins::imports_by_begin;
 use crate::spreading::numbers_of;
-use find_modules::{FindFault, FoundModule, MAX_MODULES, ModuleFolders, Part, Sources, imports_of};
+use find_modules::{FindFault, FoundModule, MAX_MODULES, ModuleFolders, Part, Sources};
 use indexmap::IndexMap;
 use kept_modules::{Kept, short_sum};
 use m2_tree::{MAX_NAME, Name, is_console};
@@ -155,9 +156,9 @@ fn imports_read(alloc: Global, sources: &Option<Sources>) -> Result<Vec<Name>, F
     let Some(sources) = sources else {
         return Ok(Vec::new(alloc));
     };
-    let mut names = imports_of(alloc, &sources.definition)?;
+    let mut names = imports_by_begin(alloc, &sources.definition)?;
     if let Some(body) = &sources.implementation {
-        let mut more = imports_of(alloc, body)?;
+        let mut more = imports_by_begin(alloc, body)?;
         names.append(&mut more)?;
     }
     Ok(names)
@@ -220,7 +221,8 @@ fn texts_of(
 }
 
 /// Finds the modules of the program of this text, as `find` does, and in the same order. What a module imports is taken from what was
-/// kept, if its texts have the checksums that were kept.
+/// kept, if its texts have the checksums that were kept, or else from the begins of its texts. So if a text has no tree, more modules
+/// may be found than by `find`, in which such a text imports none.
 ///
 /// `NoMemory` if a request for memory was refused. `Unread` if a file is there and cannot be read.
 pub fn find_kept<F: ModuleFolders>(
@@ -237,7 +239,7 @@ pub fn find_kept<F: ModuleFolders>(
     let text = short_sum(alloc, program)?;
     let names = match known.program_imports(text.as_str()) {
         Some(words) => names_of(alloc, words)?,
-        None => imports_of(alloc, program)?,
+        None => imports_by_begin(alloc, program)?,
     };
     let mut list = List {
         modules: Vec::new(alloc),

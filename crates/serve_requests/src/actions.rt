@@ -1,14 +1,14 @@
 //! Edits that mend what is refused, and the layout of a text.
 
-use crate::changes::path_in;
-use crate::params::range_of;
 use crate::server::{Reply, Server};
 use format_text::{FormatFault, format};
 use m2_rule::Rule;
 use m2_tree::Refusal;
 use serde_json::{Map, Value, json};
 use serve_offers::{Edit, add_member, edit_value, implementation_text, new_file_value};
-use serve_programs::{Folder, Program, length_at, programs_with, refusals_of, spare_of};
+use serve_sessions::{
+    Folder, Program, length_at, path_in, programs_with, range_of, refusals_of, spare_of,
+};
 use serve_texts::{Shift, Text};
 use std::alloc::{AllocError, Global};
 use std::thread::Threads;

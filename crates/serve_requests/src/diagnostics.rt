@@ -4,7 +4,7 @@ use crate::server::Server;
 use serde_json::{Value, json};
 use serve_messages::{Method, notice_body};
 use serve_offers::{add_member, range_value};
-use serve_programs::{Folder, Severity, Shown, all_shown, read_text};
+use serve_sessions::{Folder, Severity, Shown, all_shown, read_text};
 use serve_texts::{Text, uri_of};
 use std::alloc::{AllocError, Global};
 use std::thread::Threads;

@@ -9,15 +9,12 @@
 #![tactic(auto)]
 
 mod actions;
-mod changes;
 mod diagnostics;
-mod explanations;
 mod names;
-mod params;
 mod renaming;
 mod server;
 mod starting;
 mod waiting;
 
-pub use serve_programs::{Folder, Setting};
+pub use serve_sessions::{Folder, Setting};
 pub use server::{Answer, Server};

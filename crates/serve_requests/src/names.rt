@@ -1,7 +1,5 @@
 //! Requests about texts and their names.
 
-use crate::changes::path_in;
-use crate::params::{position_of, text_at};
 use crate::server::{Held, Reach, Reply, Server};
 use serde_json::Value;
 use serve_messages::{Call, ErrorCode, Method};
@@ -10,9 +8,9 @@ use serve_offers::{
     folding_ranges, highlights, hover, implementation, prepare_rename, references, semantic_tokens,
     signature_help, type_definition,
 };
-use serve_programs::{
-    Folder, Program, Spot, folder_of, programs_around, programs_with, roots_of, spare_of, view_for,
-    view_of,
+use serve_sessions::{
+    Folder, Program, Spot, folder_of, path_in, position_of, programs_around, programs_with,
+    roots_of, spare_of, text_at, view_for, view_of,
 };
 use serve_texts::Position;
 use std::alloc::{AllocError, Global};

@@ -1,7 +1,5 @@
 //! A thing gets another name.
 
-use crate::changes::path_in;
-use crate::params::{position_of, text_at};
 use crate::server::{Held, Reach, Reply, Server};
 use m2_tree::{Lexeme, Refusal, Token};
 use scan_tokens::{ScanError, scan};
@@ -9,7 +7,10 @@ use serde_json::{Map, Value, json};
 use serve_messages::ErrorCode;
 use serve_names::Index;
 use serve_offers::{Ask, Edit, add_member, edit_value};
-use serve_programs::{FileView, Folder, Mark, Program, View, file_of, refusals_of, view_of};
+use serve_sessions::{
+    FileView, Folder, Mark, Program, View, file_of, path_in, position_of, refusals_of, text_at,
+    view_of,
+};
 use std::alloc::{AllocError, Global};
 use std::slice;
 use std::thread::Threads;

@@ -1,14 +1,15 @@
 //! The server, and how it takes messages.
 
-use crate::changes::{change_text, close_text, open_text, path_in};
-use crate::explanations::{Explanations, explanations_for};
 use crate::starting::{capabilities, encoding_of};
 use serde_json::Value;
 use serve_messages::{
     Call, ErrorCode, FrameFault, Incoming, Invalid, Method, error_body, read_message, result_body,
 };
 use serve_offers::{has_snippets, makes_files};
-use serve_programs::{Folder, Fresh, Program, Setting, View};
+use serve_sessions::{
+    Explanations, Folder, Fresh, Program, Setting, View, change_text, close_text, explanations_for,
+    open_text, path_in,
+};
 use serve_texts::{Encoding, Position, Texts};
 use std::alloc::{AllocError, Global};
 use std::thread::Threads;

@@ -2,7 +2,7 @@
 
 use crate::server::{Reach, Server};
 use serve_messages::{Incoming, Method, read_message};
-use serve_programs::Folder;
+use serve_sessions::Folder;
 use std::alloc::{AllocError, Global};
 use std::thread::Threads;
 

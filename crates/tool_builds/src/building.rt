@@ -110,6 +110,45 @@ where
     Ok(status)
 }
 
+/// What comes of a program.
+#[derive(Drop)]
+pub enum Made {
+    Built(Modules),
+    Refused(Program, Vec<Refusal>),
+}
+
+/// Builds a program, of which nothing is reported but what failed: the status.
+pub fn make<R>(rt: &R, setting: &Setting, path: &str, program: Program) -> Result<Made, Exit>
+where
+    R: Eprint + AllocGlobal + Threads + Sync,
+{
+    match build(rt, rt.alloc(), &program.files, setting.options, &Open) {
+        Ok(Outcome::Refused(refusals)) => Ok(Made::Refused(program, refusals)),
+        Ok(Outcome::Built { link, modules }) => Ok(Made::Built(Modules {
+            files: program.files,
+            link,
+            others: modules,
+        })),
+        Err(fault) => {
+            say_fault(rt, path, ProgramFault::from(fault));
+            Err(Exit::Reported(FAILED))
+        }
+    }
+}
+
+/// The modules of a program, or else what is refused of it is reported: the status.
+pub fn accept<R>(rt: &R, setting: &Setting, made: Made) -> Result<Modules, Exit>
+where
+    R: Files + Print + Eprint + AllocGlobal + Threads + Sync,
+{
+    match made {
+        Made::Built(modules) => Ok(modules),
+        Made::Refused(program, refusals) => {
+            Err(Exit::Reported(show_refused(rt, setting, &program, &refusals)?))
+        }
+    }
+}
+
 /// Builds the program that was found for this file. What is refused, and what failed, is reported: the status.
 pub fn build_found<R>(
     rt: &R,
@@ -120,20 +159,7 @@ pub fn build_found<R>(
 where
     R: Files + Print + Eprint + AllocGlobal + Threads + Sync,
 {
-    match build(rt, rt.alloc(), &program.files, setting.options, &Open) {
-        Ok(Outcome::Refused(refusals)) => {
-            Err(Exit::Reported(show_refused(rt, setting, &program, &refusals)?))
-        }
-        Ok(Outcome::Built { link, modules }) => Ok(Modules {
-            files: program.files,
-            link,
-            others: modules,
-        }),
-        Err(fault) => {
-            say_fault(rt, path, ProgramFault::from(fault));
-            Err(Exit::Reported(FAILED))
-        }
-    }
+    accept(rt, setting, make(rt, setting, path, program)?)
 }
 
 /// Finds and builds the program of this file. What is refused, and what failed, is reported: the status.

@@ -2,7 +2,7 @@
 
 use crate::wanted::Wanted;
 use command_words::{Exit, VERSION};
-use find_files::{Places, Program, program_of_modules, program_of_text, say_find_fault};
+use find_files::{Places, Program, program_of_modules, say_find_fault};
 use kept_modules::{Kept, Part, PartFault, read_kept, short_sum, stem_of, write_kept};
 use renew_modules::{Found, Plan, Planned, Renewal, Stale, Why, find_kept, plan_of, renew};
 use std::alloc::AllocError;
@@ -166,19 +166,15 @@ pub fn kept_for<R: Files + Eprint + AllocGlobal>(
     kept_in(rt, setting, path)
 }
 
-/// The program of this file and this text. If something was kept, the modules are found by it, and the checksums of the texts are there
-/// too.
+/// The program of this file and this text, and the checksums of its texts. Its modules are found by what was kept and by the begins of
+/// texts.
 pub fn find_with<R: Files + Eprint + AllocGlobal>(
     rt: &R,
     setting: &Setting,
     file: &str,
     text: Vec<u8>,
-    kept: &Option<Kept>,
+    kept: &Kept,
 ) -> Result<(Program, Vec<String>), Exit> {
-    let Some(kept) = kept else {
-        let program = program_of_text(rt, setting, file, text)?;
-        return Ok((program, Vec::new(rt.alloc())));
-    };
     let places = Places::of(rt, file, &setting.libraries)?;
     match find_kept(rt.alloc(), &places, &text, kept) {
         Ok(found) => {

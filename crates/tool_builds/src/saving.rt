@@ -1,6 +1,6 @@
 //! `m2 build`: the modules of a program, written into a folder.
 
-use crate::building::{Modules, build_found};
+use crate::building::{Made, Modules, accept, build_program, make};
 use crate::giving::give_input;
 use crate::mapping::{made_maps, write_maps};
 use crate::renewing::{find_with, holds_kept, kept_for, kept_path, renewed, write_kept_file};
@@ -9,6 +9,7 @@ use anyhow::Result;
 use command_words::{Exit, FAILED};
 use find_files::{Program, text_of_program};
 use kept_modules::{Kept, keep, short_sum};
+use m2_rule::Rule;
 use m2c::{SaveFault, SourceFile, save};
 use renew_modules::{Renewal, sums_of};
 use std::alloc::AllocError;
@@ -320,6 +321,30 @@ fn texts_now<R: AllocGlobal>(
     }
 }
 
+/// Whether a text of a program has no tree. By its begin more modules may have been found than its tree imports.
+fn lacks_tree(made: &Made) -> bool {
+    match made {
+        Made::Built(_) => false,
+        Made::Refused(_, refusals) => refusals
+            .iter()
+            .any(|it| it.number < Rule::MissingModule.number()),
+    }
+}
+
+/// The modules of a program that was found by the begins of its texts, or what is refused of it as it is found by its trees. What is
+/// refused, and what failed, is reported: the status.
+fn build_whole<R>(rt: &R, setting: &Setting, path: &str, program: Program) -> Result<Modules, Exit>
+where
+    R: Files + Print + Eprint + AllocGlobal + Threads + Sync,
+{
+    let made = make(rt, setting, path, program)?;
+    if lacks_tree(&made) {
+        drop(made);
+        return build_program(rt, setting, path);
+    }
+    accept(rt, setting, made)
+}
+
 /// Builds the program of this file and writes its modules: those alone that changed since the last build, if it kept what it did, and
 /// nothing is out of the ordinary. Before, it is written of which files they were made, and behind them what is kept for the next build.
 /// The status.
@@ -330,7 +355,12 @@ where
     let (file, text) = text_of_program(rt, path)?;
     let place = kept_path(rt, file.as_str(), wanted.out)?;
     let kept = kept_for(rt, setting, wanted, place.as_str())?;
-    let (mut program, texts) = find_with(rt, setting, file.as_str(), text, &kept)?;
+    let nothing = Kept {
+        definitions: Vec::new(rt.alloc()),
+        bodies: Vec::new(rt.alloc()),
+    };
+    let known = kept.as_ref().unwrap_or(&nothing);
+    let (mut program, texts) = find_with(rt, setting, file.as_str(), text, known)?;
     give_input(rt, path, wanted.input, &mut program)?;
     if let Some(kept) = kept {
         let texts = texts_now(rt, &program, wanted.input, texts)?;
@@ -340,6 +370,6 @@ where
             }
         }
     }
-    let modules = build_found(rt, setting, path, program)?;
+    let modules = build_whole(rt, setting, path, program)?;
     save_built(rt, setting, path, modules, wanted, place.as_str())
 }

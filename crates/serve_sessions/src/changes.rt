@@ -8,7 +8,7 @@ use serve_texts::{Change, Encoding, OpenText, Text, Texts, path_of};
 use std::alloc::{AllocError, Global};
 
 /// The path of the file of this name, or the name itself if it is no file of this machine.
-pub fn path_or_name(alloc: Global, uri: &str) -> Result<String, AllocError> {
+fn path_or_name(alloc: Global, uri: &str) -> Result<String, AllocError> {
     match path_of(alloc, uri)? {
         Some(path) => Ok(path),
         None => String::from_str(alloc, uri),
