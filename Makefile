@@ -60,9 +60,9 @@ browser:
 # The gate: no source makes up want of memory or has a number without a name, no crate lists a library that it does not name,
 # definitions are laid out, the pages of m2 are those of docs/ and so are the numbers of definitions and the index of rules, what
 # editors and shells read has the language's words and m2's options, the modules of lib/ and the examples are laid out, each
-# edit still fits its file, the gate's copies of exercises are copies, and a sample of requests for memory is refused.
-# What the pages name is there, and links lead somewhere.
-# Then every proof, the tests and the programs, and behind them the edits of gate-edits/, which the prover must refuse.
+# edit still fits its file, and the gate's copies of exercises are copies. What the pages name is there, and links lead somewhere.
+# Then every proof, the tests and the programs. What is proved is tried as users call it, with requests for memory refused, too.
+# Last come the edits of gate-edits/, which the prover must refuse.
 test:
 	tools/check_pages
 	tools/check_sources
@@ -75,9 +75,8 @@ test:
 	tools/copy_cases --check
 	tools/check_layout
 	tools/try_edits --applies
-	tools/hostile --sample
 	tools/snapshot --check
-	tools/gate_edits rt ci
+	tools/gate rt ci
 
 # Tries the tools themselves, in seconds.
 test-tools:

@@ -78,17 +78,22 @@ def program_of(crate, began):
     return f"{found[0]}/{names.index(crate)}" if crate in names else None
 
 
+def copy_programs(programs, began):
+    """Copies these programs to their files, as `rt ci` kept or took them since then. Whether all are found."""
+    for crate, file in programs.items():
+        found = program_of(crate, began)
+        if found is None:
+            return False
+        shutil.copyfile(found, f"{file}.new")
+        os.chmod(f"{file}.new", 0o755)
+        os.replace(f"{file}.new", file)
+    return True
+
+
 def build(programs):
     """Proves and builds these programs, with their files. Whether all are built; None if they passed and are not to be found."""
     began = int(time.time())
     if not prove(programs):
         print(f"build_program: not built: {' '.join(programs)}", file=sys.stderr)
         return False
-    for crate, file in programs.items():
-        found = program_of(crate, began)
-        if found is None:
-            return None
-        shutil.copyfile(found, f"{file}.new")
-        os.chmod(f"{file}.new", 0o755)
-        os.replace(f"{file}.new", file)
-    return True
+    return copy_programs(programs, began) or None
