@@ -169,7 +169,8 @@ def try_paths(room):
     client.end()
 
 
-# Texts, and the same without a tree: in one a name and the blank in front of it are replaced by a sign, in one a sign is doubled
+# Texts, and the same without a tree: in one a name and the blank in front of it are replaced by a sign, then the name alone; in one a
+# sign is doubled
 REPLACED = "MODULE S;\nVAR abc, XY, def: CHAR;\nBEGIN\n  abc := XY; XY := def; def := abc\nEND S.\n"
 DOUBLED = "MODULE S;\nVAR abc, def: CARDINAL;\nBEGIN\n  abc := ORD((def)); def := abc\nEND S.\n"
 
@@ -195,11 +196,23 @@ def try_shifts(room):
         found = client.result("textDocument/documentHighlight", client.at("Replaced.mod", *place(new, name)))
         wanted = [span(new, name, number) for number in places]
         check(f"all places of {name}, but for one that changed", [it["range"] for it in found] == wanted, (found, wanted))
+    new = REPLACED.replace("XY; XY", "(; XY")
+    changed_text(client, "Lost.mod", REPLACED, new)
+    for name, places in (("abc", (0, 1, 2)), ("def", (0, 1, 2)), ("XY", (0, 1))):
+        found = client.result("textDocument/documentHighlight", client.at("Lost.mod", *place(new, name)))
+        wanted = [span(new, name, number) for number in places]
+        check(f"all places of {name}, but for one that is lost", [it["range"] for it in found] == wanted, (found, wanted))
     new = DOUBLED.replace("((", "(((")
     changed_text(client, "Doubled.mod", DOUBLED, new)
     for title, word in (("directly behind", "def)"), ("behind", "def :=")):
         found = client.result("textDocument/definition", client.at("Doubled.mod", *place(new, word)))
         check(f"a name {title} a sign that is doubled", found == {"uri": client.uri("Doubled.mod"), "range": span(new, "def")}, found)
+    found = client.result("textDocument/prepareRename", client.at("Doubled.mod", *place(new, "def)")))
+    wanted = {"range": span(new, "def", 1), "placeholder": "def"}
+    check("what is renamed directly behind a sign that is doubled", found == wanted, (found, wanted))
+    found = client.result("textDocument/documentHighlight", client.at("Doubled.mod", *place(new, "def")))
+    wanted = [span(new, "def", number) for number in range(3)]
+    check("all places of a name, one directly behind a sign that is doubled", [it["range"] for it in found] == wanted, (found, wanted))
     found = client.result("textDocument/documentHighlight", client.at("Doubled.mod", *place(new, "abc")))
     check("a place behind a sign that is doubled", [it["range"] for it in found] == [span(new, "abc"), span(new, "abc", 1), span(new, "abc", 2)], found)
     client.end()

@@ -5,56 +5,38 @@ use crate::kept::{Definition, Kept};
 use crate::linked::{Linked, linked_by};
 use crate::names::{defined_by, files_by_name};
 use crate::sums::{definition_sum, short_sum};
-use build_jobs::{Read, SourceFile, read_text};
+use build_jobs::SourceFile;
 use indexmap::IndexMap;
 use link_parts::{LinkFault, Part, link_modules};
-use list_imports::add_imports;
+use list_imports::{add_name, imports_by_begin};
 use std::alloc::{AllocError, Global};
 
-/// The modules that a text imports. None of a text without a tree.
-fn imports_of(alloc: Global, text: &[u8]) -> Result<Option<Vec<String>>, AllocError> {
-    match read_text(alloc, text)? {
-        Read::Parsed(tree) => {
-            let mut imports = Vec::new(alloc);
-            add_imports(alloc, &mut imports, &tree)?;
-            Ok(Some(imports))
-        }
-        Read::Refused(_, _) => Ok(None),
+/// The modules that a text imports, each once.
+fn imports_of(alloc: Global, text: &[u8]) -> Result<Vec<String>, AllocError> {
+    let mut imports = Vec::new(alloc);
+    for name in &imports_by_begin(alloc, text)? {
+        add_name(alloc, &mut imports, name)?;
     }
+    Ok(imports)
 }
 
-/// What is kept of the definition in this file, which is that of the module of this name.
-fn definition_of(alloc: Global, name: &str, text: &[u8]) -> Result<Option<Definition>, AllocError> {
-    let Some(imports) = imports_of(alloc, text)? else {
-        return Ok(None);
-    };
-    Ok(Some(Definition {
+/// What is kept of the definition with this text, which is that of the module of this name.
+fn definition_of(alloc: Global, name: &str, text: &[u8]) -> Result<Definition, AllocError> {
+    Ok(Definition {
         name: String::from_str(alloc, name)?,
         text: short_sum(alloc, text)?,
         tokens: definition_sum(alloc, text)?,
-        imports,
-    }))
-}
-
-/// Adds the definition in a file, if it has one.
-fn add_definition(
-    alloc: Global,
-    file: &SourceFile,
-    all: &mut Vec<Definition>,
-) -> Result<(), AllocError> {
-    if let Some(name) = defined_by(file.name.as_str()) {
-        if let Some(definition) = definition_of(alloc, name, &file.bytes)? {
-            all.push(definition)?;
-        }
-    }
-    Ok(())
+        imports: imports_of(alloc, text)?,
+    })
 }
 
 /// What is kept of the definitions among these files.
 fn definitions_of(alloc: Global, files: &[SourceFile]) -> Result<Vec<Definition>, AllocError> {
     let mut all = Vec::new(alloc);
     for file in files.iter().skip(1) {
-        add_definition(alloc, file, &mut all)?;
+        if let Some(name) = defined_by(file.name.as_str()) {
+            all.push(definition_of(alloc, name, &file.bytes)?)?;
+        }
     }
     Ok(all)
 }
@@ -154,7 +136,7 @@ fn if_links(
     }
 }
 
-/// What is kept of the program of these files, which were built to these modules in the order in which they start, and to link with so
+/// What is kept of the program of these files, which all have trees and were built to these modules in the order in which they start, and to link with so
 /// many pages. The sizes are read off link, and the imports off the modules. None if the files are not just the definitions and bodies
 /// of these modules, or if what was read does not link to these bytes. The only error is that memory ran out.
 pub fn keep(

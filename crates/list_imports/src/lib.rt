@@ -1,11 +1,14 @@
-//! Which modules a tree imports.
+//! Which modules a tree imports, or a text.
 #![tactic(auto)]
 
+mod begins;
+
+pub use begins::imports_by_begin;
 use m2_tree::{Ident, Import, Module, Name, is_console};
 use std::alloc::{AllocError, Global};
 
-/// Adds the name of a module, unless it is built in or stands there already.
-fn add_name(alloc: Global, names: &mut Vec<String>, name: &Name) -> Result<(), AllocError> {
+/// Adds the name of a module, unless it is built in or stands there already. The only error is that memory ran out.
+pub fn add_name(alloc: Global, names: &mut Vec<String>, name: &Name) -> Result<(), AllocError> {
     let bytes = name.as_bytes();
     let is_known = names.iter().any(|it| it.as_bytes() == bytes);
     if is_known || is_console(bytes) {

@@ -1,6 +1,5 @@
 //! The modules of a program, found by the imports that were kept, or by the begins of texts that changed.
 
-use crate::begins::imports_by_begin;
 use crate::spreading::numbers_of;
 use find_modules::{FindFault, FoundModule, MAX_MODULES, ModuleFolders, Part, Sources};
 use indexmap::IndexMap;

@@ -7,7 +7,6 @@
 //! Nothing here is refused: whatever is out of the ordinary is answered by none, and then the whole program is built.
 #![tactic(auto)]
 
-mod begins;
 mod finding;
 mod planning;
 mod renewing;

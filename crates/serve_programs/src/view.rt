@@ -7,6 +7,11 @@ use serve_names::{Focus, Index, Outline, Parsed, Place, Range, read};
 use serve_texts::{Encoding, Position, Shift, Text, Texts};
 use std::alloc::{AllocError, Global};
 
+/// How many bytes of a range have to be there for its begin to be known, and for its end.
+const FIRST_BYTE: usize = 1;
+
+const NO_BYTE: usize = 0;
+
 /// A file of a view.
 #[derive(Drop)]
 pub struct FileView {
@@ -213,9 +218,9 @@ impl FileView {
         self.known().pos_of_offset(self.shift.to_old(offset))
     }
 
-    /// The byte of the text that stands for a place of the known text, unless it was changed.
-    pub fn now_offset(&self, pos: Pos) -> Option<usize> {
-        self.shift.to_new(self.known().offset_of_pos(pos))
+    /// Where so many bytes from a place of the known text begin in the text that stands, unless one of them was changed.
+    pub fn now_offset(&self, pos: Pos, length: usize) -> Option<usize> {
+        self.shift.to_new(self.known().offset_of_pos(pos), length)
     }
 }
 
@@ -232,7 +237,9 @@ impl View {
 
     /// Where a name stands now, unless it was changed.
     pub fn mark_of(&self, place: Place) -> Option<Mark> {
-        let begin = self.shown_file(place.file)?.now_offset(place.pos)?;
+        let begin = self
+            .shown_file(place.file)?
+            .now_offset(place.pos, place.length)?;
         Some(Mark {
             file: place.file,
             begin,
@@ -240,13 +247,13 @@ impl View {
         })
     }
 
-    /// Where a range of the file of this number stands now, unless its ends were changed.
+    /// Where a range of the file of this number stands now, unless its first byte was changed, or its end.
     pub fn mark_of_range(&self, number: usize, range: Range) -> Option<Mark> {
         let file = self.shown_file(number)?;
         Some(Mark {
             file: number,
-            begin: file.now_offset(range.begin)?,
-            end: file.now_offset(range.end)?,
+            begin: file.now_offset(range.begin, FIRST_BYTE)?,
+            end: file.now_offset(range.end, NO_BYTE)?,
         })
     }
 }

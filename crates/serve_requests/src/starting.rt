@@ -10,8 +10,6 @@ const UTF_8: &str = "utf-8";
 
 const UTF_16: &str = "utf-16";
 
-const UTF_32: &str = "utf-32";
-
 /// The name of the server, and its version.
 const NAME: &str = "m2";
 
@@ -36,7 +34,6 @@ fn name_of(encoding: Encoding) -> &'static str {
     match encoding {
         Encoding::Utf8 => UTF_8,
         Encoding::Utf16 => UTF_16,
-        Encoding::Utf32 => UTF_32,
     }
 }
 

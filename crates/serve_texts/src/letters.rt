@@ -9,8 +9,6 @@ pub enum Encoding {
     Utf8,
     /// Units of 16 bits, of which a letter has one or two.
     Utf16,
-    /// Letters.
-    Utf32,
 }
 
 /// The first byte of a letter of four bytes, or more.
@@ -27,9 +25,9 @@ impl Encoding {
         let is_inside = byte & INSIDE_MASK == INSIDE;
         match self {
             Encoding::Utf8 => 1,
-            Encoding::Utf16 | Encoding::Utf32 if is_inside => 0,
+            Encoding::Utf16 if is_inside => 0,
             Encoding::Utf16 if byte >= FIRST_OF_FOUR => 2,
-            Encoding::Utf16 | Encoding::Utf32 => 1,
+            Encoding::Utf16 => 1,
         }
     }
 

@@ -61,12 +61,13 @@ impl Shift {
         }
     }
 
-    /// The place in the new text of a place in the old one, or nothing if it stands between what both have.
-    pub fn to_new(&self, place: usize) -> Option<usize> {
-        if place <= self.front {
-            return Some(place);
+    /// Where so many bytes of the old text begin in the new one, or nothing if one of them changed. If it is asked of no bytes, a
+    /// place in front of what changed stays there.
+    pub fn to_new(&self, begin: usize, length: usize) -> Option<usize> {
+        if begin.saturating_add(length) <= self.front {
+            return Some(begin);
         }
-        let behind = place.checked_sub(self.old_end)?;
+        let behind = begin.checked_sub(self.old_end)?;
         Some(self.new_end.saturating_add(behind))
     }
 }

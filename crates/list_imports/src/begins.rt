@@ -1,6 +1,5 @@
 //! Imports by the begin of a text, so that no text is read for them as a whole.
 
-use find_modules::{FindFault, imports_of};
 use m2_tree::{Lexeme, Name, Symbol, Token};
 use scan_tokens::{ScanError, scan};
 use std::alloc::{AllocError, Global};
@@ -10,6 +9,9 @@ const BEGINS: [usize; 3] = [512, 8_192, 131_072];
 
 /// How many tokens at the end of a begin say nothing: the last may be cut, and the end stands behind it.
 const UNSURE: usize = 2;
+
+/// The whole text has no such tokens.
+const SURE: usize = 0;
 
 /// What stands at a token.
 #[derive(Clone, Copy, PartialEq, Eq)]
@@ -41,7 +43,7 @@ fn part_behind(part: Part, symbol: Symbol) -> Part {
 }
 
 /// Adds a name, if it is that of a module that is imported, and answers what stands behind it.
-fn add_name(part: Part, name: &Name, names: &mut Vec<Name>) -> Result<Part, AllocError> {
+fn part_behind_name(part: Part, name: &Name, names: &mut Vec<Name>) -> Result<Part, AllocError> {
     match part {
         Part::From => {
             names.push(name.clone()?)?;
@@ -56,15 +58,14 @@ fn add_name(part: Part, name: &Name, names: &mut Vec<Name>) -> Result<Part, Allo
     }
 }
 
-/// The modules that the begin of a text imports. None if it does not show where the imports end.
+/// The modules that tokens from the begin of a text import. None if they do not show where the imports end.
 fn imports_in(alloc: Global, tokens: &[Token]) -> Result<Option<Vec<Name>>, AllocError> {
     let mut names = Vec::new(alloc);
     let mut part = Part::Heading;
-    let sure = tokens.len().saturating_sub(UNSURE);
-    for token in tokens.iter().take(sure) {
+    for token in tokens {
         part = match &token.lexeme {
             Lexeme::Symbol(symbol) => part_behind(part, *symbol),
-            Lexeme::Name(name) => add_name(part, name, &mut names)?,
+            Lexeme::Name(name) => part_behind_name(part, name, &mut names)?,
             _ => part,
         };
         if part == Part::Behind {
@@ -74,22 +75,34 @@ fn imports_in(alloc: Global, tokens: &[Token]) -> Result<Option<Vec<Name>>, Allo
     Ok(None)
 }
 
-/// The modules that a text imports, by its begin: of a text that has a tree those that `imports_of` finds, and of others those that
-/// its first lines name. The only error is `NoMemory`.
-pub fn imports_by_begin(alloc: Global, text: &[u8]) -> Result<Vec<Name>, FindFault> {
+/// The same of the begin of a text, of whose tokens so many at its end say nothing.
+fn imports_at_begin(
+    alloc: Global,
+    begin: &[u8],
+    unsure: usize,
+) -> Result<Option<Vec<Name>>, AllocError> {
+    match scan(alloc, begin) {
+        Ok(tokens) => {
+            let sure = tokens.len().saturating_sub(unsure);
+            imports_in(alloc, tokens.get(..sure).unwrap_or(&[]))
+        }
+        Err(ScanError::Refused(_)) => Ok(None),
+        Err(ScanError::NoMemory) => Err(AllocError),
+    }
+}
+
+/// The modules that a text imports, as they are written, by its begin: of a text that has a tree all, and of others those that its
+/// first lines name. The only error is that memory ran out.
+pub fn imports_by_begin(alloc: Global, text: &[u8]) -> Result<Vec<Name>, AllocError> {
     for length in BEGINS {
-        let Some(begin) = text.get(..length) else {
-            break;
-        };
-        match scan(alloc, begin) {
-            Ok(tokens) => {
-                if let Some(names) = imports_in(alloc, &tokens)? {
-                    return Ok(names);
-                }
+        if let Some(begin) = text.get(..length) {
+            if let Some(names) = imports_at_begin(alloc, begin, UNSURE)? {
+                return Ok(names);
             }
-            Err(ScanError::Refused(_)) => {}
-            Err(ScanError::NoMemory) => return Err(FindFault::NoMemory),
         }
     }
-    imports_of(alloc, text)
+    match imports_at_begin(alloc, text, SURE)? {
+        Some(names) => Ok(names),
+        None => Ok(Vec::new(alloc)),
+    }
 }
