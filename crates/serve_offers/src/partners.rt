@@ -111,17 +111,30 @@ pub fn implementation_text(
     Ok(Some(made))
 }
 
+/// The step that makes an empty file of this path.
+fn made_value(alloc: Global, path: &str) -> Result<Value, AllocError> {
+    let uri = uri_of(alloc, path)?;
+    json!(in alloc; { "kind": "create", "uri": uri })
+}
+
+/// The edit of an empty text that makes it this text.
+fn whole_value(alloc: Global, text: &[u8]) -> Result<Value, AllocError> {
+    let text = text_value(alloc, text)?;
+    json!(in alloc; {
+        "newText": text,
+        "range": { "end": { "character": 0, "line": 0 }, "start": { "character": 0, "line": 0 } }
+    })
+}
+
+/// The step that makes this edit of the file of this path, which the editor has no version of.
+fn filled_value(alloc: Global, path: &str, edit: Value) -> Result<Value, AllocError> {
+    let uri = uri_of(alloc, path)?;
+    json!(in alloc; { "edits": [edit], "textDocument": { "uri": uri, "version": null } })
+}
+
 /// The change that makes a file of this path with this text. The only error is want of memory.
 pub fn new_file_value(alloc: Global, path: &str, text: &[u8]) -> Result<Value, AllocError> {
-    let uri = uri_of(alloc, path)?;
-    let made = json!(in alloc; { "kind": "create", "uri": uri })?;
-    let begin = json!(in alloc; { "character": 0, "line": 0 })?;
-    let end = json!(in alloc; { "character": 0, "line": 0 })?;
-    let range = json!(in alloc; { "end": end, "start": begin })?;
-    let text = text_value(alloc, text)?;
-    let edit = json!(in alloc; { "newText": text, "range": range })?;
-    let uri = uri_of(alloc, path)?;
-    let named = json!(in alloc; { "uri": uri, "version": null })?;
-    let filled = json!(in alloc; { "edits": [edit], "textDocument": named })?;
+    let made = made_value(alloc, path)?;
+    let filled = filled_value(alloc, path, whole_value(alloc, text)?)?;
     json!(in alloc; { "documentChanges": [made, filled] })
 }

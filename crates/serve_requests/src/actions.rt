@@ -105,6 +105,13 @@ fn with_file(
     Ok(all)
 }
 
+/// The action that makes a change.
+fn quick_fix(alloc: Global, change: Value, title: &str) -> Result<Value, AllocError> {
+    json!(in alloc; {
+        "edit": change, "isPreferred": true, "kind": QUICK_FIX, "title": title
+    })
+}
+
 impl Server {
     /// The edits of a file, as a change of it.
     fn change_value(
@@ -136,10 +143,20 @@ impl Server {
             new: &found.mend.text,
         };
         let change = self.change_value(alloc, path, text, edit)?;
-        let title = found.mend.words.as_str();
-        json!(in alloc; {
-            "edit": change, "isPreferred": true, "kind": QUICK_FIX, "title": title
-        })
+        quick_fix(alloc, change, found.mend.words.as_str())
+    }
+
+    /// Whether something is refused of one of these two files.
+    fn is_refused<R: AllocGlobal + Threads + Sync>(
+        &self,
+        rt: &R,
+        files: &[SourceFile],
+        path: &str,
+        other: &str,
+    ) -> Result<bool, AllocError> {
+        let refusals = refusals_of(rt, &self.setting, files)?;
+        let is_of_both = |it: &Refusal| it.file.as_str() == path || it.file.as_str() == other;
+        Ok(refusals.iter().any(is_of_both))
     }
 
     /// Adds the action that writes the implementation of a definition, if nothing is refused of both then.
@@ -158,17 +175,10 @@ impl Server {
         };
         let name = format!(in alloc; "{front}{IMPLEMENTATION}")?;
         let change = new_file_value(alloc, name.as_str(), &made)?;
-        let title = format!(in alloc; "Write {name} with all procedures")?;
         let tried = with_file(alloc, files, name.as_str(), made)?;
-        let refusals = refusals_of(rt, &self.setting, &tried)?;
-        let is_refused = |it: &Refusal| {
-            let file = it.file.as_str();
-            file == path || file == name.as_str()
-        };
-        if !refusals.iter().any(is_refused) {
-            all.push(json!(in alloc; {
-                "edit": change, "isPreferred": true, "kind": QUICK_FIX, "title": title
-            })?)?;
+        if !self.is_refused(rt, &tried, path, name.as_str())? {
+            let title = format!(in alloc; "Write {name} with all procedures")?;
+            all.push(quick_fix(alloc, change, title.as_str())?)?;
         }
         Ok(())
     }

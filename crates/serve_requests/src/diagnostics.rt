@@ -99,16 +99,19 @@ impl Server {
         for one in shown.iter().filter(|it| it.path.as_str() == path) {
             all.push(self.diagnostic_of(alloc, &text, one)?)?;
         }
-        let all = Value::Array(all);
-        let uri = self.uri_of_path(alloc, path)?;
-        let params = match self.texts.get(path) {
-            Some(open) => {
-                let version = open.version;
-                json!(in alloc; { "diagnostics": all, "uri": uri, "version": version })?
-            }
-            None => json!(in alloc; { "diagnostics": all, "uri": uri })?,
-        };
+        let params = self.params_of(alloc, path, Value::Array(all))?;
         notice_body(alloc, Method::PublishDiagnostics.name(), params)
+    }
+
+    /// What is said of a file: of an open one with the version of its text.
+    fn params_of(&self, alloc: Global, path: &str, all: Value) -> Result<Value, AllocError> {
+        let uri = self.uri_of_path(alloc, path)?;
+        let mut params = json!(in alloc; { "diagnostics": all, "uri": uri })?;
+        if let Some(open) = self.texts.get(path) {
+            let version = json!(in alloc; open.version)?;
+            add_member(alloc, &mut params, "version", version)?;
+        }
+        Ok(params)
     }
 
     /// The object of something that is refused.
