@@ -261,6 +261,22 @@ fn save_renewal<R: Files + Eprint + AllocGlobal>(
     Ok(Some(status))
 }
 
+/// What is kept of a program that was built.
+fn kept_of<R: AllocGlobal>(
+    rt: &R,
+    setting: &Setting,
+    modules: &Modules,
+) -> Result<Option<Kept>, AllocError> {
+    let pages = setting.options.pages;
+    keep(
+        rt.alloc(),
+        &modules.files,
+        &modules.link,
+        &modules.others,
+        pages,
+    )
+}
+
 /// Writes the modules of a program that was built, and behind link what is kept of it and the maps, if they are wanted. The status.
 fn save_built<R>(
     rt: &R,
@@ -289,14 +305,7 @@ where
     } else {
         Vec::new(rt.alloc())
     };
-    let pages = setting.options.pages;
-    let kept = keep(
-        rt.alloc(),
-        &modules.files,
-        &modules.link,
-        &modules.others,
-        pages,
-    )?;
+    let kept = kept_of(rt, setting, &modules)?;
     let Modules { link, others, .. } = modules;
     let status = save_modules(rt, &link, others, wanted.out)?;
     if status == BUILT {
@@ -345,6 +354,25 @@ where
     accept(rt, setting, made)
 }
 
+/// Compiles what changed since the last build, and writes it. The status, or none if the whole has to be built.
+fn renew_into<R>(
+    rt: &R,
+    setting: &Setting,
+    program: &Program,
+    texts: Vec<String>,
+    kept: Kept,
+    wanted: &Wanted<'_>,
+    path: &str,
+) -> Result<Option<u8>, Exit>
+where
+    R: Files + Eprint + AllocGlobal,
+{
+    match renewed(rt, setting, program, texts, kept, wanted.out)? {
+        Some(renewal) => save_renewal(rt, program, renewal, wanted, path),
+        None => Ok(None),
+    }
+}
+
 /// Builds the program of this file and writes its modules: those alone that changed since the last build, if it kept what it did, and
 /// nothing is out of the ordinary. Before, it is written of which files they were made, and behind them what is kept for the next build.
 /// The status.
@@ -364,10 +392,16 @@ where
     give_input(rt, path, wanted.input, &mut program)?;
     if let Some(kept) = kept {
         let texts = texts_now(rt, &program, wanted.input, texts)?;
-        if let Some(renewal) = renewed(rt, setting, &program, texts, kept, wanted.out)? {
-            if let Some(status) = save_renewal(rt, &program, renewal, wanted, place.as_str())? {
-                return Ok(status);
-            }
+        if let Some(status) = renew_into(
+            rt,
+            setting,
+            &program,
+            texts,
+            kept,
+            wanted,
+            place.as_str(),
+        )? {
+            return Ok(status);
         }
     }
     let modules = build_whole(rt, setting, path, program)?;
