@@ -228,6 +228,15 @@ fn files_of_text<R: Files + Eprint + AllocGlobal>(
     }
 }
 
+/// A program that imports each module that is named in these files.
+fn program_of_names(alloc: Global, files: &[SourceFile]) -> Result<Vec<u8>, AllocError> {
+    let mut texts = Vec::new(alloc);
+    for file in files {
+        texts.push(file.bytes.as_slice())?;
+    }
+    importing_program(alloc, &texts, &[])
+}
+
 /// The files that the program of this file may need if its texts are mended.
 pub fn spare_files<R: Files + Eprint + AllocGlobal>(
     rt: &R,
@@ -236,13 +245,9 @@ pub fn spare_files<R: Files + Eprint + AllocGlobal>(
     files: &[SourceFile],
 ) -> Result<Spare, AllocError> {
     let alloc = rt.alloc();
-    let mut texts = Vec::new(alloc);
-    for file in files {
-        texts.push(file.bytes.as_slice())?;
-    }
-    let named = importing_program(alloc, &texts, &[])?;
     let mut all = Vec::new(alloc);
     copy_new(alloc, files, &[], &mut all)?;
+    let named = program_of_names(alloc, files)?;
     let found = files_of_text(rt, setting, path, &named)?;
     copy_new(alloc, &found, files, &mut all)?;
     let whole = importing_program(alloc, &[], &LIBRARY)?;

@@ -126,6 +126,15 @@ fn range_words(alloc: Global, (from, to): (usize, usize)) -> Result<String, Allo
     format!(in alloc; "{first},{count}")
 }
 
+/// Puts the line in front of lines that differ.
+fn put_head(alloc: Global, out: &mut Vec<u8>, hunk: &Hunk) -> Result<(), AllocError> {
+    let from = range_words(alloc, hunk.old)?;
+    let to = range_words(alloc, hunk.new)?;
+    let head = format!(in alloc; "@@ -{from} +{to} @@\n")?;
+    out.extend_from_slice(head.as_bytes())?;
+    Ok(())
+}
+
 /// The lines that differ between a text and its new layout, as a unified diff that `patch` takes. Nothing if none differ.
 pub fn unified_diff(
     alloc: Global,
@@ -142,20 +151,11 @@ pub fn unified_diff(
         out.extend_from_slice(names.as_bytes())?;
     }
     for hunk in &hunks {
-        let from = range_words(alloc, hunk.old)?;
-        let to = range_words(alloc, hunk.new)?;
-        let head = format!(in alloc; "@@ -{from} +{to} @@\n")?;
-        out.extend_from_slice(head.as_bytes())?;
-        put_lines(
-            &mut out,
-            b'-',
-            old.get(hunk.old.0..hunk.old.1).unwrap_or(&[]),
-        )?;
-        put_lines(
-            &mut out,
-            b'+',
-            new.get(hunk.new.0..hunk.new.1).unwrap_or(&[]),
-        )?;
+        put_head(alloc, &mut out, hunk)?;
+        let lost = old.get(hunk.old.0..hunk.old.1).unwrap_or(&[]);
+        put_lines(&mut out, b'-', lost)?;
+        let made = new.get(hunk.new.0..hunk.new.1).unwrap_or(&[]);
+        put_lines(&mut out, b'+', made)?;
     }
     Ok(out)
 }
