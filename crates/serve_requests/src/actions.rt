@@ -147,7 +147,7 @@ impl Server {
     }
 
     /// Whether something is refused of one of these two files.
-    fn is_refused<R: AllocGlobal + Threads + Sync>(
+    fn is_either_refused<R: AllocGlobal + Threads + Sync>(
         &self,
         rt: &R,
         files: &[SourceFile],
@@ -176,7 +176,7 @@ impl Server {
         let name = format!(in alloc; "{front}{IMPLEMENTATION}")?;
         let change = new_file_value(alloc, name.as_str(), &made)?;
         let tried = with_file(alloc, files, name.as_str(), made)?;
-        if !self.is_refused(rt, &tried, path, name.as_str())? {
+        if !self.is_either_refused(rt, &tried, path, name.as_str())? {
             let title = format!(in alloc; "Write {name} with all procedures")?;
             all.push(quick_fix(alloc, change, title.as_str())?)?;
         }
