@@ -4,6 +4,7 @@ use crate::spreading::numbers_of;
 use find_modules::{FindFault, FoundModule, MAX_MODULES, ModuleFolders, Part, Sources};
 use indexmap::IndexMap;
 use kept_modules::{Kept, short_sum};
+use list_imports::imports_by_begin;
 use m2_tree::{MAX_NAME, Name, is_console};
 use std::alloc::{AllocError, Global};
 
