@@ -2,7 +2,7 @@
 import os
 import re
 
-from .asking import M2RUN, ROWS, TOP, Row, Wrong, bytes_of, called, expect, expect_answer, written
+from .asking import M2RUN, ROWS, TOP, Row, bytes_of, called, expect, expect_answer, written
 
 DIRECTORIES = f"{ROWS}/machine"
 FILES = f"{ROWS}/faults"
@@ -11,7 +11,8 @@ FIRST = f"{TOP}/crates/test_programs/data/hello"
 MODULES = {"link.wasm": (8, 18), "M.wasm": (8, 44, 158)}
 HEADER = 8
 RUNNING = 4
-STATUSES = (0, 1, 3, 4)
+RAN, FAILED = (0, 1, 4), 3
+UNLINKED = (b"link: refusal 83\n", b"link: refusal 84\n")
 
 
 def said_of(name):
@@ -38,13 +39,14 @@ def ask_directory(name, folder):
 
 
 def refusal_of(module, folder):
-    """The number of the refusal of a module behind the first program's link, or ok."""
+    """The number of the refusal of a module behind the first program's link; ok if it is linked, or only then refused; or what else came."""
     written(folder, {"link.wasm": bytes_of(f"{FIRST}/link.wasm"), "M.wasm": module})
     came = called(M2RUN, ["--steps", "100000", "."], folder)
-    if came.status not in STATUSES:
-        raise Wrong(f"m2run: status {came.status} with {came.err!r}")
     refused = re.fullmatch(rb"M: refusal (\d+)\n", came.err)
-    return refused[1].decode() if refused else "ok"
+    if came.status == FAILED and refused:
+        return refused[1].decode()
+    is_read = came.status in RAN or came.status == FAILED and came.err in UNLINKED
+    return "ok" if is_read else f"status {came.status} with {came.err!r}"
 
 
 def ask_file(name, expected, folder):
