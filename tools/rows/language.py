@@ -12,7 +12,8 @@ WORKERS_OF_REFUSED = {"refusals.txt": (2,), "corners.txt": (2,), "rows-refusals.
 WORKERS_OF_PROGRAMS = (1, 8)
 OTHER_WORKERS = (2, 64)
 PAGES = "16"
-AGAIN = "again/"
+# the folder of a second file of a name: refusals are in order of file names, and it stands behind the first by its bytes
+AGAIN = "z/"
 FAULTS = {1: "range", 2: "overflow", 3: "index", 4: "divisor", 5: "case", 6: "no return", 7: "empty procedure", 8: "storage"}
 RUNNING = 4
 
