@@ -33,9 +33,10 @@ snapshot: web
 example:
 	tools/try_example
 
-# Tries the programs on command lines, files and streams, good and bad, and on the outside examples of modules.
-programs: build
+# Tries the programs on command lines, files and streams, good and bad, and on the rows of tools/rows/.
+programs: build plain
 	tools/try_programs
+	tools/try_rows
 	tools/try_m2
 	tools/try_separate
 	tools/try_server
@@ -59,10 +60,10 @@ browser:
 
 # The gate: no source makes up want of memory or has a number without a name, no crate lists a library that it does not name,
 # definitions are laid out, the pages of m2 are those of docs/ and so are the numbers of definitions and the index of rules, what
-# editors and shells read has the language's words and m2's options, the modules of lib/ and the examples are laid out, each
-# edit still fits its file, and the gate's copies of exercises are copies. What the pages name is there, and links lead somewhere.
-# Then every proof, the tests and the programs. What is proved is tried as users call it, with requests for memory refused, too.
-# Last come the edits of gate-edits/, which the prover must refuse.
+# editors and shells read has the language's words and m2's options, the modules of lib/ and the examples are laid out, and each
+# edit still fits its file. What the pages name is there, and links lead somewhere.
+# Then every proof, the tests and the programs. What is proved is tried as users call it, by the rows of tools/rows/, and with requests
+# for memory refused. Last come the edits of gate-edits/, which the prover must refuse.
 test:
 	tools/check_pages
 	tools/check_sources
@@ -72,7 +73,6 @@ test:
 	tools/try_explanations --rows --check
 	tools/believed_definitions --check
 	tools/rule_index --check
-	tools/copy_cases --check
 	tools/check_layout
 	tools/try_edits --applies
 	tools/snapshot --check
