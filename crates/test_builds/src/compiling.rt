@@ -1,11 +1,10 @@
 //! Tests of `compile`.
 
-use crate::memory::Notes;
+use crate::memory::{ALL_CALLS, CALLS_TO_A_FAILURE, Notes};
 use m2c::{Options, compile};
 use memory_streams::{CYCLE, NamedFiles, Screen};
 use std::alloc::{AllocError, Global};
 use std::process::Abort;
-use std::test::Fail;
 use std::thread::Threads;
 
 /// What fails: the read and the write of that number, counted from 1, the removal of files, and each stream behind a
@@ -106,9 +105,6 @@ struct Wanted<'a> {
     err: &'a str,
 }
 
-/// The calls that save the three modules.
-const ALL_CALLS: &str = "remove link.wasm;write B.wasm;write A.wasm;write P.wasm;write link.wasm;";
-
 /// The names of the three modules' files, as they are asked for.
 const ALL_ASKED: &str = "P.mod A.mod B.mod A.def B.def ";
 
@@ -172,18 +168,6 @@ fn prints_refusals_and_leaves_the_folder_alone(rt: HostRuntime) {
 }
 
 #[test]
-fn no_files_are_no_program(rt: HostRuntime) {
-    let wanted = Wanted {
-        status: 1,
-        asked: "",
-        calls: "",
-        out: ":1:1: refusal 23\n",
-        err: "",
-    };
-    expect(&rt, &[], workers(2), NONE, wanted);
-}
-
-#[test]
 fn a_file_that_cannot_be_read_ends_it(rt: HostRuntime) {
     let rows = [
         ("P.mod ", "cannot read P.mod\n"),
@@ -239,50 +223,7 @@ fn a_failure_of_the_words_changes_no_status(rt: HostRuntime) {
 }
 
 #[test]
-fn options_are_checked_before_files_are_read(rt: HostRuntime) {
-    let rows = [
-        (
-            0,
-            16,
-            "--workers takes a number from 1 to 64, and not '0'\n",
-        ),
-        (
-            65,
-            16,
-            "--workers takes a number from 1 to 64, and not '65'\n",
-        ),
-        (
-            1,
-            0,
-            "--memory takes a number from 1 to 1024, and not '0'\n",
-        ),
-        (
-            1,
-            1025,
-            "--memory takes a number from 1 to 1024, and not '1025'\n",
-        ),
-        (0, 0, "--workers takes a number from 1 to 64, and not '0'\n"),
-    ];
-    for (workers, pages, err) in rows {
-        let wanted = Wanted {
-            status: 2,
-            asked: "",
-            calls: "",
-            out: "",
-            err,
-        };
-        expect(&rt, &CYCLE, Options { workers, pages }, NONE, wanted);
-    }
-}
-
-#[test]
 fn a_folder_that_fails_is_status_3(rt: HostRuntime) {
-    let rows = [
-        "remove link.wasm;write B.wasm;",
-        "remove link.wasm;write B.wasm;write A.wasm;",
-        "remove link.wasm;write B.wasm;write A.wasm;write P.wasm;",
-        "remove link.wasm;write B.wasm;write A.wasm;write P.wasm;write link.wasm;remove link.wasm;",
-    ];
     let mut wanted = Wanted {
         status: 3,
         asked: ALL_ASKED,
@@ -294,7 +235,7 @@ fn a_folder_that_fails_is_status_3(rt: HostRuntime) {
     trouble.removal = true;
     expect(&rt, &CYCLE, workers(2), trouble, wanted);
     trouble.removal = false;
-    for calls in rows {
+    for calls in CALLS_TO_A_FAILURE {
         trouble.write = trouble.write.saturating_add(1);
         wanted.calls = calls;
         expect(&rt, &CYCLE, workers(2), trouble, wanted);

@@ -1,27 +1,28 @@
-//! Tests of `m2c` and of `m2_pool`, each of which is proved without them.
+//! Tests of `m2c`, `m2_pool` and `pool_board`, each of which is proved without them: what neither a contract says nor a program can
+//! be asked from outside.
 //!
-//! - `build` with files, gates and numbers of workers of all sorts: what is reported, what is built, what the built modules print,
-//!   and that workers meet;
+//! - `build` with gates: each job comes to the gate, workers meet there, and who is never let in leaves all to the gatherer;
 //! - `save` and `compile` over memory: which calls a folder is given and what is in it then, what is printed, and what a read, a
 //!   write or a stream that fails comes to;
-//! - the pool: gates of all sorts, two workers at once, results that a cell held before.
+//! - the pool: gates of all sorts, two workers at once, results that a cell held before; and the board by itself;
+//! - how large names, tokens and expressions are.
 #![tactic(auto)]
 
+#[cfg(test)]
+mod board;
 #[cfg(test)]
 mod building;
 #[cfg(test)]
 mod compiling;
 #[cfg(test)]
+mod files;
+#[cfg(test)]
 mod gates;
-#[cfg(test)]
-mod large;
-#[cfg(test)]
-mod many;
 #[cfg(test)]
 mod memory;
 #[cfg(test)]
 mod pool;
 #[cfg(test)]
-mod rows;
-#[cfg(test)]
 mod saving;
+#[cfg(test)]
+mod sizes;

@@ -5,6 +5,18 @@ ghost use Rattle.std.specs.Prelude.{◌≡◌};
 use m2c::OutDir;
 use std::alloc::{AllocError, Global};
 
+/// The calls that save the three modules of `CYCLE`.
+pub const ALL_CALLS: &str =
+    "remove link.wasm;write B.wasm;write A.wasm;write P.wasm;write link.wasm;";
+
+/// Those up to a write that fails: the first, the second, the third and the fourth.
+pub const CALLS_TO_A_FAILURE: [&str; 4] = [
+    "remove link.wasm;write B.wasm;",
+    "remove link.wasm;write B.wasm;write A.wasm;",
+    "remove link.wasm;write B.wasm;write A.wasm;write P.wasm;",
+    "remove link.wasm;write B.wasm;write A.wasm;write P.wasm;write link.wasm;remove link.wasm;",
+];
+
 /// A folder in memory that notes its calls. A write that fails keeps half of the bytes.
 #[derive(Drop)]
 pub struct Notes {

@@ -1,6 +1,7 @@
 ghost use Rattle.std.specs.Prelude.{◌≡◌, ◌<◌, map, length, IfOk};
 ghost use Rattle.test_builds.specs.Halving.{graph_of};
 
+use crate::gates::{Always, Meeting};
 use m2_pool::{Board, BoardSeat, Gate, JobGraph, PoolRefusal, Tally, Work, run_jobs, run_on};
 use pool_board::empty_cells;
 use std::alloc::{AllocError, Global};
@@ -38,20 +39,6 @@ impl Work for Halving<'_> {
 
     fn copy(&self, out: &u64) -> Result<u64, AllocError> {
         Ok(*out)
-    }
-}
-
-// Says the same of each job.
-#[derive(Drop)]
-struct Always(bool);
-
-impl Gate for Always {
-    ghost use Rattle.std.specs.Prelude.{◌≡◌, true};
-
-    ghost admits = { λ g _. g.0 ≡ true };
-
-    fn enter(&self, _job: usize) -> bool {
-        self.0
     }
 }
 
@@ -93,20 +80,6 @@ impl Arrivals {
             std::hint::spin_loop();
         }
         self.limits.fetch_add(1, SeqCst);
-    }
-}
-
-// Holds whoever comes first until another comes.
-#[derive(Drop)]
-struct Meeting(Arrivals);
-
-impl Gate for Meeting {
-    ghost admits = { λ _ _. Unit {0} };
-
-    fn enter(&self, _job: usize) -> bool {
-        self.0.came.fetch_add(1, SeqCst);
-        self.0.wait(2);
-        true
     }
 }
 
@@ -249,10 +222,10 @@ fn what_does_not_wait_for_a_barred_job_is_run(rt: HostRuntime) -> Result<(), Fai
 
 #[test]
 fn two_jobs_run_at_the_same_time(rt: HostRuntime) -> Result<(), Fail> {
-    let gate = Meeting(Arrivals::new());
+    let gate = Meeting::after(0);
     let came = came(&rt, rt.alloc(), &[&[], &[]], 10, 2, &gate)?;
     assert!(rt; came.outs.as_slice() == [10, 10].as_slice());
-    assert!(rt; gate.0.came.load(SeqCst) == 2 && gate.0.limits.load(SeqCst) == 0);
+    assert!(rt; gate.met());
     assert!(rt; came.tally.seats.iter().all(|list| list.len() == 1));
     assert!(rt; came.tally.gatherer.is_empty());
     Ok(())

@@ -1,26 +1,14 @@
 //! Tests of `save`.
 
-use crate::memory::Notes;
-use m2c::{Open, Options, Outcome, SaveFault, SourceFile, build, save};
+use crate::files::files_of;
+use crate::memory::{ALL_CALLS, CALLS_TO_A_FAILURE, Notes};
+use m2c::{Open, Options, Outcome, SaveFault, build, save};
 use memory_streams::{CYCLE, execute_modules};
-use std::alloc::{AllocError, Global};
 use std::process::Abort;
-use std::test::Fail;
 use std::thread::Threads;
 
 /// More reductions than the program makes.
 const STEPS: u64 = 1_000_000;
-
-fn files_of(alloc: Global, texts: &[(&str, &str)]) -> Result<Vec<SourceFile>, AllocError> {
-    let mut files = Vec::new(alloc);
-    for text in texts {
-        files.push(SourceFile {
-            name: String::from_str(alloc, text.0)?,
-            bytes: Vec::from_slice(alloc, text.1.as_bytes())?,
-        })?;
-    }
-    Ok(files)
-}
 
 /// What is built of the three modules.
 fn build_all<R: Threads + Sync + Abort + AllocGlobal>(rt: &R) -> (Vec<u8>, Vec<(String, Vec<u8>)>) {
@@ -64,18 +52,11 @@ fn expect_calls<R: Threads + Sync + Abort + AllocGlobal>(rt: &R, failing: usize,
 
 #[test]
 fn stops_at_a_write_that_fails(rt: HostRuntime) {
-    expect_calls(&rt, 1, "remove link.wasm;write B.wasm;");
-    expect_calls(&rt, 2, "remove link.wasm;write B.wasm;write A.wasm;");
-    expect_calls(
-        &rt,
-        3,
-        "remove link.wasm;write B.wasm;write A.wasm;write P.wasm;",
-    );
-    expect_calls(
-        &rt,
-        4,
-        "remove link.wasm;write B.wasm;write A.wasm;write P.wasm;write link.wasm;remove link.wasm;",
-    );
+    let mut failing: usize = 0;
+    for calls in CALLS_TO_A_FAILURE {
+        failing = failing.saturating_add(1);
+        expect_calls(&rt, failing, calls);
+    }
 }
 
 #[test]
@@ -86,33 +67,9 @@ fn saves_what_can_be_executed(rt: HostRuntime) {
     dir.put("link.wasm", b"old").expect(&rt, "memory");
     save(alloc, &link, &modules, &mut dir).expect(&rt, "a folder");
     let made = dir.calls.as_str();
-    assert!(&rt;
-        made == "remove link.wasm;write B.wasm;write A.wasm;write P.wasm;write link.wasm;",
-        "{made}"
-    );
+    assert!(&rt; made == ALL_CALLS, "{made}");
     assert!(&rt; dir.bytes_of("link.wasm") == Some(link.as_slice()));
     assert!(&rt; dir.files.len() == 4);
     let ran = execute_modules(alloc, &link, &modules, STEPS);
     assert!(&rt; ran.status == 0 && ran.out.as_slice() == b"BAP".as_slice());
-}
-
-#[test]
-fn an_old_link_that_cannot_be_removed_ends_it(rt: HostRuntime) {
-    let alloc = rt.alloc();
-    let (link, modules) = build_all(&rt);
-    let mut dir = Notes::new(alloc, 0);
-    dir.remove_nothing();
-    let answer = save(alloc, &link, &modules, &mut dir);
-    assert!(&rt; answer == Err(SaveFault::Device));
-    assert!(&rt; dir.calls.as_str() == "remove link.wasm;");
-    assert!(&rt; dir.files.len() == 0);
-}
-
-#[test]
-fn link_alone_is_saved(rt: HostRuntime) {
-    let alloc = rt.alloc();
-    let mut dir = Notes::new(alloc, 0);
-    save(alloc, b"link", &[], &mut dir).expect(&rt, "a folder");
-    assert!(&rt; dir.calls.as_str() == "remove link.wasm;write link.wasm;");
-    assert!(&rt; dir.bytes_of("link.wasm") == Some(b"link".as_slice()));
 }
