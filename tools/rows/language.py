@@ -12,8 +12,8 @@ WORKERS_OF_REFUSED = {"refusals.txt": (2,), "corners.txt": (2,), "rows-refusals.
 WORKERS_OF_PROGRAMS = (1, 8)
 OTHER_WORKERS = (2, 64)
 PAGES = "16"
-# the folder of a second file of a name: refusals are in order of file names, and it stands behind the first by its bytes
-AGAIN = "z/"
+# what stands behind the name of a second file of this name: refusals are in order of file names, and it comes behind the first
+AGAIN = "~"
 FAULTS = {1: "range", 2: "overflow", 3: "index", 4: "divisor", 5: "case", 6: "no return", 7: "empty procedure", 8: "storage"}
 RUNNING = 4
 
@@ -33,11 +33,11 @@ def definition_rows():
 
 
 def paths_of(files):
-    """Paths for the files of a row: of files with one name, the later stand in folders of their own."""
+    """Paths for the files of a row: of files with one name, the later get others."""
     paths = []
     for name, _ in files:
         while name in paths:
-            name = AGAIN + name
+            name += AGAIN
         paths.append(name)
     return paths
 
