@@ -5,7 +5,7 @@ use m2_tree::Pos;
 use serde_json::{Value, json};
 use serve_hovers::{Ask, add_member, text_value};
 use serve_names::{Declaration, Kind, Place, Range, words_of};
-use std::alloc::AllocError;
+use std::alloc::{AllocError, Global};
 
 /// The number that the protocol has for what is no name.
 const SNIPPET: u32 = 15;
@@ -161,6 +161,17 @@ fn procedure_text(
     format!(in ask.alloc; "{heading};\nBEGIN\n{body}END {name};")
 }
 
+/// How a procedure that an implementation lacks is shown: behind PROCEDURE, if this is missing.
+fn lacking_label(alloc: Global, lead: Lead, name: &[u8]) -> Result<Value, AllocError> {
+    let mut label = Vec::new(alloc);
+    match lead {
+        Lead::Missing => label.extend_from_slice(LEAD)?,
+        Lead::Written => {}
+    }
+    label.extend_from_slice(name)?;
+    text_value(alloc, &label)
+}
+
 /// The object of a procedure that an implementation lacks.
 fn lacking_value(
     ask: &Ask<'_>,
@@ -171,14 +182,11 @@ fn lacking_value(
     let alloc = ask.alloc;
     let text = ask.known_bytes(declaration.place.file);
     let words = words_of(alloc, text, declaration)?;
-    let mut label = Vec::new(alloc);
-    let mut heading = words.as_slice();
-    match lead {
-        Lead::Missing => label.extend_from_slice(LEAD)?,
-        Lead::Written => heading = words.strip_prefix(LEAD).unwrap_or(heading),
-    }
-    label.extend_from_slice(&declaration.name)?;
-    let label = text_value(alloc, &label)?;
+    let heading = match lead {
+        Lead::Missing => words.as_slice(),
+        Lead::Written => words.strip_prefix(LEAD).unwrap_or(words.as_slice()),
+    };
+    let label = lacking_label(alloc, lead, &declaration.name)?;
     let detail = text_value(alloc, &words)?;
     let mut item = json!(in alloc; { "detail": detail, "kind": SNIPPET, "label": label })?;
     let new = procedure_text(ask, heading, &declaration.name, choice.has_snippets)?;
