@@ -152,7 +152,6 @@ impl Kept {
 }
 
 /// A run of a program, and the place in it at which one is.
-#[derive(Drop)]
 pub struct History<'a> {
     alloc: Global,
     program: &'a Prepared,
@@ -167,6 +166,29 @@ pub struct History<'a> {
     made: u64,
     steps: u64,
     end: Option<End>,
+}
+
+// Written by hand, so that proofs above take a drop as one call.
+impl<'a> Drop for History<'a> {
+    fn drop(self) {
+        let History {
+            alloc: _alloc,
+            program: _program,
+            instances,
+            signals,
+            block: _block,
+            state,
+            kept,
+            at: _at,
+            made: _made,
+            steps: _steps,
+            end: _end,
+        } = self;
+        drop(instances);
+        drop(signals);
+        drop(state);
+        drop(kept);
+    }
 }
 
 /// No signals.

@@ -19,7 +19,6 @@ pub struct Places {
 }
 
 /// A program that can be run again and again.
-#[derive(Drop)]
 pub struct Prepared {
     pub modules: Vec<ValidModule>,
     /// Where the parts of each module stand, in start order.
@@ -28,6 +27,21 @@ pub struct Prepared {
     pub texts: Vec<(u32, Vec<u8>)>,
     /// The bytes of the memory.
     pub size: usize,
+}
+
+// Written by hand, so that proofs above take a drop as one call.
+impl Drop for Prepared {
+    fn drop(self) {
+        let Prepared {
+            modules,
+            places,
+            texts,
+            size: _size,
+        } = self;
+        drop(modules);
+        drop(places);
+        drop(texts);
+    }
 }
 
 /// The number that is the whole code.

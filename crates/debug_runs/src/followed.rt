@@ -8,11 +8,24 @@ use debug_views::Views;
 use std::thread::Threads;
 
 /// A program whose modules tell what they do, and its variables.
-#[derive(Drop)]
 pub struct Followed {
     marked: Marked,
     prepared: Prepared,
     views: Views,
+}
+
+// Written by hand, so that proofs above take a drop as one call.
+impl Drop for Followed {
+    fn drop(self) {
+        let Followed {
+            marked,
+            prepared,
+            views,
+        } = self;
+        drop(marked);
+        drop(prepared);
+        drop(views);
+    }
 }
 
 /// The program of these files, which are accepted, as it can be followed. Nothing if with its marks it is too long or nests too deep.

@@ -35,7 +35,6 @@ struct Segment {
 }
 
 /// A trace in the making.
-#[derive(Drop)]
 struct Tracer<'a> {
     alloc: Global,
     program: Program<'a>,
@@ -43,6 +42,23 @@ struct Tracer<'a> {
     segment: Segment,
     text: String,
     lines: u64,
+}
+
+// Written by hand, so that proofs above take a drop as one call.
+impl<'a> Drop for Tracer<'a> {
+    fn drop(self) {
+        let Tracer {
+            alloc: _alloc,
+            program: _program,
+            history,
+            segment,
+            text,
+            lines: _lines,
+        } = self;
+        drop(history);
+        drop(segment);
+        drop(text);
+    }
 }
 
 impl Tracer<'_> {

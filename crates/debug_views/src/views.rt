@@ -27,7 +27,6 @@ pub struct Variable {
 }
 
 /// A procedure, or the body of a module, which has no variables of its own.
-#[derive(Drop)]
 pub struct FunctionView {
     /// The number of its module in start order.
     pub module: usize,
@@ -39,6 +38,21 @@ pub struct FunctionView {
     pub around: Option<usize>,
     /// `Module.Procedure`, or the body of a module.
     pub name: String,
+}
+
+// Written by hand, so that proofs above take a drop as one call.
+impl Drop for FunctionView {
+    fn drop(self) {
+        let FunctionView {
+            module: _module,
+            variables,
+            formals: _formals,
+            around: _around,
+            name,
+        } = self;
+        drop(variables);
+        drop(name);
+    }
 }
 
 /// A module.
@@ -78,12 +92,20 @@ impl Drop for ModuleView {
 }
 
 /// The variables of a program.
-#[derive(Drop)]
 pub struct Views {
     /// In start order.
     pub modules: Vec<ModuleView>,
     /// The functions, in the order in which the modules have them.
     pub functions: Vec<FunctionView>,
+}
+
+// Written by hand, so that proofs above take a drop as one call.
+impl Drop for Views {
+    fn drop(self) {
+        let Views { modules, functions } = self;
+        drop(modules);
+        drop(functions);
+    }
 }
 
 /// The variable of this name among some.

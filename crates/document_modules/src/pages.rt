@@ -22,13 +22,27 @@ pub struct Page {
 }
 
 /// A library that is written as pages.
-#[derive(Drop)]
 struct Library<'a, 'b> {
     alloc: Global,
     kind: Kind,
     outlines: &'a [Outline<'b>],
     entries: Entries,
     users: Users,
+}
+
+// Written by hand, so that proofs above take a drop as one call.
+impl<'a, 'b> Drop for Library<'a, 'b> {
+    fn drop(self) {
+        let Library {
+            alloc: _alloc,
+            kind: _kind,
+            outlines: _outlines,
+            entries,
+            users,
+        } = self;
+        drop(entries);
+        drop(users);
+    }
 }
 
 /// The name of the index without its end.

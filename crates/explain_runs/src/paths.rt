@@ -44,7 +44,6 @@ struct Entered {
 }
 
 /// The ways of calls of a run, and where the run is.
-#[derive(Drop)]
 pub struct Paths {
     all: Vec<Path>,
     /// The numbers of the ways, by the caller's way and the function.
@@ -56,6 +55,27 @@ pub struct Paths {
     entered: Vec<Entered>,
     /// The reductions of the run so far.
     made: u64,
+}
+
+// Written by hand, so that proofs above take a drop as one call.
+impl Drop for Paths {
+    fn drop(self) {
+        let Paths {
+            all,
+            numbers,
+            calls,
+            places,
+            call_numbers,
+            entered,
+            made: _made,
+        } = self;
+        drop(all);
+        drop(numbers);
+        drop(calls);
+        drop(places);
+        drop(call_numbers);
+        drop(entered);
+    }
 }
 
 /// Two numbers as one. A missing one is 0.

@@ -14,11 +14,24 @@ use wasm_run::{End, Instances};
 use watch_code::{Chosen, Reader, Watched, watch_module, with_stores};
 
 /// A program whose statements are marked, as it was built.
-#[derive(Drop)]
 pub struct Marked {
     pub link: Vec<u8>,
     pub modules: Vec<Built>,
     pub functions: Functions,
+}
+
+// Written by hand, so that proofs above take a drop as one call.
+impl Drop for Marked {
+    fn drop(self) {
+        let Marked {
+            link,
+            modules,
+            functions,
+        } = self;
+        drop(link);
+        drop(modules);
+        drop(functions);
+    }
 }
 
 /// A run that was watched.

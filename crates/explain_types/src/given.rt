@@ -9,13 +9,26 @@ use text_places::{Declared, Kind, Side, Text, declaration_of, spelled_type, writ
 use text_tokens::{excerpt, name_at};
 
 /// A refused place: what is tried there, and what is declared around it.
-#[derive(Drop)]
 pub struct Scene<'a> {
     pub trial: Trial<'a>,
     pub text: Text<'a>,
     pub declared: Vec<Declared>,
     /// The types that the program declares, and that are tried.
     pub types: Vec<String>,
+}
+
+// Written by hand, so that proofs above take a drop as one call.
+impl<'a> Drop for Scene<'a> {
+    fn drop(self) {
+        let Scene {
+            trial: _trial,
+            text: _text,
+            declared,
+            types,
+        } = self;
+        drop(declared);
+        drop(types);
+    }
 }
 
 /// A type of the language, and a comparison that only a value of this type passes.

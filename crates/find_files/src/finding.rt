@@ -15,7 +15,6 @@ use system_streams::read_text;
 use tool_words::{PROGRAM, Setting};
 
 /// The files of a program, and the modules that it lacks.
-#[derive(Drop)]
 pub struct Program {
     /// Its own file, and those that were found.
     pub files: Vec<SourceFile>,
@@ -23,6 +22,32 @@ pub struct Program {
     pub lacking: Vec<String>,
     /// The folders that were searched.
     pub searched: Vec<String>,
+}
+
+// Written by hand, so that proofs above take a drop as one call.
+impl Drop for Program {
+    fn drop(self) {
+        let Program {
+            files,
+            lacking,
+            searched,
+        } = self;
+        drop(files);
+        drop(lacking);
+        drop(searched);
+    }
+}
+
+impl Program {
+    /// The files alone.
+    pub fn into_files(self) -> Vec<SourceFile> {
+        let Program {
+            files,
+            lacking: _lacking,
+            searched: _searched,
+        } = self;
+        files
+    }
 }
 
 /// Adds a file that was found.

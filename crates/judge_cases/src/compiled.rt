@@ -16,11 +16,23 @@ struct Binaries {
 }
 
 /// A program that was compiled with an empty input.
-#[derive(Drop)]
 pub struct Compiled {
     files: Vec<SourceFile>,
     options: Options,
     binaries: Binaries,
+}
+
+// Written by hand, so that proofs above take a drop as one call.
+impl Drop for Compiled {
+    fn drop(self) {
+        let Compiled {
+            files,
+            options: _options,
+            binaries,
+        } = self;
+        drop(files);
+        drop(binaries);
+    }
 }
 
 impl Compiled {

@@ -23,7 +23,6 @@ pub struct Interface {
 }
 
 /// What link has to know of a module that was compiled alone.
-#[derive(Drop)]
 pub struct Part {
     pub name: String,
     /// Whether it is a program module.
@@ -37,6 +36,26 @@ pub struct Part {
     pub imports: Vec<String>,
     /// The definitions that it was compiled with: its own, and those that it needs directly or through others.
     pub interfaces: Vec<Interface>,
+}
+
+// Written by hand, so that proofs above take a drop as one call.
+impl Drop for Part {
+    fn drop(self) {
+        let Part {
+            name,
+            is_program: _is_program,
+            sizes: _sizes,
+            text,
+            code,
+            imports,
+            interfaces,
+        } = self;
+        drop(name);
+        drop(text);
+        drop(code);
+        drop(imports);
+        drop(interfaces);
+    }
 }
 
 /// Whether a text is the name of a module: a letter, and up to 63 letters and digits behind it.

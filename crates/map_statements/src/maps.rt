@@ -16,7 +16,6 @@ use watch_code::{HELPERS, IMPORTED};
 type Built = (String, Vec<u8>);
 
 /// A module with its code, and with the same code with marks.
-#[derive(Drop)]
 struct Pair<'a> {
     alloc: Global,
     names: Names<'a>,
@@ -26,6 +25,23 @@ struct Pair<'a> {
     marked: WModule,
     /// The bytes with which the code of its functions begins.
     begins: Vec<usize>,
+}
+
+// Written by hand, so that proofs above take a drop as one call.
+impl<'a> Drop for Pair<'a> {
+    fn drop(self) {
+        let Pair {
+            alloc: _alloc,
+            names: _names,
+            first: _first,
+            code,
+            marked,
+            begins,
+        } = self;
+        drop(code);
+        drop(marked);
+        drop(begins);
+    }
 }
 
 /// The operations of the function of this number among those with code.

@@ -35,7 +35,6 @@ pub struct Stale {
 }
 
 /// What has to be done.
-#[derive(Drop)]
 pub struct Plan {
     /// The checksums of the texts, by the numbers of their files.
     pub texts: Vec<String>,
@@ -46,6 +45,24 @@ pub struct Plan {
     pub bodies: Vec<usize>,
     /// The bodies that have to be compiled.
     pub stale: Vec<Stale>,
+}
+
+// Written by hand, so that proofs above take a drop as one call.
+impl Drop for Plan {
+    fn drop(self) {
+        let Plan {
+            texts,
+            tokens,
+            definitions,
+            bodies,
+            stale,
+        } = self;
+        drop(texts);
+        drop(tokens);
+        drop(definitions);
+        drop(bodies);
+        drop(stale);
+    }
 }
 
 /// Whether a part of a program is compiled.

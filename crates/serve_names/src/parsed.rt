@@ -7,10 +7,18 @@ use serve_scopes::Marks;
 use std::alloc::{AllocError, Global};
 
 /// The tokens and the tree of a text.
-#[derive(Drop)]
 pub struct Parsed {
     pub tokens: Vec<Token>,
     pub tree: Module,
+}
+
+// Written by hand, so that proofs above take a drop as one call.
+impl Drop for Parsed {
+    fn drop(self) {
+        let Parsed { tokens, tree } = self;
+        drop(tokens);
+        drop(tree);
+    }
 }
 
 /// The tree of a text, and of its tokens what tells where declarations begin and end.

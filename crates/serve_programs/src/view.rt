@@ -13,7 +13,6 @@ const FIRST_BYTE: usize = 1;
 const NO_BYTE: usize = 0;
 
 /// A file of a view.
-#[derive(Drop)]
 pub struct FileView {
     /// Its path.
     pub path: String,
@@ -29,6 +28,23 @@ pub struct FileView {
     pub is_made: bool,
 }
 
+// Written by hand, so that proofs above take a drop as one call.
+impl Drop for FileView {
+    fn drop(self) {
+        let FileView {
+            path,
+            now,
+            sound,
+            shift: _shift,
+            has_tree: _has_tree,
+            is_made: _is_made,
+        } = self;
+        drop(path);
+        drop(now);
+        drop(sound);
+    }
+}
+
 /// Bytes of the text of a file as it stands.
 #[derive(Clone, Copy, PartialEq, Eq, PartialOrd, Ord)]
 pub struct Mark {
@@ -41,10 +57,18 @@ pub struct Mark {
 }
 
 /// The files of one or more programs, and what their names stand for.
-#[derive(Drop)]
 pub struct View {
     pub files: Vec<FileView>,
     pub index: Index,
+}
+
+// Written by hand, so that proofs above take a drop as one call.
+impl Drop for View {
+    fn drop(self) {
+        let View { files, index } = self;
+        drop(files);
+        drop(index);
+    }
 }
 
 /// The tree of an open text as it stands, which was read when the text changed.

@@ -31,7 +31,6 @@ const WAS_SHUT_DOWN: u8 = 0;
 const WAS_CUT_OFF: u8 = 1;
 
 /// The programs of a file, and what their names stand for.
-#[derive(Drop)]
 pub(crate) struct Held {
     /// The path of the file.
     pub(crate) path: String,
@@ -40,6 +39,22 @@ pub(crate) struct Held {
     pub(crate) focus: Option<Position>,
     pub(crate) programs: Vec<Program>,
     pub(crate) view: View,
+}
+
+// Written by hand, so that proofs above take a drop as one call.
+impl Drop for Held {
+    fn drop(self) {
+        let Held {
+            path,
+            reach: _reach,
+            focus: _focus,
+            programs,
+            view,
+        } = self;
+        drop(path);
+        drop(programs);
+        drop(view);
+    }
 }
 
 /// Which programs of a file are looked at.

@@ -30,13 +30,22 @@ impl Known {
 }
 
 /// A text with the begins of its lines.
-#[derive(Drop)]
 pub struct Text {
     bytes: Vec<u8>,
     /// Where lines begin behind bytes 0AH, from the second line on.
     lines: Vec<usize>,
     /// Where lines begin for the protocol, from the second line on, if it is elsewhere.
     rows: Option<Vec<usize>>,
+}
+
+// Written by hand, so that proofs above take a drop as one call.
+impl Drop for Text {
+    fn drop(self) {
+        let Text { bytes, lines, rows } = self;
+        drop(bytes);
+        drop(lines);
+        drop(rows);
+    }
 }
 
 /// A number as one of 32 bits, or the greatest one.

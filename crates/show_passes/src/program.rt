@@ -24,7 +24,6 @@ pub struct Parsed {
 }
 
 /// The trees of a program, by the names of their modules.
-#[derive(Drop)]
 pub struct Trees {
     /// Those of the files that have one, in the order of the files.
     pub all: Vec<Parsed>,
@@ -32,6 +31,20 @@ pub struct Trees {
     definitions: Dictionary<usize>,
     /// The numbers of the bodies' trees.
     bodies: Dictionary<usize>,
+}
+
+// Written by hand, so that proofs above take a drop as one call.
+impl Drop for Trees {
+    fn drop(self) {
+        let Trees {
+            all,
+            definitions,
+            bodies,
+        } = self;
+        drop(all);
+        drop(definitions);
+        drop(bodies);
+    }
 }
 
 impl Trees {

@@ -125,7 +125,7 @@ where
     match build(rt, rt.alloc(), &program.files, setting.options, &Open) {
         Ok(Outcome::Refused(refusals)) => Ok(Made::Refused(program, refusals)),
         Ok(Outcome::Built { link, modules }) => Ok(Made::Built(Modules {
-            files: program.files,
+            files: program.into_files(),
             link,
             others: modules,
         })),

@@ -70,7 +70,14 @@ where
     let cases = cases_of(rt, folder)?;
     let program = find_program(rt, setting, path)?;
     say(rt, front(alloc, form, cases.len())?.as_str())?;
-    let grades = grade(rt, alloc, program.files, setting.options, &cases, limits)?;
+    let grades = grade(
+        rt,
+        alloc,
+        program.into_files(),
+        setting.options,
+        &cases,
+        limits,
+    )?;
     say(
         rt,
         case_lines(alloc, form, 0, path, &cases, &grades)?.as_str(),
@@ -127,7 +134,7 @@ where
     };
     match program_of_text(rt, setting, path, text) {
         Ok(program) => {
-            let files = program.files;
+            let files = program.into_files();
             Ok(grade(rt, rt.alloc(), files, setting.options, cases, limits)?)
         }
         Err(Exit::Reported(_)) => Ok(Grades::without_program()),
