@@ -74,6 +74,17 @@ CUT = {
 }
 
 
+# what the first program has printed after so many reductions, and how it is then: link makes 3, its call included; the check of the stack
+# 8, the call of fill 3; fill 2, then 16 for each of its 16 bytes, and 4 at its end. Behind the constant, the 278th prints the byte, and
+# two ends follow.
+AFTER = {"277": (RUNNING, b""), "278": (RUNNING, b"A"), "279": (RUNNING, b"A"), "280": (0, b"A")}
+
+
+def ask_after(steps, answer, folder):
+    """The first program, after so many reductions."""
+    expect_answer(M2RUN, ["--steps", steps, FIRST], folder, *answer)
+
+
 def machine_rows():
     for name in sorted(os.listdir(DIRECTORIES)):
         yield Row(f"machine/{name}", lambda folder, name=name: ask_directory(name, folder))
@@ -82,6 +93,8 @@ def machine_rows():
         yield Row(f"faults/{name}", lambda folder, it=(name, expected): ask_file(*it, folder))
     for name, (lengths, answer) in CUT.items():
         yield Row(name, lambda folder, it=(lengths, answer): ask_cut(*it, folder))
+    for steps, answer in AFTER.items():
+        yield Row(f"the first program, {steps} reductions", lambda folder, it=(steps, answer): ask_after(*it, folder))
     for name in MODULES:
         for length in range(os.path.getsize(f"{FIRST}/{name}")):
             yield Row(f"{length} bytes of {name}", lambda folder, it=(name, length): ask_beginning(*it, folder))

@@ -1,10 +1,11 @@
-//! Tests of `m2c`, `m2_pool` and `pool_board`, each of which is proved without them: what neither a contract says nor a program can
-//! be asked from outside.
+//! Tests of `m2c`, `m2_pool`, `pool_board` and `wasm_binary`, each of which is proved without them: what neither a contract says
+//! nor a program can be asked from outside.
 //!
 //! - `build` with gates: each job comes to the gate, workers meet there, and who is never let in leaves all to the gatherer;
 //! - `save` and `compile` over memory: which calls a folder is given and what is in it then, what is printed, and what a read, a
 //!   write or a stream that fails comes to;
 //! - the pool: gates of all sorts, two workers at once, results that a cell held before; and the board by itself;
+//! - a tree of a module that has no encoding;
 //! - how large names, tokens and expressions are.
 #![tactic(auto)]
 
@@ -18,6 +19,8 @@ mod compiling;
 mod files;
 #[cfg(test)]
 mod gates;
+#[cfg(test)]
+mod machine;
 #[cfg(test)]
 mod memory;
 #[cfg(test)]
