@@ -3,14 +3,12 @@
 
 mod files;
 mod ran;
-mod samples;
 
 ghost use Rattle.std.specs.Prelude.{◌≡◌};
 
 pub use files::NamedFiles;
-pub use ran::{Ran, bytes_of, execute_in, execute_modules, execute_two};
+pub use ran::{Ran, execute_in, execute_modules, execute_two};
 use run_directory::{InDir, Sink};
-pub use samples::{CYCLE, LINK};
 use std::alloc::Global;
 
 /// The folder of a build: link, and the other modules under their names.

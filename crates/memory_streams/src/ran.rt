@@ -3,7 +3,7 @@
 use crate::files::NamedFiles;
 use crate::{Folder, Screen};
 use run_directory::{InDir, execute};
-use std::alloc::{AllocError, Global};
+use std::alloc::Global;
 
 /// What came of modules: the status, and the bytes on the two streams.
 #[derive(Drop)]
@@ -11,15 +11,6 @@ pub struct Ran {
     pub status: u8,
     pub out: Vec<u8>,
     pub err: Vec<u8>,
-}
-
-impl Ran {
-    /// All of it as a text, with a bar between two parts.
-    pub fn text(&self, alloc: Global) -> Result<String, AllocError> {
-        let printed = String::from_utf8_lossy(alloc, &self.out)?;
-        let words = String::from_utf8_lossy(alloc, &self.err)?;
-        format!(in alloc; "{}|{printed}|{words}", self.status)
-    }
 }
 
 /// Executes the modules of a folder for at most `steps` reductions. The first stream has room for `room` bytes.
@@ -48,17 +39,4 @@ pub fn execute_modules(
 pub fn execute_two(alloc: Global, link: &[u8], body: &[u8], steps: u64, room: usize) -> Ran {
     let files = [("link.wasm", Some(link)), ("M.wasm", Some(body))];
     execute_in(alloc, &mut NamedFiles::new(alloc, &files), steps, room)
-}
-
-/// The bytes of link, and behind them the bytes of each module.
-pub fn bytes_of(
-    alloc: Global,
-    link: &[u8],
-    modules: &[(String, Vec<u8>)],
-) -> Result<Vec<u8>, AllocError> {
-    let mut all = Vec::from_slice(alloc, link)?;
-    for module in modules {
-        all.extend_from_slice(&module.1)?;
-    }
-    Ok(all)
 }

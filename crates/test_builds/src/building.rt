@@ -2,8 +2,8 @@
 
 use crate::files::files_of;
 use crate::gates::{Always, Counting, Meeting};
+use crate::samples::LINK;
 use m2c::{BuildFault, Gate, Options, Outcome, SourceFile, build};
-use memory_streams::LINK;
 use std::process::Abort;
 use std::thread::Threads;
 

@@ -1,8 +1,9 @@
 //! Tests of `compile`.
 
 use crate::memory::{ALL_CALLS, CALLS_TO_A_FAILURE, Notes};
+use crate::samples::CYCLE;
 use m2c::{Options, compile};
-use memory_streams::{CYCLE, NamedFiles, Screen};
+use memory_streams::{NamedFiles, Screen};
 use std::alloc::{AllocError, Global};
 use std::process::Abort;
 use std::thread::Threads;

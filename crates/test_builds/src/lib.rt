@@ -26,6 +26,8 @@ mod memory;
 #[cfg(test)]
 mod pool;
 #[cfg(test)]
+mod samples;
+#[cfg(test)]
 mod saving;
 #[cfg(test)]
 mod sizes;

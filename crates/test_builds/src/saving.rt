@@ -2,8 +2,9 @@
 
 use crate::files::files_of;
 use crate::memory::{ALL_CALLS, CALLS_TO_A_FAILURE, Notes};
+use crate::samples::CYCLE;
 use m2c::{Open, Options, Outcome, SaveFault, build, save};
-use memory_streams::{CYCLE, execute_modules};
+use memory_streams::execute_modules;
 use std::process::Abort;
 use std::thread::Threads;
 

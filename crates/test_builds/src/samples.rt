@@ -1,4 +1,4 @@
-//! Programs of which several crates know what is built.
+//! Programs of which it is known what is built.
 
 /// P imports A, and the implementations of A and B import each other. B starts first, then A, and P last.
 pub const CYCLE: [(&str, &str); 5] = [
