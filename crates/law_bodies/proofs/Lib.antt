@@ -1,0 +1,4 @@
+pub mod Replaced
+pub mod Numbered
+pub mod Needing
+pub mod Resulting
