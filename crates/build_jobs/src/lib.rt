@@ -4,11 +4,13 @@
 //! - The second round compiles the modules of their graph. What becomes of a module is a function of what became of those
 //!   that it needs: a definition gives its table, a body its module, and either may break a rule (`compile`).
 //!
-//! `Runner` hands both rounds to the workers of `m2_pool`. What a single job does knows nothing of threads.
+//! `Runner` hands both rounds to the workers of `m2_pool`, and `in_turn` makes them without threads. What a single job does
+//! knows nothing of either.
 #![tactic(auto)]
 
 mod contents;
 mod file;
+mod in_turn;
 mod modules;
 mod options;
 mod outcome;
@@ -19,6 +21,7 @@ mod texts;
 
 pub use contents::compile;
 pub use file::SourceFile;
+pub use in_turn::{compile_in_turn, read_in_turn};
 pub use options::{MAX_PAGES, Options};
 pub use outcome::Compiled;
 pub use pool_board::{Gate, MAX_WORKERS};

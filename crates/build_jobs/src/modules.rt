@@ -12,7 +12,7 @@ use std::alloc::{AllocError, Global};
 use tree_parts::at;
 
 /// What becomes of the module in this place.
-fn compile_in_place(
+pub fn compile_in_place(
     alloc: Global,
     trees: &[(&str, &Module)],
     file: usize,

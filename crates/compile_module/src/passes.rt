@@ -1,120 +1,39 @@
 //! The jobs of one module, in turn.
 
+ghost use Rattle.std.specs.Prelude.{◌≡◌, IfOk, List, ℕ, length, map};
+ghost use Rattle.std.specs.Option.{option_copied};
+ghost use Rattle.m2_graph.specs.Files.{number_files};
+ghost use Rattle.m2_tree.specs.declared.decl.Module.{Module as Tree};
+ghost use Rattle.m2_graph.specs.Graph.{CompileEach, IsGraph, IsRefusal};
+ghost use Rattle.build_jobs.specs.Borrowed.{borrow_trees, modules_borrowed};
+ghost use Rattle.build_jobs.specs.Reading.{AreRead};
+ghost use Rattle.build_jobs.specs.Jobs.{all_compiled};
+ghost use Rattle.compile_module.specs.Alone.{IsMade, IsOf, Comes, ComesOf};
+ghost use Rattle.compile_module.specs.Stands.{with_stands};
+
 use crate::made::{Interface, Made};
-use crate::stands::{FILE, stands_for};
-use crate::texts::{Readings, add_named, names_of, readings_of};
-use build_jobs::{Compiled, SourceFile, compile};
+use crate::stands::{stands_for, with_stands, without_stands};
+use build_jobs::{Compiled, Read, SourceFile, compile_in_turn, read_in_turn};
+use build_results::{in_order, refused_by, refused_of, result_of, trees_of};
 use list_imports::add_imports;
 use m2_emit::ModuleBytes;
-use m2_graph::{Graph, GraphError};
-use m2_tree::{Contents, Module, Refusal};
+use m2_graph::{Graph, GraphError, places_of};
+use m2_tree::{Contents, Module};
 use std::alloc::{AllocError, Global};
-use std::sync::Arc;
 use tree_parts::Shared;
 
-/// What became of these jobs.
-fn became_of<'a>(
-    alloc: Global,
-    results: &'a [Compiled],
-    jobs: &[usize],
-) -> Result<Vec<&'a Compiled>, AllocError> {
-    let mut became = Vec::new(alloc);
-    for job in jobs {
-        if let Some(result) = results.get(*job) {
-            became.push(result)?;
-        }
-    }
-    Ok(became)
-}
-
-/// Makes the next job: the module with this tree, or none if a stand-in is its file.
-fn add_job(
-    alloc: Global,
-    tree: Option<&(&str, &Module)>,
-    needs: &[usize],
-    results: &mut Vec<Compiled>,
-) -> Result<(), AllocError> {
-    let Some(tree) = tree else {
-        results.push(Compiled::Blocked)?;
-        return Ok(());
-    };
-    // a graph has at most 1024 jobs
-    let number = u32::try_from(results.len()).unwrap_or(u32::MAX);
-    let needed = became_of(alloc, results, needs)?;
-    let became = compile(alloc, tree.1, number, &needed)?;
-    drop(needed);
-    results.push(became)?;
-    Ok(())
-}
-
-/// What becomes of the modules of a graph's jobs, in their order. Of the files, the first have these trees; the others stand in.
-fn results_of(
-    alloc: Global,
-    graph: &Graph,
-    trees: &[(&str, &Module)],
-) -> Result<Vec<Compiled>, AllocError> {
-    let mut results = Vec::new(alloc);
-    for (file, needs) in graph.files().iter().zip(graph.jobs()) {
-        add_job(alloc, trees.get(*file), needs, &mut results)?;
-    }
-    Ok(results)
-}
-
-/// What became of the module of the first file.
-fn first_of<'a>(graph: &Graph, results: &'a [Compiled]) -> Option<&'a Compiled> {
-    let place = graph.files().iter().position(|it| *it == 0)?;
-    results.get(place)
-}
-
-/// Adds the rule that a module breaks.
-fn add_refusal(
-    alloc: Global,
-    tree: Option<&(&str, &Module)>,
-    became: &Compiled,
-    refusals: &mut Vec<Refusal>,
-) -> Result<(), AllocError> {
-    if let (Some(tree), Compiled::Refused(broken)) = (tree, became) {
-        let file = String::from_str(alloc, tree.0)?;
-        let (pos, number) = (broken.pos, broken.number);
-        refusals.push(Refusal { file, pos, number })?;
-    }
-    Ok(())
-}
-
-/// The rules that modules break, in order of the names of their files.
-fn refusals_of(
-    alloc: Global,
-    graph: &Graph,
-    trees: &[(&str, &Module)],
-    results: &[Compiled],
-) -> Result<Vec<Refusal>, AllocError> {
-    let mut refusals = Vec::new(alloc);
-    for (file, became) in graph.files().iter().zip(results) {
-        add_refusal(alloc, trees.get(*file), became, &mut refusals)?;
-    }
-    in_order(refusals)
-}
-
-/// Refusals in order of the names of their files by their bytes.
-fn in_order(found: Vec<Refusal>) -> Result<Vec<Refusal>, AllocError> {
-    let mut refusals = found;
-    refusals.sort_by(|r, s| r.file.as_bytes().cmp(&s.file.as_bytes()))?;
-    Ok(refusals)
-}
-
-/// The modules that a body imports, and in front of them those that its definition imports, if it is among these modules.
-fn imports_of(
-    alloc: Global,
-    body: &Module,
-    others: &[(&str, &Module)],
-) -> Result<Vec<String>, AllocError> {
+/// The modules that the first of these imports, and in front of them those that its definition imports, if it is among the others.
+fn imports_of(alloc: Global, trees: &[(&str, &Module)]) -> Result<Vec<String>, AllocError> {
     let mut imports = Vec::new(alloc);
+    let Some((first, others)) = trees.split_first() else {
+        return Ok(imports);
+    };
     for other in others {
-        if other.1.name.name.as_bytes() == body.name.name.as_bytes() {
+        if other.1.name.name.as_bytes() == first.1.name.name.as_bytes() {
             add_imports(alloc, &mut imports, other.1)?;
         }
     }
-    add_imports(alloc, &mut imports, body)?;
+    add_imports(alloc, &mut imports, first.1)?;
     Ok(imports)
 }
 
@@ -128,85 +47,125 @@ fn interfaces_of(alloc: Global, trees: &[(&str, &Module)]) -> Result<Vec<Interfa
     Ok(interfaces)
 }
 
+/// Whether the first of these modules is a program.
+fn is_program(trees: &[(&str, &Module)]) -> bool {
+    trees
+        .first()
+        .is_some_and(|it| matches!(&it.1.contents, Contents::Program(_)))
+}
+
 /// A module that was built.
 fn built(
     alloc: Global,
-    module: &Shared<ModuleBytes>,
     trees: &[(&str, &Module)],
-) -> Result<Made, AllocError> {
-    let Some((first, others)) = trees.split_first() else {
-        return Ok(Made::Defined);
-    };
+    module: &Shared<ModuleBytes>,
+) -> Result<Made, AllocError>
+    ensures { IfOk result (IsOf module.now) }
+{
     Ok(Made::Built {
         module: module.share()?,
-        is_program: matches!(&first.1.contents, Contents::Program(_)),
-        imports: imports_of(alloc, first.1, others)?,
+        is_program: is_program(trees),
+        imports: imports_of(alloc, trees)?,
         interfaces: interfaces_of(alloc, trees)?,
     })
 }
 
-/// What comes of the first of these modules, from what became of the jobs.
-fn made_of(alloc: Global, graph: &Graph, trees: &[(&str, &Module)]) -> Result<Made, AllocError> {
-    let results = results_of(alloc, graph, trees)?;
-    let refusals = refusals_of(alloc, graph, trees, &results)?;
+/// What comes of the first of these modules, of which this became.
+fn of_first(
+    alloc: Global,
+    trees: &[(&str, &Module)],
+    became: Option<&Compiled>,
+) -> Result<Made, AllocError>
+    requires { IsMade (borrow_trees trees.now) (option_copied became) }
+    ensures { IfOk result (Comes (borrow_trees trees.now)) }
+{
+    let Some(became) = became else {
+        return Ok(Made::Defined);
+    };
+    match became {
+        Compiled::Built(module) => built(alloc, trees, module),
+        Compiled::Defined(_) | Compiled::Refused(_) | Compiled::Blocked => Ok(Made::Defined),
+    }
+}
+
+/// What comes of the first of these modules, with a graph of so many, whose jobs came to these results.
+fn of_results(
+    alloc: Global,
+    trees: &[(&str, &Module)],
+    count: usize,
+    graph: &Graph,
+    results: &[Compiled],
+) -> Result<Made, AllocError>
+    requires graph { IsGraph (number_files 0 (with_stands (borrow_trees trees.now)))
+        graph.now.files.items (map (λ j. j.items) graph.now.jobs.items) graph.now.starts.items }
+    requires each { CompileEach (number_files 0 (with_stands (borrow_trees trees.now)))
+        graph.now.files.items }
+    requires count { length (with_stands (borrow_trees trees.now)) ≡ count }
+    requires results { results.now ≡ all_compiled (modules_borrowed trees.now) graph.now.files.items
+        (map (λ j. j.items) graph.now.jobs.items) }
+    ensures { IfOk result (Comes (borrow_trees trees.now)) }
+{
+    let places = places_of(alloc, count, graph.files())?;
+    let refusals = refused_by(alloc, trees, &places, results)?;
     if !refusals.is_empty() {
-        return Ok(Made::Refused(refusals));
+        return Ok(Made::Refused(in_order(refusals)?));
     }
-    match first_of(graph, &results) {
-        Some(Compiled::Built(module)) => built(alloc, module, trees),
-        Some(Compiled::Defined(_) | Compiled::Refused(_) | Compiled::Blocked) | None => {
-            Ok(Made::Defined)
-        }
-    }
+    of_first(alloc, trees, result_of(results, &places, 0))
 }
 
-/// Refusals without those of stand-ins, which follow from others. If there are no others, all.
-fn without_stands(found: Vec<Refusal>) -> Vec<Refusal> {
-    let mut refusals = found;
-    let has_others = refusals.iter().any(|it| it.file.as_str() != FILE);
-    if has_others {
-        refusals.retain(|it| it.file.as_str() != FILE);
-    }
-    refusals
-}
-
-/// Adds stand-ins, under the name that they have.
-fn add_stands<'a>(
-    all: &mut Vec<(&'a str, &'a Module)>,
-    stands: &'a [Module],
-) -> Result<(), AllocError> {
-    for stand in stands {
-        all.push((FILE, stand))?;
-    }
-    Ok(())
-}
-
-/// Trees under the names of their files, and behind them stand-ins.
-fn all_named<'a>(
+/// What comes of the first of these modules, with a graph of so many.
+fn of_graph(
     alloc: Global,
-    names: &'a [String],
-    trees: &'a [Arc<Module>],
-    stands: &'a [Module],
-) -> Result<Vec<(&'a str, &'a Module)>, AllocError> {
-    let mut all = Vec::new(alloc);
-    add_named(&mut all, names, trees)?;
-    add_stands(&mut all, stands)?;
-    Ok(all)
+    trees: &[(&str, &Module)],
+    count: usize,
+    graph: &Graph,
+) -> Result<Made, AllocError>
+    requires graph { IsGraph (number_files 0 (with_stands (borrow_trees trees.now)))
+        graph.now.files.items (map (λ j. j.items) graph.now.jobs.items) graph.now.starts.items }
+    requires each { CompileEach (number_files 0 (with_stands (borrow_trees trees.now)))
+        graph.now.files.items }
+    requires count { length (with_stands (borrow_trees trees.now)) ≡ count }
+    ensures { IfOk result (Comes (borrow_trees trees.now)) }
+{
+    let results = compile_in_turn(alloc, trees, graph.files(), graph.jobs())?;
+    of_results(alloc, trees, count, graph, &results)
 }
 
-/// Compiles one module alone, as `compile_module` does, from the names of its files and the trees of their texts.
-pub fn compile_trees<'a>(
-    alloc: Global,
-    names: &'a [String],
-    trees: &'a [Arc<Module>],
-) -> Result<Made, AllocError> {
+/// What comes of modules that have no graph.
+fn of_error(error: GraphError) -> Result<Made, AllocError>
+    ensures { (trees : List (List ℕ × Tree))
+        → IsRefusal (number_files 0 (with_stands trees)) error → IfOk result (Comes trees) }
+{
+    match error {
+        GraphError::Refused(refusals) => Ok(Made::Refused(without_stands(refusals))),
+        GraphError::NoMemory => Err(AllocError),
+    }
+}
+
+/// Compiles one module alone, as `compile_module` does, from the trees of its files' texts, each under the name of its file.
+pub fn compile_trees(alloc: Global, trees: &[(&str, &Module)]) -> Result<Made, AllocError>
+    ensures { IfOk result (Comes (borrow_trees trees.now)) }
+{
     let stands = stands_for(alloc, trees)?;
-    let all = all_named(alloc, names, trees, &stands)?;
+    let all = with_stands(alloc, trees, &stands)?;
     match Graph::of(alloc, &all) {
-        Ok(graph) => made_of(alloc, &graph, all.get(..names.len()).unwrap_or(&[])),
-        Err(GraphError::Refused(refusals)) => Ok(Made::Refused(without_stands(refusals))),
-        Err(GraphError::NoMemory) => Err(AllocError),
+        Ok(graph) => of_graph(alloc, trees, all.len(), &graph),
+        Err(error) => of_error(error),
     }
+}
+
+/// What comes of the module of the first of these files, of which this was read.
+fn of_reads(alloc: Global, files: &[SourceFile], reads: &[Read]) -> Result<Made, AllocError>
+    requires read { AreRead files.now reads.now }
+    requires count { length files.now ≡ length reads.now }
+    ensures { IfOk result (ComesOf files.now) }
+{
+    let refused = refused_of(alloc, files, reads)?;
+    if !refused.is_empty() {
+        return Ok(Made::Refused(in_order(refused)?));
+    }
+    let trees = trees_of(alloc, files, reads)?;
+    compile_trees(alloc, &trees)
 }
 
 /// Compiles one module alone: the body or the definition in the first of these files. The others are the definitions that it needs,
@@ -214,11 +173,11 @@ pub fn compile_trees<'a>(
 ///
 /// What is refused is what a build refuses of these files, in the same order: rules of tokens and of the grammar, or else those of
 /// imports, or else the least rule that each module breaks, but nothing for one that needs another of which something is reported.
-/// A definition that is not there is 20 at its import, or 24 if it is the body's own. The only error is that memory ran out.
-pub fn compile_module(alloc: Global, files: &[SourceFile]) -> Result<Made, AllocError> {
-    let Readings { trees, refusals } = readings_of(alloc, files)?;
-    if !refusals.is_empty() {
-        return Ok(Made::Refused(in_order(refusals)?));
-    }
-    compile_trees(alloc, &names_of(alloc, files)?, &trees)
+/// A definition that is not there is 20 at its import, or 24 if it is the body's own. A module that is built is what its job of a
+/// build makes. The only error is that memory ran out.
+pub fn compile_module(alloc: Global, files: &[SourceFile]) -> Result<Made, AllocError>
+    ensures { IfOk result (ComesOf files.now) }
+{
+    let reads = read_in_turn(alloc, files)?;
+    of_reads(alloc, files, &reads)
 }

@@ -22,7 +22,7 @@ use Rattle.law_graph.proofs.Passing.{found_at}
 use Rattle.law_graph.proofs.Rows.{one_job_order}
 use Rattle.build_jobs.specs.declared.outcome.Compiled.{Compiled}
 use Rattle.build_jobs.specs.Jobs.{compile_in_place, compile_at}
-use Rattle.m2c.specs.Build.{result_at}
+use Rattle.build_results.specs.Results.{result_at}
 use Rattle.law_separation.specs.Alike.{Tree, imported_names, Needs, own, imported, further, ShareModule, OtherFilesDoNotMatter}
 use Rattle.law_separation.proofs.Replaced.{put, AreGood, numbered, all_good, in_order}
 use Rattle.law_separation.proofs.Numbered.{pair_at, none_at, given_same, needs_at, order_stays}

@@ -6,7 +6,8 @@ use Rattle.m2_graph.specs.Imports.{imports_of, is_definition}
 use Rattle.m2_graph.specs.Files.{number_files}
 use Rattle.m2_graph.specs.Graph.{IsGraph}
 use Rattle.build_jobs.specs.declared.outcome.Compiled.{Compiled}
-use Rattle.m2c.specs.Build.{modules, result_at}
+use Rattle.build_results.specs.Texts.{modules}
+use Rattle.build_results.specs.Results.{result_at}
 
 -- ---- programs whose modules have the same numbers
 

@@ -22,7 +22,10 @@ use Rattle.m2c.specs.declared.files.Outcome.{Outcome}
 use Rattle.m2c.specs.declared.files.Outcome.TheVariants as outcome
 use Rattle.build_jobs.specs.Jobs.{needed_of}
 use Rattle.m2c.specs.Modules.{IsTyped, AreTyped}
-use Rattle.m2c.specs.Build.{Reported, report_of, reported_at, AreReported, refused_of, refused_by, built_of, name_bytes, modules, data_and_stack, program_file, AreUngraphed, HaveGraph, IsProgram, IsBuilt, AreAlike}
+use Rattle.build_results.specs.Reported.{Reported, report_of, reported_at, AreReported}
+use Rattle.build_results.specs.Texts.{refused_of, modules}
+use Rattle.build_results.specs.Results.{refused_by}
+use Rattle.m2c.specs.Build.{built_of, name_bytes, data_and_stack, program_file, AreUngraphed, HaveGraph, IsProgram, IsBuilt, AreAlike}
 use Rattle.m2c.proofs.Same.{same_refused, one_trees, trees_or_refused}
 use Rattle.m2c.proofs.Ranks.{one_order}
 

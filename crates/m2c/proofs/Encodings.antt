@@ -38,7 +38,9 @@ use Rattle.build_jobs.specs.Compiling.{tables_of}
 use Rattle.build_jobs.specs.Jobs.{needed_of}
 use Rattle.build_jobs.proofs.Rounds.{jobs_count}
 use Rattle.m2c.specs.Modules.{IsTyped, AreTyped}
-use Rattle.m2c.specs.Build.{modules, trees_of, refused_by, data_and_stack, AreTrees, HaveGraph}
+use Rattle.build_results.specs.Texts.{modules, trees_of, AreTrees}
+use Rattle.build_results.specs.Results.{refused_by}
+use Rattle.m2c.specs.Build.{data_and_stack, HaveGraph}
 use Rattle.m2c.specs.Encodings.{ProgramsFit}
 use Rattle.m2c.proofs.Programs.{AreBuilt, all_built, distinct_all, count_all}
 use Rattle.m2c.proofs.Linked.{own_known, needed_tables, all_modules}

@@ -16,7 +16,7 @@ use Rattle.build_jobs.specs.declared.reading.Read.{Read}
 use Rattle.build_jobs.specs.declared.reading.Read.TheVariants as read
 use Rattle.build_jobs.specs.Reading.{HasTree, AreRead}
 use Rattle.m2c.specs.Modules.{AreTyped}
-use Rattle.m2c.specs.Build.{modules, trees_of, AreTrees}
+use Rattle.build_results.specs.Texts.{modules, trees_of, AreTrees}
 
 one_fits : (text : List ℕ) (m : Module) → HasTree text m → fits_module m ≡ true
 one_fits text m h = module_fits h.tokens m (tokens_fit text h.tokens h.divides.divides) h.is_tree.0

@@ -1,6 +1,4 @@
 pub mod Bodies
-pub mod Two
-pub mod EachOnce
 pub mod Unrefused
 mod Ruled
 pub mod Programs

@@ -39,7 +39,7 @@ use Rattle.build_jobs.specs.Jobs.{needed_of}
 use Rattle.law_encoding.specs.DeclaredProcedures.{ExportsOnce}
 use Rattle.law_encoding.proofs.DistinctExports.{tables_once}
 use Rattle.m2c.specs.Modules.{IsTyped, AreTyped}
-use Rattle.m2c.specs.Build.{modules}
+use Rattle.build_results.specs.Texts.{modules}
 use Rattle.m2c.proofs.Unrefused.{is_below}
 
 -- ---- lists

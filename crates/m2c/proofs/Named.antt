@@ -35,7 +35,9 @@ use Rattle.build_jobs.specs.declared.reading.Read.TheVariants as read
 use Rattle.build_jobs.specs.Reading.{AreRead}
 use Rattle.build_jobs.proofs.Named.{Begins, IsWord, name_word, run_bound, run_byte}
 use Rattle.m2c.specs.Names.{IsName}
-use Rattle.m2c.specs.Build.{modules, trees_of, refused_by, start_modules, AreTrees, HaveGraph}
+use Rattle.build_results.specs.Texts.{modules, trees_of, AreTrees}
+use Rattle.build_results.specs.Results.{refused_by, start_modules}
+use Rattle.m2c.specs.Build.{HaveGraph}
 use Rattle.m2c.specs.Modules.{AreTyped}
 use Rattle.m2c.proofs.Programs.{distinct_all}
 use Rattle.m2c.proofs.Alike.{one_program}

@@ -42,9 +42,10 @@ use Rattle.build_jobs.specs.Own.{own_table}
 use Rattle.build_jobs.specs.Compiling.{is_sound, tables_of, of_fit, of_checked, of_contents, typed_body, compilation_of}
 use Rattle.build_jobs.specs.Jobs.{compile_in_place}
 use Rattle.law_programs.specs.FormedGraphs.{IsFit}
-use Rattle.m2c.specs.Modules.{module_in, modules_at, IsTyped, AreTyped}
-use Rattle.m2c.specs.Build.{modules, refused_by, result_at}
-use Rattle.m2c.proofs.EachOnce.{all_within, file_job, job_of}
+use Rattle.build_results.specs.Results.{module_in, modules_at, refused_by, result_at}
+use Rattle.m2c.specs.Modules.{IsTyped, AreTyped}
+use Rattle.build_results.specs.Texts.{modules}
+use Rattle.build_results.proofs.EachOnce.{all_within, file_job, job_of}
 use Rattle.m2c.proofs.Unrefused.{IsUnrefused, compiled_is, needed, one, result_is, all_sound, none_refused}
 
 -- ---- a typed body has the name of its module

@@ -14,8 +14,8 @@ use Rattle.std.proofs.lemmas.List.{get_or-map as mapped_at, length-map}
 use Rattle.std.proofs.lemmas.List.Sorted.{list_any-IsPermutation}
 use Rattle.m2_tree.specs.declared.refusal.Refusal.{Refusal}
 use Rattle.law_graph.proofs.Sorting.{by_key, one_stable_sort}
-use Rattle.m2c.specs.Order.{AreInOrder}
-use Rattle.m2c.specs.Build.{Reported, report_of, AreReported}
+use Rattle.build_results.specs.Order.{AreInOrder}
+use Rattle.build_results.specs.Reported.{Reported, report_of, AreReported}
 
 -- the file of the first is less
 abbrev pub ranks : Reported → Reported → Bool

@@ -31,7 +31,7 @@ use Rattle.build_jobs.specs.Own.{own_table, tables_behind}
 use Rattle.build_jobs.specs.Compiling.{is_sound, table_in, tables_of, of_definition, of_fit, of_checked, of_contents, typed_body, compilation_of}
 use Rattle.build_jobs.specs.Jobs.{compile_in_place, compile_at}
 use Rattle.build_jobs.specs.Jobs.{needed_of}
-use Rattle.m2c.specs.Build.{modules}
+use Rattle.build_results.specs.Texts.{modules}
 use Rattle.m2c.specs.Ruled.{IsRuledBy, IsRuled, AreRuled}
 use Rattle.m2c.proofs.Unrefused.{is_below, many}
 

@@ -8,7 +8,8 @@ use Rattle.build_jobs.specs.declared.reading.Read.{Read}
 use Rattle.build_jobs.specs.declared.reading.Read.TheVariants.{Parsed, Refused}
 use Rattle.build_jobs.specs.Reading.{AreRead, AreSame}
 use Rattle.build_jobs.proofs.Once.{one_read}
-use Rattle.m2c.specs.Build.{reported_at, refused_in, refused_of, tree_in, trees_of, each_two, AreTrees}
+use Rattle.build_results.specs.Reported.{reported_at}
+use Rattle.build_results.specs.Texts.{refused_in, refused_of, tree_in, trees_of, each_two, AreTrees}
 
 -- ---- texts
 

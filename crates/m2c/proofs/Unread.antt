@@ -9,8 +9,9 @@ use Rattle.build_jobs.specs.declared.reading.Read.TheVariants.{Parsed, Refused}
 use Rattle.build_jobs.specs.Reading.{AreRead}
 use Rattle.law_graph.proofs.Sorting.{by_key}
 use Rattle.law_graph.proofs.Inserting.{sort}
-use Rattle.m2c.specs.Order.{is_before, AreInOrder}
-use Rattle.m2c.specs.Build.{Reported, report_of, refused_in, refused_of, trees_of, AreTrees, AreUnread}
+use Rattle.build_results.specs.Order.{is_before, AreInOrder}
+use Rattle.build_results.specs.Reported.{Reported, report_of}
+use Rattle.build_results.specs.Texts.{refused_in, refused_of, trees_of, AreTrees, AreUnread}
 use Rattle.m2c.specs.Readings.{TreesOrRefusals}
 use Rattle.m2c.proofs.Readings.{files_are_read}
 

@@ -26,8 +26,9 @@ use Rattle.std.proofs.lemmas.List.{length-map}
 use Rattle.law_graph.proofs.Lists.{some_at}
 use Rattle.typed_tree.specs.declared.typed_module.TypedModule.{TypedModule}
 use Rattle.build_jobs.specs.Jobs.{compile_in_place, compile_at}
-use Rattle.m2c.specs.Build.{refusal_in, refused_from, refused_by, result_at, modules}
-use Rattle.m2c.proofs.EachOnce.{job_of}
+use Rattle.build_results.specs.Results.{refusal_in, refused_from, refused_by, result_at}
+use Rattle.build_results.specs.Texts.{modules}
+use Rattle.build_results.proofs.EachOnce.{job_of}
 
 -- ---- one module
 

@@ -12,7 +12,7 @@ use Rattle.def_scheme.specs.Modules.{typed_module}
 use Rattle.law_well_formed.specs.Formed.{Holds, fine, broken}
 use Rattle.law_programs.proofs.ValidPrograms.{programs_valid}
 use Rattle.m2c.specs.Modules.{IsTyped, AreTyped}
-use Rattle.m2c.specs.Build.{modules}
+use Rattle.build_results.specs.Texts.{modules}
 
 abbrev Valid : TypedModule → Type 0
 Valid t = IsValid (typed_module t)

@@ -1,7 +1,6 @@
 -- What the build of files answers.
-use Rattle.std.specs.Prelude.{◌≡◌, ◌≢◌, ◌⊎◌, ℕ, ◌+◌, ◌*◌, ◌<◌, ◌≤◌, Bool, true, false, if◌then◌else◌, List, [], ◌∷◌, ◌++◌, map, Option, Some, None, Ok, String, All}
+use Rattle.std.specs.Prelude.{◌≡◌, ◌≢◌, ◌⊎◌, ℕ, ◌+◌, ◌*◌, ◌<◌, ◌≤◌, Bool, true, false, if◌then◌else◌, List, [], ◌∷◌, map, Ok, String, All}
 use Rattle.std.specs.String.{string_bytes}
-use Rattle.std.specs.Arc.{arc_value}
 use Rattle.std.specs.Global.{Global, Vec}
 use Rattle.m2_rule.specs.RuleNumber.{number_of}
 use Rattle.m2_rule.specs.declared.rule.Rule.TheVariants as rule
@@ -30,103 +29,13 @@ use Rattle.build_jobs.specs.declared.file.SourceFile.{SourceFile}
 use Rattle.m2c.specs.declared.files.Outcome.{Outcome}
 use Rattle.m2c.specs.declared.files.Outcome.TheVariants as outcome
 use Rattle.build_jobs.specs.declared.reading.Read.{Read}
-use Rattle.build_jobs.specs.declared.reading.Read.TheVariants as read
-use Rattle.build_jobs.specs.declared.outcome.Compiled.{Compiled}
-use Rattle.build_jobs.specs.declared.outcome.Compiled.TheVariants as jobs
 use Rattle.m2c.specs.Ruled.{AreRuled}
-use Rattle.m2c.specs.Order.{AreInOrder}
 use Rattle.build_jobs.specs.Reading.{AreRead}
-use Rattle.build_jobs.specs.Jobs.{all_compiled}
-use Rattle.m2c.specs.Modules.{result_of, modules_at, AreTyped}
+use Rattle.build_results.specs.Reported.{report_of, reported_at, AreReported}
+use Rattle.build_results.specs.Texts.{AreTrees, AreUnread, modules}
+use Rattle.build_results.specs.Results.{refused_by}
+use Rattle.m2c.specs.Modules.{AreTyped}
 use Rattle.layout_storage.specs.Sizes.{page_size}
-
--- ---- what is reported
-
--- a refusal without where it lies in memory
-pub record Reported : Type 0 where
-  pub file : List ℕ
-  pub line : ℕ
-  pub column : ℕ
-  pub number : ℕ
-
-abbrev pub report_of : Refusal → Reported
-report_of r =
-    record { file = string_bytes r.file; line = r.pos.line; column = r.pos.col; number = r.number }
-
-abbrev pub reported_at : (file : List ℕ) (line column number : ℕ) → Reported
-reported_at file line column number =
-    record { file = file; line = line; column = column; number = number }
-
--- the refusals are these, in order of the names of their files, and as they are found if these are
--- equal
-abbrev pub AreReported : List Reported → List Refusal → Type 0
-AreReported all refusals =
-    (found : List Refusal) × (map report_of found ≡ all) × AreInOrder found refusals
-
--- ---- texts
-
--- the rule that a text breaks
-abbrev pub refused_in : (file : List ℕ) → Read → List Reported
-refused_in file (read.Refused pos number) = reported_at file pos.line pos.col number ∷ []
-refused_in file (read.Parsed tree) = []
-
--- what each element of one list and that in the same place of another give
-abbrev pub each_two : {A B C : Type 0} → (A → B → List C) → List A → List B → List C
-each_two f [] ys = []
-each_two f (x ∷ xs) [] = []
-each_two f (x ∷ xs) (y ∷ ys) = f x y ++ each_two f xs ys
-
-abbrev pub refused_of : List SourceFile → List Read → List Reported
-refused_of files reads = each_two (λ f r. refused_in (string_bytes f.name) r) files reads
-
--- the tree of a text, with the file's name
-abbrev pub tree_in : (file : List ℕ) → Read → List (List ℕ × Module)
-tree_in file (read.Refused pos number) = []
-tree_in file (read.Parsed tree) = (file, arc_value tree) ∷ []
-
-abbrev pub trees_of : List SourceFile → List Read → List (List ℕ × Module)
-trees_of files reads = each_two (λ f r. tree_in (string_bytes f.name) r) files reads
-
--- each text has a tree, and these are the trees
-pub record AreTrees (files : List SourceFile) (trees : List (List ℕ × Module)) : Type 0 where
-  pub reads : List Read
-  pub are_read : AreRead files reads
-  pub fine : refused_of files reads ≡ []
-  pub all : trees ≡ trees_of files reads
-
-abbrev pub modules : List (List ℕ × Module) → List Module
-modules trees = map (λ f. f.1) trees
-
--- ---- jobs
-
--- the rule that a module breaks
-abbrev pub refusal_in : (file : List ℕ) → Option Compiled → List Reported
-refusal_in file (Some (jobs.Refused f)) = reported_at file f.pos.line f.pos.col f.number ∷ []
-refusal_in file (Some (jobs.Defined t)) = []
-refusal_in file (Some (jobs.Built b)) = []
-refusal_in file (Some jobs.Blocked) = []
-refusal_in file None = []
-
--- the rules that the modules of these files break, of which the first has this place
-abbrev pub refused_from : (result : ℕ → Option Compiled) → ℕ → List (List ℕ × Module)
-    → List Reported
-refused_from result n [] = []
-refused_from result n (f ∷ fs) = refusal_in f.0 (result n) ++ refused_from result (n + 1) fs
-
--- what became of the module of a file
-abbrev pub result_at : List (List ℕ × Module) → (files : List ℕ) → (jobs : List (List ℕ))
-    → (file : ℕ) → Option Compiled
-result_at trees files all_jobs = result_of files (all_compiled (modules trees) files all_jobs)
-
--- the rules that modules break, in the order in which the files were given
-abbrev pub refused_by : List (List ℕ × Module) → (files : List ℕ) → (jobs : List (List ℕ))
-    → List Reported
-refused_by trees files all_jobs = refused_from (result_at trees files all_jobs) 0 trees
-
--- the modules that start
-abbrev pub start_modules : List (List ℕ × Module) → (files : List ℕ) → (jobs : List (List ℕ))
-    → (starts : List ℕ) → List ModuleBytes
-start_modules trees files all_jobs starts = modules_at (result_at trees files all_jobs) starts
 
 -- ---- modules
 
@@ -160,13 +69,6 @@ pub record IsCode (p : Modules) (pages : ℕ) (link : List ℕ) (built : List (L
       → others ≡ typed_link p pages ∷ map typed_module p
 
 -- ---- the answer
-
--- texts break rules of tokens or of the grammar, and are reported
-pub record AreUnread (files : List SourceFile) (refusals : List Refusal) : Type 0 where
-  pub reads : List Read
-  pub are_read : AreRead files reads
-  pub some : refused_of files reads ≢ []
-  pub reported : AreReported (refused_of files reads) refusals
 
 -- each text has a tree, and imports break rules
 abbrev pub AreUngraphed : List SourceFile → Vec Refusal → Type 0

@@ -7,7 +7,9 @@ use Rattle.def_meaning.specs.Environment.{Modules}
 use Rattle.def_scheme.specs.Modules.{max_pages, typed_module, typed_link}
 use Rattle.build_jobs.specs.declared.file.SourceFile.{SourceFile}
 use Rattle.m2c.specs.Modules.{AreTyped}
-use Rattle.m2c.specs.Build.{modules, refused_by, data_and_stack, HaveGraph}
+use Rattle.build_results.specs.Texts.{modules}
+use Rattle.build_results.specs.Results.{refused_by}
+use Rattle.m2c.specs.Build.{data_and_stack, HaveGraph}
 use Rattle.layout_storage.specs.Sizes.{page_size}
 
 -- No module of the files breaks a rule, and the data of the program fits into the pages. Then the

@@ -1,31 +1,11 @@
 -- The program that the results of the jobs are.
-use Rattle.std.specs.Prelude.{◌≡◌, ℕ, List, [], ◌∷◌, Option, Some, None, Ok, slice_get}
-use Rattle.std.specs.List.{flat_map}
-use Rattle.std.specs.Option.{option_and_then}
+use Rattle.std.specs.Prelude.{◌≡◌, ℕ, List, [], ◌∷◌, Some, Ok, slice_get}
 use Rattle.m2_tree.specs.declared.decl.Module.{Module}
 use Rattle.m2_graph.specs.Jobs.{number_of}
 use Rattle.typed_tree.specs.declared.typed_module.TypedModule.{TypedModule}
 use Rattle.def_meaning.specs.Environment.{Modules}
-use Rattle.m2_emit.specs.declared.emitted.ModuleBytes.{ModuleBytes}
-use Rattle.build_jobs.specs.declared.outcome.Compiled.{Compiled}
-use Rattle.build_jobs.specs.declared.outcome.Compiled.TheVariants.{Defined, Built, Refused, Blocked}
 use Rattle.build_jobs.specs.Compiling.{tables_of, typed_body}
 use Rattle.build_jobs.specs.Jobs.{needed_of}
-
--- what became of the module of a file, if the file of each job is given by its place
-abbrev pub result_of : (files : List ℕ) → List Compiled → (file : ℕ) → Option Compiled
-result_of files results file = option_and_then (slice_get results) (number_of files file)
-
-abbrev pub module_in : Option Compiled → List ModuleBytes
-module_in (Some (Built b)) = b ∷ []
-module_in (Some (Defined t)) = []
-module_in (Some (Refused f)) = []
-module_in (Some Blocked) = []
-module_in None = []
-
--- the modules of the bodies in these files
-abbrev pub modules_at : (result : ℕ → Option Compiled) → (starts : List ℕ) → List ModuleBytes
-modules_at result starts = flat_map (λ s. module_in (result s)) starts
 
 -- the module of a file breaks no rule, and this is its body
 pub record IsTyped (trees : List Module) (files : List ℕ) (jobs : List (List ℕ)) (file : ℕ)

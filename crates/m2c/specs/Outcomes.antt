@@ -10,7 +10,9 @@ use Rattle.build_jobs.specs.declared.reading.Read.{Read}
 use Rattle.build_jobs.specs.Reading.{AreRead}
 use Rattle.m2c.specs.Modules.{AreTyped}
 use Rattle.m2c.specs.declared.files.Outcome.{Outcome}
-use Rattle.m2c.specs.Build.{modules, refused_of, refused_by, data_and_stack, AreTrees, HaveGraph, IsProgram, IsBuilt, AreAlike}
+use Rattle.build_results.specs.Texts.{modules, refused_of, AreTrees}
+use Rattle.build_results.specs.Results.{refused_by}
+use Rattle.m2c.specs.Build.{data_and_stack, HaveGraph, IsProgram, IsBuilt, AreAlike}
 use Rattle.layout_storage.specs.Sizes.{page_size}
 
 -- Texts break rules of tokens or of the grammar.

@@ -6,13 +6,9 @@ mod ending;
 mod files;
 mod laws;
 mod modules;
-mod order;
 mod outcome;
-mod refusals;
-mod results;
 mod say;
 mod sources;
-mod texts;
 
 pub use build_jobs::{MAX_PAGES, MAX_WORKERS, Options, SourceFile};
 pub use compiling::compile;

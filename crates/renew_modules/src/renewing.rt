@@ -53,6 +53,15 @@ impl Needed {
         Ok(())
     }
 
+    /// The trees under the names of their files.
+    fn named(&self, alloc: Global) -> Result<Vec<(&str, &Module)>, AllocError> {
+        let mut all = Vec::new(alloc);
+        for (name, tree) in self.names.iter().zip(&self.trees) {
+            all.push((name.as_str(), &**tree))?;
+        }
+        Ok(all)
+    }
+
     /// Adds the definition of this number.
     fn add_definition(
         &mut self,
@@ -125,7 +134,8 @@ fn part_of(
 
 /// What became of a body whose text has this checksum. None if something is refused.
 fn compiled_of(alloc: Global, needed: &Needed, text: &str) -> Result<Option<Compiled>, AllocError> {
-    match compile_trees(alloc, &needed.names, &needed.trees)? {
+    let trees = needed.named(alloc)?;
+    match compile_trees(alloc, &trees)? {
         Made::Built {
             module,
             is_program,

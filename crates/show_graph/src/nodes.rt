@@ -1,10 +1,8 @@
 //! The modules of a program.
 
-use build_jobs::SourceFile;
 use list_imports::add_imports;
 use m2_tree::{Contents, Module};
 use std::alloc::{AllocError, Global};
-use std::sync::Arc;
 
 /// One of the two texts of a module.
 #[derive(Drop)]
@@ -78,16 +76,15 @@ fn add_text<'a>(
     Ok(())
 }
 
-/// The modules of these files with these trees, in the order of the files. The implementation of a module stands right behind its
+/// The modules with these trees, each under the name of its file, in this order. The implementation of a module stands right behind its
 /// definition. The only error is that memory ran out.
 pub fn nodes_of<'a>(
     alloc: Global,
-    files: &'a [SourceFile],
-    trees: &[Arc<Module>],
+    trees: &[(&'a str, &Module)],
 ) -> Result<Vec<Node<'a>>, AllocError> {
     let mut nodes = Vec::new(alloc);
-    for (file, tree) in files.iter().zip(trees) {
-        add_text(alloc, &mut nodes, file.name.as_str(), tree)?;
+    for (file, tree) in trees {
+        add_text(alloc, &mut nodes, file, tree)?;
     }
     Ok(nodes)
 }

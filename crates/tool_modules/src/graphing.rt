@@ -1,8 +1,9 @@
 //! `m2 graph`: the imports of a program.
 
 use anyhow::Result;
+use build_jobs::read_in_turn;
+use build_results::{refused_of, trees_of};
 use command_words::Exit;
-use compile_module::{Readings, readings_of};
 use find_files::{Program, find_program, folder_of};
 use show_graph::{Node, Steps, data, make_file, ninja_file, nodes_of, picture};
 use std::rt::Files;
@@ -92,10 +93,13 @@ where
     R: Files + Print + Eprint + AllocGlobal,
 {
     let program = find_program(rt, setting, path)?;
-    let Readings { trees, refusals } = readings_of(rt.alloc(), &program.files)?;
+    let alloc = rt.alloc();
+    let reads = read_in_turn(alloc, &program.files)?;
+    let refusals = refused_of(alloc, &program.files, &reads)?;
     if !refusals.is_empty() {
         return Ok(show(rt, setting.style, &program, &refusals, &[])?);
     }
-    let nodes = nodes_of(rt.alloc(), &program.files, &trees)?;
+    let trees = trees_of(alloc, &program.files, &reads)?;
+    let nodes = nodes_of(alloc, &trees)?;
     Ok(show_nodes(rt, setting, &program, &nodes, drawn, out)?)
 }

@@ -6,7 +6,8 @@ use Rattle.m2_emit.specs.declared.emitted.ModuleBytes.{ModuleBytes}
 use Rattle.emit_buffer.specs.Cut.{cut_module}
 use Rattle.m2_emit.specs.Emitted.{parts, code_bytes}
 use Rattle.build_jobs.specs.Borrowed.{borrow_trees}
-use Rattle.m2c.specs.Build.{name_bytes, named_bytes, start_modules}
+use Rattle.m2c.specs.Build.{name_bytes, named_bytes}
+use Rattle.build_results.specs.Results.{start_modules}
 use Rattle.m2c.proofs.Graphs.{is_program}
 use Rattle.m2c.proofs.Borrowed.{copies_borrowed}
 use Rattle.m2c.proofs.Named.{borrowed_named, started_named}

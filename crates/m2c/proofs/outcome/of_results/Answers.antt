@@ -5,10 +5,11 @@ use Rattle.m2_tree.specs.declared.refusal.Refusal.{Refusal}
 use Rattle.std.specs.Borrow.{Bor}
 use Rattle.m2_emit.specs.declared.emitted.ModuleBytes.{ModuleBytes}
 use Rattle.build_jobs.specs.Borrowed.{borrow_trees}
-use Rattle.m2c.specs.Build.{report_of, refused_by}
+use Rattle.build_results.specs.Reported.{report_of}
+use Rattle.build_results.specs.Results.{refused_by}
 use Rattle.m2c.proofs.Ruled.{all_ruled}
-use Rattle.m2c.proofs.Two.{none_reported}
-use Rattle.m2c.proofs.Graphs.{refusals_are, started_are}
+use Rattle.build_results.proofs.Two.{none_reported}
+use Rattle.build_results.proofs.Placed.{refusals_are, started_are}
 use Rattle.m2c.proofs.outcome.of_results.Goals as goal
 
 abbrev items_of : Vec ℕ → List ℕ

@@ -4,7 +4,7 @@ use Rattle.std.specs.Borrow.{Bor}
 use Rattle.std.proofs.lemmas.List.{length-map}
 use Rattle.m2_tree.specs.declared.decl.Module.{Module}
 use Rattle.build_jobs.specs.Borrowed.{borrow_trees}
-use Rattle.m2c.proofs.EachOnce.{all_within}
+use Rattle.build_results.proofs.EachOnce.{all_within}
 use Rattle.m2c.proofs.outcome.places_in.Goals as goal
 
 abbrev pair : Bor (List ℕ) × Bor Module → List ℕ × Module

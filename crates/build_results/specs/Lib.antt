@@ -1,0 +1,4 @@
+pub mod Order
+pub mod Reported
+pub mod Texts
+pub mod Results
