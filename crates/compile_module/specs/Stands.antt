@@ -1,41 +1,14 @@
 -- What stands for the bodies of a program that are not there.
-use Rattle.std.specs.Prelude.{ℕ, Bool, not, ◌&&◌, ◌||◌, cond, List, [], ◌∷◌, ◌++◌, map, None, codes}
+use Rattle.std.specs.Prelude.{ℕ, Bool, not, ◌&&◌, ◌||◌, cond, List, [], ◌∷◌, ◌++◌, map, codes}
 use Rattle.std.specs.List.{filter, flat_map, list_any}
 use Rattle.std.specs.String.{string_bytes}
-use Rattle.m2_tree.specs.declared.pos.Pos.{Pos}
-use Rattle.m2_tree.specs.declared.name.Ident.{Ident}
 use Rattle.m2_tree.specs.declared.refusal.Refusal.{Refusal}
-use Rattle.m2_tree.specs.declared.decl.Block.{Block, roll-Block}
-use Rattle.m2_tree.specs.declared.decl.Contents.TheVariants as contents
-use Rattle.m2_tree.specs.declared.decl.Import.{Import}
 use Rattle.m2_tree.specs.declared.decl.Module.{Module}
 use Rattle.m2_tree.specs.Names.{same_name}
 use Rattle.m2_graph.specs.Imports.{is_definition, is_program}
+use Rattle.empty_modules.specs.Empty.{import_of, empty_body, empty_program}
 
 -- ---- modules
-
--- a name at the begin of a file
-abbrev pub ident_of : List ℕ → Ident
-ident_of name = record { pos = record { line = 1; col = 1 }; name = name }
-
-abbrev pub nothing : Block
-nothing = roll-Block (record { decls = []; body = None })
-
--- the empty body of the module of this name
-abbrev pub empty_body : List ℕ → Module
-empty_body name =
-    record { name = ident_of name; imports = []; contents = contents.Implementation nothing }
-
-abbrev pub import_of : List ℕ → Import
-import_of name = record { from = None; names = ident_of name ∷ [] }
-
--- a program without a name, which imports the module of this name
-abbrev pub program_with : List ℕ → Module
-program_with name = record {
-  name = ident_of [];
-  imports = import_of name ∷ [];
-  contents = contents.Program nothing;
-}
 
 -- Each definition lacks its body, but for that of the body which is the first module.
 abbrev pub lacks_body : (first : Module) → Module → Bool
@@ -43,10 +16,12 @@ lacks_body first m =
     is_definition m && (is_definition first || not (same_name m.name.name first.name.name))
 
 abbrev pub body_for : (first : Module) → Module → List Module
-body_for first m = cond (lacks_body first m) (empty_body m.name.name ∷ []) []
+body_for first m = cond (lacks_body first m) (empty_body m.name.name [] ∷ []) []
 
+-- A program without a name imports the first module, if that is no program.
 abbrev pub program_for : (first : Module) → List Module
-program_for first = cond (is_program first) [] (program_with first.name.name ∷ [])
+program_for first =
+    cond (is_program first) [] (empty_program [] (import_of first.name.name ∷ []) ∷ [])
 
 -- what makes a program of these modules
 abbrev pub stands_for : List Module → List Module

@@ -3,67 +3,15 @@
 ghost use Rattle.std.specs.Prelude.{◌≡◌, ◌++◌, [], IfOk, OnOk, map};
 ghost use Rattle.std.specs.List.{flat_map, list_any};
 ghost use Rattle.build_jobs.specs.Borrowed.{borrow_trees, modules_borrowed};
-ghost use Rattle.compile_module.specs.Stands.{ident_of, nothing, empty_body, import_of, program_with, lacks_body, body_for, program_for, stands_for, with_stands, stand_file, is_told, without_stands};
+ghost use Rattle.compile_module.specs.Stands.{lacks_body, body_for, program_for, stands_for, with_stands, stand_file, is_told, without_stands};
 
-use m2_tree::{Block, Contents, Ident, Import, Module, Name, Pos, Refusal};
+use empty_modules::{empty_body, empty_program, import_of};
+use m2_tree::{Contents, Module, Name, Refusal};
 use std::alloc::{AllocError, Global};
 use tree_parts::Items;
 
 /// How the file of a stand-in is told.
 const FILE: &str = "(what stands for modules that are not there)";
-
-/// A name at the begin of a file.
-fn ident_of(name: Name) -> Ident
-    ensures { result ≡ ident_of name }
-{
-    Ident {
-        pos: Pos { line: 1, col: 1 },
-        name,
-    }
-}
-
-/// A block in which nothing stands.
-fn nothing(alloc: Global) -> Block
-    ensures { result ≡ nothing }
-{
-    Block {
-        decls: Items::new(alloc),
-        body: None,
-    }
-}
-
-/// The empty body of the module of this name.
-fn empty_body(alloc: Global, name: &Name) -> Result<Module, AllocError>
-    ensures { IfOk result (λ m. m ≡ empty_body name.now) }
-{
-    Ok(Module {
-        name: ident_of(name.clone()?),
-        imports: Items::new(alloc),
-        contents: Contents::Implementation(nothing(alloc)),
-    })
-}
-
-/// The import of the module of this name.
-fn import_of(alloc: Global, name: &Name) -> Result<Import, AllocError>
-    ensures { IfOk result (λ i. i ≡ import_of name.now) }
-{
-    let mut names = Items::new(alloc);
-    names.push(ident_of(name.clone()?))?;
-    Ok(Import { from: None, names })
-}
-
-/// A program that imports the module of this name. Its own name is empty, so no module of a text has it.
-fn program_with(alloc: Global, name: &Name) -> Result<Module, AllocError>
-    ensures { IfOk result (λ m. m ≡ program_with name.now) }
-{
-    let mut imports = Items::new(alloc);
-    imports.push(import_of(alloc, name)?)?;
-    Ok(Module {
-        name: ident_of(Name::new(alloc, &[])?),
-        imports,
-        contents: Contents::Program(nothing(alloc)),
-    })
-}
 
 /// Whether a body is wanted for this module: it is a definition, but not that of the body that is there.
 fn lacks_body(first: &Module, tree: &Module) -> bool
@@ -87,19 +35,22 @@ fn add_body(
     ensures { OnOk result (stands.new.items ≡ stands.old.items ++ body_for first.now tree.now) }
 {
     if lacks_body(first, tree) {
-        stands.push(empty_body(alloc, &tree.name.name)?)?;
+        let name = tree.name.name.clone()?;
+        stands.push(empty_body(alloc, name, Items::new(alloc)))?;
     }
     Ok(())
 }
 
-/// Adds a program module, if the first module is none.
+/// Adds a program module that imports the first module, if that is none. It has no name, as no module of a text.
 fn add_program(alloc: Global, first: &Module, stands: &mut Vec<Module>) -> Result<(), AllocError>
     ensures { OnOk result (stands.new.items ≡ stands.old.items ++ program_for first.now) }
 {
     match &first.contents {
         Contents::Program(_) => Ok(()),
         Contents::Definition(_) | Contents::Implementation(_) => {
-            stands.push(program_with(alloc, &first.name.name)?)?;
+            let mut imports = Items::new(alloc);
+            imports.push(import_of(alloc, first.name.name.clone()?)?)?;
+            stands.push(empty_program(alloc, Name::new(alloc, &[])?, imports))?;
             Ok(())
         }
     }

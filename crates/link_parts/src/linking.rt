@@ -1,16 +1,25 @@
 //! How modules are linked.
 
+ghost use Rattle.std.specs.Prelude.{◌≡◌, ◌++◌, IfOk, OnOk, map, min, slice_get};
+ghost use Rattle.std.specs.List.{flat_map};
+ghost use Rattle.std.specs.Option.{option_copied, option_map};
+ghost use Rattle.m2_graph.specs.Files.{number_files};
+ghost use Rattle.m2_graph.specs.Graph.{IsGraph};
+ghost use Rattle.def_scheme.specs.Modules.{link_of, max_pages};
+ghost use Rattle.emit_buffer.specs.Cut.{cut_module};
+ghost use Rattle.m2_emit.specs.Emitted.{code_bytes, link_part, parts};
+ghost use Rattle.link_parts.specs.Stands.{stand_of, trees_of};
+ghost use Rattle.link_parts.specs.Linked.{sizes_of, sizes_in, IsLinked};
+
 use crate::fault::LinkFault;
-use crate::part::{Interface, Part, Sizes};
-use crate::stands::stands_for;
-use build_jobs::{MAX_PAGES, Read, SourceFile, read_text};
+use crate::part::{Interface, Part};
+use crate::stands::{Stand, name_of, stands_for, trees_of};
+use build_jobs::MAX_PAGES;
 use indexmap::IndexMap;
 use m2_emit::{ModuleBytes, emit_link};
 use m2_graph::{Graph, GraphError};
-use m2_tree::{Module, Name};
 use std::alloc::{AllocError, Global};
-use std::sync::Arc;
-use tree_parts::Items;
+use tree_parts::{Items, at};
 
 /// The least stack, in bytes, that a program has.
 const LEAST_STACK: u64 = 4096;
@@ -77,29 +86,14 @@ fn check_parts(alloc: Global, parts: &[Part]) -> Result<(), LinkFault> {
     Ok(())
 }
 
-/// The trees of texts that have one.
-fn trees_of(alloc: Global, files: &[SourceFile]) -> Result<Vec<Arc<Module>>, LinkFault> {
-    let mut trees = Vec::new(alloc);
-    for file in files {
-        match read_text(alloc, &file.bytes)? {
-            Read::Parsed(tree) => trees.push(tree)?,
-            Read::Refused(_, number) => return Err(LinkFault::Imports(number)),
-        }
-    }
-    Ok(trees)
-}
-
-/// The graph of files with these trees.
-fn graph_of<'a>(
-    alloc: Global,
-    files: &'a [SourceFile],
-    trees: &'a [Arc<Module>],
-) -> Result<Graph, LinkFault> {
-    let mut named: Vec<(&str, &Module)> = Vec::new(alloc);
-    for (file, tree) in files.iter().zip(trees) {
-        named.push((file.name.as_str(), &**tree))?;
-    }
-    match Graph::of(alloc, &named) {
+/// The graph of these modules.
+fn graph_of(alloc: Global, stands: &[Stand<'_>]) -> Result<Graph, LinkFault>
+    ensures { IfOk result (λ g.
+        IsGraph (number_files 0 (trees_of (map stand_of stands.now))) g.files.items
+        (map (λ j. j.items) g.jobs.items) g.starts.items) }
+{
+    let trees = trees_of(alloc, stands)?;
+    match Graph::of(alloc, &trees) {
         Ok(graph) => Ok(graph),
         Err(GraphError::Refused(refusals)) => {
             let number = refusals.first().map_or(0, |it| it.number);
@@ -109,58 +103,51 @@ fn graph_of<'a>(
     }
 }
 
-/// What link has to know of a module of this name, as a build has it.
-fn module_of(alloc: Global, name: &Name, sizes: Sizes) -> Result<ModuleBytes, AllocError> {
+/// What link has to know of a module, as a build has it.
+fn module_of(alloc: Global, part: &Part) -> Result<ModuleBytes, LinkFault>
+    ensures { IfOk result (λ m. link_part m ≡ sizes_of part.now) }
+{
     Ok(ModuleBytes {
-        name: name.clone()?,
+        name: name_of(alloc, &part.name)?,
         bytes: Items::new(alloc),
-        variables: sizes.variables,
-        texts: sizes.texts,
-        slots: sizes.slots,
+        variables: part.sizes.variables,
+        texts: part.sizes.texts,
+        slots: part.sizes.slots,
     })
 }
 
-/// Modules by the names of their files.
-fn places_of<'a>(
-    alloc: Global,
-    parts: &'a [Part],
-) -> Result<IndexMap<&'a [u8], usize>, AllocError> {
-    let mut places = IndexMap::new(alloc);
-    for (number, part) in parts.iter().enumerate() {
-        places.insert(part.name.as_bytes(), number)?;
-    }
-    Ok(places)
-}
-
-/// Adds the module of this tree.
+/// Adds a module that starts.
 fn add_module(
     alloc: Global,
-    parts: &[Part],
-    places: &IndexMap<&[u8], usize>,
-    tree: &Module,
+    stand: Option<&Stand<'_>>,
     modules: &mut Vec<ModuleBytes>,
-) -> Result<(), AllocError> {
-    let name = &tree.name.name;
-    let place = places.get(name.as_bytes()).copied();
-    if let Some(part) = place.and_then(|it| parts.get(it)) {
-        modules.push(module_of(alloc, name, part.sizes)?)?;
+) -> Result<(), LinkFault>
+    ensures { OnOk result
+        (parts modules.new.items
+        ≡ parts modules.old.items ++ sizes_in (option_map stand_of (option_copied stand.entry))) }
+{
+    match stand {
+        None => Ok(()),
+        Some(stand) => {
+            modules.push(module_of(alloc, stand.part)?)?;
+            Ok(())
+        }
     }
-    Ok(())
 }
 
-/// The modules of the files that start, in order.
+/// The modules that start, in order.
 fn modules_of(
     alloc: Global,
-    parts: &[Part],
-    trees: &[Arc<Module>],
+    stands: &[Stand<'_>],
     starts: &[usize],
-) -> Result<Vec<ModuleBytes>, AllocError> {
-    let places = places_of(alloc, parts)?;
+) -> Result<Vec<ModuleBytes>, LinkFault>
+    ensures { IfOk result (λ modules.
+        parts modules.items
+        ≡ flat_map (λ n. sizes_in (slice_get (map stand_of stands.now) n)) starts.now) }
+{
     let mut modules = Vec::new(alloc);
     for start in starts {
-        if let Some(tree) = trees.get(*start) {
-            add_module(alloc, parts, &places, tree, &mut modules)?;
-        }
+        add_module(alloc, at(stands, *start), &mut modules)?;
     }
     Ok(modules)
 }
@@ -176,7 +163,10 @@ fn pages_for(modules: &[ModuleBytes]) -> u64 {
 }
 
 /// The module link for these modules.
-fn linked(alloc: Global, modules: &[ModuleBytes], pages: u32) -> Result<Vec<u8>, AllocError> {
+fn link_of(alloc: Global, modules: &[ModuleBytes], pages: u32) -> Result<Vec<u8>, AllocError>
+    ensures { IfOk result (λ bytes.
+        bytes.items ≡ code_bytes (cut_module (link_of (parts modules.now) (min pages max_pages)))) }
+{
     let mut all = Vec::new(alloc);
     for module in modules {
         all.push(module)?;
@@ -185,20 +175,22 @@ fn linked(alloc: Global, modules: &[ModuleBytes], pages: u32) -> Result<Vec<u8>,
 }
 
 /// The module link of a program: the first of these modules, and those that it imports, directly and through others. It has so many
-/// pages of 65536 bytes of memory, from 1 to 1024, and runs the bodies in the order in which a build has them.
+/// pages of 65536 bytes of memory, at most 1024, and runs the bodies in the order in which a build has them.
 ///
 /// `NoProgram` if the first is no program module, `Program` if another is one, `Interfaces` if two modules were compiled with
 /// different definitions of one module, `Imports` if the imports break a rule, and `Pages` if the variables and texts of all modules,
 /// and 4096 bytes, need more pages: the first of these in this order. `NoMemory` if memory ran out.
-pub fn link_modules(alloc: Global, parts: &[Part], pages: u32) -> Result<Vec<u8>, LinkFault> {
+pub fn link_modules(alloc: Global, parts: &[Part], pages: u32) -> Result<Vec<u8>, LinkFault>
+    ensures { IfOk result (λ bytes. IsLinked parts.now (min pages max_pages) bytes.items) }
+{
     check_parts(alloc, parts)?;
-    let files = stands_for(alloc, parts)?;
-    let trees = trees_of(alloc, &files)?;
-    let graph = graph_of(alloc, &files, &trees)?;
-    let modules = modules_of(alloc, parts, &trees, graph.start_order())?;
+    let stands = stands_for(alloc, parts)?;
+    let graph = graph_of(alloc, &stands)?;
+    let modules = modules_of(alloc, &stands, graph.start_order())?;
     let needed = pages_for(&modules);
     if needed > u64::from(pages) {
         return Err(LinkFault::Pages(needed));
     }
-    Ok(linked(alloc, &modules, pages)?)
+    let link = link_of(alloc, &modules, pages)?;
+    Ok(link)
 }

@@ -1,56 +1,103 @@
-//! The imports of modules, as a program of empty bodies has them.
+//! The imports of modules, as a program of empty modules has them.
 
+ghost use Rattle.std.specs.Prelude.{◌≡◌, ◌++◌, IfOk, OnOk, map};
+ghost use Rattle.std.specs.String.{string_bytes};
+ghost use Rattle.empty_modules.specs.Empty.{import_of};
+ghost use Rattle.build_jobs.specs.Borrowed.{borrow_trees};
+ghost use Rattle.link_parts.specs.Stands.{body_of, stands_of, stand_of, stands_for, trees_of};
+
+use crate::fault::LinkFault;
 use crate::part::Part;
-use build_jobs::SourceFile;
+use empty_modules::{empty_body, empty_definition, empty_program, import_of};
+use m2_tree::{Import, MAX_NAME, Module, Name};
 use std::alloc::{AllocError, Global};
-use std::fmt::Write;
+use tree_parts::Items;
 
-/// Adds a file of this text.
-fn add_file(
+/// The number of the rule that a name has at most 64 letters and digits.
+const LONG_NAME: u32 = 7;
+
+/// A module that stands for the definition or the body of one that was compiled.
+#[derive(Drop)]
+pub struct Stand<'a> {
+    pub part: &'a Part,
+    pub tree: Module,
+}
+
+/// The name of a module. One that is too long is refused, as in a text.
+pub fn name_of(alloc: Global, name: &str) -> Result<Name, LinkFault>
+    ensures { IfOk result (λ n. n ≡ name.now) }
+{
+    let bytes = name.as_bytes();
+    if bytes.len() > MAX_NAME {
+        return Err(LinkFault::Imports(LONG_NAME));
+    }
+    Ok(Name::new(alloc, bytes)?)
+}
+
+/// The imports of the modules of these names.
+fn imports_of(alloc: Global, names: &[String]) -> Result<Items<Import>, LinkFault>
+    ensures { IfOk result (λ is. is ≡ map (λ n. import_of (string_bytes n)) names.now) }
+{
+    let mut imports = Items::new(alloc);
+    for name in names {
+        imports.push(import_of(alloc, name_of(alloc, name)?)?)?;
+    }
+    Ok(imports)
+}
+
+/// The body, which imports what the definition and the body of the module import.
+fn body_of(alloc: Global, part: &Part) -> Result<Module, LinkFault>
+    ensures { IfOk result (λ m. m ≡ body_of part.now) }
+{
+    let imports = imports_of(alloc, &part.imports)?;
+    let name = name_of(alloc, &part.name)?;
+    if part.is_program {
+        return Ok(empty_program(alloc, name, imports));
+    }
+    Ok(empty_body(alloc, name, imports))
+}
+
+/// Adds the definition of a module, unless it is a program, and its body.
+fn add_stands<'a>(
     alloc: Global,
-    name: &str,
-    ending: &str,
-    text: &str,
-    files: &mut Vec<SourceFile>,
-) -> Result<(), AllocError> {
-    files.push(SourceFile {
-        name: format!(in alloc; "{name}{ending}")?,
-        bytes: Vec::from_slice(alloc, text.as_bytes())?,
-    })?;
+    part: &'a Part,
+    stands: &mut Vec<Stand<'a>>,
+) -> Result<(), LinkFault>
+    ensures { OnOk result
+        (map stand_of stands.new.items
+        ≡ map stand_of stands.old.items ++ map (λ m. (part.now, m)) (stands_of part.now)) }
+{
+    if !part.is_program {
+        let tree = empty_definition(alloc, name_of(alloc, &part.name)?);
+        stands.push(Stand { part, tree })?;
+    }
+    let tree = body_of(alloc, part)?;
+    stands.push(Stand { part, tree })?;
     Ok(())
 }
 
-/// The text of an empty body with the imports of a module.
-fn body_text(alloc: Global, part: &Part) -> Result<String, AllocError> {
-    let mut text = String::new(alloc);
-    if !part.is_program {
-        text.push_str("IMPLEMENTATION ")?;
-    }
-    write!(text, "MODULE {};", part.name)?;
-    for import in &part.imports {
-        write!(text, " IMPORT {import};")?;
-    }
-    write!(text, " END {}.", part.name)?;
-    Ok(text)
-}
-
-/// Adds the files of a module. Its definition imports nothing: its imports stand in front of those of its body.
-fn add_part(alloc: Global, part: &Part, files: &mut Vec<SourceFile>) -> Result<(), AllocError> {
-    let name = part.name.as_str();
-    let text = body_text(alloc, part)?;
-    add_file(alloc, name, ".mod", text.as_str(), files)?;
-    if part.is_program {
-        return Ok(());
-    }
-    let text = format!(in alloc; "DEFINITION MODULE {name}; END {name}.")?;
-    add_file(alloc, name, ".def", text.as_str(), files)
-}
-
-/// A program of empty bodies, which import what these modules import: for each the body, and its definition behind it.
-pub fn stands_for(alloc: Global, parts: &[Part]) -> Result<Vec<SourceFile>, AllocError> {
-    let mut files = Vec::new(alloc);
+/// A program of empty modules, which import what these modules import: for each its definition and its body.
+pub fn stands_for<'a>(alloc: Global, parts: &'a [Part]) -> Result<Vec<Stand<'a>>, LinkFault>
+    ensures { IfOk result (λ stands. map stand_of stands.items ≡ stands_for parts.now) }
+{
+    let mut stands = Vec::new(alloc);
     for part in parts {
-        add_part(alloc, part, &mut files)?;
+        add_stands(alloc, part, &mut stands)?;
     }
-    Ok(files)
+    Ok(stands)
+}
+
+/// Their trees, under the names of the modules.
+pub fn trees_of<'a>(
+    alloc: Global,
+    stands: &'a [Stand<'_>],
+) -> Result<Vec<(&'a str, &'a Module)>, AllocError>
+    ensures { IfOk result (λ all.
+        borrow_trees all.items ≡ trees_of (map stand_of stands.now)) }
+{
+    let mut trees = Vec::new(alloc);
+    for stand in stands {
+        trees.push((stand.part.name.as_str(), &stand.tree))?;
+    }
+    Ok(trees)
 }
