@@ -1,15 +1,17 @@
 //! How modules are linked.
 
-ghost use Rattle.std.specs.Prelude.{◌≡◌, ◌++◌, IfOk, OnOk, map, min, slice_get};
+ghost use Rattle.std.specs.Prelude.{◌≡◌, ◌≤◌, ◌+◌, ◌*◌, ◌++◌, ℕ, IfOk, OnOk, map, min, slice_get};
 ghost use Rattle.std.specs.List.{flat_map};
 ghost use Rattle.std.specs.Option.{option_copied, option_map};
 ghost use Rattle.m2_graph.specs.Files.{number_files};
 ghost use Rattle.m2_graph.specs.Graph.{IsGraph};
-ghost use Rattle.def_scheme.specs.Modules.{link_of, max_pages};
+ghost use Rattle.layout_storage.specs.Sizes.{page_size};
+ghost use Rattle.def_meaning.specs.Runs.{least_stack};
+ghost use Rattle.def_scheme.specs.Modules.{link_of, max_pages, stack_begin};
 ghost use Rattle.emit_buffer.specs.Cut.{cut_module};
 ghost use Rattle.m2_emit.specs.Emitted.{code_bytes, link_part, parts};
 ghost use Rattle.link_parts.specs.Stands.{stand_of, trees_of};
-ghost use Rattle.link_parts.specs.Linked.{sizes_of, sizes_in, IsLinked};
+ghost use Rattle.link_parts.specs.Linked.{bytes_for, sizes_of, sizes_in, IsLinked};
 
 use crate::fault::LinkFault;
 use crate::part::{Interface, Part};
@@ -152,26 +154,37 @@ fn modules_of(
     Ok(modules)
 }
 
-/// How many pages modules need.
-fn pages_for(modules: &[ModuleBytes]) -> u64 {
+/// How many bytes the variables and texts of modules and the least stack take, if a number has room for it.
+fn bytes_for(modules: &[ModuleBytes]) -> u64
+    ensures { result ≡ bytes_for (parts modules.now) }
+{
     let mut bytes = LEAST_STACK;
     for module in modules {
-        let more = u64::from(module.variables).saturating_add(u64::from(module.texts));
+        let more = u64::from(module.variables) + u64::from(module.texts);
         bytes = bytes.saturating_add(more);
     }
-    bytes.saturating_add(PAGE - 1) / PAGE
+    bytes
+}
+
+/// How many pages modules need.
+fn pages_for(modules: &[ModuleBytes]) -> u64
+    ensures { (pages : ℕ) → pages ≤ max_pages → result ≤ pages
+        → stack_begin (parts modules.now) + least_stack ≤ page_size * pages }
+{
+    bytes_for(modules).saturating_add(PAGE - 1) / PAGE
 }
 
 /// The module link for these modules.
 fn link_of(alloc: Global, modules: &[ModuleBytes], pages: u32) -> Result<Vec<u8>, AllocError>
+    requires { pages ≤ max_pages }
     ensures { IfOk result (λ bytes.
-        bytes.items ≡ code_bytes (cut_module (link_of (parts modules.now) (min pages max_pages)))) }
+        bytes.items ≡ code_bytes (cut_module (link_of (parts modules.now) pages))) }
 {
     let mut all = Vec::new(alloc);
     for module in modules {
         all.push(module)?;
     }
-    emit_link(alloc, &all, pages.min(MAX_PAGES))
+    emit_link(alloc, &all, pages)
 }
 
 /// The module link of a program: the first of these modules, and those that it imports, directly and through others. It has so many
@@ -187,6 +200,7 @@ pub fn link_modules(alloc: Global, parts: &[Part], pages: u32) -> Result<Vec<u8>
     let stands = stands_for(alloc, parts)?;
     let graph = graph_of(alloc, &stands)?;
     let modules = modules_of(alloc, &stands, graph.start_order())?;
+    let pages = pages.min(MAX_PAGES);
     let needed = pages_for(&modules);
     if needed > u64::from(pages) {
         return Err(LinkFault::Pages(needed));
