@@ -31,7 +31,7 @@ sizes_in (Some s) = sizes_of s.0 ∷ []
 abbrev pub started : List Part → (starts : List ℕ) → List Sizes
 started parts starts = flat_map (λ n. sizes_in (slice_get (stands_for parts) n)) starts
 
--- the bytes of their variables and texts and of the least stack, as far as 64 bits have room for them
+-- the bytes of their variables and texts and of the least stack, as far as 64 bits have room
 abbrev pub bytes_for : List Sizes → ℕ
 bytes_for ms = min (stack_begin ms + least_stack) 18446744073709551615
 
