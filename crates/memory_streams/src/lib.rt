@@ -1,13 +1,11 @@
 //! Folders and streams over memory, and what is executed there.
 #![tactic(auto)]
 
-mod files;
 mod ran;
 
 ghost use Rattle.std.specs.Prelude.{◌≡◌};
 
-pub use files::NamedFiles;
-pub use ran::{Ran, execute_in, execute_modules, execute_two};
+pub use ran::execute_two;
 use run_directory::{InDir, Sink};
 use std::alloc::Global;
 

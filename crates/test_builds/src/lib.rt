@@ -2,8 +2,6 @@
 //! nor a program can be asked from outside.
 //!
 //! - `build` with gates: each job comes to the gate, workers meet there, and who is never let in leaves all to the gatherer;
-//! - `save` and `compile` over memory: which calls a folder is given and what is in it then, what is printed, and what a read, a
-//!   write or a stream that fails comes to;
 //! - the pool: gates of all sorts, two workers at once, results that a cell held before; and the board by itself;
 //! - a tree of a module that has no encoding;
 //! - how large names, tokens and expressions are.
@@ -14,20 +12,14 @@ mod board;
 #[cfg(test)]
 mod building;
 #[cfg(test)]
-mod compiling;
-#[cfg(test)]
 mod files;
 #[cfg(test)]
 mod gates;
 #[cfg(test)]
 mod machine;
 #[cfg(test)]
-mod memory;
-#[cfg(test)]
 mod pool;
 #[cfg(test)]
 mod samples;
-#[cfg(test)]
-mod saving;
 #[cfg(test)]
 mod sizes;

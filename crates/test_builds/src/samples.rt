@@ -1,22 +1,4 @@
-//! Programs of which it is known what is built.
-
-/// P imports A, and the implementations of A and B import each other. B starts first, then A, and P last.
-pub const CYCLE: [(&str, &str); 5] = [
-    (
-        "P.mod",
-        "MODULE P; FROM Console IMPORT Put; IMPORT A; BEGIN Put('P') END P.",
-    ),
-    (
-        "A.mod",
-        "IMPLEMENTATION MODULE A; FROM Console IMPORT Put; IMPORT B; BEGIN Put('A') END A.",
-    ),
-    (
-        "B.mod",
-        "IMPLEMENTATION MODULE B; IMPORT A; FROM Console IMPORT Put; BEGIN Put('B') END B.",
-    ),
-    ("A.def", "DEFINITION MODULE A; END A."),
-    ("B.def", "DEFINITION MODULE B; END B."),
-];
+//! A module of which it is known what it has to be.
 
 /// The module link of the program `MODULE M; FROM Console IMPORT Put; BEGIN Put("A") END M.` with 16 pages, encoded by
 /// hand from Core 1.0, section 5.

@@ -10,7 +10,7 @@ use std::rt::Files;
 const STEPS: u64 = 100_000;
 
 fn status_of(alloc: Global, link: &[u8], body: &[u8]) -> u8 {
-    execute_two(alloc, link, body, STEPS, usize::MAX).status
+    execute_two(alloc, link, body, STEPS)
 }
 
 /// Each program of these files with a byte of the first one changed.
