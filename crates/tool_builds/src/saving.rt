@@ -24,7 +24,10 @@ use tool_words::{PROGRAM, Setting};
 const BUILT: u8 = 0;
 
 /// How often modules are written, if another build writes into their folder.
-const MOST_TURNS: usize = 16;
+const MOST_TURNS: usize = 32;
+
+/// How many digits a checksum has.
+const DIGITS: usize = 16;
 
 /// The base of the digits of a checksum.
 const SIXTEEN: u8 = 16;
@@ -93,7 +96,8 @@ fn divide<R: Files + AllocGlobal>(
 /// How often a build looks whether link and so many modules are there, before it writes them once more: another number for each build
 /// and each turn, so that two builds do not go on overwriting each other. Its checksum has these digits.
 fn looks_of(digits: &[u8], turn: usize, modules: usize) -> usize {
-    let digit = digits.get(turn).map_or(0, |it| usize::from(it % SIXTEEN));
+    let place = turn % DIGITS;
+    let digit = digits.get(place).map_or(0, |it| usize::from(it % SIXTEEN));
     let files = modules.saturating_add(1);
     let turns = turn.saturating_mul(turn);
     digit.saturating_mul(turns).saturating_mul(files)
