@@ -1,5 +1,7 @@
 """Rows of what m2c reads, writes and says: each read and each write failing in turn, and streams that take nothing."""
 import os
+import resource
+import signal
 import subprocess
 
 from .asking import M2C, M2RUN, PATIENCE, Came, Row, bytes_of, called, expect, expect_answer, modules_in, written
@@ -17,6 +19,8 @@ PRINTS = b"BAP"
 MODULES = ["B.wasm", "A.wasm", "P.wasm"]
 LINK = "link.wasm"
 OLD = b"old"
+# how many modules make link longer than each of them, and a length between
+MANY, ROOM = 60, 2800
 BUILT, REFUSED, COMMAND_LINE, FAILED = range(4)
 # what is refused of two files, in the order of their names
 WRONG_FILES = {"n.mod": "", "m.mod": "MODULE M; BEGIN"}
@@ -70,6 +74,28 @@ def ask_unread(name, folder):
     expect("the old link", {LINK: OLD}, modules_in(f"{folder}/out"))
 
 
+def limited():
+    """No file may have more bytes than these, and who tries it is told."""
+    signal.signal(signal.SIGXFSZ, signal.SIG_IGN)
+    resource.setrlimit(resource.RLIMIT_FSIZE, (ROOM, ROOM))
+
+
+def ask_cut_link(folder):
+    """There is no room for link, which is longer than each module: the modules are saved, and no link is there."""
+    names = [f"M{number}" for number in range(MANY)]
+    files = {f"{it}.def": f"DEFINITION MODULE {it}; END {it}." for it in names}
+    files |= {f"{it}.mod": f"IMPLEMENTATION MODULE {it}; END {it}." for it in names}
+    files["P.mod"] = f"MODULE P; IMPORT {', '.join(names)}; END P."
+    written(folder, {**files, f"out/{LINK}": OLD, "whole/none": b""})
+    expect_answer(M2C, ["--out", "whole", *files], folder, BUILT, b"")
+    whole = modules_in(f"{folder}/whole")
+    link = whole.pop(LINK)
+    expect("link alone is too long", True, max(map(len, whole.values())) <= ROOM < len(link))
+    ran = subprocess.run([M2C, "--out", "out", *files], cwd=folder, stdin=subprocess.DEVNULL, capture_output=True, timeout=PATIENCE, preexec_fn=limited)
+    expect("status, and whether it is said", (FAILED, True), (ran.returncode, b"cannot write" in ran.stderr))
+    expect("what is saved", whole, modules_in(f"{folder}/out"))
+
+
 def over(words, folder, out, err):
     """What m2c answers over these streams."""
     ran = subprocess.run([M2C, *words], cwd=folder, stdin=subprocess.DEVNULL, stdout=out, stderr=err, timeout=PATIENCE)
@@ -105,6 +131,7 @@ def ask_refused(folder):
 def saving_rows():
     yield from (Row(f"modules are saved {' '.join(it)}", lambda folder, it=it: ask_saved(it, folder)) for it in ([], ["--workers", "1"], ["--workers", "64"], ["--memory", "1024"]))
     yield from (Row(f"{MODULES[it]} cannot be written", lambda folder, it=it: ask_unwritten(it, folder)) for it in range(len(MODULES)))
+    yield Row("there is no room for link", ask_cut_link)
     yield Row("an old link cannot be removed", ask_link_kept)
     yield from (Row(f"{it} is not there", lambda folder, it=it: ask_unread(it, folder)) for it in FILES)
     yield Row("refusals cannot be printed", ask_unprinted)
