@@ -1,2 +1,4 @@
 pub mod Stands
+pub mod Fitting
+pub mod Held
 pub mod Linked

@@ -1,5 +1,7 @@
 //! Why modules are not linked.
 
+ghost use Rattle.std.specs.Prelude.{◌≡◌};
+
 use std::alloc::{AllocError, AllocFailed};
 use thiserror::Error;
 
@@ -53,12 +55,20 @@ pub enum LinkFault {
 }
 
 impl From<AllocError> for LinkFault {
+    ghost use Rattle.link_parts.specs.declared.fault.LinkFault.TheVariants.{NoMemory};
+
+    ghost from_gives = { λ _ e. e ≡ NoMemory };
+
     fn from(_: AllocError) -> LinkFault {
         LinkFault::NoMemory
     }
 }
 
 impl<T: Drop> From<AllocFailed<T>> for LinkFault {
+    ghost use Rattle.link_parts.specs.declared.fault.LinkFault.TheVariants.{NoMemory};
+
+    ghost from_gives = { λ _ e. e ≡ NoMemory };
+
     fn from(_: AllocFailed<T>) -> LinkFault {
         LinkFault::NoMemory
     }

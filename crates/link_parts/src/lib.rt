@@ -9,6 +9,7 @@
 #![tactic(auto)]
 
 mod fault;
+mod fitting;
 mod linking;
 mod part;
 mod reading;

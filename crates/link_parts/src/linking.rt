@@ -1,6 +1,6 @@
 //! How modules are linked.
 
-ghost use Rattle.std.specs.Prelude.{◌≡◌, ◌≤◌, ◌+◌, ◌*◌, ◌++◌, ℕ, IfOk, OnOk, map, min, slice_get};
+ghost use Rattle.std.specs.Prelude.{◌≡◌, ◌≤◌, ◌+◌, ◌*◌, ◌++◌, ℕ, ◌<◌, IfOk, IfErr, OnOk, map, min, slice_get};
 ghost use Rattle.std.specs.List.{flat_map};
 ghost use Rattle.std.specs.Option.{option_copied, option_map};
 ghost use Rattle.m2_graph.specs.Files.{number_files};
@@ -11,15 +11,17 @@ ghost use Rattle.def_scheme.specs.Modules.{link_of, max_pages, stack_begin};
 ghost use Rattle.emit_buffer.specs.Cut.{cut_module};
 ghost use Rattle.m2_emit.specs.Emitted.{code_bytes, link_part, parts};
 ghost use Rattle.link_parts.specs.Stands.{stand_of, trees_of};
-ghost use Rattle.link_parts.specs.Linked.{bytes_for, sizes_of, sizes_in, IsLinked};
+ghost use Rattle.link_parts.specs.Fitting.{IsOfNames};
+ghost use Rattle.link_parts.specs.Linked.{bytes_for, sizes_of, sizes_in, IsLinked, first_number, IsOfGraph, IsFault};
 
 use crate::fault::LinkFault;
-use crate::part::{Interface, Part};
+use crate::fitting::check_parts;
+use crate::part::Part;
 use crate::stands::{Stand, name_of, stands_for, trees_of};
 use build_jobs::MAX_PAGES;
-use indexmap::IndexMap;
 use m2_emit::{ModuleBytes, emit_link};
 use m2_graph::{Graph, GraphError};
+use m2_tree::Refusal;
 use std::alloc::{AllocError, Global};
 use tree_parts::{Items, at};
 
@@ -29,85 +31,35 @@ const LEAST_STACK: u64 = 4096;
 /// The bytes of a page.
 const PAGE: u64 = 65536;
 
-/// Which module was compiled with which definition, by the name of its module.
-type Known<'a> = IndexMap<&'a [u8], (usize, &'a str)>;
-
-/// Whether a definition is the one that was seen before under its name. It is noted if none was.
-fn add_interface<'a>(
-    alloc: Global,
-    number: usize,
-    interface: &'a Interface,
-    known: &mut Known<'a>,
-) -> Result<(), LinkFault> {
-    let name = interface.name.as_bytes();
-    match known.get(name) {
-        None => {
-            known.insert(name, (number, interface.sum.as_str()))?;
-            Ok(())
-        }
-        Some(found) => {
-            if found.1.as_bytes() == interface.sum.as_bytes() {
-                return Ok(());
-            }
-            let name = String::from_str(alloc, interface.name.as_str())?;
-            Err(LinkFault::Interfaces(found.0, number, name))
-        }
+/// The number of the first of these refusals.
+fn first_number(refusals: &[Refusal]) -> u32
+    ensures { result ≡ first_number refusals.now }
+{
+    match refusals {
+        [] => 0,
+        [first, ..] => first.number,
     }
-}
-
-/// Whether a module was compiled with the definitions that were seen before.
-fn add_part<'a>(
-    alloc: Global,
-    number: usize,
-    part: &'a Part,
-    known: &mut Known<'a>,
-) -> Result<(), LinkFault> {
-    if part.is_program && number > 0 {
-        return Err(LinkFault::Program(number));
-    }
-    for interface in &part.interfaces {
-        add_interface(alloc, number, interface, known)?;
-    }
-    Ok(())
-}
-
-/// Whether modules fit together.
-fn check_parts(alloc: Global, parts: &[Part]) -> Result<(), LinkFault> {
-    match parts.first() {
-        None => return Err(LinkFault::NoProgram),
-        Some(first) => {
-            if !first.is_program {
-                return Err(LinkFault::NoProgram);
-            }
-        }
-    }
-    let mut known: Known<'_> = IndexMap::new(alloc);
-    for (number, part) in parts.iter().enumerate() {
-        add_part(alloc, number, part, &mut known)?;
-    }
-    Ok(())
 }
 
 /// The graph of these modules.
 fn graph_of(alloc: Global, stands: &[Stand<'_>]) -> Result<Graph, LinkFault>
-    ensures { IfOk result (λ g.
+    ensures graph { IfOk result (λ g.
         IsGraph (number_files 0 (trees_of (map stand_of stands.now))) g.files.items
         (map (λ j. j.items) g.jobs.items) g.starts.items) }
+    ensures fault { IfErr result (IsOfGraph (trees_of (map stand_of stands.now))) }
 {
     let trees = trees_of(alloc, stands)?;
     match Graph::of(alloc, &trees) {
         Ok(graph) => Ok(graph),
-        Err(GraphError::Refused(refusals)) => {
-            let number = refusals.first().map_or(0, |it| it.number);
-            Err(LinkFault::Imports(number))
-        }
+        Err(GraphError::Refused(refusals)) => { Err(LinkFault::Imports(first_number(&refusals))) }
         Err(GraphError::NoMemory) => Err(LinkFault::NoMemory),
     }
 }
 
 /// What link has to know of a module, as a build has it.
 fn module_of(alloc: Global, part: &Part) -> Result<ModuleBytes, LinkFault>
-    ensures { IfOk result (λ m. link_part m ≡ sizes_of part.now) }
+    ensures sizes { IfOk result (λ m. link_part m ≡ sizes_of part.now) }
+    ensures fault { IfErr result IsOfNames }
 {
     Ok(ModuleBytes {
         name: name_of(alloc, &part.name)?,
@@ -124,9 +76,10 @@ fn add_module(
     stand: Option<&Stand<'_>>,
     modules: &mut Vec<ModuleBytes>,
 ) -> Result<(), LinkFault>
-    ensures { OnOk result
+    ensures added { OnOk result
         (parts modules.new.items
         ≡ parts modules.old.items ++ sizes_in (option_map stand_of (option_copied stand.entry))) }
+    ensures fault { IfErr result IsOfNames }
 {
     match stand {
         None => Ok(()),
@@ -143,9 +96,10 @@ fn modules_of(
     stands: &[Stand<'_>],
     starts: &[usize],
 ) -> Result<Vec<ModuleBytes>, LinkFault>
-    ensures { IfOk result (λ modules.
+    ensures modules { IfOk result (λ modules.
         parts modules.items
         ≡ flat_map (λ n. sizes_in (slice_get (map stand_of stands.now) n)) starts.now) }
+    ensures fault { IfErr result IsOfNames }
 {
     let mut modules = Vec::new(alloc);
     for start in starts {
@@ -168,8 +122,10 @@ fn bytes_for(modules: &[ModuleBytes]) -> u64
 
 /// How many pages modules need.
 fn pages_for(modules: &[ModuleBytes]) -> u64
-    ensures { (pages : ℕ) → pages ≤ max_pages → result ≤ pages
+    ensures enough { (pages : ℕ) → pages ≤ max_pages → result ≤ pages
         → stack_begin (parts modules.now) + least_stack ≤ page_size * pages }
+    ensures needed { (pages : ℕ) → pages ≤ max_pages → pages < result
+        → page_size * pages < stack_begin (parts modules.now) + least_stack }
 {
     bytes_for(modules).saturating_add(PAGE - 1) / PAGE
 }
@@ -191,10 +147,11 @@ fn link_of(alloc: Global, modules: &[ModuleBytes], pages: u32) -> Result<Vec<u8>
 /// pages of 65536 bytes of memory, at most 1024, and runs the bodies in the order in which a build has them.
 ///
 /// `NoProgram` if the first is no program module, `Program` if another is one, `Interfaces` if two modules were compiled with
-/// different definitions of one module, `Imports` if the imports break a rule, and `Pages` if the variables and texts of all modules,
-/// and 4096 bytes, need more pages: the first of these in this order. `NoMemory` if memory ran out.
+/// different definitions of one module, `Imports` if a name is too long or the imports break a rule, and `Pages` if the variables and
+/// texts of all modules, and 4096 bytes, need more pages: the first of these in this order. `NoMemory` if memory ran out.
 pub fn link_modules(alloc: Global, parts: &[Part], pages: u32) -> Result<Vec<u8>, LinkFault>
-    ensures { IfOk result (λ bytes. IsLinked parts.now (min pages max_pages) bytes.items) }
+    ensures link { IfOk result (λ bytes. IsLinked parts.now (min pages max_pages) bytes.items) }
+    ensures fault { IfErr result (IsFault parts.now (min pages max_pages)) }
 {
     check_parts(alloc, parts)?;
     let stands = stands_for(alloc, parts)?;

@@ -1,10 +1,11 @@
 //! The imports of modules, as a program of empty modules has them.
 
-ghost use Rattle.std.specs.Prelude.{◌≡◌, ◌++◌, IfOk, OnOk, map};
+ghost use Rattle.std.specs.Prelude.{◌≡◌, ◌++◌, IfOk, IfErr, OnOk, map};
 ghost use Rattle.std.specs.String.{string_bytes};
 ghost use Rattle.empty_modules.specs.Empty.{import_of};
 ghost use Rattle.build_jobs.specs.Borrowed.{borrow_trees};
 ghost use Rattle.link_parts.specs.Stands.{body_of, stands_of, stand_of, stands_for, trees_of};
+ghost use Rattle.link_parts.specs.Fitting.{IsOfNames};
 
 use crate::fault::LinkFault;
 use crate::part::Part;
@@ -25,7 +26,8 @@ pub struct Stand<'a> {
 
 /// The name of a module. One that is too long is refused, as in a text.
 pub fn name_of(alloc: Global, name: &str) -> Result<Name, LinkFault>
-    ensures { IfOk result (λ n. n ≡ name.now) }
+    ensures same { IfOk result (λ n. n ≡ name.now) }
+    ensures fault { IfErr result IsOfNames }
 {
     let bytes = name.as_bytes();
     if bytes.len() > MAX_NAME {
@@ -36,7 +38,8 @@ pub fn name_of(alloc: Global, name: &str) -> Result<Name, LinkFault>
 
 /// The imports of the modules of these names.
 fn imports_of(alloc: Global, names: &[String]) -> Result<Items<Import>, LinkFault>
-    ensures { IfOk result (λ is. is ≡ map (λ n. import_of (string_bytes n)) names.now) }
+    ensures imports { IfOk result (λ is. is ≡ map (λ n. import_of (string_bytes n)) names.now) }
+    ensures fault { IfErr result IsOfNames }
 {
     let mut imports = Items::new(alloc);
     for name in names {
@@ -47,7 +50,8 @@ fn imports_of(alloc: Global, names: &[String]) -> Result<Items<Import>, LinkFaul
 
 /// The body, which imports what the definition and the body of the module import.
 fn body_of(alloc: Global, part: &Part) -> Result<Module, LinkFault>
-    ensures { IfOk result (λ m. m ≡ body_of part.now) }
+    ensures body { IfOk result (λ m. m ≡ body_of part.now) }
+    ensures fault { IfErr result IsOfNames }
 {
     let imports = imports_of(alloc, &part.imports)?;
     let name = name_of(alloc, &part.name)?;
@@ -63,9 +67,10 @@ fn add_stands<'a>(
     part: &'a Part,
     stands: &mut Vec<Stand<'a>>,
 ) -> Result<(), LinkFault>
-    ensures { OnOk result
+    ensures added { OnOk result
         (map stand_of stands.new.items
         ≡ map stand_of stands.old.items ++ map (λ m. (part.now, m)) (stands_of part.now)) }
+    ensures fault { IfErr result IsOfNames }
 {
     if !part.is_program {
         let tree = empty_definition(alloc, name_of(alloc, &part.name)?);
@@ -78,7 +83,8 @@ fn add_stands<'a>(
 
 /// A program of empty modules, which import what these modules import: for each its definition and its body.
 pub fn stands_for<'a>(alloc: Global, parts: &'a [Part]) -> Result<Vec<Stand<'a>>, LinkFault>
-    ensures { IfOk result (λ stands. map stand_of stands.items ≡ stands_for parts.now) }
+    ensures stands { IfOk result (λ stands. map stand_of stands.items ≡ stands_for parts.now) }
+    ensures fault { IfErr result IsOfNames }
 {
     let mut stands = Vec::new(alloc);
     for part in parts {
