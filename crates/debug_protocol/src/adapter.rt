@@ -3,9 +3,9 @@
 use crate::messages::{Outgoing, Request};
 use anyhow::Result;
 use debug_runs::Session;
-use serde_json::json;
 use std::alloc::AllocError;
 use std::thread::Threads;
+use write_json::Json;
 
 /// A session with an editor.
 pub struct Adapter<'a> {
@@ -31,10 +31,26 @@ impl Drop for Adapter<'_> {
     }
 }
 
+/// Writes a place that has variables, which are asked for by this number.
+fn put_scope(name: &str, number: u64, json: &mut Json) {
+    json.begin_object();
+    json.flag_member("expensive", false);
+    json.words_member("name", name);
+    json.number_member("variablesReference", number);
+    json.end_object();
+}
+
 impl Adapter<'_> {
     /// Answers which threads there are: one.
     fn threads(&mut self, request: &Request) -> Result<(), AllocError> {
-        let body = json!(in self.out.alloc; { "threads": [{ "id": 1, "name": "the program" }] })?;
+        let mut body = self.out.begin_body();
+        body.name("threads");
+        body.begin_list();
+        body.begin_object();
+        body.number_member("id", 1);
+        body.words_member("name", "the program");
+        body.end_object();
+        body.end_list();
         self.out.answer(request, body)
     }
 
@@ -42,46 +58,45 @@ impl Adapter<'_> {
     fn scopes(&mut self, request: &Request) -> Result<(), AllocError> {
         let frame = request.number_of("frameId");
         let locals = frame.saturating_mul(2);
-        let module = locals.saturating_add(1);
-        let body = json!(in self.out.alloc; {
-            "scopes": [
-                { "expensive": false, "name": "Procedure", "variablesReference": locals },
-                { "expensive": false, "name": "Module", "variablesReference": module }
-            ]
-        })?;
+        let mut body = self.out.begin_body();
+        body.name("scopes");
+        body.begin_list();
+        put_scope("Procedure", locals, &mut body);
+        put_scope("Module", locals.saturating_add(1), &mut body);
+        body.end_list();
         self.out.answer(request, body)
     }
 
     /// Answers the value of a variable.
-    fn evaluate(&mut self, request: &Request) -> Result<()> {
+    fn evaluate(&mut self, request: &Request) -> Result<(), AllocError> {
         let text = request.text("expression").unwrap_or("");
         let frame = self.frame_of(request.number_of("frameId"));
         match self.session.value_named(frame, text)? {
-            Err(words) => self.out.refuse(request, words.as_str())?,
+            Err(words) => self.out.refuse(request, words.as_str()),
             Ok(value) => {
-                let value = value.as_str();
-                let body = json!(in self.out.alloc; { "result": value, "variablesReference": 0 })?;
-                self.out.answer(request, body)?;
+                let mut body = self.out.begin_body();
+                body.words_member("result", value.as_str());
+                body.number_member("variablesReference", 0);
+                self.out.answer(request, body)
             }
         }
-        Ok(())
     }
 
     /// Answers a request that changes nothing in the run.
-    fn tell_of(&mut self, request: &Request) -> Result<()> {
+    fn tell_of(&mut self, request: &Request) -> Result<(), AllocError> {
         match request.command.as_str() {
             "setBreakpoints" => self.set_breaks(request),
-            "threads" => Ok(self.threads(request)?),
-            "stackTrace" => Ok(self.stack(request)?),
-            "scopes" => Ok(self.scopes(request)?),
-            "variables" => Ok(self.variables(request)?),
+            "threads" => self.threads(request),
+            "stackTrace" => self.stack(request),
+            "scopes" => self.scopes(request),
+            "variables" => self.variables(request),
             "evaluate" => self.evaluate(request),
-            "setExceptionBreakpoints" | "pause" => Ok(self.out.accept(request)?),
+            "setExceptionBreakpoints" | "pause" => self.out.accept(request),
             "disconnect" | "terminate" => {
                 self.is_over = true;
-                Ok(self.out.accept(request)?)
+                self.out.accept(request)
             }
-            _ => Ok(self.out.refuse(request, "this request is not known here")?),
+            _ => self.out.refuse(request, "this request is not known here"),
         }
     }
 
@@ -91,7 +106,7 @@ impl Adapter<'_> {
         R: AllocGlobal + Threads + Sync,
     {
         match self.travel_of(request) {
-            None => self.tell_of(request),
+            None => Ok(self.tell_of(request)?),
             Some(travel) => {
                 self.out.accept(request)?;
                 self.travel(rt, travel)

@@ -2,11 +2,11 @@
 
 use crate::adapter::Adapter;
 use crate::messages::Request;
-use anyhow::Result;
 use debug_runs::Placed;
 use debug_words::{Condition, Target, read_condition};
-use serde_json::{Value, json};
+use serde_json::Value;
 use std::alloc::AllocError;
+use write_json::Json;
 
 /// The last part of a path.
 fn last_part(path: &str) -> &str {
@@ -25,12 +25,15 @@ fn module_name(path: &str) -> &str {
     }
 }
 
-impl Adapter<'_> {
-    /// A breakpoint that has no place.
-    fn unset(&self, words: &str) -> Result<Value, AllocError> {
-        json!(in self.out.alloc; { "message": words, "verified": false })
-    }
+/// Writes why a breakpoint has no place.
+fn put_unset(words: &str, json: &mut Json) {
+    json.begin_object();
+    json.words_member("message", words);
+    json.flag_member("verified", false);
+    json.end_object();
+}
 
+impl Adapter<'_> {
     /// The condition of a breakpoint. A sentence if it is none.
     fn condition(
         &self,
@@ -46,50 +49,57 @@ impl Adapter<'_> {
         }
     }
 
-    /// Sets a breakpoint on a line of a module, and answers what came of it.
-    fn set_break(&mut self, module: &str, asked: &Value) -> Result<Value> {
-        let alloc = self.out.alloc;
-        let line = asked.get("line").and_then(Value::as_u64).unwrap_or(0);
-        let line = u32::try_from(line).unwrap_or(u32::MAX);
-        let name = Vec::from_slice(alloc, module.as_bytes())?;
+    /// Sets a breakpoint on a line of a module, and writes what came of it.
+    fn set_break(
+        &mut self,
+        module: &str,
+        asked: &Value,
+        json: &mut Json,
+    ) -> Result<(), AllocError> {
         let condition = match self.condition(asked)? {
             Ok(condition) => condition,
-            Err(words) => return Ok(self.unset(words)?),
+            Err(words) => {
+                put_unset(words, json);
+                return Ok(());
+            }
         };
+        let line = asked.get("line").and_then(Value::as_u64).unwrap_or(0);
+        let line = u32::try_from(line).unwrap_or(u32::MAX);
+        let name = Vec::from_slice(self.out.alloc, module.as_bytes())?;
         match self.session.place(&Target::Line(Some(name), line))? {
-            Placed::Nowhere(words) => Ok(self.unset(words.as_str())?),
+            Placed::Nowhere(words) => put_unset(words.as_str(), json),
             Placed::Here(statement) => {
                 let number = self.session.breaks.add(statement, condition)?;
-                let (line, column) = (statement.pos.line, statement.pos.col);
-                Ok(json!(in alloc; {
-                    "column": column,
-                    "id": number,
-                    "line": line,
-                    "verified": true
-                })?)
+                json.begin_object();
+                json.number_member("column", u64::from(statement.pos.col));
+                json.number_member("id", number);
+                json.number_member("line", u64::from(statement.pos.line));
+                json.flag_member("verified", true);
+                json.end_object();
             }
         }
+        Ok(())
     }
 
     /// Sets the breakpoints of a file in place of those that it had.
-    pub fn set_breaks(&mut self, request: &Request) -> Result<()> {
-        let alloc = self.out.alloc;
+    pub fn set_breaks(&mut self, request: &Request) -> Result<(), AllocError> {
         let source = request.arguments.get("source");
         let path = source.and_then(|it| it.get("path")).and_then(Value::as_str);
         let module = module_name(path.unwrap_or(""));
         self.session.clear_breaks(module)?;
-        let mut all = Vec::new(alloc);
+        let mut body = self.out.begin_body();
+        body.name("breakpoints");
+        body.begin_list();
         let asked = request
             .arguments
             .get("breakpoints")
             .and_then(Value::as_array);
         if let Some(asked) = asked {
             for it in asked {
-                all.push(self.set_break(module, it)?)?;
+                self.set_break(module, it, &mut body)?;
             }
         }
-        let all = Value::Array(all);
-        let body = json!(in alloc; { "breakpoints": all })?;
-        Ok(self.out.answer(request, body)?)
+        body.end_list();
+        self.out.answer(request, body)
     }
 }

@@ -1,8 +1,9 @@
 //! Messages of the protocol.
 
-use serde_json::{Value, json};
+use serde_json::Value;
 use std::alloc::{AllocError, Global};
 use std::mem;
+use write_json::Json;
 
 /// A request.
 #[derive(Drop)]
@@ -20,7 +21,7 @@ pub struct Request {
 pub struct Outgoing {
     pub alloc: Global,
     /// How many messages there were.
-    count: i64,
+    count: u64,
     bodies: Vec<Vec<u8>>,
 }
 
@@ -86,64 +87,72 @@ impl Outgoing {
     }
 
     /// The number of the next message.
-    fn next(&mut self) -> i64 {
+    fn next(&mut self) -> u64 {
         self.count = self.count.saturating_add(1);
         self.count
     }
 
-    /// Adds a message.
-    fn add(&mut self, message: Value) -> Result<(), AllocError> {
-        self.bodies.push(message.to_vec(self.alloc)?)?;
+    /// The begin of a message, to which the members of its body are written.
+    pub fn begin_body(&self) -> Json {
+        let mut json = Json::new(self.alloc);
+        json.begin_object();
+        json.name("body");
+        json.begin_object();
+        json
+    }
+
+    /// Ends a message, and adds it.
+    fn add(&mut self, mut json: Json) -> Result<(), AllocError> {
+        json.end_object();
+        let text = json.finish()?;
+        self.bodies.push(text)?;
         Ok(())
     }
 
-    /// Answers a request.
-    pub fn answer(&mut self, request: &Request, body: Value) -> Result<(), AllocError> {
+    /// Ends an answer to a request, and adds it.
+    fn add_response(
+        &mut self,
+        request: &Request,
+        is_met: bool,
+        mut json: Json,
+    ) -> Result<(), AllocError> {
         let number = self.next();
-        let of = request.number;
-        let command = request.command.as_str();
-        let message = json!(in self.alloc; {
-            "body": body,
-            "command": command,
-            "request_seq": of,
-            "seq": number,
-            "success": true,
-            "type": "response"
-        })?;
-        self.add(message)
+        json.words_member("command", request.command.as_str());
+        json.name("request_seq");
+        json.signed(request.number);
+        json.number_member("seq", number);
+        json.flag_member("success", is_met);
+        json.words_member("type", "response");
+        self.add(json)
+    }
+
+    /// Answers a request. The body is begun by `begin_body`, and ends here.
+    pub fn answer(&mut self, request: &Request, mut body: Json) -> Result<(), AllocError> {
+        body.end_object();
+        self.add_response(request, true, body)
     }
 
     /// Answers a request with nothing but that it is met.
     pub fn accept(&mut self, request: &Request) -> Result<(), AllocError> {
-        let nothing = json!(in self.alloc; {})?;
+        let nothing = self.begin_body();
         self.answer(request, nothing)
     }
 
     /// Answers a request that cannot be met, with a sentence.
     pub fn refuse(&mut self, request: &Request, words: &str) -> Result<(), AllocError> {
-        let number = self.next();
-        let of = request.number;
-        let command = request.command.as_str();
-        let message = json!(in self.alloc; {
-            "command": command,
-            "message": words,
-            "request_seq": of,
-            "seq": number,
-            "success": false,
-            "type": "response"
-        })?;
-        self.add(message)
+        let mut json = Json::new(self.alloc);
+        json.begin_object();
+        json.words_member("message", words);
+        self.add_response(request, false, json)
     }
 
-    /// Tells that something happened.
-    pub fn tell(&mut self, event: &str, body: Value) -> Result<(), AllocError> {
+    /// Tells that something happened. The body is begun by `begin_body`, and ends here.
+    pub fn tell(&mut self, event: &str, mut body: Json) -> Result<(), AllocError> {
         let number = self.next();
-        let message = json!(in self.alloc; {
-            "body": body,
-            "event": event,
-            "seq": number,
-            "type": "event"
-        })?;
-        self.add(message)
+        body.end_object();
+        body.words_member("event", event);
+        body.number_member("seq", number);
+        body.words_member("type", "event");
+        self.add(body)
     }
 }

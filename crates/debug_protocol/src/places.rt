@@ -3,17 +3,28 @@
 use crate::adapter::Adapter;
 use crate::messages::Request;
 use debug_runs::{Found, Frame};
-use serde_json::{Value, json};
 use std::alloc::AllocError;
+use write_json::Json;
 
-/// A variable as it is told.
-fn variable(adapter: &Adapter<'_>, name: &[u8], found: Found) -> Result<Value, AllocError> {
-    let alloc = adapter.out.alloc;
+/// Writes a variable.
+fn put_variable(adapter: &Adapter<'_>, name: &[u8], found: Found, json: &mut Json) {
     let views = adapter.session.views();
-    let value = views.text_of(alloc, &adapter.session.history.state, found)?;
-    let name = String::from_utf8_lossy(alloc, name)?;
-    let (name, value) = (name.as_str(), value.as_str());
-    json!(in alloc; { "name": name, "value": value, "variablesReference": 0 })
+    let value = views.text_of(adapter.out.alloc, &adapter.session.history.state, found);
+    json.begin_object();
+    json.bytes_member("name", name);
+    json.name("value");
+    json.words_made(value);
+    json.number_member("variablesReference", 0);
+    json.end_object();
+}
+
+/// Writes the file in which a call stands.
+fn put_source(file: &str, json: &mut Json) {
+    json.name("source");
+    json.begin_object();
+    json.words_member("name", file);
+    json.words_member("path", file);
+    json.end_object();
 }
 
 impl Adapter<'_> {
@@ -23,82 +34,84 @@ impl Adapter<'_> {
         self.session.history.state.frames.get(at).map(|it| *it)
     }
 
-    /// The call of this number.
-    fn call(&self, number: usize, frame: Frame) -> Result<Value, AllocError> {
-        let alloc = self.out.alloc;
-        let id = (number as u64).saturating_add(1);
-        let Some(place) = self.session.place_of(frame) else {
-            return json!(in alloc; { "column": 0, "id": id, "line": 0, "name": "" });
+    /// Writes the call of this number.
+    fn put_call(&self, number: usize, frame: Frame, json: &mut Json) {
+        let place = self.session.place_of(frame);
+        let (line, column) = match &place {
+            None => (0, 0),
+            Some(place) => (place.pos.line, place.pos.col),
         };
-        let name = place.function(alloc)?;
-        let (name, file) = (name.as_str(), place.file.name.as_str());
-        let (line, column) = (place.pos.line, place.pos.col);
-        json!(in alloc; {
-            "column": column,
-            "id": id,
-            "line": line,
-            "name": name,
-            "source": { "name": file, "path": file }
-        })
+        json.begin_object();
+        json.number_member("column", u64::from(column));
+        json.number_member("id", (number as u64).saturating_add(1));
+        json.number_member("line", u64::from(line));
+        json.name("name");
+        match &place {
+            None => json.words(""),
+            Some(place) => {
+                json.words_made(place.function(self.out.alloc));
+                put_source(place.file.name.as_str(), json);
+            }
+        }
+        json.end_object();
     }
 
-    /// Answers the calls, the innermost first.
-    pub fn stack(&mut self, request: &Request) -> Result<(), AllocError> {
-        let alloc = self.out.alloc;
-        let mut calls = Vec::new(alloc);
-        for (number, frame) in self.session.history.state.frames.iter().enumerate().rev() {
-            calls.push(self.call(number, *frame)?)?;
+    /// Writes the calls, the innermost first, and how many there are.
+    fn put_calls(&self, json: &mut Json) {
+        let frames = &self.session.history.state.frames;
+        json.name("stackFrames");
+        json.begin_list();
+        for (number, frame) in frames.iter().enumerate().rev() {
+            self.put_call(number, *frame, json);
         }
-        let count = calls.len() as u64;
-        let calls = Value::Array(calls);
-        let body = json!(in alloc; { "stackFrames": calls, "totalFrames": count })?;
+        json.end_list();
+        json.number_member("totalFrames", frames.len() as u64);
+    }
+
+    /// Answers the calls.
+    pub fn stack(&mut self, request: &Request) -> Result<(), AllocError> {
+        let mut body = self.out.begin_body();
+        self.put_calls(&mut body);
         self.out.answer(request, body)
     }
 
-    /// The variables of a procedure that runs.
-    fn locals(&self, frame: Frame) -> Result<Vec<Value>, AllocError> {
-        let mut all = Vec::new(self.out.alloc);
+    /// Writes the variables of a procedure that runs.
+    fn put_locals(&self, frame: Frame, json: &mut Json) {
         let views = self.session.views();
         if let Some(view) = views.function(frame.function) {
             for it in &view.variables {
                 if let Some(found) = views.local(&self.session.history.state, frame, it) {
-                    all.push(variable(self, &it.name, found)?)?;
+                    put_variable(self, &it.name, found, json);
                 }
             }
         }
-        Ok(all)
     }
 
-    /// The variables of the module of a procedure that runs.
-    fn owned(&self, frame: Frame) -> Result<Vec<Value>, AllocError> {
-        let mut all = Vec::new(self.out.alloc);
+    /// Writes the variables of the module of a procedure that runs.
+    fn put_owned(&self, frame: Frame, json: &mut Json) {
         let views = self.session.views();
         let module = views.module_of(Some(frame));
         if let Some(view) = views.modules.get(module) {
             for it in &view.variables {
                 if let Some(found) = views.own(module, it) {
-                    all.push(variable(self, &it.name, found)?)?;
+                    put_variable(self, &it.name, found, json);
                 }
             }
         }
-        Ok(all)
     }
 
     /// Answers the variables of a procedure or of its module.
     pub fn variables(&mut self, request: &Request) -> Result<(), AllocError> {
         let number = request.number_of("variablesReference");
-        let all = match self.frame_of(number / 2) {
-            None => Vec::new(self.out.alloc),
-            Some(frame) => {
-                if number % 2 == 0 {
-                    self.locals(frame)?
-                } else {
-                    self.owned(frame)?
-                }
-            }
-        };
-        let all = Value::Array(all);
-        let body = json!(in self.out.alloc; { "variables": all })?;
+        let mut body = self.out.begin_body();
+        body.name("variables");
+        body.begin_list();
+        match self.frame_of(number / 2) {
+            None => {}
+            Some(frame) if number % 2 == 0 => self.put_locals(frame, &mut body),
+            Some(frame) => self.put_owned(frame, &mut body),
+        }
+        body.end_list();
         self.out.answer(request, body)
     }
 }

@@ -5,7 +5,6 @@ use crate::messages::Request;
 use anyhow::Result;
 use debug_runs::{Outcome, Travel};
 use run_directory::end_word;
-use serde_json::json;
 use std::alloc::AllocError;
 use std::thread::Threads;
 use wasm_run::End;
@@ -42,34 +41,40 @@ impl Adapter<'_> {
         }
     }
 
+    /// Tells what was written to a stream of this name.
+    fn tell_written(&mut self, stream: &str, words: &str) -> Result<(), AllocError> {
+        let mut body = self.out.begin_body();
+        body.words_member("category", stream);
+        body.words_member("output", words);
+        self.out.tell("output", body)
+    }
+
     /// Tells what the program printed.
-    fn tell_output(&mut self) -> Result<()> {
+    fn tell_output(&mut self) -> Result<(), AllocError> {
         let output = self.session.new_output()?;
         if output.is_empty() {
             return Ok(());
         }
-        let output = output.as_str();
-        let body = json!(in self.out.alloc; { "category": "stdout", "output": output })?;
-        Ok(self.out.tell("output", body)?)
+        self.tell_written("stdout", output.as_str())
     }
 
     /// Tells that the run has stopped.
     fn tell_stop(&mut self, reason: &str, words: &str) -> Result<(), AllocError> {
-        let body = json!(in self.out.alloc; {
-            "allThreadsStopped": true,
-            "reason": reason,
-            "text": words,
-            "threadId": 1
-        })?;
+        let mut body = self.out.begin_body();
+        body.flag_member("allThreadsStopped", true);
+        body.words_member("reason", reason);
+        body.words_member("text", words);
+        body.number_member("threadId", 1);
         self.out.tell("stopped", body)
     }
 
     /// Tells that the program is over, with a status.
     fn tell_exit(&mut self, status: u8) -> Result<(), AllocError> {
-        let body = json!(in self.out.alloc; { "exitCode": status })?;
+        let mut body = self.out.begin_body();
+        body.number_member("exitCode", u64::from(status));
         self.out.tell("exited", body)?;
-        let body = json!(in self.out.alloc; {})?;
-        self.out.tell("terminated", body)
+        let nothing = self.out.begin_body();
+        self.out.tell("terminated", nothing)
     }
 
     /// Tells how the run ended: a fault stops it first, so that one can go back from there.
@@ -82,9 +87,7 @@ impl Adapter<'_> {
             Some(_) if was_at_end => Ok(self.tell_exit(FAULTED)?),
             Some(End::Done(number)) => {
                 let report = self.session.report(rt, number)?;
-                let output = report.as_str();
-                let body = json!(in self.out.alloc; { "category": "stderr", "output": output })?;
-                self.out.tell("output", body)?;
+                self.tell_written("stderr", report.as_str())?;
                 Ok(self.tell_stop("exception", end_word(number))?)
             }
             Some(End::Trap) => Ok(self.tell_stop("exception", "trap")?),

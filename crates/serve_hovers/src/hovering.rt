@@ -1,11 +1,11 @@
 //! What a name is, in words.
 
 use crate::meant::{Meaning, meaning_here};
-use serde_json::{Value, json};
 use serve_lists::{Ask, Mark};
 use serve_names::{Declaration, comment_of, words_of};
-use serve_words::explanation;
+use serve_words::{Word, explanation};
 use std::alloc::{AllocError, Global};
+use write_json::Json;
 
 /// What stands between paragraphs.
 const PARAGRAPH: &str = "\n\n";
@@ -59,14 +59,17 @@ fn declared_words(ask: &Ask<'_>, declaration: &Declaration) -> Result<String, Al
     Ok(all)
 }
 
-/// What is shown of a place.
-fn shown(ask: &Ask<'_>, mark: Mark, words: String) -> Result<Value, AllocError> {
-    let alloc = ask.alloc;
-    let range = ask.range_of(mark)?;
-    json!(in alloc; {
-        "contents": { "kind": "markdown", "value": words },
-        "range": range
-    })
+/// Writes what is shown of a place.
+fn put_shown(ask: &Ask<'_>, mark: Mark, words: &str, json: &mut Json) {
+    json.begin_object();
+    json.name("contents");
+    json.begin_object();
+    json.words_member("kind", "markdown");
+    json.words_member("value", words);
+    json.end_object();
+    json.name("range");
+    ask.put_range(mark, json);
+    json.end_object();
 }
 
 /// Where the token stands in which the place is.
@@ -85,34 +88,44 @@ fn token_mark(ask: &Ask<'_>) -> Result<Option<Mark>, AllocError> {
     Ok(None)
 }
 
-/// What a word of the language is.
-fn word_hover(ask: &Ask<'_>) -> Result<Value, AllocError> {
-    let alloc = ask.alloc;
-    let Some(mark) = token_mark(ask)? else {
-        return Ok(Value::Null);
-    };
-    let spelling = ask.bytes().get(mark.begin..mark.end).unwrap_or(b"");
-    let Some(word) = explanation(spelling) else {
-        return Ok(Value::Null);
-    };
+/// What a word of the language is: how it is written, and a sentence.
+fn explained_words(alloc: Global, word: &Word) -> Result<String, AllocError> {
     let mut all = String::new(alloc);
     push_code(&mut all, word.heading)?;
     push_paragraph(&mut all, word.sentence)?;
-    shown(ask, mark, all)
+    Ok(all)
 }
 
-/// What the name at a place is: its declaration with the comment, or a sentence on a word of the language. Null if neither stands
-/// there. If the program is built, also the value of a constant, and the size and the place of a variable or a field. The only error is
-/// want of memory.
-pub fn hover(ask: &Ask<'_>) -> Result<Value, AllocError> {
+/// Writes what the word of the language is in which the place is. Null if it is in none.
+fn put_word(ask: &Ask<'_>, json: &mut Json) -> Result<(), AllocError> {
+    let Some(mark) = token_mark(ask)? else {
+        json.null();
+        return Ok(());
+    };
+    let spelling = ask.bytes().get(mark.begin..mark.end).unwrap_or(b"");
+    match explanation(spelling) {
+        Some(word) => {
+            let words = explained_words(ask.alloc, &word)?;
+            put_shown(ask, mark, words.as_str(), json);
+        }
+        None => json.null(),
+    }
+    Ok(())
+}
+
+/// Writes what the name at a place is: its declaration with the comment, or a sentence on a word of the language. Null if neither
+/// stands there. If the program is built, also the value of a constant, and the size and the place of a variable or a field. The only
+/// error is want of memory.
+pub fn hover(ask: &Ask<'_>, json: &mut Json) -> Result<(), AllocError> {
     let Some((found, mark)) = ask.name_here() else {
-        return word_hover(ask);
+        return put_word(ask, json);
     };
     match ask.view.index.declaration(found.declaration) {
         Some(declaration) => {
             let words = declared_words(ask, declaration)?;
-            shown(ask, mark, words)
+            put_shown(ask, mark, words.as_str(), json);
         }
-        None => Ok(Value::Null),
+        None => json.null(),
     }
+    Ok(())
 }

@@ -7,7 +7,7 @@ mod meant;
 
 pub use hovering::hover;
 pub use serve_lists::{
-    Ask, Edit, Extent, TOKEN_MODIFIERS, TOKEN_TYPES, add_member, add_workspace_symbols, definition,
-    document_symbols, edit_value, folding_ranges, highlights, implementation, prepare_rename,
-    range_value, references, semantic_tokens, signature_help, text_value, type_definition,
+    Ask, Edit, Extent, TOKEN_MODIFIERS, TOKEN_TYPES, definition, document_symbols, folding_ranges,
+    highlights, implementation, prepare_rename, put_edit, put_position, put_range, references,
+    semantic_tokens, signature_help, type_definition, workspace_symbols,
 };

@@ -1,12 +1,12 @@
 //! What is asked about.
 
-use crate::values::range_value;
+use crate::values::put_range;
 use propose_mends::Source;
-use serde_json::{Value, json};
 use serve_names::{Declaration, Place, Use};
 use serve_programs::{FileView, Mark, Program, View, file_of, source_of};
 use serve_texts::{Encoding, Texts, uri_of};
 use std::alloc::{AllocError, Global};
+use write_json::Json;
 
 /// A byte of a file of a view.
 #[derive(Clone, Copy)]
@@ -67,11 +67,11 @@ impl<'a> Ask<'a> {
         Some((found.declaration, declaration))
     }
 
-    /// The range of a mark.
-    pub fn range_of(&self, mark: Mark) -> Result<Value, AllocError> {
+    /// Writes the range of a mark, or null if its file is not known.
+    pub fn put_range(&self, mark: Mark, json: &mut Json) {
         match self.view.files.get(mark.file) {
-            Some(file) => range_value(self.alloc, &file.now, self.encoding, mark.begin, mark.end),
-            None => Ok(Value::Null),
+            Some(file) => put_range(&file.now, self.encoding, mark.begin, mark.end, json),
+            None => json.null(),
         }
     }
 
@@ -84,12 +84,14 @@ impl<'a> Ask<'a> {
         }
     }
 
-    /// The file and the range of a mark.
-    pub fn location_of(&self, mark: Mark) -> Result<Value, AllocError> {
-        let alloc = self.alloc;
-        let range = self.range_of(mark)?;
-        let uri = self.uri_of(mark.file)?;
-        json!(in alloc; { "range": range, "uri": uri })
+    /// Writes the file and the range of a mark.
+    pub fn put_location(&self, mark: Mark, json: &mut Json) {
+        json.begin_object();
+        json.name("range");
+        self.put_range(mark, json);
+        json.name("uri");
+        json.words_made(self.uri_of(mark.file));
+        json.end_object();
     }
 
     /// The tokens of the file's text as it stands with their places, or of one that does not divide those in front of where it does not.
@@ -104,11 +106,11 @@ impl<'a> Ask<'a> {
             .find(|it| file_of(&it.files, path).is_some())
     }
 
-    /// The file and the range of a name, or null if it stands nowhere now.
-    pub fn location_at(&self, place: Place) -> Result<Value, AllocError> {
+    /// Writes the file and the range of a name, or null if it stands nowhere now.
+    pub fn put_location_at(&self, place: Place, json: &mut Json) {
         match self.view.mark_of(place) {
-            Some(mark) => self.location_of(mark),
-            None => Ok(Value::Null),
+            Some(mark) => self.put_location(mark, json),
+            None => json.null(),
         }
     }
 }

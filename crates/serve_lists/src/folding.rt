@@ -3,10 +3,10 @@
 use crate::ask::Ask;
 use m2_tree::Symbol;
 use propose_mends::Source;
-use serde_json::{Value, json};
 use serve_names::{Declaration, Kind, Range};
 use serve_programs::source_of;
 use std::alloc::{AllocError, Global};
+use write_json::Json;
 
 /// Lines from one to another, from 1.
 #[derive(Clone, Copy, PartialEq, Eq, PartialOrd, Ord)]
@@ -93,18 +93,31 @@ fn add_procedures(ask: &Ask<'_>, all: &mut Vec<Lines>) -> Result<(), AllocError>
     Ok(())
 }
 
-/// The lines of procedures, statements and records, which an editor can fold.
-pub fn folding_ranges(ask: &Ask<'_>) -> Result<Value, AllocError> {
+/// The lines of procedures, statements and records, in order.
+fn all_lines(ask: &Ask<'_>) -> Result<Vec<Lines>, AllocError> {
     let alloc = ask.alloc;
-    let mut lines = Vec::new(alloc);
-    add_procedures(ask, &mut lines)?;
-    add_statements(alloc, &source_of(alloc, ask.bytes())?, &mut lines)?;
-    lines.sort()?;
     let mut all = Vec::new(alloc);
-    for it in &lines {
-        let first = it.first.saturating_sub(1);
-        let last = it.last.saturating_sub(1);
-        all.push(json!(in alloc; { "endLine": last, "startLine": first })?)?;
+    add_procedures(ask, &mut all)?;
+    add_statements(alloc, &source_of(alloc, ask.bytes())?, &mut all)?;
+    all.sort()?;
+    Ok(all)
+}
+
+/// Writes lines, from 0.
+fn put_lines(lines: Lines, json: &mut Json) {
+    json.begin_object();
+    json.number_member("endLine", u64::from(lines.last.saturating_sub(1)));
+    json.number_member("startLine", u64::from(lines.first.saturating_sub(1)));
+    json.end_object();
+}
+
+/// Writes the lines of procedures, statements and records, which an editor can fold.
+pub fn folding_ranges(ask: &Ask<'_>, json: &mut Json) -> Result<(), AllocError> {
+    let all = all_lines(ask)?;
+    json.begin_list();
+    for lines in &all {
+        put_lines(*lines, json);
     }
-    Ok(Value::Array(all))
+    json.end_list();
+    Ok(())
 }

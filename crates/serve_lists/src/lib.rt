@@ -20,5 +20,5 @@ pub use places::{
 pub use semantic::{TOKEN_MODIFIERS, TOKEN_TYPES, semantic_tokens};
 pub use serve_programs::{Mark, Program};
 pub use signature::signature_help;
-pub use symbols::{add_workspace_symbols, document_symbols};
-pub use values::{Edit, add_member, edit_value, position_value, range_value, text_value};
+pub use symbols::{document_symbols, workspace_symbols};
+pub use values::{Edit, put_edit, put_position, put_range};

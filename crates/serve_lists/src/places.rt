@@ -1,9 +1,10 @@
 //! Where a name stands.
 
 use crate::ask::Ask;
-use serde_json::{Value, json};
 use serve_names::{Role, Use};
+use serve_programs::Mark;
 use std::alloc::AllocError;
+use write_json::Json;
 
 /// Which places of a name are asked for.
 #[derive(Clone, Copy, Debug, PartialEq, Eq)]
@@ -15,38 +16,39 @@ pub enum Extent {
 }
 
 /// The kind of a highlight: a use, or a declaration.
-const READ: u32 = 2;
+const READ: u64 = 2;
 
-const WRITE: u32 = 3;
+const WRITE: u64 = 3;
 
-/// Where the thing at a place is declared: in the definition, if it has one. Null if none stands there.
-pub fn definition(ask: &Ask<'_>) -> Result<Value, AllocError> {
+/// Writes where the thing at a place is declared: in the definition, if it has one. Null if none stands there.
+pub fn definition(ask: &Ask<'_>, json: &mut Json) {
     match ask.declaration_here() {
-        Some((_number, declaration)) => ask.location_at(declaration.place),
-        None => Ok(Value::Null),
+        Some((_number, declaration)) => ask.put_location_at(declaration.place, json),
+        None => json.null(),
     }
 }
 
-/// Where the thing at a place is implemented, or else declared. Null if none stands there.
-pub fn implementation(ask: &Ask<'_>) -> Result<Value, AllocError> {
+/// Writes where the thing at a place is implemented, or else declared. Null if none stands there.
+pub fn implementation(ask: &Ask<'_>, json: &mut Json) {
     match ask.declaration_here() {
         Some((_number, declaration)) => {
-            ask.location_at(declaration.implementation.unwrap_or(declaration.place))
+            let place = declaration.implementation.unwrap_or(declaration.place);
+            ask.put_location_at(place, json);
         }
-        None => Ok(Value::Null),
+        None => json.null(),
     }
 }
 
-/// Where the named type of the thing at a place is declared. Null if it has none.
-pub fn type_definition(ask: &Ask<'_>) -> Result<Value, AllocError> {
+/// Writes where the named type of the thing at a place is declared. Null if it has none.
+pub fn type_definition(ask: &Ask<'_>, json: &mut Json) {
     let index = &ask.view.index;
     let found = ask
         .declaration_here()
         .and_then(|it| index.type_of(it.0))
         .and_then(|number| index.declaration(number));
     match found {
-        Some(declaration) => ask.location_at(declaration.place),
-        None => Ok(Value::Null),
+        Some(declaration) => ask.put_location_at(declaration.place, json),
+        None => json.null(),
     }
 }
 
@@ -63,45 +65,55 @@ fn is_mention(role: Role) -> bool {
     matches!(role, Role::Import | Role::Mention)
 }
 
-/// The places of the thing at a place.
-pub fn references(ask: &Ask<'_>, wanted: Extent) -> Result<Value, AllocError> {
-    let mut all = Vec::new(ask.alloc);
-    for found in &uses_here(ask)? {
+/// Writes the places of the thing at a place.
+pub fn references(ask: &Ask<'_>, wanted: Extent, json: &mut Json) -> Result<(), AllocError> {
+    let uses = uses_here(ask)?;
+    json.begin_list();
+    for found in &uses {
         if wanted == Extent::All || is_mention(found.role) {
             if let Some(mark) = ask.view.mark_of(found.place) {
-                all.push(ask.location_of(mark)?)?;
+                ask.put_location(mark, json);
             }
         }
     }
-    Ok(Value::Array(all))
+    json.end_list();
+    Ok(())
 }
 
-/// The places of the thing at a place in the same file.
-pub fn highlights(ask: &Ask<'_>) -> Result<Value, AllocError> {
-    let alloc = ask.alloc;
-    let mut all = Vec::new(alloc);
-    for found in &uses_here(ask)? {
-        if let Some(mark) = ask
-            .view
-            .mark_of(found.place)
-            .filter(|it| it.file == ask.file)
-        {
-            let range = ask.range_of(mark)?;
-            let kind = if is_mention(found.role) { READ } else { WRITE };
-            all.push(json!(in alloc; { "kind": kind, "range": range })?)?;
+/// Writes a place in the same file.
+fn put_highlight(ask: &Ask<'_>, mark: Mark, role: Role, json: &mut Json) {
+    let kind = if is_mention(role) { READ } else { WRITE };
+    json.begin_object();
+    json.number_member("kind", kind);
+    json.name("range");
+    ask.put_range(mark, json);
+    json.end_object();
+}
+
+/// Writes the places of the thing at a place in the same file.
+pub fn highlights(ask: &Ask<'_>, json: &mut Json) -> Result<(), AllocError> {
+    let uses = uses_here(ask)?;
+    json.begin_list();
+    for found in &uses {
+        let mark = ask.view.mark_of(found.place);
+        if let Some(mark) = mark.filter(|it| it.file == ask.file) {
+            put_highlight(ask, mark, found.role, json);
         }
     }
-    Ok(Value::Array(all))
+    json.end_list();
+    Ok(())
 }
 
-/// The name at a place, if it can be renamed. Null if none stands there.
-pub fn prepare_rename(ask: &Ask<'_>) -> Result<Value, AllocError> {
-    let alloc = ask.alloc;
+/// Writes the name at a place, if it can be renamed. Null if none stands there.
+pub fn prepare_rename(ask: &Ask<'_>, json: &mut Json) {
     let Some((_found, mark)) = ask.name_here() else {
-        return Ok(Value::Null);
+        json.null();
+        return;
     };
     let name = ask.bytes().get(mark.begin..mark.end).unwrap_or(b"");
-    let name = String::from_utf8_lossy(alloc, name)?;
-    let range = ask.range_of(mark)?;
-    json!(in alloc; { "placeholder": name, "range": range })
+    json.begin_object();
+    json.bytes_member("placeholder", name);
+    json.name("range");
+    ask.put_range(mark, json);
+    json.end_object();
 }

@@ -3,12 +3,12 @@
 use crate::ask::Ask;
 use m2_tree::Lexeme;
 use propose_mends::Source;
-use serde_json::{Value, json};
 use serve_names::{Declaration, Kind, Role, Use};
 use serve_programs::source_of;
-use serve_texts::{Known, Position};
+use serve_texts::{Known, Position, Text};
 use serve_words::{Sort, explanation};
 use std::alloc::AllocError;
+use write_json::Json;
 
 /// The types of tokens, in the order of their numbers.
 pub const TOKEN_TYPES: [&str; 10] = [
@@ -140,51 +140,47 @@ fn paint_at(ask: &Ask<'_>, source: &Source<'_>, at: usize) -> Option<Paint> {
     }
 }
 
-/// Adds a number.
-fn add_number(data: &mut Vec<Value>, number: u32) -> Result<(), AllocError> {
-    data.push(Value::Number(serde_json::Number::from(number)))?;
-    Ok(())
-}
-
-/// Adds the five numbers of a token: where it begins behind the token before, how long it is, and what it is.
-fn add_token(
-    data: &mut Vec<Value>,
-    before: Position,
-    place: Position,
-    length: u32,
-    paint: Paint,
-) -> Result<(), AllocError> {
+/// Writes the five numbers of a token: where it begins behind the token before, how long it is, and what it is.
+fn put_token(before: Position, place: Position, length: u32, paint: Paint, json: &mut Json) {
     let from = if before.line == place.line {
         before.character
     } else {
         0
     };
-    add_number(data, place.line.saturating_sub(before.line))?;
-    add_number(data, place.character.saturating_sub(from))?;
-    add_number(data, length)?;
-    add_number(data, paint.of)?;
-    add_number(data, paint.modifiers)
+    json.number(u64::from(place.line.saturating_sub(before.line)));
+    json.number(u64::from(place.character.saturating_sub(from)));
+    json.number(u64::from(length));
+    json.number(u64::from(paint.of));
+    json.number(u64::from(paint.modifiers));
 }
 
-/// What each token of the file is, as far as the text divides into tokens: names by what they stand for, words, numbers and
-/// strings.
-pub fn semantic_tokens(ask: &Ask<'_>) -> Result<Value, AllocError> {
-    let alloc = ask.alloc;
-    let mut data = Vec::new(alloc);
-    let Some(file) = ask.here() else {
-        return Ok(Value::Null);
-    };
-    let source = source_of(alloc, ask.bytes())?;
+/// Writes the numbers of all tokens that are no signs.
+fn put_tokens(ask: &Ask<'_>, text: &Text, source: &Source<'_>, json: &mut Json) {
     let mut before = Known::BEGIN;
     for at in 0..source.tokens.len() {
-        if let Some(paint) = paint_at(ask, &source, at) {
+        if let Some(paint) = paint_at(ask, source, at) {
             let offset = source.begin(at);
-            let position = file.now.position_behind(before, offset, ask.encoding);
+            let position = text.position_behind(before, offset, ask.encoding);
             let length = ask.encoding.units_of(source.spelling(at));
-            add_token(&mut data, before.position, position, length, paint)?;
+            put_token(before.position, position, length, paint, json);
             before = Known { offset, position };
         }
     }
-    let data = Value::Array(data);
-    json!(in alloc; { "data": data })
+}
+
+/// Writes what each token of the file is, as far as the text divides into tokens: names by what they stand for, words, numbers and
+/// strings. Null if there is no file.
+pub fn semantic_tokens(ask: &Ask<'_>, json: &mut Json) -> Result<(), AllocError> {
+    let Some(file) = ask.here() else {
+        json.null();
+        return Ok(());
+    };
+    let source = source_of(ask.alloc, ask.bytes())?;
+    json.begin_object();
+    json.name("data");
+    json.begin_list();
+    put_tokens(ask, &file.now, &source, json);
+    json.end_list();
+    json.end_object();
+    Ok(())
 }

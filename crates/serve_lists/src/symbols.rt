@@ -1,18 +1,16 @@
 //! Declarations in lists.
 
 use crate::ask::Ask;
-use crate::values::text_value;
-use serde_json::{Value, json};
 use serve_names::{Declaration, Kind, Place, Range};
 use serve_programs::Mark;
 use std::alloc::{AllocError, Global};
-use std::mem;
+use write_json::Json;
 
 /// The most names that are found in all files.
 const MOST_SYMBOLS: usize = 512;
 
 /// The number that the protocol has for a kind.
-fn kind_number(kind: Kind) -> u32 {
+fn kind_number(kind: Kind) -> u64 {
     match kind {
         Kind::Module => 2,
         Kind::Field => 8,
@@ -47,84 +45,104 @@ fn standing_here(ask: &Ask<'_>, declaration: &Declaration) -> Option<Standing> {
     standing_of(ask, place, declaration.implementation_range?)
 }
 
-/// The objects of declarations: those inside of each one, and those that stand in none, the last first.
-#[derive(Drop)]
-struct Nest {
-    alloc: Global,
-    inside: Vec<Vec<Value>>,
-    outside: Vec<Value>,
+/// A declaration that stands in the file.
+#[derive(Clone, Copy)]
+struct Entry<'a> {
+    number: usize,
+    declaration: &'a Declaration,
+    standing: Standing,
 }
 
-impl Nest {
-    /// No object yet, of so many declarations.
-    fn of(alloc: Global, count: usize) -> Result<Nest, AllocError> {
+/// The declarations that stand in the file: those inside of each one, and those that stand in none, the last first.
+#[derive(Drop)]
+struct Nest<'a> {
+    inside: Vec<Vec<Entry<'a>>>,
+    outside: Vec<Entry<'a>>,
+}
+
+impl<'a> Nest<'a> {
+    /// No entry yet, of so many declarations.
+    fn new(alloc: Global, count: usize) -> Result<Nest<'a>, AllocError> {
         let mut inside = Vec::new(alloc);
         for _number in 0..count {
             inside.push(Vec::new(alloc))?;
         }
         Ok(Nest {
-            alloc,
             inside,
             outside: Vec::new(alloc),
         })
     }
 
-    /// Takes out the objects inside of a declaration, in order.
-    fn taken(&mut self, number: usize) -> Vec<Value> {
-        let mut all = match self.inside.get_mut(number) {
-            Some(list) => mem::replace(list, Vec::new(self.alloc)),
-            None => Vec::new(self.alloc),
-        };
-        all.reverse();
-        all
+    /// The declarations that stand in the file.
+    fn of(ask: &Ask<'a>) -> Result<Nest<'a>, AllocError> {
+        let declarations = ask.view.index.declarations();
+        let mut nest = Nest::new(ask.alloc, declarations.len())?;
+        for (number, declaration) in declarations.iter().enumerate().rev() {
+            if let Some(standing) = standing_here(ask, declaration) {
+                nest.put(Entry {
+                    number,
+                    declaration,
+                    standing,
+                })?;
+            }
+        }
+        Ok(nest)
     }
 
-    /// Puts an object into the declaration in which it stands.
-    fn put(&mut self, parent: Option<usize>, object: Value) -> Result<(), AllocError> {
-        let number = parent.unwrap_or(self.inside.len());
+    /// Puts an entry into the declaration in which it stands.
+    fn put(&mut self, entry: Entry<'a>) -> Result<(), AllocError> {
+        let number = entry.declaration.parent.unwrap_or(self.inside.len());
         match self.inside.get_mut(number) {
-            Some(list) => list.push(object)?,
-            None => self.outside.push(object)?,
+            Some(entries) => entries.push(entry)?,
+            None => self.outside.push(entry)?,
         }
         Ok(())
     }
-}
 
-/// The object of a declaration.
-fn symbol_value(
-    ask: &Ask<'_>,
-    declaration: &Declaration,
-    standing: Standing,
-    inside: Vec<Value>,
-) -> Result<Value, AllocError> {
-    let alloc = ask.alloc;
-    let name = text_value(alloc, &declaration.name)?;
-    let range = ask.range_of(standing.whole)?;
-    let selection = ask.range_of(standing.name)?;
-    let children = Value::Array(inside);
-    let kind = kind_number(declaration.kind);
-    json!(in alloc; {
-        "children": children,
-        "kind": kind,
-        "name": name,
-        "range": range,
-        "selectionRange": selection
-    })
-}
-
-/// The declarations of the file, each with those inside of it. Each is numbered behind the one in which it stands.
-pub fn document_symbols(ask: &Ask<'_>) -> Result<Value, AllocError> {
-    let declarations = ask.view.index.declarations();
-    let mut nest = Nest::of(ask.alloc, declarations.len())?;
-    for (number, declaration) in declarations.iter().enumerate().rev() {
-        if let Some(standing) = standing_here(ask, declaration) {
-            let inside = nest.taken(number);
-            let object = symbol_value(ask, declaration, standing, inside)?;
-            nest.put(declaration.parent, object)?;
+    /// Takes out the first entry that is left inside of another, or of those that stand in none.
+    fn take(&mut self, around: Option<Entry<'a>>) -> Option<Entry<'a>> {
+        match around {
+            Some(entry) => self.inside.get_mut(entry.number)?.pop(),
+            None => self.outside.pop(),
         }
     }
-    nest.outside.reverse();
-    Ok(Value::Array(nest.outside))
+}
+
+/// Begins the object of a declaration, in which those inside of it come first.
+fn begin_symbol(json: &mut Json) {
+    json.begin_object();
+    json.name("children");
+    json.begin_list();
+}
+
+/// Ends the object of a declaration.
+fn end_symbol(ask: &Ask<'_>, entry: Entry<'_>, json: &mut Json) {
+    json.end_list();
+    json.number_member("kind", kind_number(entry.declaration.kind));
+    json.bytes_member("name", &entry.declaration.name);
+    json.name("range");
+    ask.put_range(entry.standing.whole, json);
+    json.name("selectionRange");
+    ask.put_range(entry.standing.name, json);
+    json.end_object();
+}
+
+/// Writes the declarations of the file, each with those inside of it.
+pub fn document_symbols(ask: &Ask<'_>, json: &mut Json) -> Result<(), AllocError> {
+    let mut nest = Nest::of(ask)?;
+    let mut open = Vec::new(ask.alloc);
+    json.begin_list();
+    // Each declaration is begun and ended once.
+    for _ in 0..nest.inside.len().saturating_mul(2) {
+        if let Some(entry) = nest.take(open.last().copied()) {
+            begin_symbol(json);
+            open.push(entry)?;
+        } else if let Some(entry) = open.pop() {
+            end_symbol(ask, entry, json);
+        }
+    }
+    json.end_list();
+    Ok(())
 }
 
 /// Whether a name has these letters in it, small or capital.
@@ -140,28 +158,37 @@ fn is_listed(kind: Kind) -> bool {
     !matches!(kind, Kind::Formal | Kind::Field)
 }
 
-/// Adds the declarations of all files whose names have these letters in them, up to 512.
-pub fn add_workspace_symbols(
-    ask: &Ask<'_>,
-    wanted: &[u8],
-    all: &mut Vec<Value>,
-) -> Result<(), AllocError> {
-    let alloc = ask.alloc;
+/// Where a declaration stands, if it is shown in the list of all files, and its name has these letters in it.
+fn found_at(ask: &Ask<'_>, declaration: &Declaration, wanted: &[u8]) -> Option<Mark> {
+    if is_listed(declaration.kind) && is_found(&declaration.name, wanted) {
+        ask.view.mark_of(declaration.place)
+    } else {
+        None
+    }
+}
+
+/// Writes a declaration of any file.
+fn put_symbol(ask: &Ask<'_>, declaration: &Declaration, mark: Mark, json: &mut Json) {
+    json.begin_object();
+    json.number_member("kind", kind_number(declaration.kind));
+    json.name("location");
+    ask.put_location(mark, json);
+    json.bytes_member("name", &declaration.name);
+    json.end_object();
+}
+
+/// Writes the declarations of all files whose names have these letters in them, up to 512.
+pub fn workspace_symbols(ask: &Ask<'_>, wanted: &[u8], json: &mut Json) {
+    let mut left = MOST_SYMBOLS;
+    json.begin_list();
     for declaration in ask.view.index.declarations() {
-        if all.len() >= MOST_SYMBOLS {
-            return Ok(());
+        if left == 0 {
+            break;
         }
-        if is_listed(declaration.kind) && is_found(&declaration.name, wanted) {
-            if let Some(mark) = ask.view.mark_of(declaration.place) {
-                let name = text_value(alloc, &declaration.name)?;
-                let location = ask.location_of(mark)?;
-                let kind = kind_number(declaration.kind);
-                let symbol = json!(in alloc; {
-                    "kind": kind, "location": location, "name": name
-                })?;
-                all.push(symbol)?;
-            }
+        if let Some(mark) = found_at(ask, declaration, wanted) {
+            put_symbol(ask, declaration, mark, json);
+            left = left.saturating_sub(1);
         }
     }
-    Ok(())
+    json.end_list();
 }

@@ -1,30 +1,24 @@
 //! Parts of answers.
 
-use serde_json::{Value, json};
 use serve_texts::{Encoding, Position, Text};
-use std::alloc::{AllocError, Global};
+use write_json::Json;
 
-/// The object of a place.
-pub fn position_value(alloc: Global, position: Position) -> Result<Value, AllocError> {
-    json!(in alloc; { "character": position.character, "line": position.line })
+/// Writes a place.
+pub fn put_position(position: Position, json: &mut Json) {
+    json.begin_object();
+    json.number_member("character", u64::from(position.character));
+    json.number_member("line", u64::from(position.line));
+    json.end_object();
 }
 
-/// The object of the bytes of a text from one to another.
-pub fn range_value(
-    alloc: Global,
-    text: &Text,
-    encoding: Encoding,
-    begin: usize,
-    end: usize,
-) -> Result<Value, AllocError> {
-    let first = position_value(alloc, text.position_of(begin, encoding))?;
-    let last = position_value(alloc, text.position_of(end, encoding))?;
-    json!(in alloc; { "end": last, "start": first })
-}
-
-/// Bytes as a text of JSON: what is no UTF-8 is replaced.
-pub fn text_value(alloc: Global, bytes: &[u8]) -> Result<Value, AllocError> {
-    Ok(Value::String(String::from_utf8_lossy(alloc, bytes)?))
+/// Writes the range of the bytes of a text from one to another.
+pub fn put_range(text: &Text, encoding: Encoding, begin: usize, end: usize, json: &mut Json) {
+    json.begin_object();
+    json.name("end");
+    put_position(text.position_of(end, encoding), json);
+    json.name("start");
+    put_position(text.position_of(begin, encoding), json);
+    json.end_object();
 }
 
 /// An edit: the bytes from one to another become others.
@@ -35,27 +29,11 @@ pub struct Edit<'a> {
     pub new: &'a [u8],
 }
 
-/// The object of an edit of a text.
-pub fn edit_value(
-    alloc: Global,
-    text: &Text,
-    encoding: Encoding,
-    edit: Edit<'_>,
-) -> Result<Value, AllocError> {
-    let range = range_value(alloc, text, encoding, edit.begin, edit.end)?;
-    let new = text_value(alloc, edit.new)?;
-    json!(in alloc; { "newText": new, "range": range })
-}
-
-/// Adds a member to an object. Nothing is added to what is no object.
-pub fn add_member(
-    alloc: Global,
-    object: &mut Value,
-    name: &str,
-    member: Value,
-) -> Result<(), AllocError> {
-    if let Some(members) = object.as_object_mut() {
-        drop(members.insert(String::from_str(alloc, name)?, member)?);
-    }
-    Ok(())
+/// Writes an edit of a text.
+pub fn put_edit(text: &Text, encoding: Encoding, edit: Edit<'_>, json: &mut Json) {
+    json.begin_object();
+    json.bytes_member("newText", edit.new);
+    json.name("range");
+    put_range(text, encoding, edit.begin, edit.end, json);
+    json.end_object();
 }

@@ -3,8 +3,9 @@
 ghost use Rattle.std.specs.Prelude.{◌≡◌, ◌++◌, ◌∷◌, [], codes, length, IfOk};
 ghost use Rattle.std.specs.Fmt.{decimal};
 
-use serde_json::{Value, json};
+use serde_json::Value;
 use std::alloc::{AllocError, Global};
+use write_json::Json;
 
 /// Why a request is not answered, as the protocol numbers it.
 #[derive(Clone, Copy, Debug, PartialEq, Eq)]
@@ -40,11 +41,28 @@ impl ErrorCode {
     }
 }
 
-/// The answer to the request of this number. The only error is want of memory.
-pub fn result_body(alloc: Global, id: &Value, answer: Value) -> Result<Vec<u8>, AllocError> {
-    let id = id.clone()?;
-    let message = json!(in alloc; { "id": id, "jsonrpc": "2.0", "result": answer })?;
-    message.to_vec(alloc)
+/// These texts behind one another.
+fn joined(alloc: Global, texts: &[&[u8]]) -> Result<Vec<u8>, AllocError> {
+    let mut all = Vec::new(alloc);
+    for text in texts {
+        all.extend_from_slice(*text)?;
+    }
+    Ok(all)
+}
+
+/// The answer to the request of this number: this text of JSON. The only error is want of memory.
+pub fn result_body(alloc: Global, id: &Value, answer: &[u8]) -> Result<Vec<u8>, AllocError> {
+    let id = id.to_vec(alloc)?;
+    joined(
+        alloc,
+        &[
+            b"{\"id\":",
+            &id,
+            b",\"jsonrpc\":\"2.0\",\"result\":",
+            answer,
+            b"}",
+        ],
+    )
 }
 
 /// The answer that the request of this number is not met, with a sentence. The only error is want of memory.
@@ -54,20 +72,41 @@ pub fn error_body(
     code: ErrorCode,
     words: &str,
 ) -> Result<Vec<u8>, AllocError> {
-    let id = id.clone()?;
-    let number = code.number();
-    let message = json!(in alloc; {
-        "error": { "code": number, "message": words },
-        "id": id,
-        "jsonrpc": "2.0"
-    })?;
-    message.to_vec(alloc)
+    let mut error = Json::new(alloc);
+    error.begin_object();
+    error.name("code");
+    error.signed(code.number());
+    error.words_member("message", words);
+    error.end_object();
+    let error = error.finish()?;
+    let id = id.to_vec(alloc)?;
+    joined(
+        alloc,
+        &[
+            b"{\"error\":",
+            &error,
+            b",\"id\":",
+            &id,
+            b",\"jsonrpc\":\"2.0\"}",
+        ],
+    )
 }
 
-/// A notification. The only error is want of memory.
-pub fn notice_body(alloc: Global, method: &str, params: Value) -> Result<Vec<u8>, AllocError> {
-    let message = json!(in alloc; { "jsonrpc": "2.0", "method": method, "params": params })?;
-    message.to_vec(alloc)
+/// A notification with these params: a text of JSON. The only error is want of memory.
+pub fn notice_body(alloc: Global, method: &str, params: &[u8]) -> Result<Vec<u8>, AllocError> {
+    let mut name = Json::new(alloc);
+    name.words(method);
+    let name = name.finish()?;
+    joined(
+        alloc,
+        &[
+            b"{\"jsonrpc\":\"2.0\",\"method\":",
+            &name,
+            b",\"params\":",
+            params,
+            b"}",
+        ],
+    )
 }
 
 /// A message with its header in front. The only error is want of memory.

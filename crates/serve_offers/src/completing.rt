@@ -1,14 +1,15 @@
 //! What may be written at a place.
 
-use crate::snippets::{Formals, Lead, add_call, add_lacking};
+use crate::items::put_item;
+use crate::snippets::{Formals, Lead, call_of, put_lacking};
 use m2_tree::{Pos, Symbol, Token};
 use scan_tokens::{ScanError, scan};
-use serde_json::{Value, json};
-use serve_hovers::{Ask, text_value};
-use serve_names::{Kind, Offer, words_of};
+use serve_hovers::Ask;
+use serve_names::{Declaration, Kind, Offer, words_of};
 use serve_words::{Sort, Word, explanation, reserved_words};
 use std::alloc::{AllocError, Global};
 use text_tokens::{name_at, part, symbol_at};
+use write_json::Json;
 
 /// The numbers that the protocol has for what is offered.
 const FUNCTION: u32 = 3;
@@ -141,76 +142,66 @@ fn sort_number(sort: Sort) -> u32 {
     }
 }
 
-/// The object of something that may be written.
-fn item_value(alloc: Global, name: &[u8], kind: u32, detail: &[u8]) -> Result<Value, AllocError> {
-    let label = text_value(alloc, name)?;
-    let detail = text_value(alloc, detail)?;
-    json!(in alloc; { "detail": detail, "kind": kind, "label": label })
-}
-
-/// Adds a word of the language.
-fn add_word(alloc: Global, word: &Word, all: &mut Vec<Value>) -> Result<(), AllocError> {
+/// Writes a word of the language.
+fn put_word(word: &Word, json: &mut Json) {
     let kind = sort_number(word.sort);
-    let item = item_value(alloc, word.name.as_bytes(), kind, word.heading.as_bytes())?;
-    all.push(item)?;
-    Ok(())
+    put_item(
+        word.name.as_bytes(),
+        kind,
+        word.heading.as_bytes(),
+        None,
+        json,
+    );
 }
 
-/// Adds a declared thing by its name alone.
-fn add_declared(ask: &Ask<'_>, number: usize, all: &mut Vec<Value>) -> Result<(), AllocError> {
-    if let Some(item) = declared_value(ask, number)? {
-        all.push(item)?;
-    }
-    Ok(())
+/// Writes a module by its name alone.
+fn put_module(name: &[u8], json: &mut Json) {
+    put_item(name, MODULE, b"", None, json);
 }
 
-/// The object of a declared thing.
-fn declared_value(ask: &Ask<'_>, number: usize) -> Result<Option<Value>, AllocError> {
-    let Some(declaration) = ask.view.index.declaration(number) else {
-        return Ok(None);
-    };
+/// How a thing is declared, unless that stands in too long a text.
+fn shown_words(ask: &Ask<'_>, declaration: &Declaration) -> Result<Vec<u8>, AllocError> {
     let text = ask.known_bytes(declaration.place.file);
-    let words = if text.len() > MOST_BYTES {
-        Vec::new(ask.alloc)
+    if text.len() > MOST_BYTES {
+        Ok(Vec::new(ask.alloc))
     } else {
-        words_of(ask.alloc, text, declaration)?
-    };
-    let kind = kind_number(declaration.kind);
-    Ok(Some(item_value(ask.alloc, &declaration.name, kind, &words)?))
+        words_of(ask.alloc, text, declaration)
+    }
 }
 
-/// Adds a declared thing: a procedure with places for what is given to it, if the editor takes them.
-fn add_named(
+/// Writes a declared thing: a procedure with places for what is given to it, if formals are known.
+fn put_declared(
     ask: &Ask<'_>,
     number: usize,
     formals: Option<&Formals>,
-    all: &mut Vec<Value>,
+    json: &mut Json,
 ) -> Result<(), AllocError> {
-    if let Some(item) = declared_value(ask, number)? {
-        let mut item = item;
-        if let Some(formals) = formals {
-            add_call(ask, number, formals, &mut item)?;
-        }
-        all.push(item)?;
-    }
+    let Some(declaration) = ask.view.index.declaration(number) else {
+        return Ok(());
+    };
+    let words = shown_words(ask, declaration)?;
+    let insert = match formals {
+        Some(formals) => call_of(ask, number, declaration, formals)?,
+        None => None,
+    };
+    let kind = kind_number(declaration.kind);
+    put_item(&declaration.name, kind, &words, insert.as_ref(), json);
     Ok(())
 }
 
-/// Adds what is offered.
-fn add_offer(
+/// Writes what is offered.
+fn put_offer(
     ask: &Ask<'_>,
     offer: &Offer,
     formals: Option<&Formals>,
-    all: &mut Vec<Value>,
+    json: &mut Json,
 ) -> Result<(), AllocError> {
     match (offer.declaration, explanation(&offer.name)) {
-        (Some(number), _) => add_named(ask, number, formals, all),
-        (None, Some(word)) => add_word(ask.alloc, &word, all),
-        (None, None) => {
-            all.push(item_value(ask.alloc, &offer.name, MODULE, b"")?)?;
-            Ok(())
-        }
+        (Some(number), _) => return put_declared(ask, number, formals, json),
+        (None, Some(word)) => put_word(&word, json),
+        (None, None) => put_module(&offer.name, json),
     }
+    Ok(())
 }
 
 /// The formals of all procedures, if the editor takes texts with places to fill.
@@ -222,46 +213,40 @@ fn formals_for(ask: &Ask<'_>, choice: &Choice<'_>) -> Result<Option<Formals>, Al
     }
 }
 
-/// Adds all that is offered.
-fn add_offers(
+/// Writes all that is offered.
+fn put_offers(
     ask: &Ask<'_>,
     choice: &Choice<'_>,
     offers: &[Offer],
-    all: &mut Vec<Value>,
+    json: &mut Json,
 ) -> Result<(), AllocError> {
     let formals = formals_for(ask, choice)?;
     for offer in offers {
-        add_offer(ask, offer, formals.as_ref(), all)?;
+        put_offer(ask, offer, formals.as_ref(), json)?;
     }
     Ok(())
 }
 
-/// Adds the names in scope at a place, and the reserved words.
-fn add_scope(
+/// Writes the names in scope at a place, and the reserved words.
+fn put_scope(
     ask: &Ask<'_>,
     choice: &Choice<'_>,
     pos: Pos,
-    all: &mut Vec<Value>,
+    json: &mut Json,
 ) -> Result<(), AllocError> {
     let offers = ask.view.index.in_scope(ask.alloc, ask.file, pos)?;
-    add_offers(ask, choice, &offers, all)?;
-    add_reserved(ask.alloc, all)
-}
-
-/// Adds the reserved words.
-fn add_reserved(alloc: Global, all: &mut Vec<Value>) -> Result<(), AllocError> {
+    put_offers(ask, choice, &offers, json)?;
     for word in reserved_words() {
-        add_word(alloc, word, all)?;
+        put_word(word, json);
     }
     Ok(())
 }
 
-/// Adds the modules that may be imported: these, which stand in folders.
-fn add_modules(alloc: Global, modules: &[String], all: &mut Vec<Value>) -> Result<(), AllocError> {
+/// Writes the modules that may be imported: these, which stand in folders.
+fn put_modules(modules: &[String], json: &mut Json) {
     for module in modules {
-        all.push(item_value(alloc, module.as_bytes(), MODULE, b"")?)?;
+        put_module(module.as_bytes(), json);
     }
-    Ok(())
 }
 
 /// The number of the module of this name.
@@ -278,57 +263,61 @@ fn module_named(ask: &Ask<'_>, name: &[u8]) -> Result<Option<usize>, AllocError>
     Ok(None)
 }
 
-/// Adds what the module of this name exports.
-fn add_exports(ask: &Ask<'_>, name: &[u8], all: &mut Vec<Value>) -> Result<(), AllocError> {
+/// Writes what the module of this name exports.
+fn put_exports(ask: &Ask<'_>, name: &[u8], json: &mut Json) -> Result<(), AllocError> {
     let Some(module) = module_named(ask, name)? else {
         return Ok(());
     };
     for number in ask.view.index.exports_of(ask.alloc, module)? {
-        add_declared(ask, number, all)?;
+        put_declared(ask, number, None, json)?;
     }
     Ok(())
 }
 
-/// Adds what is wanted.
-fn add_wanted(
+/// Writes what is wanted.
+fn put_wanted(
     ask: &Ask<'_>,
     tokens: &[Token],
     wanted: Wanted<'_>,
     choice: &Choice<'_>,
-    all: &mut Vec<Value>,
+    json: &mut Json,
 ) -> Result<(), AllocError> {
-    let alloc = ask.alloc;
     let Some(file) = ask.here() else {
         return Ok(());
     };
     let pos = file.known_pos(ask.offset);
     let index = &ask.view.index;
     match wanted {
-        Wanted::Module => add_modules(alloc, choice.modules, all),
-        Wanted::Export(name) => add_exports(ask, name, all),
+        Wanted::Module => {
+            put_modules(choice.modules, json);
+            Ok(())
+        }
+        Wanted::Export(name) => put_exports(ask, name, json),
         Wanted::Member(point) => {
-            let offers = index.members_of(alloc, ask.file, pos, tokens, point)?;
-            add_offers(ask, choice, &offers, all)
+            let offers = index.members_of(ask.alloc, ask.file, pos, tokens, point)?;
+            put_offers(ask, choice, &offers, json)
         }
-        Wanted::Heading => add_lacking(ask, choice, Lead::Written, pos, all),
+        Wanted::Heading => put_lacking(ask, choice, Lead::Written, pos, json),
         Wanted::Declaration => {
-            add_lacking(ask, choice, Lead::Missing, pos, all)?;
-            add_scope(ask, choice, pos, all)
+            put_lacking(ask, choice, Lead::Missing, pos, json)?;
+            put_scope(ask, choice, pos, json)
         }
-        Wanted::Name => add_scope(ask, choice, pos, all),
+        Wanted::Name => put_scope(ask, choice, pos, json),
     }
 }
 
-/// What may be written at a place: behind a point the fields of the record or what the module exports, in an import these modules
-/// or what one exports, behind PROCEDURE what the definition declares and the implementation lacks, and else the names in scope and
-/// the words of the language, where a declaration may stand what the implementation lacks too. Nothing in a comment or in a string.
-pub fn completion(ask: &Ask<'_>, choice: &Choice<'_>) -> Result<Value, AllocError> {
-    let mut all = Vec::new(ask.alloc);
+/// Writes the list of what may stand at a place: behind a point the fields of the record or what the module exports, in an import
+/// these modules or what one exports, behind PROCEDURE what the definition declares and the implementation lacks, and else the names
+/// in scope and the words of the language, where a declaration may stand what the implementation lacks too. Nothing in a comment or in
+/// a string. The only error is want of memory.
+pub fn completion(ask: &Ask<'_>, choice: &Choice<'_>, json: &mut Json) -> Result<(), AllocError> {
+    json.begin_list();
     let front = part(ask.bytes(), 0, ask.offset);
     if let Some(tokens) = tokens_before(ask.alloc, front)? {
         let count = count_before_word(&tokens, front);
         let wanted = wanted_behind(&tokens, count);
-        add_wanted(ask, &tokens, wanted, choice, &mut all)?;
+        put_wanted(ask, &tokens, wanted, choice, json)?;
     }
-    Ok(Value::Array(all))
+    json.end_list();
+    Ok(())
 }

@@ -5,15 +5,15 @@
 
 mod abilities;
 mod completing;
+mod items;
 mod partners;
 mod snippets;
 
 pub use abilities::{has_snippets, makes_files};
 pub use completing::{Choice, completion};
-pub use partners::{implementation_text, new_file_value};
+pub use partners::{implementation_text, put_new_file};
 pub use serve_hovers::{
-    Ask, Edit, Extent, TOKEN_MODIFIERS, TOKEN_TYPES, add_member, add_workspace_symbols, definition,
-    document_symbols, edit_value, folding_ranges, highlights, hover, implementation,
-    prepare_rename, range_value, references, semantic_tokens, signature_help, text_value,
-    type_definition,
+    Ask, Edit, Extent, TOKEN_MODIFIERS, TOKEN_TYPES, definition, document_symbols, folding_ranges,
+    highlights, hover, implementation, prepare_rename, put_edit, put_position, put_range,
+    references, semantic_tokens, signature_help, type_definition, workspace_symbols,
 };

@@ -2,14 +2,20 @@
 
 use m2_tree::{Symbol, Token};
 use refused_text::tokens_of;
-use serde_json::{Value, json};
-use serve_hovers::text_value;
-use serve_texts::{Text, uri_of};
+use serve_hovers::put_position;
+use serve_texts::{Position, Text};
 use std::alloc::{AllocError, Global};
 use text_tokens::{name_at, part, symbol_at};
+use write_json::Json;
 
 /// The number of the token that is the name of a definition module.
 const NAME: usize = 2;
+
+/// The only place of an empty text.
+const FRONT: Position = Position {
+    line: 0,
+    character: 0,
+};
 
 /// The text of an implementation in the making.
 #[derive(Drop)]
@@ -111,30 +117,51 @@ pub fn implementation_text(
     Ok(Some(made))
 }
 
-/// The step that makes an empty file of this path.
-fn made_value(alloc: Global, path: &str) -> Result<Value, AllocError> {
-    let uri = uri_of(alloc, path)?;
-    json!(in alloc; { "kind": "create", "uri": uri })
+/// Writes the step that makes an empty file of this name.
+fn put_made(uri: &str, json: &mut Json) {
+    json.begin_object();
+    json.words_member("kind", "create");
+    json.words_member("uri", uri);
+    json.end_object();
 }
 
-/// The edit of an empty text that makes it this text.
-fn whole_value(alloc: Global, text: &[u8]) -> Result<Value, AllocError> {
-    let text = text_value(alloc, text)?;
-    json!(in alloc; {
-        "newText": text,
-        "range": { "end": { "character": 0, "line": 0 }, "start": { "character": 0, "line": 0 } }
-    })
+/// Writes the edit of an empty text that makes it this text.
+fn put_whole(text: &[u8], json: &mut Json) {
+    json.begin_object();
+    json.bytes_member("newText", text);
+    json.name("range");
+    json.begin_object();
+    json.name("end");
+    put_position(FRONT, json);
+    json.name("start");
+    put_position(FRONT, json);
+    json.end_object();
+    json.end_object();
 }
 
-/// The step that makes this edit of the file of this path, which the editor has no version of.
-fn filled_value(alloc: Global, path: &str, edit: Value) -> Result<Value, AllocError> {
-    let uri = uri_of(alloc, path)?;
-    json!(in alloc; { "edits": [edit], "textDocument": { "uri": uri, "version": null } })
+/// Writes the step that puts this text into the empty file of this name, which the editor has no version of.
+fn put_filled(uri: &str, text: &[u8], json: &mut Json) {
+    json.begin_object();
+    json.name("edits");
+    json.begin_list();
+    put_whole(text, json);
+    json.end_list();
+    json.name("textDocument");
+    json.begin_object();
+    json.words_member("uri", uri);
+    json.name("version");
+    json.null();
+    json.end_object();
+    json.end_object();
 }
 
-/// The change that makes a file of this path with this text. The only error is want of memory.
-pub fn new_file_value(alloc: Global, path: &str, text: &[u8]) -> Result<Value, AllocError> {
-    let made = made_value(alloc, path)?;
-    let filled = filled_value(alloc, path, whole_value(alloc, text)?)?;
-    json!(in alloc; { "documentChanges": [made, filled] })
+/// Writes the change that makes a file with this text. The file has this name for the editor.
+pub fn put_new_file(uri: &str, text: &[u8], json: &mut Json) {
+    json.begin_object();
+    json.name("documentChanges");
+    json.begin_list();
+    put_made(uri, json);
+    put_filled(uri, text, json);
+    json.end_list();
+    json.end_object();
 }

@@ -1,19 +1,15 @@
 //! Texts with places to fill: calls of procedures, and procedures that an implementation lacks.
 
 use crate::completing::{Choice, MOST_BYTES};
+use crate::items::{Insert, put_item};
 use m2_tree::Pos;
-use serde_json::{Value, json};
-use serve_hovers::{Ask, add_member, text_value};
+use serve_hovers::Ask;
 use serve_names::{Declaration, Kind, Place, Range, words_of};
 use std::alloc::{AllocError, Global};
+use write_json::Json;
 
 /// The number that the protocol has for what is no name.
 const SNIPPET: u32 = 15;
-
-/// The numbers that the protocol has for a text as it stands, and for one with places to fill.
-const PLAIN: u32 = 1;
-
-const WITH_PLACES: u32 = 2;
 
 /// The word in front of a procedure's name.
 const LEAD: &[u8] = b"PROCEDURE ";
@@ -69,19 +65,6 @@ impl Formals {
     }
 }
 
-/// Sets what is written for an object.
-fn set_text(
-    ask: &Ask<'_>,
-    item: &mut Value,
-    text: String,
-    has_places: bool,
-) -> Result<(), AllocError> {
-    let format: u32 = if has_places { WITH_PLACES } else { PLAIN };
-    let format = json!(in ask.alloc; format)?;
-    add_member(ask.alloc, item, "insertText", Value::String(text))?;
-    add_member(ask.alloc, item, "insertTextFormat", format)
-}
-
 /// A call of this name with a place for each formal.
 fn call_text(ask: &Ask<'_>, name: &[u8], formals: &[usize]) -> Result<String, AllocError> {
     let mut text = String::from_utf8_lossy(ask.alloc, name)?;
@@ -100,24 +83,22 @@ fn call_text(ask: &Ask<'_>, name: &[u8], formals: &[usize]) -> Result<String, Al
     Ok(text)
 }
 
-/// Adds to the object of a procedure that a call is written: with a place for each formal. A procedure without formals is written as
-/// it is called.
-pub fn add_call(
+/// The call that is written for a procedure: with a place for each formal. Nothing for one without formals that is written as it is
+/// called, and for what is no procedure.
+pub fn call_of(
     ask: &Ask<'_>,
     number: usize,
+    declaration: &Declaration,
     formals: &Formals,
-    item: &mut Value,
-) -> Result<(), AllocError> {
-    let Some(declaration) = ask.view.index.declaration(number) else {
-        return Ok(());
-    };
+) -> Result<Option<Insert>, AllocError> {
     let own = formals.of.get(number).map_or(&[][..], |it| it.as_slice());
+    let has_places = !own.is_empty();
     let is_function = declaration.of.is_some();
-    if declaration.kind != Kind::Procedure || (own.is_empty() && !is_function) {
-        return Ok(());
+    if declaration.kind != Kind::Procedure || (!has_places && !is_function) {
+        return Ok(None);
     }
     let text = call_text(ask, &declaration.name, own)?;
-    set_text(ask, item, text, !own.is_empty())
+    Ok(Some(Insert { text, has_places }))
 }
 
 /// Whether a place of a file lies in a stretch of it.
@@ -162,36 +143,36 @@ fn procedure_text(
 }
 
 /// How a procedure that an implementation lacks is shown: behind PROCEDURE, if this is missing.
-fn lacking_label(alloc: Global, lead: Lead, name: &[u8]) -> Result<Value, AllocError> {
+fn lacking_label(alloc: Global, lead: Lead, name: &[u8]) -> Result<Vec<u8>, AllocError> {
     let mut label = Vec::new(alloc);
     match lead {
         Lead::Missing => label.extend_from_slice(LEAD)?,
         Lead::Written => {}
     }
     label.extend_from_slice(name)?;
-    text_value(alloc, &label)
+    Ok(label)
 }
 
-/// The object of a procedure that an implementation lacks.
-fn lacking_value(
+/// Writes the object of a procedure that an implementation lacks.
+fn put_procedure(
     ask: &Ask<'_>,
     choice: &Choice<'_>,
     lead: Lead,
     declaration: &Declaration,
-) -> Result<Value, AllocError> {
-    let alloc = ask.alloc;
+    json: &mut Json,
+) -> Result<(), AllocError> {
     let text = ask.known_bytes(declaration.place.file);
-    let words = words_of(alloc, text, declaration)?;
+    let words = words_of(ask.alloc, text, declaration)?;
     let heading = match lead {
         Lead::Missing => words.as_slice(),
         Lead::Written => words.strip_prefix(LEAD).unwrap_or(words.as_slice()),
     };
-    let label = lacking_label(alloc, lead, &declaration.name)?;
-    let detail = text_value(alloc, &words)?;
-    let mut item = json!(in alloc; { "detail": detail, "kind": SNIPPET, "label": label })?;
-    let new = procedure_text(ask, heading, &declaration.name, choice.has_snippets)?;
-    set_text(ask, &mut item, new, choice.has_snippets)?;
-    Ok(item)
+    let has_places = choice.has_snippets;
+    let text = procedure_text(ask, heading, &declaration.name, has_places)?;
+    let label = lacking_label(ask.alloc, lead, &declaration.name)?;
+    let insert = Insert { text, has_places };
+    put_item(&label, SNIPPET, &words, Some(&insert), json);
+    Ok(())
 }
 
 /// Whether an implementation lacks what its definition declares.
@@ -202,14 +183,14 @@ fn is_lacking(ask: &Ask<'_>, declaration: &Declaration) -> bool {
         && text.len() <= MOST_BYTES
 }
 
-/// Adds the procedures that the implementation at a place outside of procedures lacks, each with its heading and an empty body. Those
-/// of a definition of more than 65536 bytes are left out.
-pub fn add_lacking(
+/// Writes the procedures that the implementation at a place outside of procedures lacks, each with its heading and an empty body.
+/// Those of a definition of more than 65536 bytes are left out.
+pub fn put_lacking(
     ask: &Ask<'_>,
     choice: &Choice<'_>,
     lead: Lead,
     pos: Pos,
-    all: &mut Vec<Value>,
+    json: &mut Json,
 ) -> Result<(), AllocError> {
     let Some(module) = implemented(ask).filter(|_| !is_in_procedure(ask, pos)) else {
         return Ok(());
@@ -217,7 +198,7 @@ pub fn add_lacking(
     for number in ask.view.index.exports_of(ask.alloc, module)? {
         if let Some(declaration) = ask.view.index.declaration(number) {
             if is_lacking(ask, declaration) {
-                all.push(lacking_value(ask, choice, lead, declaration)?)?;
+                put_procedure(ask, choice, lead, declaration, json)?;
             }
         }
     }

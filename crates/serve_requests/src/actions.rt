@@ -4,15 +4,16 @@ use crate::server::{Reply, Server};
 use format_text::{FormatFault, format};
 use m2_rule::Rule;
 use m2_tree::Refusal;
-use serde_json::{Map, Value, json};
-use serve_offers::{Edit, add_member, edit_value, implementation_text, new_file_value};
+use serde_json::Value;
+use serve_offers::{Edit, implementation_text, put_edit, put_new_file};
 use serve_sessions::{
     Folder, Program, length_at, path_in, programs_with, range_of, refusals_of, spare_of,
 };
-use serve_texts::{Shift, Text};
+use serve_texts::{Shift, Text, uri_of};
 use std::alloc::{AllocError, Global};
 use std::thread::Threads;
 use try_mends::{BuildFault, Found, SourceFile, find_mend};
+use write_json::Json;
 
 /// The kind of an action that mends.
 const QUICK_FIX: &str = "quickfix";
@@ -87,63 +88,90 @@ fn mend_of<R: AllocGlobal + Threads + Sync>(
     }
 }
 
+/// A file of this name with these bytes.
+fn file_with(alloc: Global, name: &str, bytes: &[u8]) -> Result<SourceFile, AllocError> {
+    let name = String::from_str(alloc, name)?;
+    let bytes = Vec::from_slice(alloc, bytes)?;
+    Ok(SourceFile { name, bytes })
+}
+
 /// Files with one more.
 fn with_file(
     alloc: Global,
     files: &[SourceFile],
     name: &str,
-    bytes: Vec<u8>,
+    bytes: &[u8],
 ) -> Result<Vec<SourceFile>, AllocError> {
     let mut all = Vec::new(alloc);
     for file in files {
-        let name = String::from_str(alloc, file.name.as_str())?;
-        let bytes = Vec::from_slice(alloc, &file.bytes)?;
-        all.push(SourceFile { name, bytes })?;
+        all.push(file_with(alloc, file.name.as_str(), &file.bytes)?)?;
     }
-    let name = String::from_str(alloc, name)?;
-    all.push(SourceFile { name, bytes })?;
+    all.push(file_with(alloc, name, bytes)?)?;
     Ok(all)
 }
 
-/// The action that makes a change.
-fn quick_fix(alloc: Global, change: Value, title: &str) -> Result<Value, AllocError> {
-    json!(in alloc; {
-        "edit": change, "isPreferred": true, "kind": QUICK_FIX, "title": title
-    })
+/// Begins an action, behind which the change that it makes is written.
+fn begin_action(json: &mut Json) {
+    json.begin_object();
+    json.name("edit");
+}
+
+/// Ends an action behind its change.
+fn end_action(title: &str, json: &mut Json) {
+    json.flag_member("isPreferred", true);
+    json.words_member("kind", QUICK_FIX);
+    json.words_member("title", title);
+    json.end_object();
+}
+
+/// Writes the action that makes a file of this name with this text.
+fn put_file_action(
+    alloc: Global,
+    name: &str,
+    text: &[u8],
+    json: &mut Json,
+) -> Result<(), AllocError> {
+    let uri = uri_of(alloc, name)?;
+    let title = format!(in alloc; "Write {name} with all procedures")?;
+    begin_action(json);
+    put_new_file(uri.as_str(), text, json);
+    end_action(title.as_str(), json);
+    Ok(())
 }
 
 impl Server {
-    /// The edits of a file, as a change of it.
-    fn change_value(
-        &self,
-        alloc: Global,
-        path: &str,
-        text: &Text,
-        edit: Edit<'_>,
-    ) -> Result<Value, AllocError> {
-        let uri = self.uri_of_path(alloc, path)?;
-        let edit = edit_value(alloc, text, self.encoding, edit)?;
-        let mut changes = Value::Object(Map::new(alloc));
-        let edits = json!(in alloc; [edit])?;
-        add_member(alloc, &mut changes, uri.as_str(), edits)?;
-        json!(in alloc; { "changes": changes })
+    /// Writes an edit of the file that has this name for the editor, as a change of it.
+    fn put_change(&self, uri: &str, text: &Text, edit: Edit<'_>, json: &mut Json) {
+        json.begin_object();
+        json.name("changes");
+        json.begin_object();
+        json.name(uri);
+        json.begin_list();
+        put_edit(text, self.encoding, edit, json);
+        json.end_list();
+        json.end_object();
+        json.end_object();
     }
 
-    /// An action that makes a mend.
-    fn action_of(
+    /// Writes the action that makes a mend of a file.
+    fn put_mend_action(
         &self,
         alloc: Global,
         path: &str,
         text: &Text,
         found: &Found,
-    ) -> Result<Value, AllocError> {
+        json: &mut Json,
+    ) -> Result<(), AllocError> {
+        let uri = self.uri_of_path(alloc, path)?;
         let edit = Edit {
             begin: found.mend.begin,
             end: found.mend.end,
             new: &found.mend.text,
         };
-        let change = self.change_value(alloc, path, text, edit)?;
-        quick_fix(alloc, change, found.mend.words.as_str())
+        begin_action(json);
+        self.put_change(uri.as_str(), text, edit, json);
+        end_action(found.mend.words.as_str(), json);
+        Ok(())
     }
 
     /// Whether something is refused of one of these two files.
@@ -159,53 +187,70 @@ impl Server {
         Ok(refusals.iter().any(is_of_both))
     }
 
-    /// Adds the action that writes the implementation of a definition, if nothing is refused of both then.
-    fn add_partner<R: AllocGlobal + Threads + Sync>(
+    /// Writes the action that writes the implementation of a definition, if nothing is refused of both then. Whether it was written.
+    fn put_partner<R: AllocGlobal + Threads + Sync>(
         &self,
         rt: &R,
         path: &str,
         text: &Text,
         files: &[SourceFile],
-        all: &mut Vec<Value>,
-    ) -> Result<(), AllocError> {
+        json: &mut Json,
+    ) -> Result<bool, AllocError> {
         let alloc = rt.alloc();
         let made = implementation_text(alloc, text)?;
         let (Some(front), Some(made)) = (path.strip_suffix(DEFINITION), made) else {
-            return Ok(());
+            return Ok(false);
         };
         let name = format!(in alloc; "{front}{IMPLEMENTATION}")?;
-        let change = new_file_value(alloc, name.as_str(), &made)?;
-        let tried = with_file(alloc, files, name.as_str(), made)?;
-        if !self.is_either_refused(rt, &tried, path, name.as_str())? {
-            let title = format!(in alloc; "Write {name} with all procedures")?;
-            all.push(quick_fix(alloc, change, title.as_str())?)?;
+        let tried = with_file(alloc, files, name.as_str(), &made)?;
+        if self.is_either_refused(rt, &tried, path, name.as_str())? {
+            return Ok(false);
         }
-        Ok(())
+        put_file_action(alloc, name.as_str(), &made, json)?;
+        Ok(true)
     }
 
-    /// Adds the action that mends what a program is refused for at bytes of a file.
-    fn add_actions<R: AllocGlobal + Threads + Sync, F: Folder>(
+    /// Writes the action that mends what a program is refused for at bytes of a file. Whether there is one.
+    fn put_action<R: AllocGlobal + Threads + Sync, F: Folder>(
         &self,
         rt: &R,
         folder: &F,
         path: &str,
         program: &Program,
         wanted: Span,
-        all: &mut Vec<Value>,
-    ) -> Result<(), AllocError> {
+        json: &mut Json,
+    ) -> Result<bool, AllocError> {
         let alloc = rt.alloc();
         let files = program.files.as_slice();
         let text = self.text_of(alloc, folder, path)?;
         let refusals = refusals_of(rt, &self.setting, files)?;
         let Some(refusal) = refused_at(alloc, refusals, path, &text, wanted)? else {
-            return Ok(());
+            return Ok(false);
         };
         if refusal.number == Rule::LonelyModule.number() && self.makes_files {
-            return self.add_partner(rt, path, &text, files, all);
+            return self.put_partner(rt, path, &text, files, json);
         }
         let spare = spare_of(alloc, &self.texts, folder, &self.setting, path, files)?;
-        if let Some(found) = mend_of(rt, files, &spare, &refusal, self.setting.pages)? {
-            all.push(self.action_of(alloc, path, &text, &found)?)?;
+        let Some(found) = mend_of(rt, files, &spare, &refusal, self.setting.pages)? else {
+            return Ok(false);
+        };
+        self.put_mend_action(alloc, path, &text, &found, json)?;
+        Ok(true)
+    }
+
+    /// Writes the action that mends what is refused at bytes of a file: that of the first program for which there is one.
+    fn put_first_action<R: AllocGlobal + Threads + Sync, F: Folder>(
+        &self,
+        rt: &R,
+        folder: &F,
+        path: &str,
+        wanted: Span,
+        json: &mut Json,
+    ) -> Result<(), AllocError> {
+        for program in &programs_with(rt.alloc(), &self.texts, folder, &self.setting, path)? {
+            if self.put_action(rt, folder, path, program, wanted, json)? {
+                return Ok(());
+            }
         }
         Ok(())
     }
@@ -223,20 +268,18 @@ impl Server {
             return Reply::no_params(alloc);
         };
         let path = path.as_str();
-        let mut all = Vec::new(alloc);
+        let mut json = Json::new(alloc);
+        json.begin_list();
         if is_wanted(params) {
             let text = self.text_of(alloc, folder, path)?;
             let wanted = Span {
                 begin: text.offset_of(begin, self.encoding),
                 end: text.offset_of(end, self.encoding),
             };
-            for program in &programs_with(alloc, &self.texts, folder, &self.setting, path)? {
-                if all.is_empty() {
-                    self.add_actions(rt, folder, path, program, wanted, &mut all)?;
-                }
-            }
+            self.put_first_action(rt, folder, path, wanted, &mut json)?;
         }
-        Ok(Reply::Result(Value::Array(all)))
+        json.end_list();
+        Reply::written(json)
     }
 
     /// The edit that gives a text its layout: none if it has it, null if it breaks a rule of tokens or of the grammar.
@@ -250,16 +293,18 @@ impl Server {
             return Reply::no_params(alloc);
         };
         let text = self.text_of(alloc, folder, path.as_str())?;
+        let mut json = Json::new(alloc);
         match format(alloc, text.bytes()) {
-            Ok(new) => Ok(Reply::Result(self.layout_edits(alloc, &text, &new)?)),
-            Err(FormatFault::NoMemory) => Err(AllocError),
-            Err(FormatFault::Refused(_pos, _number)) => Ok(Reply::Result(Value::Null)),
+            Ok(new) => self.put_layout(&text, &new, &mut json),
+            Err(FormatFault::NoMemory) => return Err(AllocError),
+            Err(FormatFault::Refused(_pos, _number)) => json.null(),
         }
+        Reply::written(json)
     }
 
-    /// The edit that makes one text of another.
-    fn layout_edits(&self, alloc: Global, text: &Text, new: &[u8]) -> Result<Value, AllocError> {
-        let mut all = Vec::new(alloc);
+    /// Writes the edit that makes one text of another: none if they are the same.
+    fn put_layout(&self, text: &Text, new: &[u8], json: &mut Json) {
+        json.begin_list();
         if text.bytes() != new {
             let shift = Shift::between(text.bytes(), new);
             let edit = Edit {
@@ -267,8 +312,8 @@ impl Server {
                 end: shift.old_end,
                 new: new.get(shift.front..shift.new_end).unwrap_or(b""),
             };
-            all.push(edit_value(alloc, text, self.encoding, edit)?)?;
+            put_edit(text, self.encoding, edit, json);
         }
-        Ok(Value::Array(all))
+        json.end_list();
     }
 }

@@ -1,16 +1,16 @@
 //! What is refused, as editors show it.
 
 use crate::server::Server;
-use serde_json::{Value, json};
 use serve_messages::{Method, notice_body};
-use serve_offers::{add_member, range_value};
+use serve_offers::put_range;
 use serve_sessions::{Folder, Severity, Shown, all_shown, read_text};
 use serve_texts::{Text, uri_of};
 use std::alloc::{AllocError, Global};
 use std::thread::Threads;
+use write_json::Json;
 
 /// The number that the protocol has for how bad it is.
-fn severity_number(severity: Severity) -> u32 {
+fn severity_number(severity: Severity) -> u64 {
     match severity {
         Severity::Error => 1,
         Severity::Information => 3,
@@ -95,49 +95,53 @@ impl Server {
         shown: &[Shown],
     ) -> Result<Vec<u8>, AllocError> {
         let text = self.text_of(alloc, folder, path)?;
-        let mut all = Vec::new(alloc);
-        for one in shown.iter().filter(|it| it.path.as_str() == path) {
-            all.push(self.diagnostic_of(alloc, &text, one)?)?;
-        }
-        let params = self.params_of(alloc, path, Value::Array(all))?;
-        notice_body(alloc, Method::PublishDiagnostics.name(), params)
-    }
-
-    /// What is said of a file: of an open one with the version of its text.
-    fn params_of(&self, alloc: Global, path: &str, all: Value) -> Result<Value, AllocError> {
         let uri = self.uri_of_path(alloc, path)?;
-        let mut params = json!(in alloc; { "diagnostics": all, "uri": uri })?;
-        if let Some(open) = self.texts.get(path) {
-            let version = json!(in alloc; open.version)?;
-            add_member(alloc, &mut params, "version", version)?;
+        let mut json = Json::new(alloc);
+        json.begin_object();
+        json.name("diagnostics");
+        json.begin_list();
+        for one in shown.iter().filter(|it| it.path.as_str() == path) {
+            self.put_diagnostic(alloc, &text, one, &mut json);
         }
-        Ok(params)
+        json.end_list();
+        json.words_member("uri", uri.as_str());
+        self.put_version(path, &mut json);
+        json.end_object();
+        let params = json.finish()?;
+        notice_body(alloc, Method::PublishDiagnostics.name(), &params)
     }
 
-    /// The object of something that is refused.
-    pub(crate) fn diagnostic_of(
-        &self,
-        alloc: Global,
-        text: &Text,
-        one: &Shown,
-    ) -> Result<Value, AllocError> {
+    /// Writes the member that says the version of an open text.
+    fn put_version(&self, path: &str, json: &mut Json) {
+        if let Some(open) = self.texts.get(path) {
+            json.name("version");
+            json.signed(open.version);
+        }
+    }
+
+    /// Writes the member that leads to the explanation of a rule, if the editor shows links.
+    fn put_link(&self, alloc: Global, number: u32, json: &mut Json) {
+        if let Some(explanations) = &self.explanations {
+            json.name("codeDescription");
+            json.begin_object();
+            json.name("href");
+            json.words_made(explanations.address_of(alloc, number));
+            json.end_object();
+        }
+    }
+
+    /// Writes the object of something that is refused.
+    fn put_diagnostic(&self, alloc: Global, text: &Text, one: &Shown, json: &mut Json) {
         let begin = text.offset_of_pos(one.pos);
         let end = begin.saturating_add(one.length);
-        let range = range_value(alloc, text, self.encoding, begin, end)?;
-        let (number, words) = (one.number, one.words.as_str());
-        let severity = severity_number(one.severity);
-        let mut diagnostic = json!(in alloc; {
-            "code": number,
-            "message": words,
-            "range": range,
-            "severity": severity,
-            "source": SOURCE
-        })?;
-        if let Some(explanations) = &self.explanations {
-            let address = explanations.address_of(alloc, number)?;
-            let link = json!(in alloc; { "href": address })?;
-            add_member(alloc, &mut diagnostic, "codeDescription", link)?;
-        }
-        Ok(diagnostic)
+        json.begin_object();
+        json.number_member("code", u64::from(one.number));
+        self.put_link(alloc, one.number, json);
+        json.words_member("message", one.words.as_str());
+        json.name("range");
+        put_range(text, self.encoding, begin, end, json);
+        json.number_member("severity", severity_number(one.severity));
+        json.words_member("source", SOURCE);
+        json.end_object();
     }
 }

@@ -4,9 +4,9 @@ use crate::server::{Held, Reach, Reply, Server};
 use serde_json::Value;
 use serve_messages::{Call, ErrorCode, Method};
 use serve_offers::{
-    Ask, Choice, Extent, add_workspace_symbols, completion, definition, document_symbols,
-    folding_ranges, highlights, hover, implementation, prepare_rename, references, semantic_tokens,
-    signature_help, type_definition,
+    Ask, Choice, Extent, completion, definition, document_symbols, folding_ranges, highlights,
+    hover, implementation, prepare_rename, references, semantic_tokens, signature_help,
+    type_definition, workspace_symbols,
 };
 use serve_sessions::{
     Folder, Program, Spot, folder_of, path_in, position_of, programs_around, programs_with,
@@ -15,6 +15,7 @@ use serve_sessions::{
 use serve_texts::Position;
 use std::alloc::{AllocError, Global};
 use std::thread::Threads;
+use write_json::Json;
 
 /// The ending of the name of a definition's file.
 const DEFINITION_ENDING: &str = ".def";
@@ -66,22 +67,28 @@ fn is_of_text(method: Method) -> bool {
     )
 }
 
-/// What is answered about a place or a text.
-fn answer_of(ask: &Ask<'_>, method: Method, params: &Value) -> Result<Value, AllocError> {
+/// Writes what is answered about a place or a text.
+fn put_answer(
+    ask: &Ask<'_>,
+    method: Method,
+    params: &Value,
+    json: &mut Json,
+) -> Result<(), AllocError> {
     match method {
-        Method::Hover => hover(ask),
-        Method::Definition | Method::Declaration => definition(ask),
-        Method::Implementation => implementation(ask),
-        Method::TypeDefinition => type_definition(ask),
-        Method::References => references(ask, references_in(params)),
-        Method::DocumentHighlight => highlights(ask),
-        Method::PrepareRename => prepare_rename(ask),
-        Method::SignatureHelp => signature_help(ask),
-        Method::DocumentSymbol => document_symbols(ask),
-        Method::SemanticTokens => semantic_tokens(ask),
-        Method::FoldingRange => folding_ranges(ask),
-        _ => Ok(Value::Null),
+        Method::Hover => hover(ask, json)?,
+        Method::Definition | Method::Declaration => definition(ask, json),
+        Method::Implementation => implementation(ask, json),
+        Method::TypeDefinition => type_definition(ask, json),
+        Method::References => references(ask, references_in(params), json)?,
+        Method::DocumentHighlight => highlights(ask, json)?,
+        Method::PrepareRename => prepare_rename(ask, json),
+        Method::SignatureHelp => signature_help(ask, json)?,
+        Method::DocumentSymbol => document_symbols(ask, json)?,
+        Method::SemanticTokens => semantic_tokens(ask, json)?,
+        Method::FoldingRange => folding_ranges(ask, json)?,
+        _ => json.null(),
     }
+    Ok(())
 }
 
 /// Which places of a name are wanted.
@@ -329,22 +336,49 @@ impl Server {
             .filter(|_| is_of_name(call.method))
             .and_then(position_of);
         self.hold(alloc, folder, path.as_str(), reach, position)?;
-        let Some(held) = &self.held else {
-            return Ok(Reply::Result(Value::Null));
-        };
+        let mut json = Json::new(alloc);
+        self.put_held(alloc, folder, call, &mut json)?;
+        Reply::written(json)
+    }
+
+    /// Writes what is answered about the file that is held, or about a place of it. Null if it is not there.
+    fn put_held<F: Folder>(
+        &self,
+        alloc: Global,
+        folder: &F,
+        call: &Call,
+        json: &mut Json,
+    ) -> Result<(), AllocError> {
+        let place = call.params.get("position");
         let place = place.filter(|_| is_of_place(call.method));
+        let Some(held) = &self.held else {
+            json.null();
+            return Ok(());
+        };
         let Some(ask) = self.ask_of(alloc, held, place) else {
-            return Ok(Reply::Result(Value::Null));
+            json.null();
+            return Ok(());
         };
         if call.method == Method::Completion {
-            let modules = self.modules_for(alloc, folder, path.as_str())?;
-            let choice = Choice {
-                modules: &modules,
-                has_snippets: self.has_snippets,
-            };
-            return Ok(Reply::Result(completion(&ask, &choice)?));
+            return self.put_completion(folder, held.path.as_str(), &ask, json);
         }
-        Ok(Reply::Result(answer_of(&ask, call.method, &call.params)?))
+        put_answer(&ask, call.method, &call.params, json)
+    }
+
+    /// Writes what may stand at a place of a file.
+    fn put_completion<F: Folder>(
+        &self,
+        folder: &F,
+        path: &str,
+        ask: &Ask<'_>,
+        json: &mut Json,
+    ) -> Result<(), AllocError> {
+        let modules = self.modules_for(ask.alloc, folder, path)?;
+        let choice = Choice {
+            modules: &modules,
+            has_snippets: self.has_snippets,
+        };
+        completion(ask, &choice, json)
     }
 
     /// The declarations of all open programs whose names have some letters in them.
@@ -368,8 +402,8 @@ impl Server {
             offset: 0,
             encoding: self.encoding,
         };
-        let mut all = Vec::new(alloc);
-        add_workspace_symbols(&ask, query.as_bytes(), &mut all)?;
-        Ok(Reply::Result(Value::Array(all)))
+        let mut json = Json::new(alloc);
+        workspace_symbols(&ask, query.as_bytes(), &mut json);
+        Reply::written(json)
     }
 }

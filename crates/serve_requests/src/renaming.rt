@@ -3,10 +3,10 @@
 use crate::server::{Held, Reach, Reply, Server};
 use m2_tree::{Lexeme, Refusal, Token};
 use scan_tokens::{ScanError, scan};
-use serde_json::{Map, Value, json};
+use serde_json::Value;
 use serve_messages::ErrorCode;
 use serve_names::Index;
-use serve_offers::{Ask, Edit, add_member, edit_value};
+use serve_offers::{Ask, Edit, put_edit};
 use serve_sessions::{
     FileView, Folder, Mark, Program, View, file_of, path_in, position_of, refusals_of, text_at,
     view_of,
@@ -15,6 +15,7 @@ use std::alloc::{AllocError, Global};
 use std::slice;
 use std::thread::Threads;
 use try_mends::SourceFile;
+use write_json::Json;
 
 /// Whether tokens are this name alone.
 fn are_name(tokens: &[Token], name: &[u8]) -> bool {
@@ -129,38 +130,41 @@ fn marks_of(ask: &Ask<'_>) -> Result<Option<Vec<Mark>>, AllocError> {
     Ok(Some(marks))
 }
 
-/// The edits of a file.
-fn file_edits(
-    ask: &Ask<'_>,
-    file: &FileView,
-    marks: &[Mark],
-    new: &[u8],
-) -> Result<Value, AllocError> {
-    let mut all = Vec::new(ask.alloc);
+/// Writes the edits of a file.
+fn put_file_edits(ask: &Ask<'_>, file: &FileView, marks: &[Mark], new: &[u8], json: &mut Json) {
+    json.begin_list();
     for mark in marks {
         let edit = Edit {
             begin: mark.begin,
             end: mark.end,
             new,
         };
-        all.push(edit_value(ask.alloc, &file.now, ask.encoding, edit)?)?;
+        put_edit(&file.now, ask.encoding, edit, json);
     }
-    Ok(Value::Array(all))
+    json.end_list();
 }
 
-/// The edits of all files.
-fn all_edits(ask: &Ask<'_>, marks: &[Mark], new: &[u8]) -> Result<Value, AllocError> {
-    let alloc = ask.alloc;
-    let mut changes = Value::Object(Map::new(alloc));
+/// Writes the edits of all files.
+fn put_all_edits(
+    ask: &Ask<'_>,
+    marks: &[Mark],
+    new: &[u8],
+    json: &mut Json,
+) -> Result<(), AllocError> {
+    json.begin_object();
+    json.name("changes");
+    json.begin_object();
     for (number, file) in ask.view.files.iter().enumerate() {
-        let marks = marks_in(alloc, marks, number)?;
+        let marks = marks_in(ask.alloc, marks, number)?;
         if !marks.is_empty() {
             let uri = ask.uri_of(number)?;
-            let edits = file_edits(ask, file, &marks, new)?;
-            add_member(alloc, &mut changes, uri.as_str(), edits)?;
+            json.name(uri.as_str());
+            put_file_edits(ask, file, &marks, new, json);
         }
     }
-    json!(in alloc; { "changes": changes })
+    json.end_object();
+    json.end_object();
+    Ok(())
 }
 
 /// Whether all files of a program have trees as they stand.
@@ -324,10 +328,10 @@ impl Server {
     ) -> Result<Reply, AllocError> {
         let alloc = rt.alloc();
         let Some(held) = &self.held else {
-            return Ok(Reply::Result(Value::Null));
+            return Reply::null(alloc);
         };
         let Some(ask) = self.ask_of(alloc, held, Some(place)) else {
-            return Ok(Reply::Result(Value::Null));
+            return Reply::null(alloc);
         };
         let Some(marks) = marks_of(&ask)? else {
             let words = "no name that is declared in the program stands here";
@@ -337,9 +341,11 @@ impl Server {
             Some(words) => Some(words),
             None => self.clash_of(rt, held, &marks, new)?,
         };
-        match found {
-            Some(words) => Reply::failed(alloc, ErrorCode::RequestFailed, words),
-            None => Ok(Reply::Result(all_edits(&ask, &marks, new)?)),
+        if let Some(words) = found {
+            return Reply::failed(alloc, ErrorCode::RequestFailed, words);
         }
+        let mut json = Json::new(alloc);
+        put_all_edits(&ask, &marks, new, &mut json)?;
+        Reply::written(json)
     }
 }

@@ -1,6 +1,6 @@
 //! The server, and how it takes messages.
 
-use crate::starting::{capabilities, encoding_of};
+use crate::starting::{encoding_of, put_capabilities};
 use serde_json::Value;
 use serve_messages::{
     Call, ErrorCode, FrameFault, Incoming, Invalid, Method, error_body, read_message, result_body,
@@ -13,6 +13,7 @@ use serve_sessions::{
 use serve_texts::{Encoding, Position, Texts};
 use std::alloc::{AllocError, Global};
 use std::thread::Threads;
+use write_json::Json;
 
 /// How far a session is.
 #[derive(Clone, Copy, Debug, PartialEq, Eq)]
@@ -107,11 +108,22 @@ pub struct Answer {
 /// What is answered to a request.
 #[derive(Drop)]
 pub(crate) enum Reply {
-    Result(Value),
+    /// A text of JSON.
+    Result(Vec<u8>),
     Error(ErrorCode, String),
 }
 
 impl Reply {
+    /// The result that was written.
+    pub(crate) fn written(json: Json) -> Result<Reply, AllocError> {
+        Ok(Reply::Result(json.finish()?))
+    }
+
+    /// That there is nothing to tell.
+    pub(crate) fn null(alloc: Global) -> Result<Reply, AllocError> {
+        Ok(Reply::Result(Vec::from_slice(alloc, b"null")?))
+    }
+
     /// An error with a sentence.
     pub(crate) fn failed(alloc: Global, code: ErrorCode, words: &str) -> Result<Reply, AllocError> {
         Ok(Reply::Error(code, String::from_str(alloc, words)?))
@@ -130,7 +142,7 @@ impl Reply {
 /// The body of a reply.
 fn body_of(alloc: Global, id: &Value, reply: Reply) -> Result<Vec<u8>, AllocError> {
     match reply {
-        Reply::Result(value) => result_body(alloc, id, value),
+        Reply::Result(text) => result_body(alloc, id, &text),
         Reply::Error(code, words) => error_body(alloc, id, code, words.as_str()),
     }
 }
@@ -250,7 +262,7 @@ impl Server {
             ),
             (Stage::Running, Method::Shutdown) => {
                 self.stage = Stage::Stopped;
-                Ok(Reply::Result(Value::Null))
+                Reply::null(alloc)
             }
             (Stage::Running, _) if self.cancelled.contains(&call.id) => Reply::failed(
                 alloc,
@@ -273,7 +285,9 @@ impl Server {
         self.has_snippets = has_snippets(params);
         self.makes_files = makes_files(params);
         self.explanations = explanations_for(alloc, folder, &self.setting.libraries, params)?;
-        Ok(Reply::Result(capabilities(alloc, self.encoding)?))
+        let mut json = Json::new(alloc);
+        put_capabilities(self.encoding, &mut json);
+        Reply::written(json)
     }
 
     /// Takes a notification.

@@ -1,9 +1,9 @@
 //! What a server and an editor agree on.
 
-use serde_json::{Map, Value, json};
-use serve_offers::{TOKEN_MODIFIERS, TOKEN_TYPES, add_member};
+use serde_json::Value;
+use serve_offers::{TOKEN_MODIFIERS, TOKEN_TYPES};
 use serve_texts::Encoding;
-use std::alloc::{AllocError, Global};
+use write_json::Json;
 
 /// The names of encodings.
 const UTF_8: &str = "utf-8";
@@ -14,7 +14,7 @@ const UTF_16: &str = "utf-16";
 const NAME: &str = "m2";
 
 /// That changes come as edits.
-const INCREMENTAL: u32 = 2;
+const INCREMENTAL: u64 = 2;
 
 /// The encoding of places: bytes, if the editor can count in them, and else the units that each editor knows.
 pub fn encoding_of(params: &Value) -> Encoding {
@@ -37,23 +37,28 @@ fn name_of(encoding: Encoding) -> &'static str {
     }
 }
 
-/// Texts as an array.
-fn texts_value(alloc: Global, texts: &[&str]) -> Result<Value, AllocError> {
-    let mut all = Vec::new(alloc);
+/// Writes texts as a list.
+fn put_texts(texts: &[&str], json: &mut Json) {
+    json.begin_list();
     for text in texts {
-        all.push(Value::String(String::from_str(alloc, *text)?))?;
+        json.words(*text);
     }
-    Ok(Value::Array(all))
+    json.end_list();
 }
 
-/// How the tokens of a text are told.
-fn semantic_value(alloc: Global) -> Result<Value, AllocError> {
-    let types = texts_value(alloc, &TOKEN_TYPES)?;
-    let modifiers = texts_value(alloc, &TOKEN_MODIFIERS)?;
-    json!(in alloc; {
-        "full": true,
-        "legend": { "tokenModifiers": modifiers, "tokenTypes": types }
-    })
+/// Writes the member that says how the tokens of a text are told.
+fn put_semantic(json: &mut Json) {
+    json.name("semanticTokensProvider");
+    json.begin_object();
+    json.flag_member("full", true);
+    json.name("legend");
+    json.begin_object();
+    json.name("tokenModifiers");
+    put_texts(&TOKEN_MODIFIERS, json);
+    json.name("tokenTypes");
+    put_texts(&TOKEN_TYPES, json);
+    json.end_object();
+    json.end_object();
 }
 
 /// What the server can do with names, as far as there is nothing more to say of it.
@@ -70,43 +75,57 @@ const PLAIN_CAPABILITIES: [&str; 10] = [
     "workspaceSymbolProvider",
 ];
 
-/// An object that says behind which letters an editor asks.
-fn triggers_value(alloc: Global, letters: &[&str]) -> Result<Value, AllocError> {
-    let letters = texts_value(alloc, letters)?;
-    json!(in alloc; { "triggerCharacters": letters })
+/// Writes a member that says behind which letters an editor asks.
+fn put_triggers(name: &str, letters: &[&str], json: &mut Json) {
+    json.name(name);
+    json.begin_object();
+    json.name("triggerCharacters");
+    put_texts(letters, json);
+    json.end_object();
 }
 
-/// What the server can do with names.
-fn name_capabilities(alloc: Global) -> Result<Value, AllocError> {
-    let mut all = Value::Object(Map::new(alloc));
+/// Writes what the server can do with names.
+fn put_name_capabilities(json: &mut Json) {
     for name in PLAIN_CAPABILITIES {
-        add_member(alloc, &mut all, name, Value::Bool(true))?;
+        json.flag_member(name, true);
     }
-    let completion = triggers_value(alloc, &["."])?;
-    add_member(alloc, &mut all, "completionProvider", completion)?;
-    let signature = triggers_value(alloc, &["(", ","])?;
-    add_member(alloc, &mut all, "signatureHelpProvider", signature)?;
-    let rename = json!(in alloc; { "prepareProvider": true })?;
-    add_member(alloc, &mut all, "renameProvider", rename)?;
-    let semantic = semantic_value(alloc)?;
-    add_member(alloc, &mut all, "semanticTokensProvider", semantic)?;
-    Ok(all)
+    put_triggers("completionProvider", &["."], json);
+    put_triggers("signatureHelpProvider", &["(", ","], json);
+    json.name("renameProvider");
+    json.begin_object();
+    json.flag_member("prepareProvider", true);
+    json.end_object();
+    put_semantic(json);
 }
 
-/// What the server can do, and what it is.
-pub fn capabilities(alloc: Global, encoding: Encoding) -> Result<Value, AllocError> {
-    let mut all = name_capabilities(alloc)?;
-    let sync = json!(in alloc; { "change": INCREMENTAL, "openClose": true, "save": true })?;
-    let actions = json!(in alloc; { "codeActionKinds": ["quickfix"] })?;
-    let encoding = String::from_str(alloc, name_of(encoding))?;
-    add_member(alloc, &mut all, "textDocumentSync", sync)?;
-    add_member(alloc, &mut all, "codeActionProvider", actions)?;
-    add_member(
-        alloc,
-        &mut all,
-        "documentFormattingProvider",
-        Value::Bool(true),
-    )?;
-    add_member(alloc, &mut all, "positionEncoding", Value::String(encoding))?;
-    json!(in alloc; { "capabilities": all, "serverInfo": { "name": NAME } })
+/// Writes what the server can do with texts.
+fn put_text_capabilities(encoding: Encoding, json: &mut Json) {
+    json.name("codeActionProvider");
+    json.begin_object();
+    json.name("codeActionKinds");
+    put_texts(&["quickfix"], json);
+    json.end_object();
+    json.flag_member("documentFormattingProvider", true);
+    json.words_member("positionEncoding", name_of(encoding));
+    json.name("textDocumentSync");
+    json.begin_object();
+    json.number_member("change", INCREMENTAL);
+    json.flag_member("openClose", true);
+    json.flag_member("save", true);
+    json.end_object();
+}
+
+/// Writes what the server can do, and what it is.
+pub fn put_capabilities(encoding: Encoding, json: &mut Json) {
+    json.begin_object();
+    json.name("capabilities");
+    json.begin_object();
+    put_name_capabilities(json);
+    put_text_capabilities(encoding, json);
+    json.end_object();
+    json.name("serverInfo");
+    json.begin_object();
+    json.words_member("name", NAME);
+    json.end_object();
+    json.end_object();
 }

@@ -8,7 +8,6 @@ use find_files::{Program as FoundProgram, find_program};
 use m2_tree::Refusal;
 use pool_board::Open;
 use run_program::{Loaded, load_program};
-use serde_json::{Value, json};
 use std::alloc::{AllocError, Global};
 use std::fmt::Write as Text;
 use std::io::Read;
@@ -35,14 +34,14 @@ enum Launch {
     Refused(String),
 }
 
-/// What this server can do.
-fn capabilities(alloc: Global) -> Result<Value, AllocError> {
-    json!(in alloc; {
-        "supportsConditionalBreakpoints": true,
-        "supportsConfigurationDoneRequest": true,
-        "supportsEvaluateForHovers": true,
-        "supportsStepBack": true
-    })
+/// Answers what this server can do.
+fn answer_abilities(request: &Request, out: &mut Outgoing) -> Result<(), AllocError> {
+    let mut body = out.begin_body();
+    body.flag_member("supportsConditionalBreakpoints", true);
+    body.flag_member("supportsConfigurationDoneRequest", true);
+    body.flag_member("supportsEvaluateForHovers", true);
+    body.flag_member("supportsStepBack", true);
+    out.answer(request, body)
 }
 
 /// A launch that is refused with a sentence.
@@ -154,12 +153,13 @@ where
     R: Files + Input + Eprint + AllocGlobal + Threads + Sync,
 {
     match request.command.as_str() {
-        "initialize" => out.answer(request, capabilities(rt.alloc())?)?,
+        "initialize" => answer_abilities(request, out)?,
         "launch" => match follow_launch(rt, setting, request)? {
             Launch::Refused(words) => out.refuse(request, words.as_str())?,
             Launch::Ready(launched) => {
                 out.accept(request)?;
-                out.tell("initialized", json!(in rt.alloc(); {})?)?;
+                let nothing = out.begin_body();
+                out.tell("initialized", nothing)?;
                 return Ok(Some(launched));
             }
         },
