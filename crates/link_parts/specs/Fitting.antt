@@ -66,7 +66,7 @@ HasFault parts other = ⊥
 abbrev pub long_name : ℕ
 long_name = 7
 
--- A name is too long, or memory ran out.
+-- The number is that of names that are too long, or memory ran out. No name is asked for.
 abbrev pub IsOfNames : LinkFault → Type 0
 IsOfNames fault.NoMemory = Unit {0}
 IsOfNames (fault.Imports n) = n ≡ long_name
