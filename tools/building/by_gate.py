@@ -12,6 +12,7 @@ import sys
 import time
 
 from .crates import KIT, TOP, below
+from .lanes import with_lanes
 
 # where `rt ci` keeps what passed on this machine
 STORE = f"{os.path.dirname(KIT)}/rattle-kept"
@@ -62,7 +63,8 @@ def prove(programs):
         below(crate, order)
     print(f"{len(order)} crates are to be proved, and their edits to be refused, by rt ci", flush=True)
     report = Report(len(order))
-    with subprocess.Popen(["rt", "ci", *programs], cwd=TOP, stdout=subprocess.PIPE, stderr=subprocess.STDOUT, text=True, errors="replace") as ran:
+    how = {"cwd": TOP, "env": with_lanes(os.environ), "stdout": subprocess.PIPE, "stderr": subprocess.STDOUT, "text": True, "errors": "replace"}
+    with subprocess.Popen(["rt", "ci", *programs], **how) as ran:
         for line in ran.stdout:
             report.read(line)
     return ran.returncode == 0

@@ -5,3 +5,4 @@ pub mod Agreeing
 pub mod Programs
 pub mod Judging
 pub mod Faulting
+pub mod Naming

@@ -2,6 +2,7 @@
 use Rattle.std.specs.Prelude.{◌≡◌, ◌≢◌, ◌<◌, ◌+◌, ◌==◌, ℕ, true, false, List, [], ◌∷◌, ◌++◌, length, map, Some, slice_get}
 use Rattle.std.specs.List.{Contains}
 use Rattle.std.specs.String.{string_bytes}
+use Rattle.m2_tree.specs.Limits.{max_name}
 use Rattle.link_parts.specs.declared.part.Part.{Part}
 use Rattle.link_parts.specs.declared.part.Interface.{Interface}
 use Rattle.link_parts.specs.declared.fault.LinkFault.{LinkFault}
@@ -62,12 +63,17 @@ HasFault parts (fault.Program n) =
 HasFault parts (fault.Interfaces m n name) = Differ (uses_from 0 parts) m n (string_bytes name)
 HasFault parts other = ⊥
 
+-- the name of a module, and those of the modules that it imports
+abbrev pub names_of : Part → List (List ℕ)
+names_of p = string_bytes p.name ∷ map string_bytes p.imports.items
+
 -- the number of the rule that names have at most 64 letters and digits
 abbrev pub long_name : ℕ
 long_name = 7
 
--- The number is that of names that are too long, or memory ran out. No name is asked for.
-abbrev pub IsOfNames : LinkFault → Type 0
-IsOfNames fault.NoMemory = Unit {0}
-IsOfNames (fault.Imports n) = n ≡ long_name
-IsOfNames other = ⊥
+-- One of these names is too long, and this is the number of that rule, or memory ran out.
+abbrev pub IsOfNames : List (List ℕ) → LinkFault → Type 0
+IsOfNames names fault.NoMemory = Unit {0}
+IsOfNames names (fault.Imports n) =
+    (n ≡ long_name) × ((name : List ℕ) × Contains names name × (max_name < length name))
+IsOfNames names other = ⊥

@@ -1,3 +1,4 @@
+pub mod Sums
 pub mod Stands
 pub mod Fitting
 pub mod Held

@@ -1,7 +1,6 @@
 -- The module link of modules that were compiled alone.
 use Rattle.std.specs.Prelude.{◌≡◌, ◌⊎◌, ◌<◌, ◌≤◌, ◌+◌, ◌*◌, ℕ, min, List, [], ◌∷◌, Option, Some, None, slice_get}
 use Rattle.std.specs.List.{flat_map}
-use Rattle.std.specs.String.{string_bytes}
 use Rattle.std.specs.Global.{Vec}
 use Rattle.m2_tree.specs.declared.refusal.Refusal.{Refusal}
 use Rattle.m2_tree.specs.declared.decl.Module.{Module}
@@ -17,21 +16,21 @@ use Rattle.m2_emit.specs.Emitted.{code_bytes}
 use Rattle.link_parts.specs.declared.part.Part.{Part}
 use Rattle.link_parts.specs.declared.fault.LinkFault.{LinkFault}
 use Rattle.link_parts.specs.declared.fault.LinkFault.TheVariants as fault
-use Rattle.link_parts.specs.Fitting.{Fit, HasFault, IsOfNames}
+use Rattle.link_parts.specs.Fitting.{names_of, Fit, HasFault, IsOfNames}
 use Rattle.link_parts.specs.Stands.{stands_for, trees_of}
 
--- what link needs of a module
-abbrev pub sizes_of : Part → Sizes
-sizes_of p = record {
-  name = string_bytes p.name;
-  variables = p.sizes.variables;
-  texts = p.sizes.texts;
-  slots = p.sizes.slots;
+-- what link needs of a module, for which a tree of its name stands
+abbrev pub sizes_of : Part × Module → Sizes
+sizes_of s = record {
+  name = s.1.name.name;
+  variables = s.0.sizes.variables;
+  texts = s.0.sizes.texts;
+  slots = s.0.sizes.slots;
 }
 
 abbrev pub sizes_in : Option (Part × Module) → List Sizes
 sizes_in None = []
-sizes_in (Some s) = sizes_of s.0 ∷ []
+sizes_in (Some s) = sizes_of s ∷ []
 
 -- the same of the modules whose bodies start, in order
 abbrev pub started : List Part → (starts : List ℕ) → List Sizes
@@ -78,6 +77,7 @@ pub record IsTooLarge (parts : List Part) (pages : ℕ) : Type 0 where
 -- It is so, as the fault says.
 abbrev pub IsFault : List Part → (pages : ℕ) → LinkFault → Type 0
 IsFault parts pages (fault.Imports n) =
-    IsOfNames (fault.Imports n) ⊎ IsOfGraph (trees_of (stands_for parts)) (fault.Imports n)
+    IsOfNames (flat_map names_of parts) (fault.Imports n)
+    ⊎ IsOfGraph (trees_of (stands_for parts)) (fault.Imports n)
 IsFault parts pages (fault.Pages n) = IsTooLarge parts pages × (pages < n)
 IsFault parts pages other = HasFault parts other

@@ -1,8 +1,8 @@
 //! Modules that were compiled alone, and how they are linked.
 //!
 //! - `Part` is what link has to know of a module. `write_part` writes it as the text of a file M.link, `read_part` reads it.
-//! - `sum_of` is the checksum by which texts and modules are told apart, `interface_sum` that of definitions: of
-//!   their tokens, as `tokens_of` answers them.
+//! - `sum_of` is the checksum by which texts and modules are told apart, `interface_sum` that of definitions: of what their tokens
+//!   say, as `tokens_of` answers it. `specs/Sums` has both.
 //! - `begun`, `sealed` and `opened` make and read such texts, which others use too: with `sealed_by`, `unsealed` and `behind_first`
 //!   under a checksum of their own.
 //! - `link_modules` says whether modules fit together, and answers the module link.

@@ -11,13 +11,12 @@ ghost use Rattle.def_scheme.specs.Modules.{link_of, max_pages, stack_begin};
 ghost use Rattle.emit_buffer.specs.Cut.{cut_module};
 ghost use Rattle.m2_emit.specs.Emitted.{code_bytes, link_part, parts};
 ghost use Rattle.link_parts.specs.Stands.{stand_of, trees_of};
-ghost use Rattle.link_parts.specs.Fitting.{IsOfNames};
 ghost use Rattle.link_parts.specs.Linked.{bytes_for, sizes_of, sizes_in, IsLinked, first_number, IsOfGraph, IsFault};
 
 use crate::fault::LinkFault;
 use crate::fitting::check_parts;
 use crate::part::Part;
-use crate::stands::{Stand, name_of, stands_for, trees_of};
+use crate::stands::{Stand, stands_for, trees_of};
 use build_jobs::MAX_PAGES;
 use m2_emit::{ModuleBytes, emit_link};
 use m2_graph::{Graph, GraphError};
@@ -57,16 +56,15 @@ fn graph_of(alloc: Global, stands: &[Stand<'_>]) -> Result<Graph, LinkFault>
 }
 
 /// What link has to know of a module, as a build has it.
-fn module_of(alloc: Global, part: &Part) -> Result<ModuleBytes, LinkFault>
-    ensures sizes { IfOk result (λ m. link_part m ≡ sizes_of part.now) }
-    ensures fault { IfErr result IsOfNames }
+fn module_of(alloc: Global, stand: &Stand<'_>) -> Result<ModuleBytes, AllocError>
+    ensures { IfOk result (λ m. link_part m ≡ sizes_of (stand_of stand.now)) }
 {
     Ok(ModuleBytes {
-        name: name_of(alloc, &part.name)?,
+        name: stand.tree.name.name.clone()?,
         bytes: Items::new(alloc),
-        variables: part.sizes.variables,
-        texts: part.sizes.texts,
-        slots: part.sizes.slots,
+        variables: stand.part.sizes.variables,
+        texts: stand.part.sizes.texts,
+        slots: stand.part.sizes.slots,
     })
 }
 
@@ -75,16 +73,15 @@ fn add_module(
     alloc: Global,
     stand: Option<&Stand<'_>>,
     modules: &mut Vec<ModuleBytes>,
-) -> Result<(), LinkFault>
-    ensures added { OnOk result
+) -> Result<(), AllocError>
+    ensures { OnOk result
         (parts modules.new.items
         ≡ parts modules.old.items ++ sizes_in (option_map stand_of (option_copied stand.entry))) }
-    ensures fault { IfErr result IsOfNames }
 {
     match stand {
         None => Ok(()),
         Some(stand) => {
-            modules.push(module_of(alloc, stand.part)?)?;
+            modules.push(module_of(alloc, stand)?)?;
             Ok(())
         }
     }
@@ -95,11 +92,10 @@ fn modules_of(
     alloc: Global,
     stands: &[Stand<'_>],
     starts: &[usize],
-) -> Result<Vec<ModuleBytes>, LinkFault>
-    ensures modules { IfOk result (λ modules.
+) -> Result<Vec<ModuleBytes>, AllocError>
+    ensures { IfOk result (λ modules.
         parts modules.items
         ≡ flat_map (λ n. sizes_in (slice_get (map stand_of stands.now) n)) starts.now) }
-    ensures fault { IfErr result IsOfNames }
 {
     let mut modules = Vec::new(alloc);
     for start in starts {

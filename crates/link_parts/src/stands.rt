@@ -1,11 +1,12 @@
 //! The imports of modules, as a program of empty modules has them.
 
-ghost use Rattle.std.specs.Prelude.{◌≡◌, ◌++◌, IfOk, IfErr, OnOk, map};
+ghost use Rattle.std.specs.Prelude.{◌≡◌, ◌++◌, [], ◌∷◌, IfOk, IfErr, OnOk, map};
+ghost use Rattle.std.specs.List.{flat_map};
 ghost use Rattle.std.specs.String.{string_bytes};
 ghost use Rattle.empty_modules.specs.Empty.{import_of};
 ghost use Rattle.build_jobs.specs.Borrowed.{borrow_trees};
 ghost use Rattle.link_parts.specs.Stands.{body_of, stands_of, stand_of, stands_for, trees_of};
-ghost use Rattle.link_parts.specs.Fitting.{IsOfNames};
+ghost use Rattle.link_parts.specs.Fitting.{names_of, IsOfNames};
 
 use crate::fault::LinkFault;
 use crate::part::Part;
@@ -25,9 +26,9 @@ pub struct Stand<'a> {
 }
 
 /// The name of a module. One that is too long is refused, as in a text.
-pub fn name_of(alloc: Global, name: &str) -> Result<Name, LinkFault>
+fn name_of(alloc: Global, name: &str) -> Result<Name, LinkFault>
     ensures same { IfOk result (λ n. n ≡ name.now) }
-    ensures fault { IfErr result IsOfNames }
+    ensures fault { IfErr result (IsOfNames (name.now ∷ [])) }
 {
     let bytes = name.as_bytes();
     if bytes.len() > MAX_NAME {
@@ -39,7 +40,7 @@ pub fn name_of(alloc: Global, name: &str) -> Result<Name, LinkFault>
 /// The imports of the modules of these names.
 fn imports_of(alloc: Global, names: &[String]) -> Result<Items<Import>, LinkFault>
     ensures imports { IfOk result (λ is. is ≡ map (λ n. import_of (string_bytes n)) names.now) }
-    ensures fault { IfErr result IsOfNames }
+    ensures fault { IfErr result (IsOfNames (map string_bytes names.now)) }
 {
     let mut imports = Items::new(alloc);
     for name in names {
@@ -51,7 +52,7 @@ fn imports_of(alloc: Global, names: &[String]) -> Result<Items<Import>, LinkFaul
 /// The body, which imports what the definition and the body of the module import.
 fn body_of(alloc: Global, part: &Part) -> Result<Module, LinkFault>
     ensures body { IfOk result (λ m. m ≡ body_of part.now) }
-    ensures fault { IfErr result IsOfNames }
+    ensures fault { IfErr result (IsOfNames (names_of part.now)) }
 {
     let imports = imports_of(alloc, &part.imports)?;
     let name = name_of(alloc, &part.name)?;
@@ -70,7 +71,7 @@ fn add_stands<'a>(
     ensures added { OnOk result
         (map stand_of stands.new.items
         ≡ map stand_of stands.old.items ++ map (λ m. (part.now, m)) (stands_of part.now)) }
-    ensures fault { IfErr result IsOfNames }
+    ensures fault { IfErr result (IsOfNames (names_of part.now)) }
 {
     if !part.is_program {
         let tree = empty_definition(alloc, name_of(alloc, &part.name)?);
@@ -84,7 +85,7 @@ fn add_stands<'a>(
 /// A program of empty modules, which import what these modules import: for each its definition and its body.
 pub fn stands_for<'a>(alloc: Global, parts: &'a [Part]) -> Result<Vec<Stand<'a>>, LinkFault>
     ensures stands { IfOk result (λ stands. map stand_of stands.items ≡ stands_for parts.now) }
-    ensures fault { IfErr result IsOfNames }
+    ensures fault { IfErr result (IsOfNames (flat_map names_of parts.now)) }
 {
     let mut stands = Vec::new(alloc);
     for part in parts {

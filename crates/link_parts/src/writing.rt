@@ -6,7 +6,7 @@ use std::alloc::{AllocError, Global};
 use std::fmt::Write;
 
 /// What the first line begins with, and the version of this form.
-pub const FORM: &str = "m2-link 2";
+pub const FORM: &str = "m2-link 3";
 
 /// Puts the lines that each module has once.
 fn push_head(page: &mut String, part: &Part) -> Result<(), AllocError> {

@@ -3,10 +3,8 @@
 #![tactic(auto)]
 
 mod program;
-mod signs;
 mod texts;
 mod titles;
-mod tokens;
 mod tree;
 mod tree_exprs;
 mod tree_stmts;
@@ -15,5 +13,4 @@ mod tree_types;
 pub use program::{Built, File, Parsed, Trees, show_program, trees_of};
 pub use texts::{Shown, show_text_tokens, show_text_tree, tree_of};
 pub use titles::Titles;
-pub use tokens::show_tokens;
 pub use tree::show_tree;

@@ -1,10 +1,10 @@
 //! What the first passes make of one text, or where they refuse it.
 
-use crate::tokens::show_tokens;
 use crate::tree::show_tree;
 use m2_parse::{ParseError, parse};
 use m2_tree::{Module, Pos, Token};
 use scan_tokens::{ScanError, scan};
+use show_tokens::show_tokens;
 use std::alloc::{AllocError, Global};
 
 /// What comes of a text: what a pass makes of it, or the rule that it breaks and where.

@@ -1,9 +1,9 @@
 //! The trees of expressions.
 
-use crate::tokens::{put_octal, put_quoted};
 use itoa::Buffer;
 use m2_tree::{AddOp, Designator, Expr, Ident, Item, MulOp, Operator, Pos, RelOp, Selector, Sign};
 use show_code::Page;
+use show_tokens::{put_octal, put_quoted};
 use std::alloc::AllocError;
 
 /// How a relation is written.

@@ -1,13 +1,12 @@
 //! `m2 compile`: one module, compiled alone.
 
+use crate::parts::part_of;
 use crate::writing::{Compiled, write_module};
 use anyhow::Result;
 use build_jobs::{Read, read_text};
 use command_words::{COMMAND_LINE, Exit};
-use compile_module::{Interface as Needed, Made, compile_module};
+use compile_module::{Made, compile_module};
 use find_files::{Program, find_definitions, text_of};
-use link_parts::{Interface, Part, Sizes, interface_sum, sum_of};
-use m2_emit::ModuleBytes;
 use m2_tree::{Contents, Module};
 use std::alloc::{AllocError, Global};
 use std::rt::Files;
@@ -16,61 +15,6 @@ use tool_words::{PROGRAM, Setting};
 
 /// The status of a definition in which nothing is refused.
 const ACCEPTED: u8 = 0;
-
-/// The checksum of the text of a file of a program.
-fn sum_in(alloc: Global, program: &Program, file: usize) -> Result<String, AllocError> {
-    match program.files.get(file) {
-        None => Ok(String::new(alloc)),
-        Some(file) => sum_of(alloc, &file.bytes),
-    }
-}
-
-/// The checksum of the tokens of a definition among the files of a program.
-fn tokens_in(alloc: Global, program: &Program, file: usize) -> Result<String, AllocError> {
-    match program.files.get(file) {
-        None => Ok(String::new(alloc)),
-        Some(file) => interface_sum(alloc, &file.bytes),
-    }
-}
-
-/// The definitions that a module was compiled with, and their checksums.
-fn interfaces_of(
-    alloc: Global,
-    program: &Program,
-    needed: Vec<Needed>,
-) -> Result<Vec<Interface>, AllocError> {
-    let mut interfaces = Vec::new(alloc);
-    for it in needed {
-        let sum = tokens_in(alloc, program, it.file)?;
-        interfaces.push(Interface { name: it.name, sum })?;
-    }
-    Ok(interfaces)
-}
-
-/// What link has to know of a module that was built.
-fn part_of(
-    alloc: Global,
-    program: &Program,
-    module: &ModuleBytes,
-    is_program: bool,
-    imports: Vec<String>,
-    needed: Vec<Needed>,
-) -> Result<Part, AllocError> {
-    let sizes = Sizes {
-        variables: module.variables,
-        texts: module.texts,
-        slots: module.slots,
-    };
-    Ok(Part {
-        name: String::from_utf8_lossy(alloc, module.name.as_bytes())?,
-        is_program,
-        sizes,
-        text: sum_in(alloc, program, 0)?,
-        code: sum_of(alloc, module.bytes.as_slice())?,
-        imports,
-        interfaces: interfaces_of(alloc, program, needed)?,
-    })
-}
 
 /// Compiles the first file of a program with the others, which are definitions, and writes the module. The status.
 fn compile_found<R>(
@@ -93,7 +37,15 @@ where
             interfaces,
         } => {
             let module = module.get();
-            let part = part_of(rt.alloc(), program, module, is_program, imports, interfaces)?;
+            let alloc = rt.alloc();
+            let part = part_of(
+                alloc,
+                &program.files,
+                module,
+                is_program,
+                imports,
+                &interfaces,
+            )?;
             let made = Compiled {
                 part: &part,
                 code: module.bytes.as_slice(),

@@ -6,6 +6,7 @@ mod compiling;
 mod graphing;
 mod linking;
 mod loading;
+mod parts;
 mod writing;
 
 pub use compiling::compile_file;

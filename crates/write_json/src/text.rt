@@ -1,6 +1,9 @@
 //! A text of JSON, token by token.
 
 ghost use Rattle.std.specs.Prelude.{◌≡◌, ◌++◌, [], IsOk, IfOk, decimal};
+ghost use Rattle.std.specs.Fmt.{signed_decimal};
+ghost use Rattle.std.specs.String.{string_bytes};
+ghost use Rattle.std.specs.Str.Lossy.{utf8_lossy};
 ghost use Rattle.json.specs.Token as token;
 ghost use Rattle.json.specs.Print.{print, IsPrintable};
 ghost use Rattle.json.specs.Reads.{token_of};
@@ -134,14 +137,18 @@ impl Json {
     }
 
     /// Writes a number that may be negative.
-    pub fn signed(&mut self, number: i64) {
+    pub fn signed(&mut self, number: i64)
+        ensures { Adds self.old self.new (token.number (signed_decimal number)) }
+    {
         if self.written.is_ok() {
             self.written = self.out.i64(number);
         }
     }
 
     /// Writes bytes as words. What is no UTF-8 is replaced.
-    pub fn bytes(&mut self, bytes: &[u8]) {
+    pub fn bytes(&mut self, bytes: &[u8])
+        ensures { Adds self.old self.new (token.string (utf8_lossy bytes.now)) }
+    {
         match String::from_utf8_lossy(self.alloc, bytes) {
             Ok(words) => self.words(words.as_str()),
             Err(error) => self.written = Err(error),
@@ -149,7 +156,10 @@ impl Json {
     }
 
     /// Writes words that were made, if memory did not run out.
-    pub fn words_made(&mut self, words: Result<String, AllocError>) {
+    pub fn words_made(&mut self, words: Result<String, AllocError>)
+        ensures words { IfOk words (λ w. Adds self.old self.new (token.string (string_bytes w))) }
+        ensures lack { IsOk self.new.written → IsOk words }
+    {
         match words {
             Ok(words) => self.words(words.as_str()),
             Err(error) => self.written = Err(error),
@@ -181,7 +191,10 @@ impl Json {
     }
 
     /// Writes a member that is bytes as words.
-    pub fn bytes_member(&mut self, name: &str, bytes: &[u8]) {
+    pub fn bytes_member(&mut self, name: &str, bytes: &[u8])
+        ensures { AddsTwo self.old self.new (token.key name.now)
+            (token.string (utf8_lossy bytes.now)) }
+    {
         self.name(name);
         self.bytes(bytes);
     }

@@ -17,6 +17,7 @@ use Rattle.link_parts.specs.Stands.{stand_of, stands_for, trees_of}
 use Rattle.link_parts.specs.Linked.{sizes_in, started}
 use Rattle.std.proofs.lemmas.Result.{err_from_is_err_and}
 use Rattle.link_parts.proofs.Faulting.{graph_fault}
+use Rattle.link_parts.proofs.Naming.{names_fault}
 use Rattle.link_parts.proofs.linking.link_modules.Goals as goal
 
 abbrev items_of : Vec ℕ → List ℕ
@@ -28,7 +29,7 @@ returns-clause-link c =
     let all : map stand_of c.deref.result.now ≡ stands_for c.args.parts.now = ap (map stand_of) c.deref.ensures.value ∙ c.in_ok-stands.ensures.stands in
     let same : map stand_of c.deref-2.result.now ≡ stands_for c.args.parts.now = ap (map stand_of) c.deref-2.ensures.value ∙ c.in_ok-stands.ensures.stands in
     let modules : parts c.in_ok-modules.modules.items ≡ started c.args.parts.now g.starts.items =
-    c.in_ok-modules.ensures.modules ∙ ap (λ (ss : List (Part × Module)). flat_map (λ n. sizes_in (slice_get ss n)) c.start_order.result.now) same ∙ ap (started c.args.parts.now) c.start_order.ensures
+    c.in_ok-modules.ensures ∙ ap (λ (ss : List (Part × Module)). flat_map (λ n. sizes_in (slice_get ss n)) c.start_order.result.now) same ∙ ap (started c.args.parts.now) c.start_order.ensures
     in
     let pages : c.min-pages.result ≡ min c.args.pages max_pages = c.min-pages.ensures in
     let sized : parts c.deref-3.result.now ≡ started c.args.parts.now g.starts.items = ap (λ (ms : List ModuleBytes). parts ms) c.deref-3.ensures.value ∙ modules in
@@ -47,6 +48,12 @@ returns-clause-link c =
           ∙ ap (λ (n : ℕ). code_bytes (cut_module (link_of (started c.args.parts.now g.starts.items) n))) pages;
     }
 
+-- the fault of a name of these modules
+pub returns-in_err-stands-clause-fault : goal.returns-in_err-stands-clause-fault
+returns-in_err-stands-clause-fault c =
+    let p = err_from_is_err_and c.from_residual-in_err-stands.result c.from_residual-in_err-stands.ensures.1 in
+    rw (p.1, p.2) (names_fault c.args.parts.now (min c.args.pages max_pages) c.in_err-stands.field-0.0 c.in_err-stands.ensures.fault)
+
 -- the fault of a graph of these modules
 pub returns-in_err-graph-clause-fault : goal.returns-in_err-graph-clause-fault
 returns-in_err-graph-clause-fault c =
@@ -60,7 +67,7 @@ returns-then-needed-from-clause-fault c =
     let all : map stand_of c.deref.result.now ≡ stands_for c.args.parts.now = ap (map stand_of) c.deref.ensures.value ∙ c.in_ok-stands.ensures.stands in
     let same : map stand_of c.deref-2.result.now ≡ stands_for c.args.parts.now = ap (map stand_of) c.deref-2.ensures.value ∙ c.in_ok-stands.ensures.stands in
     let modules : parts c.in_ok-modules.modules.items ≡ started c.args.parts.now g.starts.items =
-    c.in_ok-modules.ensures.modules ∙ ap (λ (ss : List (Part × Module)). flat_map (λ n. sizes_in (slice_get ss n)) c.start_order.result.now) same ∙ ap (started c.args.parts.now) c.start_order.ensures
+    c.in_ok-modules.ensures ∙ ap (λ (ss : List (Part × Module)). flat_map (λ n. sizes_in (slice_get ss n)) c.start_order.result.now) same ∙ ap (started c.args.parts.now) c.start_order.ensures
     in
     let pages : c.min-pages.result ≡ min c.args.pages max_pages = c.min-pages.ensures in
     let sized : parts c.deref-3.result.now ≡ started c.args.parts.now g.starts.items = ap (λ (ms : List ModuleBytes). parts ms) c.deref-3.ensures.value ∙ modules in

@@ -1,5 +1,5 @@
--- How tokens are shown: a line for each, with its place.
-use Rattle.std.specs.Prelude.{ℕ, ◌/◌, ◌%◌, ◌+◌, ◌<◌, Bool, List, [], ◌∷◌, ◌++◌, if◌then◌else◌, codes, decimal, ◌==◌}
+-- How tokens are shown: a line for each.
+use Rattle.std.specs.Prelude.{ℕ, ◌/◌, ◌%◌, ◌+◌, ◌<◌, List, [], ◌∷◌, ◌++◌, if◌then◌else◌, codes, decimal, ◌==◌}
 use Rattle.std.specs.List.{flat_map, list_any}
 use Rattle.m2_tree.specs.declared.token.Token.{Token}
 use Rattle.m2_tree.specs.declared.token.Lexeme.{Lexeme}
@@ -94,10 +94,18 @@ lexeme_text (lexeme.Text bytes) = codes "string " ++ quote_bytes bytes
 lexeme_text (lexeme.Symbol symbol) = spelling symbol
 lexeme_text lexeme.End = codes "end"
 
+-- what a token says, in a line
+unfoldable pub lexeme_line : Lexeme → List ℕ
+lexeme_line lexeme = lexeme_text lexeme ++ codes "\n"
+
 -- the line of a token: its place, and what it says
 unfoldable pub token_line : Token → List ℕ
-token_line token = place_text token.pos ++ (codes " " ++ (lexeme_text token.lexeme ++ codes "\n"))
+token_line token = place_text token.pos ++ (codes " " ++ lexeme_line token.lexeme)
 
 -- a line for each token, in order
 abbrev pub tokens_text : List Token → List ℕ
 tokens_text tokens = flat_map token_line tokens
+
+-- the same without places
+abbrev pub lexemes_text : List Token → List ℕ
+lexemes_text tokens = flat_map (λ t. lexeme_line t.lexeme) tokens

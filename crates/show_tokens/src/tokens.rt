@@ -2,7 +2,7 @@
 
 ghost use Rattle.std.specs.Prelude.{◌≡◌, ◌==◌, ◌++◌, IfOk, OnOk};
 ghost use Rattle.std.specs.List.{list_any};
-ghost use Rattle.show_passes.specs.Tokens.{lexeme_text, octal, quote_bytes, quote_of, token_line, tokens_text};
+ghost use Rattle.show_tokens.specs.Tokens.{lexeme_line, lexeme_text, lexemes_text, octal, quote_bytes, quote_of, token_line, tokens_text};
 
 use crate::signs::spelling;
 use m2_tree::{Lexeme, Token};
@@ -44,7 +44,7 @@ pub fn put_octal(page: &mut Page, code: u8) -> Result<(), AllocError>
 }
 
 /// Puts what a token says.
-pub fn put_lexeme(page: &mut Page, lexeme: &Lexeme) -> Result<(), AllocError>
+fn put_lexeme(page: &mut Page, lexeme: &Lexeme) -> Result<(), AllocError>
     ensures { OnOk result (page.new ≡ page.old ++ lexeme_text lexeme.now) }
 {
     match lexeme {
@@ -70,6 +70,15 @@ pub fn put_lexeme(page: &mut Page, lexeme: &Lexeme) -> Result<(), AllocError>
     }
 }
 
+/// Puts what a token says in a line.
+#[tactic(auto, unfolding(crate::specs::Tokens::lexeme_line))]
+fn put_line(page: &mut Page, lexeme: &Lexeme) -> Result<(), AllocError>
+    ensures { OnOk result (page.new ≡ page.old ++ lexeme_line lexeme.now) }
+{
+    put_lexeme(page, lexeme)?;
+    page.put(b"\n")
+}
+
 /// Puts the line of a token.
 #[tactic(auto, unfolding(crate::specs::Tokens::token_line))]
 fn put_token(page: &mut Page, token: &Token) -> Result<(), AllocError>
@@ -77,8 +86,7 @@ fn put_token(page: &mut Page, token: &Token) -> Result<(), AllocError>
 {
     page.put_place(token.pos)?;
     page.put(b" ")?;
-    put_lexeme(page, &token.lexeme)?;
-    page.put(b"\n")
+    put_line(page, &token.lexeme)
 }
 
 /// A line for each token, in order: its place, and what it says. The only error is that memory ran out.
@@ -88,6 +96,17 @@ pub fn show_tokens(alloc: Global, tokens: &[Token]) -> Result<Vec<u8>, AllocErro
     let mut page = Page::new(alloc);
     for token in tokens {
         put_token(&mut page, token)?;
+    }
+    Ok(page.into_bytes())
+}
+
+/// A line for each token, in order: what it says. The only error is that memory ran out.
+pub fn show_lexemes(alloc: Global, tokens: &[Token]) -> Result<Vec<u8>, AllocError>
+    ensures { IfOk result (λ text. text.items ≡ lexemes_text tokens.now) }
+{
+    let mut page = Page::new(alloc);
+    for token in tokens {
+        put_line(&mut page, &token.lexeme)?;
     }
     Ok(page.into_bytes())
 }

@@ -1,7 +1,7 @@
 //! How signs and reserved words are written.
 
 ghost use Rattle.std.specs.Prelude.{◌≡◌};
-ghost use Rattle.show_passes.specs.Tokens.{spelling};
+ghost use Rattle.show_tokens.specs.Tokens.{spelling};
 
 use m2_tree::Symbol;
 
