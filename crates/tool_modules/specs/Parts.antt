@@ -30,7 +30,7 @@ IsTold files n i =
 -- body, and needed these definitions.
 pub record IsPartOf (files : List SourceFile) (m : ModuleBytes) (is_program : Bool)
     (imports : List (List ℕ)) (needed : List Needed) (p : Part) : Type 0 where
-  pub name : string_bytes p.name ≡ utf8_lossy m.name.name
+  pub name : string_bytes p.name ≡ utf8_lossy m.name
   pub kind : p.is_program ≡ is_program
   pub variables : p.sizes.variables ≡ m.variables
   pub texts : p.sizes.texts ≡ m.texts
