@@ -11,11 +11,12 @@ use Rattle.build_jobs.specs.declared.file.SourceFile.{SourceFile}
 use Rattle.build_jobs.specs.declared.outcome.Compiled.{Compiled}
 use Rattle.build_jobs.specs.declared.outcome.Compiled.TheVariants as jobs
 use Rattle.build_results.specs.Reported.{AreReported}
-use Rattle.build_results.specs.Texts.{AreTrees, AreUnread}
+use Rattle.build_results.specs.Texts.{AreTrees, AreUnread, modules}
 use Rattle.build_results.specs.Results.{refused_by, result_at}
 use Rattle.compile_module.specs.declared.made.Made.{Made}
 use Rattle.compile_module.specs.declared.made.Made.TheVariants as made
 use Rattle.compile_module.specs.Stands.{with_stands, without_stands}
+use Rattle.compile_module.specs.Told.{IsTold}
 
 -- The jobs of these modules, and of those that stand for the others of a program: the file of each,
 -- and what it needs.
@@ -49,18 +50,21 @@ pub record IsMade (trees : List (List ℕ × Module)) (became : Option Compiled)
 abbrev pub IsNoBody : Option Compiled → Type 0
 IsNoBody became = (m : ModuleBytes) → became ≡ Some (jobs.Built m) → ⊥
 
--- It is this module.
-abbrev pub IsOf : ModuleBytes → Made → Type 0
-IsOf m (made.Built n is_program imports interfaces) = n ≡ m
-IsOf m made.Defined = ⊥
-IsOf m (made.Refused refusals) = ⊥
+-- It is this module, of the first of these trees.
+abbrev pub IsOf : List Module → ModuleBytes → Made → Type 0
+IsOf ms m (made.Built n is_program imports interfaces) =
+    (n ≡ m) × IsTold ms is_program imports.items interfaces.items
+IsOf ms m made.Defined = ⊥
+IsOf ms m (made.Refused refusals) = ⊥
 
 -- what comes of the first of these modules
 abbrev pub Comes : List (List ℕ × Module) → Made → Type 0
 Comes trees (made.Refused refusals) =
     AreUngraphed trees refusals.items ⊎ AreUncompiled trees refusals.items
 Comes trees made.Defined = (became : Option Compiled) × IsMade trees became × IsNoBody became
-Comes trees (made.Built m is_program imports interfaces) = IsMade trees (Some (jobs.Built m))
+Comes trees (made.Built m is_program imports interfaces) =
+    IsMade trees (Some (jobs.Built m))
+    × IsTold (modules trees) is_program imports.items interfaces.items
 
 -- each text has a tree, and this comes of the first
 abbrev pub ComesOfTrees : List SourceFile → Made → Type 0

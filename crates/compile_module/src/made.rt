@@ -4,7 +4,7 @@ use m2_emit::ModuleBytes;
 use m2_tree::Refusal;
 use tree_parts::Shared;
 
-/// A definition that a module needs, directly or through others.
+/// A definition that a module was compiled with.
 #[derive(Drop)]
 pub struct Interface {
     /// The name of its module.
@@ -27,7 +27,7 @@ pub enum Made {
         is_program: bool,
         /// The modules that its definition and then its body imports, in order, each once, without Console.
         imports: Vec<String>,
-        /// The definitions that it needs, in the order in which they were given.
+        /// The definitions behind the first file, in the order in which they were given.
         interfaces: Vec<Interface>,
     },
 }

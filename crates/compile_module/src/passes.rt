@@ -8,51 +8,20 @@ ghost use Rattle.m2_graph.specs.Graph.{CompileEach, IsGraph, IsRefusal};
 ghost use Rattle.build_jobs.specs.Borrowed.{borrow_trees, modules_borrowed};
 ghost use Rattle.build_jobs.specs.Reading.{AreRead};
 ghost use Rattle.build_jobs.specs.Jobs.{all_compiled};
+ghost use Rattle.build_results.specs.Texts.{modules};
 ghost use Rattle.compile_module.specs.Alone.{IsMade, IsOf, Comes, ComesOf};
 ghost use Rattle.compile_module.specs.Stands.{with_stands};
 
-use crate::made::{Interface, Made};
+use crate::made::Made;
 use crate::stands::{stands_for, with_stands, without_stands};
+use crate::told::{imports_of, interfaces_of, is_program};
 use build_jobs::{Compiled, Read, SourceFile, compile_in_turn, read_in_turn};
 use build_results::{in_order, refused_by, refused_of, result_of, trees_of};
-use list_imports::add_imports;
 use m2_emit::ModuleBytes;
 use m2_graph::{Graph, GraphError, places_of};
-use m2_tree::{Contents, Module};
+use m2_tree::Module;
 use std::alloc::{AllocError, Global};
 use tree_parts::Shared;
-
-/// The modules that the first of these imports, and in front of them those that its definition imports, if it is among the others.
-fn imports_of(alloc: Global, trees: &[(&str, &Module)]) -> Result<Vec<String>, AllocError> {
-    let mut imports = Vec::new(alloc);
-    let Some((first, others)) = trees.split_first() else {
-        return Ok(imports);
-    };
-    for other in others {
-        if other.1.name.name.as_bytes() == first.1.name.name.as_bytes() {
-            add_imports(alloc, &mut imports, other.1)?;
-        }
-    }
-    add_imports(alloc, &mut imports, first.1)?;
-    Ok(imports)
-}
-
-/// The definitions among these modules but the first, in order.
-fn interfaces_of(alloc: Global, trees: &[(&str, &Module)]) -> Result<Vec<Interface>, AllocError> {
-    let mut interfaces = Vec::new(alloc);
-    for (file, tree) in trees.iter().enumerate().skip(1) {
-        let name = String::from_utf8_lossy(alloc, tree.1.name.name.as_bytes())?;
-        interfaces.push(Interface { name, file })?;
-    }
-    Ok(interfaces)
-}
-
-/// Whether the first of these modules is a program.
-fn is_program(trees: &[(&str, &Module)]) -> bool {
-    trees
-        .first()
-        .is_some_and(|it| matches!(&it.1.contents, Contents::Program(_)))
-}
 
 /// A module that was built.
 fn built(
@@ -60,7 +29,7 @@ fn built(
     trees: &[(&str, &Module)],
     module: &Shared<ModuleBytes>,
 ) -> Result<Made, AllocError>
-    ensures { IfOk result (IsOf module.now) }
+    ensures { IfOk result (IsOf (modules (borrow_trees trees.now)) module.now) }
 {
     Ok(Made::Built {
         module: module.share()?,
