@@ -5,7 +5,8 @@ use Rattle.build_jobs.specs.declared.file.SourceFile.{SourceFile}
 use Rattle.build_jobs.specs.declared.reading.Read.{Read}
 use Rattle.build_jobs.specs.Reading.{AreRead, IsReadAt}
 
-pub are_read : (files : List SourceFile) (reads : List Read) → length reads ≡ length files → ((k : ℕ) (r : Read) → slice_get reads k ≡ Some r → IsReadAt files k r) → AreRead files reads
+pub are_read : (files : List SourceFile) (reads : List Read) → length reads ≡ length files
+    → ((k : ℕ) (r : Read) → slice_get reads k ≡ Some r → IsReadAt files k r) → AreRead files reads
 are_read [] [] same at = tt
 are_read [] (r ∷ rs) same at = absurd (omega (arith, same))
 are_read (f ∷ fs) [] same at = absurd (omega (arith, same))

@@ -58,13 +58,16 @@ option_items_send : (h : RattleType) → IsSend h → IsSend (Option.the_row (It
 option_items_send h k = option.the_send (Items.the_row h) (items.the_send h k)
 
 option_boxed_items_send : (h : RattleType) → IsSend h → IsSend (Option.the_row (Boxed.the_row (Items.the_row h)))
-option_boxed_items_send h k = option.the_send (Boxed.the_row (Items.the_row h)) (boxed.the_send (Items.the_row h) (items.the_send h k))
+option_boxed_items_send h k = option.the_send (Boxed.the_row (Items.the_row h))
+    (boxed.the_send (Items.the_row h) (items.the_send h k))
 
 factors_send : (h : RattleType) → IsSend h → IsSend (Items.the_row (Tuple (Operator.the_row MulOp.the_row ∷ h ∷ [])))
-factors_send h k = items.the_send (Tuple (Operator.the_row MulOp.the_row ∷ h ∷ [])) (let o = operator.the_send MulOp.the_row mul.the_send in search sendable)
+factors_send h k = items.the_send (Tuple (Operator.the_row MulOp.the_row ∷ h ∷ []))
+    (let o = operator.the_send MulOp.the_row mul.the_send in search sendable)
 
 terms_send : (h : RattleType) → IsSend h → IsSend (Items.the_row (Tuple (Operator.the_row AddOp.the_row ∷ h ∷ [])))
-terms_send h k = items.the_send (Tuple (Operator.the_row AddOp.the_row ∷ h ∷ [])) (let o = operator.the_send AddOp.the_row add.the_send in search sendable)
+terms_send h k = items.the_send (Tuple (Operator.the_row AddOp.the_row ∷ h ∷ []))
+    (let o = operator.the_send AddOp.the_row add.the_send in search sendable)
 
 option_ident_send : IsSend (Option.the_field Ident.the_row).row
 option_ident_send = option.the_field_send Ident.the_row ident.the_send
@@ -95,13 +98,19 @@ option_expr_send_of : IsSend (Expr.the_field).row → IsSend (Option.the_field E
 option_expr_send_of k = option.the_field_send Expr.the_row (expr_send_of k)
 
 expr_send' : IsSend (Expr.the_field).row
-expr_send' = exprs.send-Expr pos.the_field_send number_send byte_send quoted.the_send option_ident_send items.the_send boxed.the_send option_boxed_items_send factors_send option_sign_send terms_send relation_send ident.the_field_send option.the_send option_expr_send_of
+expr_send' = exprs.send-Expr pos.the_field_send number_send byte_send quoted.the_send option_ident_send items.the_send
+    boxed.the_send option_boxed_items_send factors_send option_sign_send terms_send relation_send ident.the_field_send
+    option.the_send option_expr_send_of
 
 designator_send' : IsSend (Designator.the_field).row
-designator_send' = exprs.send-Designator pos.the_field_send number_send byte_send quoted.the_send option_ident_send items.the_send boxed.the_send option_boxed_items_send factors_send option_sign_send terms_send relation_send ident.the_field_send option.the_send option_expr_send_of
+designator_send' = exprs.send-Designator pos.the_field_send number_send byte_send quoted.the_send option_ident_send
+    items.the_send boxed.the_send option_boxed_items_send factors_send option_sign_send terms_send relation_send
+    ident.the_field_send option.the_send option_expr_send_of
 
 item_send' : IsSend (Item.the_field).row
-item_send' = exprs.send-Item pos.the_field_send number_send byte_send quoted.the_send option_ident_send items.the_send boxed.the_send option_boxed_items_send factors_send option_sign_send terms_send relation_send ident.the_field_send option.the_send option_expr_send_of
+item_send' = exprs.send-Item pos.the_field_send number_send byte_send quoted.the_send option_ident_send items.the_send
+    boxed.the_send option_boxed_items_send factors_send option_sign_send terms_send relation_send ident.the_field_send
+    option.the_send option_expr_send_of
 
 pub Expr-send : IsSend Expr.the_row
 Expr-send = expr_send_of expr_send'
@@ -129,20 +138,29 @@ labels_send : IsSend (Items.the_field Item.the_row).row
 labels_send = items.the_send Item.the_row Item-send
 
 stmt_send' : IsSend (Stmt.the_field).row
-stmt_send' = stmts.send-Stmt expr_send' items.the_send boxed.the_send option_items_send designator_send' option_exprs_send pos.the_field_send option_expr_send ident.the_field_send boxed_expr_send option_boxed_expr_send labels_send
+stmt_send' = stmts.send-Stmt expr_send' items.the_send boxed.the_send option_items_send designator_send'
+    option_exprs_send pos.the_field_send option_expr_send ident.the_field_send boxed_expr_send option_boxed_expr_send
+    labels_send
 
 pub Stmt-send : IsSend Stmt.the_row
 Stmt-send = recorded_send (Stmt.the_field).row _ _ (Stmt.the_type).to_one stmt_send'
 
 -- types
 simple_send' : IsSend (Simple.the_field).row
-simple_send' = enum_send (enum.shape Simple.the_type) ((qualified.the_field_send, tt), ((pos.the_field_send, (idents_send, tt)), ((option_qualified_send, (pos.the_field_send, (boxed_expr_send, (boxed_expr_send, tt)))), tt)))
+simple_send' = enum_send (enum.shape Simple.the_type) (
+  (qualified.the_field_send, tt),
+  (
+    (pos.the_field_send, (idents_send, tt)),
+    ((option_qualified_send, (pos.the_field_send, (boxed_expr_send, (boxed_expr_send, tt)))), tt),
+  ),
+)
 
 parameters_send : IsSend (Items.the_field Parameter.the_row).row
 parameters_send = items.the_send Parameter.the_row parameter.the_send
 
 type_send' : IsSend (TypeExpr.the_field).row
-type_send' = types.send-TypeExpr simple_send' pos.the_field_send boxed.the_send items.the_send parameters_send option_qualified_send idents_send
+type_send' = types.send-TypeExpr simple_send' pos.the_field_send boxed.the_send items.the_send parameters_send
+    option_qualified_send idents_send
 
 pub TypeExpr-send : IsSend TypeExpr.the_row
 TypeExpr-send = recorded_send (TypeExpr.the_field).row _ _ (TypeExpr.the_type).to_one type_send'
@@ -179,11 +197,13 @@ option_stmts_send : IsSend (Option.the_field (Items.the_row Stmt.the_row)).row
 option_stmts_send = option.the_field_send (Items.the_row Stmt.the_row) (items.the_send Stmt.the_row Stmt-send)
 
 block_send' : IsSend (Block.the_field).row
-block_send' = decls.send-Block constants_send type_decls_send variable_lists_send heading.the_field_send boxed.the_send items.the_send option_stmts_send
+block_send' = decls.send-Block constants_send type_decls_send variable_lists_send heading.the_field_send boxed.the_send
+    items.the_send option_stmts_send
 
 -- modules
 def_send' : IsSend (Def.the_field).row
-def_send' = enum_send (enum.shape Def.the_type) ((constants_send, tt), ((type_decls_send, tt), ((variable_lists_send, tt), ((heading.the_field_send, tt), tt))))
+def_send' = enum_send (enum.shape Def.the_type)
+    ((constants_send, tt), ((type_decls_send, tt), ((variable_lists_send, tt), ((heading.the_field_send, tt), tt))))
 
 pub Def-send : IsSend Def.the_row
 Def-send = recorded_send (Def.the_field).row _ _ (Def.the_type).to_one def_send'
@@ -192,7 +212,8 @@ defs_send : IsSend (Items.the_field Def.the_row).row
 defs_send = items.the_send Def.the_row Def-send
 
 contents_send' : IsSend (Contents.the_field).row
-contents_send' = enum_send (enum.shape Contents.the_type) ((defs_send, tt), ((block_send', tt), ((block_send', tt), tt)))
+contents_send' = enum_send (enum.shape Contents.the_type)
+    ((defs_send, tt), ((block_send', tt), ((block_send', tt), tt)))
 
 imports_send : IsSend (Items.the_field Import.the_row).row
 imports_send = items.the_send Import.the_row import.the_send
@@ -208,13 +229,16 @@ option_items_sync : (h : RattleType) → IsSync h → IsSync (Option.the_row (It
 option_items_sync h k = option.the_sync (Items.the_row h) (items.the_sync h k)
 
 option_boxed_items_sync : (h : RattleType) → IsSync h → IsSync (Option.the_row (Boxed.the_row (Items.the_row h)))
-option_boxed_items_sync h k = option.the_sync (Boxed.the_row (Items.the_row h)) (boxed.the_sync (Items.the_row h) (items.the_sync h k))
+option_boxed_items_sync h k = option.the_sync (Boxed.the_row (Items.the_row h))
+    (boxed.the_sync (Items.the_row h) (items.the_sync h k))
 
 factors_sync : (h : RattleType) → IsSync h → IsSync (Items.the_row (Tuple (Operator.the_row MulOp.the_row ∷ h ∷ [])))
-factors_sync h k = items.the_sync (Tuple (Operator.the_row MulOp.the_row ∷ h ∷ [])) (let o = operator.the_sync MulOp.the_row mul.the_sync in search sendable)
+factors_sync h k = items.the_sync (Tuple (Operator.the_row MulOp.the_row ∷ h ∷ []))
+    (let o = operator.the_sync MulOp.the_row mul.the_sync in search sendable)
 
 terms_sync : (h : RattleType) → IsSync h → IsSync (Items.the_row (Tuple (Operator.the_row AddOp.the_row ∷ h ∷ [])))
-terms_sync h k = items.the_sync (Tuple (Operator.the_row AddOp.the_row ∷ h ∷ [])) (let o = operator.the_sync AddOp.the_row add.the_sync in search sendable)
+terms_sync h k = items.the_sync (Tuple (Operator.the_row AddOp.the_row ∷ h ∷ []))
+    (let o = operator.the_sync AddOp.the_row add.the_sync in search sendable)
 
 option_ident_sync : IsSync (Option.the_field Ident.the_row).row
 option_ident_sync = option.the_field_sync Ident.the_row ident.the_sync
@@ -245,13 +269,19 @@ option_expr_sync_of : IsSync (Expr.the_field).row → IsSync (Option.the_field E
 option_expr_sync_of k = option.the_field_sync Expr.the_row (expr_sync_of k)
 
 expr_sync' : IsSync (Expr.the_field).row
-expr_sync' = exprs.sync-Expr pos.the_field_sync number_sync byte_sync quoted.the_sync option_ident_sync items.the_sync boxed.the_sync option_boxed_items_sync factors_sync option_sign_sync terms_sync relation_sync ident.the_field_sync option.the_sync option_expr_sync_of
+expr_sync' = exprs.sync-Expr pos.the_field_sync number_sync byte_sync quoted.the_sync option_ident_sync items.the_sync
+    boxed.the_sync option_boxed_items_sync factors_sync option_sign_sync terms_sync relation_sync ident.the_field_sync
+    option.the_sync option_expr_sync_of
 
 designator_sync' : IsSync (Designator.the_field).row
-designator_sync' = exprs.sync-Designator pos.the_field_sync number_sync byte_sync quoted.the_sync option_ident_sync items.the_sync boxed.the_sync option_boxed_items_sync factors_sync option_sign_sync terms_sync relation_sync ident.the_field_sync option.the_sync option_expr_sync_of
+designator_sync' = exprs.sync-Designator pos.the_field_sync number_sync byte_sync quoted.the_sync option_ident_sync
+    items.the_sync boxed.the_sync option_boxed_items_sync factors_sync option_sign_sync terms_sync relation_sync
+    ident.the_field_sync option.the_sync option_expr_sync_of
 
 item_sync' : IsSync (Item.the_field).row
-item_sync' = exprs.sync-Item pos.the_field_sync number_sync byte_sync quoted.the_sync option_ident_sync items.the_sync boxed.the_sync option_boxed_items_sync factors_sync option_sign_sync terms_sync relation_sync ident.the_field_sync option.the_sync option_expr_sync_of
+item_sync' = exprs.sync-Item pos.the_field_sync number_sync byte_sync quoted.the_sync option_ident_sync items.the_sync
+    boxed.the_sync option_boxed_items_sync factors_sync option_sign_sync terms_sync relation_sync ident.the_field_sync
+    option.the_sync option_expr_sync_of
 
 pub Expr-sync : IsSync Expr.the_row
 Expr-sync = expr_sync_of expr_sync'
@@ -279,20 +309,29 @@ labels_sync : IsSync (Items.the_field Item.the_row).row
 labels_sync = items.the_sync Item.the_row Item-sync
 
 stmt_sync' : IsSync (Stmt.the_field).row
-stmt_sync' = stmts.sync-Stmt expr_sync' items.the_sync boxed.the_sync option_items_sync designator_sync' option_exprs_sync pos.the_field_sync option_expr_sync ident.the_field_sync boxed_expr_sync option_boxed_expr_sync labels_sync
+stmt_sync' = stmts.sync-Stmt expr_sync' items.the_sync boxed.the_sync option_items_sync designator_sync'
+    option_exprs_sync pos.the_field_sync option_expr_sync ident.the_field_sync boxed_expr_sync option_boxed_expr_sync
+    labels_sync
 
 pub Stmt-sync : IsSync Stmt.the_row
 Stmt-sync = recorded_sync (Stmt.the_field).row _ _ (Stmt.the_type).to_one stmt_sync'
 
 -- types
 simple_sync' : IsSync (Simple.the_field).row
-simple_sync' = enum_sync (enum.shape Simple.the_type) ((qualified.the_field_sync, tt), ((pos.the_field_sync, (idents_sync, tt)), ((option_qualified_sync, (pos.the_field_sync, (boxed_expr_sync, (boxed_expr_sync, tt)))), tt)))
+simple_sync' = enum_sync (enum.shape Simple.the_type) (
+  (qualified.the_field_sync, tt),
+  (
+    (pos.the_field_sync, (idents_sync, tt)),
+    ((option_qualified_sync, (pos.the_field_sync, (boxed_expr_sync, (boxed_expr_sync, tt)))), tt),
+  ),
+)
 
 parameters_sync : IsSync (Items.the_field Parameter.the_row).row
 parameters_sync = items.the_sync Parameter.the_row parameter.the_sync
 
 type_sync' : IsSync (TypeExpr.the_field).row
-type_sync' = types.sync-TypeExpr simple_sync' pos.the_field_sync boxed.the_sync items.the_sync parameters_sync option_qualified_sync idents_sync
+type_sync' = types.sync-TypeExpr simple_sync' pos.the_field_sync boxed.the_sync items.the_sync parameters_sync
+    option_qualified_sync idents_sync
 
 pub TypeExpr-sync : IsSync TypeExpr.the_row
 TypeExpr-sync = recorded_sync (TypeExpr.the_field).row _ _ (TypeExpr.the_type).to_one type_sync'
@@ -329,11 +368,13 @@ option_stmts_sync : IsSync (Option.the_field (Items.the_row Stmt.the_row)).row
 option_stmts_sync = option.the_field_sync (Items.the_row Stmt.the_row) (items.the_sync Stmt.the_row Stmt-sync)
 
 block_sync' : IsSync (Block.the_field).row
-block_sync' = decls.sync-Block constants_sync type_decls_sync variable_lists_sync heading.the_field_sync boxed.the_sync items.the_sync option_stmts_sync
+block_sync' = decls.sync-Block constants_sync type_decls_sync variable_lists_sync heading.the_field_sync boxed.the_sync
+    items.the_sync option_stmts_sync
 
 -- modules
 def_sync' : IsSync (Def.the_field).row
-def_sync' = enum_sync (enum.shape Def.the_type) ((constants_sync, tt), ((type_decls_sync, tt), ((variable_lists_sync, tt), ((heading.the_field_sync, tt), tt))))
+def_sync' = enum_sync (enum.shape Def.the_type)
+    ((constants_sync, tt), ((type_decls_sync, tt), ((variable_lists_sync, tt), ((heading.the_field_sync, tt), tt))))
 
 pub Def-sync : IsSync Def.the_row
 Def-sync = recorded_sync (Def.the_field).row _ _ (Def.the_type).to_one def_sync'
@@ -342,7 +383,8 @@ defs_sync : IsSync (Items.the_field Def.the_row).row
 defs_sync = items.the_sync Def.the_row Def-sync
 
 contents_sync' : IsSync (Contents.the_field).row
-contents_sync' = enum_sync (enum.shape Contents.the_type) ((defs_sync, tt), ((block_sync', tt), ((block_sync', tt), tt)))
+contents_sync' = enum_sync (enum.shape Contents.the_type)
+    ((defs_sync, tt), ((block_sync', tt), ((block_sync', tt), tt)))
 
 imports_sync : IsSync (Items.the_field Import.the_row).row
 imports_sync = items.the_sync Import.the_row import.the_sync
@@ -355,9 +397,13 @@ Module-sync = recorded_sync (Module.the_field).row _ _ (Module.the_type).to_one 
 
 -- ---- what is read
 pub Read-send : IsSend Read.the_row
-Read-send = let t : IsSend _ = Arc-send Module.the_row Module-send Module-sync in recorded_send (Read.the_field).row _ _ (Read.the_type).to_one (enum_send (enum.shape Read.the_type) ((t, tt), ((pos.the_field_send, (number_send, tt)), tt)))
+Read-send = let t : IsSend _ = Arc-send Module.the_row Module-send Module-sync in
+    recorded_send (Read.the_field).row _ _ (Read.the_type).to_one
+    (enum_send (enum.shape Read.the_type) ((t, tt), ((pos.the_field_send, (number_send, tt)), tt)))
 
 pub Read-sync : IsSync Read.the_row
-Read-sync = let t : IsSync _ = Arc-sync Module.the_row Module-send Module-sync in recorded_sync (Read.the_field).row _ _ (Read.the_type).to_one (enum_sync (enum.shape Read.the_type) ((t, tt), ((pos.the_field_sync, (number_sync, tt)), tt)))
+Read-sync = let t : IsSync _ = Arc-sync Module.the_row Module-send Module-sync in
+    recorded_sync (Read.the_field).row _ _ (Read.the_type).to_one
+    (enum_sync (enum.shape Read.the_type) ((t, tt), ((pos.the_field_sync, (number_sync, tt)), tt)))
 
 pub ruleset crosses = (Module-send, Module-sync, Read-send, Read-sync)

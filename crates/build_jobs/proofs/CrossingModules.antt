@@ -20,17 +20,30 @@ numbers_sync = Vec-sync builtin.usize (search sendable)
 
 module _ (a : NamedLft) where
   tree_sync : IsSync (Tuple (Str a.mir a.lft ∷ ShrRef a.mir a.lft Module.the_row ∷ []))
-  tree_sync = let t : IsSync (ShrRef a.mir a.lft Module.the_row) = shr_sync a.mir a.lft Module.the_row Module-sync in search sendable depth 20
+  tree_sync = let t : IsSync (ShrRef a.mir a.lft Module.the_row) = shr_sync a.mir a.lft Module.the_row Module-sync in
+      search sendable depth 20
 
   number_sync : IsSync builtin.usize
   number_sync = search sendable
 
   pub Modules-send : IsSend (Modules.the_row a)
-  Modules-send = recorded_send (Modules.the_field a).row _ _ (Modules.the_type a).to_one (struct_send (struct.shape (Modules.the_type a))
-      (heap.the_field_send, (shr_slice_send _ _ _ tree_sync, (shr_slice_send _ _ _ number_sync, (shr_slice_send _ _ _ numbers_sync, tt)))))
+  Modules-send = recorded_send (Modules.the_field a).row _ _ (Modules.the_type a).to_one
+      (struct_send (struct.shape (Modules.the_type a)) (
+        heap.the_field_send,
+        (
+          shr_slice_send _ _ _ tree_sync,
+          (shr_slice_send _ _ _ number_sync, (shr_slice_send _ _ _ numbers_sync, tt)),
+        ),
+      ))
 
   pub Modules-sync : IsSync (Modules.the_row a)
-  Modules-sync = recorded_sync (Modules.the_field a).row _ _ (Modules.the_type a).to_one (struct_sync (struct.shape (Modules.the_type a))
-      (heap.the_field_sync, (shr_slice_sync _ _ _ tree_sync, (shr_slice_sync _ _ _ number_sync, (shr_slice_sync _ _ _ numbers_sync, tt)))))
+  Modules-sync = recorded_sync (Modules.the_field a).row _ _ (Modules.the_type a).to_one
+      (struct_sync (struct.shape (Modules.the_type a)) (
+        heap.the_field_sync,
+        (
+          shr_slice_sync _ _ _ tree_sync,
+          (shr_slice_sync _ _ _ number_sync, (shr_slice_sync _ _ _ numbers_sync, tt)),
+        ),
+      ))
 
 pub ruleset crosses = (Modules-send, Modules-sync)

@@ -39,7 +39,8 @@ run_bytes [] h = absurd h
 run_bytes (b ∷ bs) h = and_from (is_run_byte b) (list_all is_run_byte bs) (ap in_run h.0) h.1
 
 word_from : (w : Text) → IsRun Letter w → length w ≤ 64 → word w ≡ true
-word_from w run short = and_from (nat_le (length w) 64) (list_all is_run_byte w) (le-leb (length w) 64 short) (run_bytes w run)
+word_from w run short = and_from (nat_le (length w) 64) (list_all is_run_byte w) (le-leb (length w) 64 short)
+    (run_bytes w run)
 
 lexeme_named : (w : Text) (l : Lexeme) → forms.Spells w l → word (name_said l) ≡ true
 lexeme_named w (lexeme.Name n) h = subst (λ (name : List ℕ). word name ≡ true) (sym h.3) (word_from w h.0 h.1)
@@ -52,7 +53,8 @@ lexeme_named w lexeme.End h = refl
 abbrev AllNamed : List Token → Type 0
 AllNamed ts = AllByRecursion (λ t. named t ≡ true) ts
 
-members_named : (text front : Text) (ms : List Member) (rest : Text) → Divides text ms rest → AllNamed (tokens_behind front ms)
+members_named : (text front : Text) (ms : List Member) (rest : Text) → Divides text ms rest
+    → AllNamed (tokens_behind front ms)
 members_named text front [] rest h = tt
 members_named text front ((w, None) ∷ ms) rest h = members_named h.0 (front ++ w) ms rest h.4
 members_named text front ((w, Some t) ∷ ms) rest h = (lexeme_named w t h.3, members_named h.0 (front ++ w) ms rest h.4)
@@ -63,7 +65,8 @@ with_end (x ∷ ts) t h k = (h.0, with_end ts t h.1 k)
 
 tokens_named : (text : Text) (ts : List Token) → HasTokens text ts → AllNamed ts
 tokens_named text ts h =
-    subst AllNamed (sym h.2) (with_end (tokens_behind [] h.0) (record { lexeme = lexeme.End; pos = place text }) (members_named text [] h.0 [] h.1) refl)
+    subst AllNamed (sym h.2) (with_end (tokens_behind [] h.0) (record { lexeme = lexeme.End; pos = place text })
+    (members_named text [] h.0 [] h.1) refl)
 
 -- ---- the name of a module, by induction over the grammar
 
@@ -116,7 +119,8 @@ PartNamed (either a b) x = EitherNamed (PartNamed a) (PartNamed b) x
 PartNamed (maybe a) x = MaybeNamed (PartNamed a) x
 PartNamed (list a) xs = AllByRecursion (PartNamed a) xs
 
-module_named : (x : El (grammar module_rule).shape) → PartNamed (grammar module_rule).shape x → TreeNamed module_rule (module_of x)
+module_named : (x : El (grammar module_rule).shape) → PartNamed (grammar module_rule).shape x
+    → TreeNamed module_rule (module_of x)
 module_named (inl p) h = h.0
 module_named (inr p) h = h.1.0
 
@@ -164,7 +168,8 @@ rest_named (t ∷ ts) us h = rest_named ts us h.1
 spelled_named : {a : Ty} {g : Gr a} {x : El a} {ts : List Token} → Spells a g x ts → AllNamed ts → PartNamed a x
 spelled_named (one i) h = h.0
 spelled_named (made {r = r} {x = x} d) h = tree_named r x (spelled_named d h)
-spelled_named (pair {ts = ts} {us = us} d c) h = (spelled_named d (front_named ts us h), spelled_named c (rest_named ts us h))
+spelled_named (pair {ts = ts} {us = us} d c) h =
+    (spelled_named d (front_named ts us h), spelled_named c (rest_named ts us h))
 spelled_named (left d) h = spelled_named d h
 spelled_named (right d) h = spelled_named d h
 spelled_named (before k d) h = spelled_named d h.1
@@ -172,7 +177,8 @@ spelled_named (behind {ts = ts} t d k) h = spelled_named d (front_named ts (t �
 spelled_named absent h = tt
 spelled_named (there_is d) h = spelled_named d h
 spelled_named none h = tt
-spelled_named (more {ts = ts} {us = us} d c) h = (spelled_named d (front_named ts us h), spelled_named c (rest_named ts us h))
+spelled_named (more {ts = ts} {us = us} d c) h =
+    (spelled_named d (front_named ts us h), spelled_named c (rest_named ts us h))
 spelled_named (nested d) h = spelled_named d h
 spelled_named (closed {ts = ts} t u k d l) h = (h.0, spelled_named d (front_named ts (u ∷ []) h.1))
 
@@ -185,7 +191,8 @@ either_of : (p q : Bool) → (p || q) ≡ true → (p ≡ true) ⊎ (q ≡ true)
 either_of true q e = inl refl
 either_of false q e = inr e
 
-classed : (s l d q : Bool) → in_run (if s then Space else if l then Letter else if d then Digit else if q then Quote else Other) ≡ true → (l ≡ true) ⊎ (d ≡ true)
+classed : (s l d q : Bool) → in_run (if s then Space else if l then Letter else if d then Digit else if q then Quote
+    else Other) ≡ true → (l ≡ true) ⊎ (d ≡ true)
 classed true l d q e = absurd (false≢true e)
 classed false true d q e = inl refl
 classed false false true q e = inr refl
@@ -193,7 +200,8 @@ classed false false false true e = absurd (false≢true e)
 classed false false false false e = absurd (false≢true e)
 
 between : (low high b : ℕ) → (nat_le low b && nat_le b high) ≡ true → (low ≤ b) × (b ≤ high)
-between low high b e = let both = and_parts (nat_le low b) (nat_le b high) e in (leb-true low b both.0, leb-true b high both.1)
+between low high b e = let both = and_parts (nat_le low b) (nat_le b high) e in
+    (leb-true low b both.0, leb-true b high both.1)
 
 -- a letter or a digit
 pub run_byte : (b : ℕ) → is_run_byte b ≡ true → (is_letter b ≡ true) ⊎ (is_digit b ≡ true)
@@ -211,10 +219,15 @@ run_bound b e = elim (classed (is_space b) (is_letter b) (is_digit b) (is_quote 
 ]
 
 -- the name of a module that is read
-pub name_read : (text : List ℕ) (m : Module) → HasTree text m → (length m.name.name ≤ 64) × All (λ b. (48 ≤ b) × (b < 123)) m.name.name
+pub name_read : (text : List ℕ) (m : Module) → HasTree text m → (length m.name.name ≤ 64)
+    × All (λ b. (48 ≤ b) × (b < 123)) m.name.name
 name_read text m h =
-    let is = and_parts (nat_le (length m.name.name) 64) (list_all is_run_byte m.name.name) (whole_named h.tokens m (tokens_named text h.tokens h.divides.divides) h.is_tree.0) in
-    (leb-true (length m.name.name) 64 is.0, All-weaker (λ b. is_run_byte b ≡ true) (λ b. (48 ≤ b) × (b < 123)) run_bound m.name.name (AllPass-from_list_all is_run_byte m.name.name is.1))
+    let is = and_parts (nat_le (length m.name.name) 64) (list_all is_run_byte m.name.name)
+    (whole_named h.tokens m (tokens_named text h.tokens h.divides.divides) h.is_tree.0) in (
+      leb-true (length m.name.name) 64 is.0,
+      All-weaker (λ b. is_run_byte b ≡ true) (λ b. (48 ≤ b) × (b < 123)) run_bound
+          m.name.name (AllPass-from_list_all is_run_byte m.name.name is.1),
+    )
 
 -- ---- its first letter
 
@@ -222,7 +235,8 @@ abbrev pub Begins : List ℕ → Type 0
 Begins [] = ⊥
 Begins (b ∷ bs) = is_letter b ≡ true
 
-letter_class : (s l d q : Bool) → (if s then Space else if l then Letter else if d then Digit else if q then Quote else Other) ≡ Letter → l ≡ true
+letter_class : (s l d q : Bool) → (if s then Space else if l then Letter else if d then Digit else if q then Quote else
+    Other) ≡ Letter → l ≡ true
 letter_class true l d q e = absurd cc
 letter_class false true d q e = refl
 letter_class false false true q e = absurd cc
@@ -240,7 +254,8 @@ Begun t = kind_of t ≡ the.Name → Begins (name_of t)
 lexeme_begun : (w : Text) (l : Lexeme) (t : Token) → t.lexeme ≡ l → forms.Spells w l → Begun t
 lexeme_begun w l t same h k = by l same h (subst (λ (x : Lexeme). kind_said x ≡ the.Name) same k) where
   by : (x : Lexeme) → t.lexeme ≡ x → forms.Spells w x → kind_said x ≡ the.Name → Begins (name_of t)
-  by (lexeme.Name n) e h k = subst (λ (y : Lexeme). Begins (name_said y)) (sym e) (subst Begins (sym h.3) (begins_run w h.0))
+  by (lexeme.Name n) e h k = subst (λ (y : Lexeme). Begins (name_said y)) (sym e)
+      (subst Begins (sym h.3) (begins_run w h.0))
   by (lexeme.Number n) e h k = absurd cc
   by (lexeme.Char c) e h k = absurd cc
   by (lexeme.Text text) e h k = absurd cc
@@ -250,10 +265,12 @@ lexeme_begun w l t same h k = by l same h (subst (λ (x : Lexeme). kind_said x �
 abbrev AllBegun : List Token → Type 0
 AllBegun ts = AllByRecursion Begun ts
 
-members_begun : (text front : Text) (ms : List Member) (rest : Text) → Divides text ms rest → AllBegun (tokens_behind front ms)
+members_begun : (text front : Text) (ms : List Member) (rest : Text) → Divides text ms rest
+    → AllBegun (tokens_behind front ms)
 members_begun text front [] rest h = tt
 members_begun text front ((w, None) ∷ ms) rest h = members_begun h.0 (front ++ w) ms rest h.4
-members_begun text front ((w, Some t) ∷ ms) rest h = (lexeme_begun w t (record { lexeme = t; pos = place front }) refl h.3, members_begun h.0 (front ++ w) ms rest h.4)
+members_begun text front ((w, Some t) ∷ ms) rest h =
+    (lexeme_begun w t (record { lexeme = t; pos = place front }) refl h.3, members_begun h.0 (front ++ w) ms rest h.4)
 
 end_begun : (ts : List Token) (t : Token) → AllBegun ts → Begun t → AllBegun (ts ++ t ∷ [])
 end_begun [] t h k = (k, tt)
@@ -264,7 +281,8 @@ no_name k e f = let same : the.End ≡ the.Name = e ∙ f in cc
 
 tokens_begun : (text : Text) (ts : List Token) → HasTokens text ts → AllBegun ts
 tokens_begun text ts h =
-    subst AllBegun (sym h.2) (end_begun (tokens_behind [] h.0) (record { lexeme = lexeme.End; pos = place text }) (members_begun text [] h.0 [] h.1) (λ k. absurd (no_name the.End refl k)))
+    subst AllBegun (sym h.2) (end_begun (tokens_behind [] h.0) (record { lexeme = lexeme.End; pos = place text })
+    (members_begun text [] h.0 [] h.1) (λ k. absurd (no_name the.End refl k)))
 
 rest_begun : (ts us : List Token) → AllBegun (ts ++ us) → AllBegun us
 rest_begun [] us h = h
@@ -276,7 +294,8 @@ begun_behind (x ∷ ts) a t us end h = begun_behind ts a t us end h.1
 
 module_begun : (ts : List Token) (m : Module) → AllBegun ts → IsModule ts m → Begins m.name.name
 module_begun _ _ h (made (behind e (left (before a (before b (behind f (closed t u k d l) g)))) j)) = h.1.1.0 k
-module_begun _ _ h (made (behind e (right (pair {ts = ts} o (before b (behind f (closed t u k d l) g)))) j)) = begun_behind ts _ t _ _ h k
+module_begun _ _ h (made (behind e (right (pair {ts = ts} o (before b (behind f (closed t u k d l) g)))) j)) =
+    begun_behind ts _ t _ _ h k
 
 pub name_begins : (text : List ℕ) (m : Module) → HasTree text m → Begins m.name.name
 name_begins text m h = module_begun h.tokens m (tokens_begun text h.tokens h.divides.divides) h.is_tree.0
@@ -289,5 +308,6 @@ pub record IsWord (name : List ℕ) : Type 0 where
 
 pub name_word : (text : List ℕ) (m : Module) → HasTree text m → IsWord m.name.name
 name_word text m h =
-    let is = and_parts (nat_le (length m.name.name) 64) (list_all is_run_byte m.name.name) (whole_named h.tokens m (tokens_named text h.tokens h.divides.divides) h.is_tree.0) in
+    let is = and_parts (nat_le (length m.name.name) 64) (list_all is_run_byte m.name.name)
+    (whole_named h.tokens m (tokens_named text h.tokens h.divides.divides) h.is_tree.0) in
     record { few = leb-true (length m.name.name) 64 is.0; run = is.1; begins = name_begins text m h }

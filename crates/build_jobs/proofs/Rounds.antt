@@ -44,8 +44,12 @@ has_some (x ∷ xs) p l = by (x == p) refl (λ m. has_some xs p m)
 -- the jobs of a graph of modules are such as the pool takes
 pub pool_takes : (jobs : List (List ℕ)) → AreJobs jobs → IsJobGraph jobs
 pool_takes jobs are job p l =
-    let same : times p (prerequisites_of jobs job) ≡ often (targets jobs job) p = as_often (prerequisites_of jobs job) p in
-    ((λ some. (are job p).0 (has_some (targets jobs job) p (subst (λ (n : ℕ). 0 < n) same some))), subst (λ (n : ℕ). n ≤ 1) (sym same) (are job p).1)
+    let same : times p (prerequisites_of jobs job) ≡ often (targets jobs job) p =
+    as_often (prerequisites_of jobs job) p in (
+      (λ some. (are job p).0 (has_some (targets jobs job) p (subst (λ (n : ℕ). 0 < n) same some))),
+      subst
+          (λ (n : ℕ). n ≤ 1) (sym same) (are job p).1,
+    )
 
 no_rows : (files : List SourceFile) (job : ℕ) → prerequisites_of (map (λ f. []) files) job ≡ []
 no_rows [] job = refl
@@ -55,7 +59,8 @@ no_rows (f ∷ fs) (suc job) = no_rows fs job
 -- so are jobs that need nothing
 pub pool_takes_free : (files : List SourceFile) (rows : List (List ℕ)) → rows ≡ map (λ f. []) files → IsJobGraph rows
 pool_takes_free files rows e job p l =
-    let none : times p (prerequisites_of rows job) ≡ 0 = ap (λ (rs : List (List ℕ)). times p (prerequisites_of rs job)) e ∙ ap (times p) (no_rows files job) in
+    let none : times p (prerequisites_of rows job) ≡ 0 =
+    ap (λ (rs : List (List ℕ)). times p (prerequisites_of rs job)) e ∙ ap (times p) (no_rows files job) in
     ((λ some. absurd (omega (arith, none, some))), omega (arith, none))
 
 zip_length : {A B : Type 0} (R : A → B → Type 0) (xs : List A) (ys : List B) → AllZip R xs ys → length xs ≡ length ys
@@ -65,24 +70,39 @@ zip_length R (x ∷ xs) [] h = absurd h
 zip_length R (x ∷ xs) (y ∷ ys) h = ap suc (zip_length R xs ys h.1)
 
 -- each job has a file
-pub jobs_count : (given : List File) (numbers : List ℕ) (jobs : List (List ℕ)) (starts : List ℕ) → IsGraph given numbers jobs starts → length numbers ≡ length jobs
+pub jobs_count : (given : List File) (numbers : List ℕ) (jobs : List (List ℕ)) (starts : List ℕ)
+    → IsGraph given numbers jobs starts → length numbers ≡ length jobs
 jobs_count given numbers jobs starts g =
     let j = g.2.is_jobs in
     ap length j.compiled ∙ length-map j.order (given_of g.0) ∙ zip_length _ j.order jobs j.needs
 
 -- a graph has no more jobs than a program has files
-pub few_jobs : (fs : List (List ℕ × Module)) (numbers : List ℕ) (jobs : List (List ℕ)) (starts : List ℕ) → IsGraph (number_files 0 fs) numbers jobs starts → CompileEach (number_files 0 fs) numbers → length jobs ≤ max_files
+pub few_jobs : (fs : List (List ℕ × Module)) (numbers : List ℕ) (jobs : List (List ℕ)) (starts : List ℕ)
+    → IsGraph (number_files 0 fs) numbers jobs starts → CompileEach (number_files 0 fs) numbers
+    → length jobs ≤ max_files
 few_jobs fs numbers jobs starts g each =
     let few : length (trees g.0) ≤ max_files = few_files fs g.0 g.1 g.2.fine in
-    let all : length numbers ≡ length (map (λ f. f.given) (number_files 0 fs)) = length_permutation (map (λ f. f.given) (number_files 0 fs)) numbers each in
+    let all : length numbers ≡ length (map (λ f. f.given) (number_files 0 fs)) =
+    length_permutation (map (λ f. f.given) (number_files 0 fs)) numbers each in
     let same : length g.0 ≡ length (number_files 0 fs) = length_permutation (number_files 0 fs) g.0 g.1.same in
-    omega (arith, few, all, same, length-map (number_files 0 fs) (λ (f : File). f.given), length-map g.0 (λ (f : File). f.tree), jobs_count (number_files 0 fs) numbers jobs starts g)
+    omega (
+      arith,
+      few,
+      all,
+      same,
+      length-map (number_files 0 fs) (λ (f : File). f.given),
+      length-map g.0
+          (λ (f : File). f.tree),
+      jobs_count (number_files 0 fs) numbers jobs starts g,
+    )
 
 -- ---- results
 
 -- where the results of all jobs are there, each file is read
-pub all_read : (files : List SourceFile) (reads : List Read) → AreResults (map (λ f. []) files) (λ job outs r. IsReadAt files job r) reads → AreRead files reads
-all_read files reads are = are_read files reads (are.count_is ∙ length-map files (λ (f : SourceFile). [])) (λ k r is. are.coherent k r is)
+pub all_read : (files : List SourceFile) (reads : List Read)
+    → AreResults (map (λ f. []) files) (λ job outs r. IsReadAt files job r) reads → AreRead files reads
+all_read files reads are = are_read files reads (are.count_is ∙ length-map files (λ (f : SourceFile). []))
+    (λ k r is. are.coherent k r is)
 
 pub read_count : (files : List SourceFile) (reads : List Read) → AreRead files reads → length files ≡ length reads
 read_count [] [] h = refl
@@ -91,7 +111,8 @@ read_count [] (r ∷ rs) h = absurd h
 read_count (f ∷ fs) [] h = absurd h
 
 -- where the results of all jobs are there, they are what becomes of the modules
-pub each_compiled : (trees : List Module) (files : List ℕ) (jobs : List (List ℕ)) (all : List Compiled) → IsJobGraph jobs → AreResults jobs (Defines trees files) all → all ≡ all_compiled trees files jobs
+pub each_compiled : (trees : List Module) (files : List ℕ) (jobs : List (List ℕ)) (all : List Compiled)
+    → IsJobGraph jobs → AreResults jobs (Defines trees files) all → all ≡ all_compiled trees files jobs
 each_compiled trees files jobs all graph are =
     sym (map-id all) ∙ as_defined jobs (Defines trees files) (λ c. c) (compile_at trees files) graph
     (λ job outs x is. is ∙ ap (compile_at trees files job) (sym (map-id outs))) all are

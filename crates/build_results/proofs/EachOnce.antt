@@ -19,7 +19,8 @@ use Rattle.law_graph.proofs.Lists.{among-permutation}
 
 times_sum : (k : ℕ) (xs : List ℕ) → times xs k ≡ sum_by (λ x. cond (x == k) 1 0) xs
 times_sum k [] = refl
-times_sum k (x ∷ xs) = ap (λ (n : ℕ). cond (x == k) 1 0 + n) (times_sum k xs) ∙ sym (sum_by_pushed (λ y. cond (y == k) 1 0) x xs (x ∷ xs) (IsPermutation-refl (x ∷ xs)))
+times_sum k (x ∷ xs) = ap (λ (n : ℕ). cond (x == k) 1 0 + n) (times_sum k xs)
+    ∙ sym (sum_by_pushed (λ y. cond (y == k) 1 0) x xs (x ∷ xs) (IsPermutation-refl (x ∷ xs)))
 
 times_permuted : (k : ℕ) (xs ys : List ℕ) → IsPermutation xs ys → times ys k ≡ times xs k
 times_permuted k xs ys p = times_sum k ys ∙ sum_by-IsPermutation (λ x. cond (x == k) 1 0) xs ys p ∙ sym (times_sum k xs)
@@ -37,7 +38,8 @@ there k (x ∷ xs) (suc j) e = omega (arith, there k xs j e)
 -- where a number is once, it is first there
 pub first_is : (k : ℕ) (xs : List ℕ) (j : ℕ) → times xs k ≤ 1 → slice_get xs j ≡ Some k → number_of xs k ≡ Some j
 first_is k [] j le e = absurd (none-some k e)
-first_is k (x ∷ xs) zero le e = ap (λ (b : Bool). cond b (Some 0) (option_map suc (number_of xs k))) (eq-eqb x k (same_Some x k e))
+first_is k (x ∷ xs) zero le e = ap (λ (b : Bool). cond b (Some 0) (option_map suc (number_of xs k)))
+    (eq-eqb x k (same_Some x k e))
 first_is k (x ∷ xs) (suc j) le e = by (x == k) refl (λ few. first_is k xs j few e)
   where
     by : (b : Bool) → (x == k) ≡ b → (times xs k ≤ 1 → number_of xs k ≡ Some j) → number_of (x ∷ xs) k ≡ Some (suc j)
@@ -46,7 +48,8 @@ first_is k (x ∷ xs) (suc j) le e = by (x == k) refl (λ few. first_is k xs j f
         absurd (omega (arith, one, le, there k xs j e))
     by false is onward =
         let none : ◌≡◌ {A = ℕ} (cond (x == k) 1 0) 0 = ap one_if is in
-        ap (λ (b : Bool). cond b (Some 0) (option_map suc (number_of xs k))) is ∙ ap (option_map suc) (onward (omega (arith, none, le)))
+        ap (λ (b : Bool). cond b (Some 0) (option_map suc (number_of xs k))) is
+        ∙ ap (option_map suc) (onward (omega (arith, none, le)))
 
 -- ---- the files as they are given
 
@@ -62,29 +65,36 @@ none_below k n (f ∷ fs) l =
 one_given : (k n : ℕ) (fs : List (List ℕ × Module)) → times (givens n fs) k ≤ 1
 one_given k n [] = omega arith
 one_given k n (f ∷ fs) = elim (cases_eq n k) [
-  | inl e ↦ (let one : ◌≡◌ {A = ℕ} (cond (n == k) 1 0) 1 = ap one_if (eq-eqb n k e) in omega (arith, one, none_below k (n + 1) fs (omega (arith, e))))
-  | inr ne ↦ (let none : ◌≡◌ {A = ℕ} (cond (n == k) 1 0) 0 = ap one_if (ne_eqb n k ne) in omega (arith, none, one_given k (n + 1) fs))
+  | inl e ↦ (let one : ◌≡◌ {A = ℕ} (cond (n == k) 1 0) 1 = ap one_if (eq-eqb n k e) in
+      omega (arith, one, none_below k (n + 1) fs (omega (arith, e))))
+  | inr ne ↦ (let none : ◌≡◌ {A = ℕ} (cond (n == k) 1 0) 0 = ap one_if (ne_eqb n k ne) in
+      omega (arith, none, one_given k (n + 1) fs))
 ]
 
 given_at : (n k : ℕ) (fs : List (List ℕ × Module)) → k < length fs → slice_get (givens n fs) k ≡ Some (n + k)
 given_at n k [] l = absurd (omega (arith, l))
 given_at n zero (f ∷ fs) l = let e : n ≡ n + 0 = omega arith in ap (λ (m : ℕ). Some m) e
-given_at n (suc k) (f ∷ fs) l = let e : (n + 1) + k ≡ n + suc k = omega arith in given_at (n + 1) k fs (omega (arith, l)) ∙ ap (λ (m : ℕ). Some m) e
+given_at n (suc k) (f ∷ fs) l = let e : (n + 1) + k ≡ n + suc k = omega arith in
+    given_at (n + 1) k fs (omega (arith, l)) ∙ ap (λ (m : ℕ). Some m) e
 
 given_below : (most n : ℕ) (fs : List (List ℕ × Module)) → n + length fs ≤ most → All (λ k. k < most) (givens n fs)
 given_below most n [] le = All-nil (λ k. k < most)
-given_below most n (f ∷ fs) le = All-cons (λ k. k < most) n (givens (n + 1) fs) (omega (arith, le)) (given_below most (n + 1) fs (omega (arith, le)))
+given_below most n (f ∷ fs) le = All-cons (λ k. k < most) n (givens (n + 1) fs) (omega (arith, le))
+    (given_below most (n + 1) fs (omega (arith, le)))
 
 -- ---- jobs
 
 module _ (fs : List (List ℕ × Module)) (numbers : List ℕ) (each : CompileEach (number_files 0 fs) numbers) where
   pub all_within : All (λ k. k < length fs) numbers
-  all_within = All-permutation (λ k. k < length fs) (givens 0 fs) numbers each (given_below (length fs) 0 fs (omega arith))
+  all_within = All-permutation (λ k. k < length fs) (givens 0 fs) numbers each
+      (given_below (length fs) 0 fs (omega arith))
 
   -- a job is the one of its file
   pub job_of : (j k : ℕ) → slice_get numbers j ≡ Some k → number_of numbers k ≡ Some j
-  job_of j k e = first_is k numbers j (let same = times_permuted k (givens 0 fs) numbers each in omega (arith, same, one_given k 0 fs)) e
+  job_of j k e = first_is k numbers j (let same = times_permuted k (givens 0 fs) numbers each in
+      omega (arith, same, one_given k 0 fs)) e
 
   -- each file has a job
   pub file_job : (k : ℕ) → k < length fs → (j : ℕ) × (slice_get numbers j ≡ Some k)
-  file_job k l = let e : 0 + k ≡ k = omega arith in among-permutation (givens 0 fs) numbers k each (k, given_at 0 k fs l ∙ ap (λ (m : ℕ). Some m) e)
+  file_job k l = let e : 0 + k ≡ k = omega arith in
+      among-permutation (givens 0 fs) numbers k each (k, given_at 0 k fs l ∙ ap (λ (m : ℕ). Some m) e)

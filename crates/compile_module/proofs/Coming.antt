@@ -21,7 +21,8 @@ comes_of files made.Defined h = h
 comes_of files (made.Built m is_program imports interfaces) h = h
 
 -- all modules, by what the code finds of them
-pub all_are : (trees : List (Bor (List ℕ) × Bor Module)) (all : List (List ℕ × Module)) (stands now : List Module) → now ≡ stands → stands ≡ stands_for (modules_borrowed trees)
+pub all_are : (trees : List (Bor (List ℕ) × Bor Module)) (all : List (List ℕ × Module)) (stands now : List Module)
+    → now ≡ stands → stands ≡ stands_for (modules_borrowed trees)
     → all ≡ borrow_trees trees ++ map (λ m. (stand_file, m)) now → all ≡ with_stands (borrow_trees trees)
 all_are trees all stands now same are is =
     is ∙ ap (λ (ms : List Module). borrow_trees trees ++ map (λ m. (stand_file, m)) ms) (same ∙ are)

@@ -16,15 +16,22 @@ record Spells (n : ℕ) (s : List ℕ) : Type 0 where
   most : length s ≤ 2 * n
 
 spells_byte : (b : ℕ) → Spells 1 (spelling b)
-spells_byte b = elim (cases_Bool (is_plain b)) [ inl t ↦ subst (λ (p : List ℕ). Spells 1 p) (sym (as_plain b t)) (record { least = omega arith; most = omega arith }) | inr f ↦ subst (λ (p : List ℕ). Spells 1 p) (sym (as_pair b f)) (record { least = omega arith; most = omega arith }) ]
+spells_byte b = elim (cases_Bool (is_plain b)) [
+  | inl t ↦ subst (λ (p : List ℕ). Spells 1 p) (sym (as_plain b t))
+      (record { least = omega arith; most = omega arith })
+  | inr f ↦ subst (λ (p : List ℕ). Spells 1 p)
+      (sym (as_pair b f)) (record { least = omega arith; most = omega arith })
+]
 
 spells : (bytes : List ℕ) → Spells (length bytes) (spelled bytes)
 spells [] = record { least = omega arith; most = omega arith }
 spells (b ∷ bs) =
     let one = spells_byte b in
     let more = spells bs in
-    let e : length (spelling b ++ spelled bs) ≡ length (spelling b) + length (spelled bs) = length-append (spelling b) (spelled bs) in
-    subst (λ (p : List ℕ). Spells (length (b ∷ bs)) p) (sym (flat_map-cons spelling b bs)) (record { least = omega (arith, e, one.least, more.least); most = omega (arith, e, one.most, more.most) })
+    let e : length (spelling b ++ spelled bs) ≡ length (spelling b) + length (spelled bs) =
+    length-append (spelling b) (spelled bs) in
+    subst (λ (p : List ℕ). Spells (length (b ∷ bs)) p) (sym (flat_map-cons spelling b bs))
+    (record { least = omega (arith, e, one.least, more.least); most = omega (arith, e, one.most, more.most) })
 
 -- ---- the arms
 
@@ -32,14 +39,18 @@ spells (b ∷ bs) =
 abbrev words : ℕ
 words = 40
 
-five_length : (a b c d e : List ℕ) → length (a ++ (b ++ (c ++ (d ++ e)))) ≡ length a + (length b + (length c + (length d + length e)))
+five_length : (a b c d e : List ℕ) → length (a ++ (b ++ (c ++ (d ++ e))))
+    ≡ length a + (length b + (length c + (length d + length e)))
 five_length a b c d e =
-    length-append a (b ++ (c ++ (d ++ e))) ∙ ap (λ n. length a + n) (length-append b (c ++ (d ++ e)) ∙ ap (λ n. length b + n) (length-append c (d ++ e) ∙ ap (λ n. length c + n) (length-append d e)))
+    length-append a (b ++ (c ++ (d ++ e)))
+    ∙ ap (λ n. length a + n) (length-append b (c ++ (d ++ e))
+    ∙ ap (λ n. length b + n) (length-append c (d ++ e) ∙ ap (λ n. length c + n) (length-append d e)))
 
 part_length : (bytes : List ℕ) (n : ℕ) → length (part bytes n) ≡ min 4096 (length bytes - n * 4096)
 part_length bytes n = length-take 4096 (drop (n * 4096) bytes) ∙ ap (min 4096) (length-drop (n * 4096) bytes)
 
-arm_length : (bytes : List ℕ) (n : ℕ) → length (arm bytes n) ≡ 17 + (length (decimal n) + length (spelled (part bytes n)))
+arm_length : (bytes : List ℕ) (n : ℕ) → length (arm bytes n)
+    ≡ 17 + (length (decimal n) + length (spelled (part bytes n)))
 arm_length bytes n =
     let e = five_length (codes "  | ") (decimal n) (codes ": part := \"") (spelled (part bytes n)) (codes "\"\n") in
     e ∙ omega arith
@@ -67,7 +78,8 @@ arms_least bytes (suc n) =
     let e = length-append (arms bytes n) (arm bytes n) in
     omega (arith, e, p, before, here)
 
-arms_most : (bytes : List ℕ) (n : ℕ) → n < 2 ^ 52 → length (arms bytes n) ≤ 2 * min (n * 4096) (length bytes) + n * words
+arms_most : (bytes : List ℕ) (n : ℕ) → n < 2 ^ 52
+    → length (arms bytes n) ≤ 2 * min (n * 4096) (length bytes) + n * words
 unfolding arms
 arms_most bytes zero l = omega arith
 arms_most bytes (suc n) l =
@@ -88,10 +100,12 @@ front_length bytes l =
     (codes "IMPLEMENTATION MODULE InputBytes;\n\nPROCEDURE Size(): CARDINAL;\nBEGIN\n  RETURN ")
     (decimal (length bytes))
     (codes "\nEND Size;\n\nPROCEDURE Take(number: CARDINAL; VAR part: Part);\nBEGIN\n  CASE number OF\n") in
-    let d : length (decimal (length bytes)) ≤ 20 = length-decimal-le 20 (length bytes) (omega arith) (omega (arith, l)) l in
+    let d : length (decimal (length bytes)) ≤ 20 =
+    length-decimal-le 20 (length bytes) (omega arith) (omega (arith, l)) l in
     omega (arith, e, d)
 
-whole_length : (bytes : List ℕ) → length (text_of bytes) ≡ length (front bytes) + (length (arms bytes (parts_of bytes)) + length back)
+whole_length : (bytes : List ℕ) → length (text_of bytes)
+    ≡ length (front bytes) + (length (arms bytes (parts_of bytes)) + length back)
 unfolding text_of
 whole_length bytes = three_length (front bytes) (arms bytes (parts_of bytes)) back
 

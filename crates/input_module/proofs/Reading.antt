@@ -37,10 +37,13 @@ begins_pair : (n : ℕ) → leb 123 (123 + n) ≡ true
 begins_pair n = grind (arith, common_steps, leb_tells)
 
 plain_step : (b : ℕ) (s bs : List ℕ) → is_plain b ≡ true → read_off s ≡ bs → read_off (spelling b ++ s) ≡ b ∷ bs
-plain_step b s bs t e = subst (λ (p : List ℕ). read_off (p ++ s) ≡ b ∷ bs) (sym (as_plain b t)) (plain_ahead b s (plain_low b t) ∙ ap (λ r. b ∷ r) e)
+plain_step b s bs t e = subst (λ (p : List ℕ). read_off (p ++ s) ≡ b ∷ bs) (sym (as_plain b t))
+    (plain_ahead b s (plain_low b t) ∙ ap (λ r. b ∷ r) e)
 
 pair_step_is : (b : ℕ) (s bs : List ℕ) → is_plain b ≡ false → read_off s ≡ bs → read_off (spelling b ++ s) ≡ b ∷ bs
-pair_step_is b s bs f e = subst (λ (p : List ℕ). read_off (p ++ s) ≡ b ∷ bs) (sym (as_pair b f)) (pair_ahead (123 + b / 64) (48 + b % 64) s (begins_pair (b / 64)) ∙ (ap (λ n. n ∷ read_off s) (pair_is b) ∙ ap (λ r. b ∷ r) e))
+pair_step_is b s bs f e = subst (λ (p : List ℕ). read_off (p ++ s) ≡ b ∷ bs) (sym (as_pair b f))
+    (pair_ahead (123 + b / 64) (48 + b % 64) s (begins_pair (b / 64))
+    ∙ (ap (λ n. n ∷ read_off s) (pair_is b) ∙ ap (λ r. b ∷ r) e))
 
 read_step : (b : ℕ) (s bs : List ℕ) → read_off s ≡ bs → read_off (spelling b ++ s) ≡ b ∷ bs
 read_step b s bs e = elim (cases_Bool (is_plain b)) [ inl t ↦ plain_step b s bs t e | inr f ↦ pair_step_is b s bs f e ]
@@ -62,7 +65,8 @@ plain_held : (b : ℕ) → is_plain b ≡ true → All IsHeld (b ∷ [])
 plain_held b t =
     let p = and_parts (leb 32 b) (not (leb 123 b) && not (b == 34)) t in
     let q = and_parts (not (leb 123 b)) (not (b == 34)) p.1 in
-    held b (leb-true 32 b p.0) (let h : b < 123 = leb-false 123 b (not-true (leb 123 b) q.0) in omega (arith, h)) (eqb-false b 34 (not-true (b == 34) q.1))
+    held b (leb-true 32 b p.0) (let h : b < 123 = leb-false 123 b (not-true (leb 123 b) q.0) in omega (arith, h))
+    (eqb-false b 34 (not-true (b == 34) q.1))
 
 pair_held : (b : ℕ) → b < 256 → All IsHeld ((123 + b / 64) ∷ (48 + b % 64) ∷ [])
 pair_held b l =
@@ -73,8 +77,14 @@ pair_held b l =
     (held (48 + b % 64) (omega arith) (omega (arith, r)) (λ q. omega (arith, q)))
 
 byte_held : (b : ℕ) → b < 256 → All IsHeld (spelling b)
-byte_held b l = elim (cases_Bool (is_plain b)) [ inl t ↦ subst (λ (p : List ℕ). All IsHeld p) (sym (as_plain b t)) (plain_held b t) | inr f ↦ subst (λ (p : List ℕ). All IsHeld p) (sym (as_pair b f)) (pair_held b l) ]
+byte_held b l = elim (cases_Bool (is_plain b)) [
+  | inl t ↦ subst (λ (p : List ℕ). All IsHeld p) (sym (as_plain b t)) (plain_held b t)
+  | inr f ↦ subst
+      (λ (p : List ℕ). All IsHeld p) (sym (as_pair b f)) (pair_held b l)
+]
 
 pub all_held : (bytes : List ℕ) → All (λ b. b < 2 ^ 8) bytes → All IsHeld (spelled bytes)
 all_held [] h = none_held
-all_held (b ∷ bs) h = subst (λ (p : List ℕ). All IsHeld p) (sym (flat_map-cons spelling b bs)) (All-append IsHeld (spelling b) (spelled bs) (byte_held b (All-head (λ x. x < 2 ^ 8) b bs h)) (all_held bs (All-tail (λ x. x < 2 ^ 8) b bs h)))
+all_held (b ∷ bs) h = subst (λ (p : List ℕ). All IsHeld p) (sym (flat_map-cons spelling b bs))
+    (All-append IsHeld (spelling b) (spelled bs) (byte_held b (All-head (λ x. x < 2 ^ 8) b bs h))
+    (all_held bs (All-tail (λ x. x < 2 ^ 8) b bs h)))

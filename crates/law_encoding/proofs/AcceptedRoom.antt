@@ -57,16 +57,19 @@ bodies_sum a b c d e h l = omega (arith, h, l)
 
 bodies_count : (m : TypedModule) → size_bodies m ≤ counts_in m
 bodies_count m =
-    bodies_sum _ _ _ _ (size_body m.body) (sum_below size_routine (routine_counts m.types) (body_counts m.types) m.procedures) (sum_below size_routine (routine_counts m.types) (body_counts m.types) m.locals)
+    bodies_sum _ _ _ _ (size_body m.body) (sum_below size_routine (routine_counts m.types) (body_counts m.types)
+    m.procedures) (sum_below size_routine (routine_counts m.types) (body_counts m.types) m.locals)
 
 length_counts : (m : TypedModule) → length m.procedures ≤ sum_of (routine_counts m.types) m.procedures
-length_counts m = length_below (routine_counts m.types) (λ r. one_or_more (length (formals_of m.types r.heading)) (size_body r.body)) m.procedures
+length_counts m = length_below (routine_counts m.types)
+    (λ r. one_or_more (length (formals_of m.types r.heading)) (size_body r.body)) m.procedures
 
 whole_slots : (n a b c : ℕ) → n ≤ a → a + b + c ≤ most → suc n ≤ 1 + most
 whole_slots n a b c h l = omega (arith, h, l)
 
 slots_most : (m : TypedModule) → CountsFew m → slots m ≤ 1 + most
-slots_most m h = whole_slots (length m.procedures) _ (sum_of (routine_counts m.types) m.locals) (size_body m.body) (length_counts m) h
+slots_most m h = whole_slots (length m.procedures) _ (sum_of (routine_counts m.types) m.locals) (size_body m.body)
+    (length_counts m) h
 
 few_slots : (n : ℕ) → n ≤ 1 + most → n ≤ few_entries
 few_slots n h = omega (arith, h)
@@ -91,7 +94,8 @@ fewer_locals l h = omega (arith, h)
 
 -- ---- small modules
 
-module _ (m : TypedModule) (levels : most_levels m ≤ max_levels) (near : outward_bodies m ≤ max_nesting) (well : IsWellFormed m) (small : IsSmallBody m) where
+module _ (m : TypedModule) (levels : most_levels m ≤ max_levels) (near : outward_bodies m ≤ max_nesting)
+    (well : IsWellFormed m) (small : IsSmallBody m) where
   few : HasFewParts m
   few = record {
     types = types_sum (types_count (signatures_needed m)) (counts_in m) (needed_few m well) small.counts;
@@ -102,7 +106,13 @@ module _ (m : TypedModule) (levels : most_levels m ≤ max_levels) (near : outwa
 
   small_body : module_fits (typed_module m) ≡ true
   small_body = body_has_room m (record {
-    bodies = record { nesting = levels; numbers = module_numbers m well few small.constants; locals = fewer_locals (most_locals m) few.locals; size = few.size };
+    bodies = record {
+      nesting = levels;
+      numbers = module_numbers m well few small.constants;
+      locals =
+          fewer_locals (most_locals m) few.locals;
+      size = few.size;
+    };
     types = types_fit m few.types;
     imported = imports_fit m small.names;
     uses = module_uses m well few;
@@ -119,7 +129,9 @@ at_ok (fine _ p) = p
 holds_ok : {A T : Type 0} {P : A → Type 0} {x : A} → Holds {T = T} P (Ok x) → P x
 holds_ok (formed.fine _ p) = p
 
-pub accepted_room : {T : Type 0} (r : Result TypedModule T) → AtMost most_levels max_levels r → AtMost outward_bodies max_nesting r → Holds IsWellFormed r → Holds (λ t. IsSmallBody t → module_fits (typed_module t) ≡ true) r
+pub accepted_room : {T : Type 0} (r : Result TypedModule T) → AtMost most_levels max_levels r
+    → AtMost outward_bodies max_nesting r → Holds IsWellFormed r
+    → Holds (λ t. IsSmallBody t → module_fits (typed_module t) ≡ true) r
 accepted_room (Ok t) a b p = formed.fine t (λ small. small_body t (at_ok a) (at_ok b) (holds_ok p) small)
 accepted_room (Err e) a b p = formed.broken e
 
@@ -127,10 +139,19 @@ accepted_room (Err e) a b p = formed.broken e
 
 all_bytes : (bs : List ℕ) → All (λ b. b < 256) bs → list_all (λ b. nat_lt b 256) bs ≡ true
 all_bytes [] h = refl
-all_bytes (b ∷ bs) h = both_true _ _ (lt-ltb b 256 (All-head (λ b. b < 256) b bs h)) (all_bytes bs (All-tail (λ b. b < 256) b bs h))
+all_bytes (b ∷ bs) h = both_true _ _ (lt-ltb b 256 (All-head (λ b. b < 256) b bs h))
+    (all_bytes bs (All-tail (λ b. b < 256) b bs h))
 
-pub typed_room : (p : Program) (pages place : ℕ) (m : TypedModule) → IsModule p place m → IsTypedModule p pages place m → IsSmallModule p m → CountsFew m → NamesAreShort m
+pub typed_room : (p : Program) (pages place : ℕ) (m : TypedModule) → IsModule p place m → IsTypedModule p pages place m
+    → IsSmallModule p m → CountsFew m → NamesAreShort m
     → most_levels m ≤ max_levels → outward_bodies m ≤ max_nesting → module_fits (typed_module m) ≡ true
 typed_room p pages place m is typed small counts names levels near =
     small_body m levels near is.well
-    (record { counts = counts; names = names; constants = functions_const p pages place m is.ranged typed small; texts = all_bytes (text m) is.texts; texts_size = small.texts })
+    (record {
+      counts = counts;
+      names = names;
+      constants = functions_const p pages place m is.ranged typed small;
+      texts =
+          all_bytes (text m) is.texts;
+      texts_size = small.texts;
+    })

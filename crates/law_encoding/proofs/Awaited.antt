@@ -43,7 +43,8 @@ module _ (weight : TypeNo → ℕ) where
 
   -- the heading that stands under a name counts at most so many
   abbrev pub HeadFits : {T : Type 0} → ℕ → Names T → List ℕ → Type 0
-  HeadFits n es name = (m : Meaning) (t : TypeNo) → find_name name es ≡ Some (Headed (Ok m)) → heading_in m ≡ Some t → weight t ≤ n
+  HeadFits n es name = (m : Meaning) (t : TypeNo) → find_name name es ≡ Some (Headed (Ok m)) → heading_in m ≡ Some t
+      → weight t ≤ n
 
   -- What procedures that come count, or those that are awaited no more, is at most so many.
   pub record Fills {T : Type 0} (n : ℕ) (s s' : Scope T) : Type 0 where
@@ -73,14 +74,20 @@ known_sum a n m k h = omega (arith, h)
 module _ (weight : TypeNo → ℕ) where
   -- ---- one name more
 
-  entered_by : {T : Type 0} (n : ℕ) (b : Bool) (k : Known T) (e : List ℕ × Known T) (es more : Names T) (o : Option (Known T)) → awaiting_of weight (cond b (Some e.1) o) ≤ n
-      → (awaiting_of weight o ≤ n → awaiting weight es ≤ n + awaiting weight more) → awaiting weight (e ∷ es) ≤ n + awaiting weight (cond b ((e.0, k) ∷ es) (e ∷ more))
-  entered_by n true k e es more o h i = at_head (standing_weight weight (standing_known e.1)) (standing_weight weight (standing_known k)) n (awaiting weight es) h
-  entered_by n false k e es more o h i = behind_head (standing_weight weight (standing_known e.1)) n (awaiting weight more) (awaiting weight es) (i h)
+  entered_by : {T : Type 0} (n : ℕ) (b : Bool) (k : Known T) (e : List ℕ × Known T) (es more : Names T)
+      (o : Option (Known T)) → awaiting_of weight (cond b (Some e.1) o) ≤ n
+      → (awaiting_of weight o ≤ n → awaiting weight es ≤ n + awaiting weight more)
+      → awaiting weight (e ∷ es) ≤ n + awaiting weight (cond b ((e.0, k) ∷ es) (e ∷ more))
+  entered_by n true k e es more o h i = at_head (standing_weight weight (standing_known e.1))
+      (standing_weight weight (standing_known k)) n (awaiting weight es) h
+  entered_by n false k e es more o h i = behind_head (standing_weight weight (standing_known e.1)) n
+      (awaiting weight more) (awaiting weight es) (i h)
 
-  entered_awaits : {T : Type 0} (n : ℕ) (name : List ℕ) (k : Known T) (es : Names T) → awaiting_of weight (find_name name es) ≤ n → awaiting weight es ≤ n + awaiting weight (enter_name name k es)
+  entered_awaits : {T : Type 0} (n : ℕ) (name : List ℕ) (k : Known T) (es : Names T)
+      → awaiting_of weight (find_name name es) ≤ n → awaiting weight es ≤ n + awaiting weight (enter_name name k es)
   entered_awaits n name k [] h = none_in _
-  entered_awaits n name k (e ∷ es) h = entered_by n (same_name name e.0) k e es (enter_name name k es) (find_name name es) h (entered_awaits n name k es)
+  entered_awaits n name k (e ∷ es) h = entered_by n (same_name name e.0) k e es (enter_name name k es)
+      (find_name name es) h (entered_awaits n name k es)
 
   pub no_weight : (s : Standing) → is_awaited s ≡ false → standing_weight weight s ≤ 0
   no_weight Free e = none_in 0
@@ -97,20 +104,27 @@ module _ {weight : TypeNo → ℕ} where
   pub stays_refl : {T : Type 0} (s : Scope T) → Stays weight s s
   stays_refl s = record { most = refl_sum (sum_of weight s.procedures) (awaiting weight s.own) }
 
-  pub fills_then : {T : Type 0} {n k : ℕ} {a b c : Scope T} → Fills weight n a b → Fills weight k b c → Fills weight (n + k) a c
+  pub fills_then : {T : Type 0} {n k : ℕ} {a b c : Scope T} → Fills weight n a b → Fills weight k b c
+      → Fills weight (n + k) a c
   fills_then {n = n} {k = k} {a = a} {b = b} {c = c} p q = record {
     most =
-        then_sum (sum_of weight a.procedures) (awaiting weight a.own) (sum_of weight b.procedures) (awaiting weight b.own) (sum_of weight c.procedures) (awaiting weight c.own) n k
+        then_sum (sum_of weight a.procedures) (awaiting weight a.own) (sum_of weight b.procedures)
+        (awaiting weight b.own) (sum_of weight c.procedures) (awaiting weight c.own) n k
         p.most q.most;
   }
 
   pub stays_then : {T : Type 0} {a b c : Scope T} → Stays weight a b → Stays weight b c → Stays weight a c
   stays_then p q = fills_then p q
 
-  pub known_fills : {T : Type 0} (n : ℕ) (s : Scope T) (name : List ℕ) (k : Known T) → awaiting_of weight (find_name name s.own) ≤ n → Fills weight n s (with_known name k s)
-  known_fills n s name k h = record { most = known_sum (sum_of weight s.procedures) n _ _ (entered_awaits weight n name k s.own h) }
+  pub known_fills : {T : Type 0} (n : ℕ) (s : Scope T) (name : List ℕ) (k : Known T)
+      → awaiting_of weight (find_name name s.own) ≤ n → Fills weight n s (with_known name k s)
+  known_fills n s name k h = record {
+    most =
+        known_sum (sum_of weight s.procedures) n _ _ (entered_awaits weight n name k s.own h);
+  }
 
-  pub known_stays : {T : Type 0} (s : Scope T) (name : List ℕ) (k : Known T) → holds_of is_awaiting (find_name name s.own) ≡ false → Stays weight s (with_known name k s)
+  pub known_stays : {T : Type 0} (s : Scope T) (name : List ℕ) (k : Known T)
+      → holds_of is_awaiting (find_name name s.own) ≡ false → Stays weight s (with_known name k s)
   known_stays s name k h = known_fills 0 s name k (none_awaited weight (find_name name s.own) h)
 
 pub free_unawaited : {T : Type 0} (o : Option (Known T)) → is_free o ≡ true → holds_of is_awaiting o ≡ false
@@ -130,28 +144,36 @@ begun_unawaited (Some (Headed m)) e = refl
 begun_unawaited (Some (Declared o m)) e = absurd cc
 
 module _ {weight : TypeNo → ℕ} (g : Gathers) (s : Scope g.Reported) (name : Ident) where
-  unless_by : (b : Bool) (k : Known g.Reported) → (b ≡ true → Stays weight s (with_known name.name k s)) → Stays weight s (cond {A = State (Unit {0}) g.Reported} b (with_known name.name k s, Ok tt) (s, report g name.pos rule.DeclaredTwice)).0
+  unless_by : (b : Bool) (k : Known g.Reported) → (b ≡ true → Stays weight s (with_known name.name k s))
+      → Stays weight s (cond {A = State (Unit {0}) g.Reported} b (with_known name.name k s, Ok tt)
+      (s, report g name.pos rule.DeclaredTwice)).0
   unless_by true k p = p refl
   unless_by false k p = stays_refl s
 
   pub unless_stays : (k : Known g.Reported) → Stays weight s (unless_declared g s name k).0
-  unless_stays k = unless_by (is_free (find_name name.name s.own)) k (λ e. known_stays s name.name k (free_unawaited (find_name name.name s.own) e))
+  unless_stays k = unless_by (is_free (find_name name.name s.own)) k
+      (λ e. known_stays s name.name k (free_unawaited (find_name name.name s.own) e))
 
   pub begun_stays : Stays weight s (begin_name g s name).0
   begun_stays = unless_stays Begun
 
-finished_by : {weight : TypeNo → ℕ} {T : Type 0} (s : Scope T) (name : List ℕ) (k : Known T) (b : Bool) → (b ≡ true → Stays weight s (with_known name k s)) → Stays weight s (cond b (with_known name k s) s)
+finished_by : {weight : TypeNo → ℕ} {T : Type 0} (s : Scope T) (name : List ℕ) (k : Known T) (b : Bool)
+    → (b ≡ true → Stays weight s (with_known name k s)) → Stays weight s (cond b (with_known name k s) s)
 finished_by s name k true p = p refl
 finished_by s name k false p = stays_refl s
 
-pub finished_stays : {weight : TypeNo → ℕ} {T : Type 0} (s : Scope T) (name : Ident) (r : Result Meaning T) → Stays weight s (finish_name s name r)
-finished_stays s name r = finished_by s name.name (Declared Here r) (is_begun (find_name name.name s.own)) (λ e. known_stays s name.name (Declared Here r) (begun_unawaited (find_name name.name s.own) e))
+pub finished_stays : {weight : TypeNo → ℕ} {T : Type 0} (s : Scope T) (name : Ident) (r : Result Meaning T)
+    → Stays weight s (finish_name s name r)
+finished_stays s name r = finished_by s name.name (Declared Here r) (is_begun (find_name name.name s.own))
+    (λ e. known_stays s name.name (Declared Here r) (begun_unawaited (find_name name.name s.own) e))
 
-marked_by : {weight : TypeNo → ℕ} {T : Type 0} (s : Scope T) (name : List ℕ) (k : Known T) (o : Option (Known T)) → find_name name s.own ≡ o → Stays weight s (unless_marked name k s o)
+marked_by : {weight : TypeNo → ℕ} {T : Type 0} (s : Scope T) (name : List ℕ) (k : Known T) (o : Option (Known T))
+    → find_name name s.own ≡ o → Stays weight s (unless_marked name k s o)
 marked_by s name k (Some x) e = stays_refl s
 marked_by s name k None e = known_stays s name k (ap (λ (o : Option (Known _)). holds_of is_awaiting o) e)
 
-pub marked_stays : {weight : TypeNo → ℕ} {T : Type 0} (s : Scope T) (name : Ident) (k : Known T) → Stays weight s (mark_name name k s)
+pub marked_stays : {weight : TypeNo → ℕ} {T : Type 0} (s : Scope T) (name : Ident) (k : Known T)
+    → Stays weight s (mark_name name k s)
 marked_stays s name k = marked_by s name.name k (find_name name.name s.own) refl
 
 -- ---- types

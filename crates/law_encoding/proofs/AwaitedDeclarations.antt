@@ -86,7 +86,8 @@ module _ (weight : TypeNo → ℕ) (g : Gathers) where
   type_stays st d =
       let b : Scope g.Reported = (begin_name g st.0 d.name).0 in
       let t : State TypeNo g.Reported = type_of g d.of b in
-      stays_then (begun_stays g st.0 d.name) (stays_then (type_of_stays weight g d.of b) (finished_stays t.0 d.name (type_meaning t.1 (brings_with d.of))))
+      stays_then (begun_stays g st.0 d.name)
+      (stays_then (type_of_stays weight g d.of b) (finished_stays t.0 d.name (type_meaning t.1 (brings_with d.of))))
 
   types_stay : (ts : List TypeDecl) (st : State (Unit {0}) g.Reported) → Goes st.0 (fold (with_type g) st ts).0
   types_stay [] st = stays_refl st.0
@@ -102,10 +103,13 @@ module _ (weight : TypeNo → ℕ) (g : Gathers) where
   variable_type_stays s (Err e) = stays_refl s
   variable_type_stays s (Ok t) = record { most = no_more (sum_of weight s.procedures) (awaiting weight s.own) }
 
-  variable_stays : (t : Result TypeNo g.Reported) (s : Scope g.Reported) (name : Ident) → Goes s (finished_variable t s name)
-  variable_stays t s name = stays_then (variable_type_stays s t) (finished_stays (with_variable_type s t) name (variable_meaning s.types.home (length s.variables) t))
+  variable_stays : (t : Result TypeNo g.Reported) (s : Scope g.Reported) (name : Ident)
+      → Goes s (finished_variable t s name)
+  variable_stays t s name = stays_then (variable_type_stays s t)
+      (finished_stays (with_variable_type s t) name (variable_meaning s.types.home (length s.variables) t))
 
-  variables_all : (t : Result TypeNo g.Reported) (names : List Ident) (s : Scope g.Reported) → Goes s (fold (finished_variable t) s names)
+  variables_all : (t : Result TypeNo g.Reported) (names : List Ident) (s : Scope g.Reported)
+      → Goes s (fold (finished_variable t) s names)
   variables_all t [] s = stays_refl s
   variables_all t (x ∷ xs) s = stays_then (variable_stays t s x) (variables_all t xs (finished_variable t s x))
 
@@ -115,14 +119,17 @@ module _ (weight : TypeNo → ℕ) (g : Gathers) where
       let t : State TypeNo g.Reported = type_of g v.of b.0 in
       stays_then (begun_all v.names st) (stays_then (type_of_stays weight g v.of b.0) (variables_all t.1 v.names t.0))
 
-  variables_stay : (vs : List Variables) (st : State (Unit {0}) g.Reported) → Goes st.0 (fold (with_variables g) st vs).0
+  variables_stay : (vs : List Variables) (st : State (Unit {0}) g.Reported)
+      → Goes st.0 (fold (with_variables g) st vs).0
   variables_stay [] st = stays_refl st.0
   variables_stay (v ∷ vs) st = stays_then (variable_list st v) (variables_stay vs (with_variables g st v))
 
   local_stays : (t : Result TypeNo g.Reported) (s : Scope g.Reported) (name : Ident) → Goes s (finished_local t s name)
-  local_stays t s name = stays_then (variable_type_stays s t) (finished_stays (with_variable_type s t) name (local_meaning s.level (length s.variables) t))
+  local_stays t s name = stays_then (variable_type_stays s t)
+      (finished_stays (with_variable_type s t) name (local_meaning s.level (length s.variables) t))
 
-  locals_all : (t : Result TypeNo g.Reported) (names : List Ident) (s : Scope g.Reported) → Goes s (fold (finished_local t) s names)
+  locals_all : (t : Result TypeNo g.Reported) (names : List Ident) (s : Scope g.Reported)
+      → Goes s (fold (finished_local t) s names)
   locals_all t [] s = stays_refl s
   locals_all t (x ∷ xs) s = stays_then (local_stays t s x) (locals_all t xs (finished_local t s x))
 
@@ -136,46 +143,78 @@ module _ (weight : TypeNo → ℕ) (g : Gathers) where
   locals_stay [] st = stays_refl st.0
   locals_stay (v ∷ vs) st = stays_then (local_list st v) (locals_stay vs (with_locals g st v))
 
-  variables_by : (b : Bool) (st : State (Unit {0}) g.Reported) (vs : List Variables) → Goes st.0 (cond {A = State (Unit {0}) g.Reported} b (fold (with_variables g) st vs) (fold (with_locals g) st vs)).0
+  variables_by : (b : Bool) (st : State (Unit {0}) g.Reported) (vs : List Variables)
+      → Goes st.0 (cond {A = State (Unit {0}) g.Reported} b (fold (with_variables g) st vs)
+      (fold (with_locals g) st vs)).0
   variables_by true st vs = variables_stay vs st
   variables_by false st vs = locals_stay vs st
 
   -- ---- headings
 
   more_of : (n : ℕ) (s s' : Scope g.Reported) → Goes s s' → Fills weight n s s'
-  more_of n s s' h = record { most = weaker n (sum_of weight s'.procedures) (awaiting weight s.own) (sum_of weight s.procedures) (awaiting weight s'.own) h.most }
+  more_of n s s' h = record {
+    most = weaker n (sum_of weight s'.procedures) (awaiting weight s.own)
+        (sum_of weight s.procedures) (awaiting weight s'.own) h.most;
+  }
 
-  new_fills : (s : Scope g.Reported) (name : List ℕ) (n : ℕ) (t : TypeNo) → weight t ≤ n → (es : Names g.Reported) → awaiting weight s.own ≤ awaiting weight es → Fills weight n s (record s { procedures = s.procedures ++ t ∷ []; own = es })
-  new_fills s name n t h es k = record { most = more_sum n (sum_of weight s.procedures) _ (awaiting weight s.own) (awaiting weight es) (weight t) (sum_append weight s.procedures (t ∷ [])) h k }
+  new_fills : (s : Scope g.Reported) (name : List ℕ) (n : ℕ) (t : TypeNo) → weight t ≤ n → (es : Names g.Reported)
+      → awaiting weight s.own ≤ awaiting weight es
+      → Fills weight n s (record s { procedures = s.procedures ++ t ∷ []; own = es })
+  new_fills s name n t h es k = record {
+    most =
+        more_sum n (sum_of weight s.procedures) _ (awaiting weight s.own) (awaiting weight es) (weight t)
+        (sum_append weight s.procedures (t ∷ [])) h k;
+  }
 
-  unawaited : (s : Scope g.Reported) (name : List ℕ) (k : Known g.Reported) → awaiting_of weight (find_name name s.own) ≤ 0 → awaiting weight s.own ≤ awaiting weight (enter_name name k s.own)
-  unawaited s name k e = from_stays (sum_of weight s.procedures) (awaiting weight s.own) _ ((known_fills {weight = weight} 0 s name k e).most)
+  unawaited : (s : Scope g.Reported) (name : List ℕ) (k : Known g.Reported)
+      → awaiting_of weight (find_name name s.own) ≤ 0
+      → awaiting weight s.own ≤ awaiting weight (enter_name name k s.own)
+  unawaited s name k e = from_stays (sum_of weight s.procedures) (awaiting weight s.own) _
+      ((known_fills {weight = weight} 0 s name k e).most)
 
-  module_fills : (s : Scope g.Reported) (name : List ℕ) (n : ℕ) (t : Result TypeNo g.Reported) → awaiting_of weight (find_name name s.own) ≤ 0 → HeadFits weight n (module_procedure s name t).own name → Fills weight n s (module_procedure s name t)
+  module_fills : (s : Scope g.Reported) (name : List ℕ) (n : ℕ) (t : Result TypeNo g.Reported)
+      → awaiting_of weight (find_name name s.own) ≤ 0 → HeadFits weight n (module_procedure s name t).own name
+      → Fills weight n s (module_procedure s name t)
   module_fills s name n (Ok t) e h =
       let m : Meaning = meaning.Procedure (record { home = s.types.home; number = length s.procedures; heading = t }) in
-      new_fills s name n t (h m t (found_self name (Headed (Ok m)) s.own) refl) (enter_name name (Headed (Ok m)) s.own) (unawaited s name (Headed (Ok m)) e)
+      new_fills s name n t (h m t (found_self name (Headed (Ok m)) s.own) refl) (enter_name name (Headed (Ok m)) s.own)
+      (unawaited s name (Headed (Ok m)) e)
   module_fills s name n (Err x) e h = more_of n s _ (known_fills 0 s name (Headed (Err (Headless false x))) e)
 
-  new_by : (b : Bool) (s : Scope g.Reported) (name : List ℕ) (n number : ℕ) (t : Result TypeNo g.Reported) → awaiting_of weight (find_name name s.own) ≤ 0
-      → HeadFits weight n (cond b (module_procedure s name t) (set_heading name (heading_means true (nested_meaning s.level number t)) s)).own name → Fills weight n s (cond b (module_procedure s name t) (set_heading name (heading_means true (nested_meaning s.level number t)) s))
+  new_by : (b : Bool) (s : Scope g.Reported) (name : List ℕ) (n number : ℕ) (t : Result TypeNo g.Reported)
+      → awaiting_of weight (find_name name s.own) ≤ 0
+      → HeadFits weight n (cond b (module_procedure s name t)
+      (set_heading name (heading_means true (nested_meaning s.level number t)) s)).own name
+      → Fills weight n s (cond b (module_procedure s name t)
+      (set_heading name (heading_means true (nested_meaning s.level number t)) s))
   new_by true s name n number t e h = module_fills s name n t e h
-  new_by false s name n number t e h = more_of n s _ (known_fills 0 s name (Headed (heading_means true (nested_meaning s.level number t))) e)
+  new_by false s name n number t e h = more_of n s _
+      (known_fills 0 s name (Headed (heading_means true (nested_meaning s.level number t))) e)
 
-  made_fills : (s : Scope g.Reported) (name : List ℕ) (n number : ℕ) (made : Result Made g.Reported) → awaiting_of weight (find_name name s.own) ≤ 0 → HeadFits weight n (with_new s name number made).0.own name → Fills weight n s (with_new s name number made).0
-  made_fills s name n number (Ok x) e h = record { most = (new_by (s.level == 0) (with_shape s x) name n number (Ok (next_type s)) e h).most }
+  made_fills : (s : Scope g.Reported) (name : List ℕ) (n number : ℕ) (made : Result Made g.Reported)
+      → awaiting_of weight (find_name name s.own) ≤ 0 → HeadFits weight n (with_new s name number made).0.own name
+      → Fills weight n s (with_new s name number made).0
+  made_fills s name n number (Ok x) e h =
+      record { most = (new_by (s.level == 0) (with_shape s x) name n number (Ok (next_type s)) e h).most }
   made_fills s name n number (Err x) e h = new_by (s.level == 0) s name n number (Err x) e h
 
-  heading_by : (s : Scope g.Reported) (h : Heading) (n number : ℕ) (made : Result Made g.Reported) (o : Standing) → name_standing (find_name h.name.name s.own) ≡ o → HeadFits weight n (headed_as g s h number made o).0.own h.name.name
+  heading_by : (s : Scope g.Reported) (h : Heading) (n number : ℕ) (made : Result Made g.Reported) (o : Standing)
+      → name_standing (find_name h.name.name s.own) ≡ o
+      → HeadFits weight n (headed_as g s h number made o).0.own h.name.name
       → Fills weight n s (headed_as g s h number made o).0
-  heading_by s h n number made Free e fits = made_fills s h.name.name n number made (free_sum (ap (standing_weight weight) e)) fits
+  heading_by s h n number made Free e fits =
+      made_fills s h.name.name n number made (free_sum (ap (standing_weight weight) e)) fits
   heading_by s h n number made (Awaited p) e fits =
       let m : Meaning = meaning.Procedure p in
-      known_fills n s h.name.name (Headed (Ok m)) (awaited_sum (ap (standing_weight weight) e) (fits m p.heading (found_self h.name.name (Headed (Ok m)) s.own) refl))
+      known_fills n s h.name.name (Headed (Ok m))
+      (awaited_sum (ap (standing_weight weight) e)
+      (fits m p.heading (found_self h.name.name (Headed (Ok m)) s.own) refl))
   heading_by s h n number made Taken e fits = more_of n s s (stays_refl s)
 
-  heading_fills : (s : Scope g.Reported) (h : Heading) (n number : ℕ) → HeadFits weight n (with_heading g s number h).0.own h.name.name → Fills weight n s (with_heading g s number h).0
-  heading_fills s h n number fits = heading_by s h n number (heading_of g s h) (name_standing (find_name h.name.name s.own)) refl fits
+  heading_fills : (s : Scope g.Reported) (h : Heading) (n number : ℕ)
+      → HeadFits weight n (with_heading g s number h).0.own h.name.name → Fills weight n s (with_heading g s number h).0
+  heading_fills s h n number fits = heading_by s h n number (heading_of g s h)
+      (name_standing (find_name h.name.name s.own)) refl fits
 
   -- ---- marks
 
@@ -184,7 +223,8 @@ module _ (weight : TypeNo → ℕ) (g : Gathers) where
   marked_constants (c ∷ cs) s = stays_then (marked_stays s c.name Later) (marked_constants cs (marked_constant s c))
 
   one_type : (t : TypeDecl) (s : Scope g.Reported) → Goes s (marked_type s t)
-  one_type t s = stays_then (marked_stays s t.name Later) (marked_in_stays weight g.Reported t.of (mark_name t.name Later s))
+  one_type t s = stays_then (marked_stays s t.name Later)
+      (marked_in_stays weight g.Reported t.of (mark_name t.name Later s))
 
   marked_types : (ts : List TypeDecl) (s : Scope g.Reported) → Goes s (fold marked_type s ts)
   marked_types [] s = stays_refl s
@@ -208,7 +248,8 @@ module _ (weight : TypeNo → ℕ) (g : Gathers) where
       DeclFits es (layer.Variables vs) = Unit {0}
       DeclFits es (layer.Procedure h b) = HeadFits weight (count h) es h.name.name
 
-      decl_fills : (ends : List ℕ) (c : Course g.Reported) (y : Decl-F A B) → DeclFits (decl_layer g ends c y).0.own y → Fills weight (count_of count y) c.0 (decl_layer g ends c y).0
+      decl_fills : (ends : List ℕ) (c : Course g.Reported) (y : Decl-F A B) → DeclFits (decl_layer g ends c y).0.own y
+          → Fills weight (count_of count y) c.0 (decl_layer g ends c y).0
       decl_fills ends c (layer.Constants cs) fits = constants_stay cs (c.0, c.1)
       decl_fills ends c (layer.Types ts) fits = types_stay ts (c.0, c.1)
       decl_fills ends c (layer.Variables vs) fits = variables_by (c.0.level == 0) (c.0, c.1) vs
@@ -219,9 +260,11 @@ module _ (weight : TypeNo → ℕ) (g : Gathers) where
     AllFit ends c [] = Unit {0}
     AllFit ends c (d ∷ ds) = DeclFits (with_decl g ends c d).0.own (out-Decl d) × AllFit ends (with_decl g ends c d) ds
 
-    pub decls_fill : (ends : List ℕ) (ds : List Decl) (c : Course g.Reported) → AllFit ends c ds → Fills weight (all_counts count ds) c.0 (fold (with_decl g ends) c ds).0
+    pub decls_fill : (ends : List ℕ) (ds : List Decl) (c : Course g.Reported) → AllFit ends c ds
+        → Fills weight (all_counts count ds) c.0 (fold (with_decl g ends) c ds).0
     decls_fill ends [] c fits = stays_refl c.0
-    decls_fill ends (d ∷ ds) c fits = fills_then (decl_fills ends c (out-Decl d) fits.0) (decls_fill ends ds (with_decl g ends c d) fits.1)
+    decls_fill ends (d ∷ ds) c fits = fills_then (decl_fills ends c (out-Decl d) fits.0)
+        (decls_fill ends ds (with_decl g ends c d) fits.1)
 
   -- ---- a block
 

@@ -1,4 +1,5 @@
--- The bodies of all procedures weigh no more than the declarations that they stand in allow, by induction over blocks. None
+-- The bodies of all procedures weigh no more than the declarations that they stand in allow, by induction over blocks.
+-- None
 -- goes further outwards than its procedure stands deep.
 use Rattle.std.proofs.Common.{map, ◌≡◌, ℕ, zero, suc, ◌+◌, ◌≤◌, Bool, true, false, List, [], ◌∷◌, ◌++◌, length, Option}
 use Rattle.std.proofs.Common.{Some, None, Result, refl, sym, ap, subst, ◌∙◌, arith}

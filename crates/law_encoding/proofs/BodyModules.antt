@@ -48,11 +48,14 @@ same_many fs = length-map fs (λ (f : Function). f.type_index)
 some : (n : ℕ) → 0 < suc n
 some n = omega arith
 
-numbers_section : (n : ℕ) (ns : List ℕ) (k s : ℕ) → length (n ∷ ns) ≡ k → list_all unsigned.fits (n ∷ ns) ≡ true → 11 * k ≤ s → 5 + s < max_bytes → (section 3 unsigned).fits (n ∷ ns) ≡ true
+numbers_section : (n : ℕ) (ns : List ℕ) (k s : ℕ) → length (n ∷ ns) ≡ k → list_all unsigned.fits (n ∷ ns) ≡ true
+    → 11 * k ≤ s → 5 + s < max_bytes → (section 3 unsigned).fits (n ∷ ns) ≡ true
 numbers_section n ns k s c e h l =
     let few_of = few_by (length (n ∷ ns)) k s c h l in
     both_true _ _ (both_true _ _ (lt-ltb _ _ (some (length ns))) (both_true _ _ few_of e))
-    (lt-ltb _ _ (short_uses _ (length (unsigned.encoding (length (n ∷ ns)))) (length (flat_map unsigned.encoding (n ∷ ns))) (length (n ∷ ns)) s (length-append (unsigned.encoding (length (n ∷ ns))) (flat_map unsigned.encoding (n ∷ ns)))
+    (lt-ltb _ _ (short_uses _ (length (unsigned.encoding (length (n ∷ ns))))
+    (length (flat_map unsigned.encoding (n ∷ ns))) (length (n ∷ ns)) s
+    (length-append (unsigned.encoding (length (n ∷ ns))) (flat_map unsigned.encoding (n ∷ ns)))
     (unsigned_short (length (n ∷ ns)) few_of) (labels_short (n ∷ ns) e) (as_many (length (n ∷ ns)) k s c h) l)) where
       few_by : (a b t : ℕ) → a ≡ b → 11 * b ≤ t → 5 + t < max_bytes → nat_lt a max_bytes ≡ true
       few_by a b t c h l = lt-ltb _ _ (fewer a b t c h l) where
@@ -62,9 +65,11 @@ numbers_section n ns k s c e h l =
       as_many : (a b t : ℕ) → a ≡ b → 11 * b ≤ t → 11 * a ≤ t
       as_many a b t c h = omega (arith, c, h)
 
-pub uses_fit : (fs : List Function) → list_all unsigned.fits (types_of fs) ≡ true → 5 + sum_of function_bytes fs < max_bytes → (section 3 unsigned).fits (types_of fs) ≡ true
+pub uses_fit : (fs : List Function) → list_all unsigned.fits (types_of fs) ≡ true
+    → 5 + sum_of function_bytes fs < max_bytes → (section 3 unsigned).fits (types_of fs) ≡ true
 uses_fit [] e h = refl
-uses_fit (f ∷ fs) e h = numbers_section f.type_index (types_of fs) (length (f ∷ fs)) (sum_of function_bytes (f ∷ fs)) (same_many (f ∷ fs)) e (eleven (f ∷ fs)) h
+uses_fit (f ∷ fs) e h = numbers_section f.type_index (types_of fs) (length (f ∷ fs)) (sum_of function_bytes (f ∷ fs))
+    (same_many (f ∷ fs)) e (eleven (f ∷ fs)) h
 
 -- ---- the slots
 
@@ -85,7 +90,8 @@ seven : (m b : ℕ) → m ≤ b + 1 → b ≤ 6 → m ≤ 7
 seven m b h l = omega (arith, h, l)
 
 offset_short : (x : ℕ) → unsigned.fits x ≡ true → length (code.encoding (GlobalGet x ∷ [])) ≤ 7
-offset_short x e = seven _ (bytes (GlobalGet x ∷ [])) (ended_short (GlobalGet x ∷ []) (one_global x e)) (short_global x).at_most
+offset_short x e = seven _ (bytes (GlobalGet x ∷ [])) (ended_short (GlobalGet x ∷ []) (one_global x e))
+    (short_global x).at_most
 
 first_slot : (a n : ℕ) → a + suc n ≤ max_bytes → a < max_bytes
 first_slot a n h = omega (arith, h)
@@ -107,13 +113,15 @@ within_bytes : (n : ℕ) → n ≤ few_entries → 7 + n ≤ max_bytes
 within_bytes n h = omega (arith, h)
 
 slots_vector : (n : ℕ) → n ≤ few_entries → (vector unsigned).fits (range_with_len body_index n) ≡ true
-slots_vector n h = both_true _ _ (lt-ltb _ _ (few_slots n _ (length-range_with_len body_index n) h)) (slots_fit body_index n (within_bytes n h))
+slots_vector n h = both_true _ _ (lt-ltb _ _ (few_slots n _ (length-range_with_len body_index n) h))
+    (slots_fit body_index n (within_bytes n h))
 
 element_fits : (n : ℕ) → n ≤ few_entries → element_segment.fits (slots_of n) ≡ true
 unfolding element_segment
 element_fits n h = both_true _ _ refl (both_true _ _ (offset_fits 3 refl) (slots_vector n h))
 
-element_sum : (m a r o v c f n k : ℕ) → m ≡ a + r → a ≤ 5 → r ≡ o + v → o ≤ 7 → v ≡ c + f → c ≤ 5 → f ≤ 5 * k → k ≡ n → m ≤ 17 + 5 * n
+element_sum : (m a r o v c f n k : ℕ) → m ≡ a + r → a ≤ 5 → r ≡ o + v → o ≤ 7 → v ≡ c + f → c ≤ 5 → f ≤ 5 * k → k ≡ n
+    → m ≤ 17 + 5 * n
 element_sum m a r o v c f n k e h g l i j p q = omega (arith, e, h, g, l, i, j, p, q)
 
 element_short : (n : ℕ) → n ≤ few_entries → length (element_segment.encoding (slots_of n)) ≤ 17 + 5 * n
@@ -121,11 +129,16 @@ unfolding element_segment
 element_short n h =
     let ns = range_with_len body_index n in
     let count = length-range_with_len body_index n in
-    element_sum _ (length (unsigned.encoding 0)) (length (code.encoding (GlobalGet 3 ∷ []) ++ (vector unsigned).encoding ns)) (length (code.encoding (GlobalGet 3 ∷ []))) (length ((vector unsigned).encoding ns)) (length (unsigned.encoding (length ns)))
+    element_sum _ (length (unsigned.encoding 0))
+    (length (code.encoding (GlobalGet 3 ∷ []) ++ (vector unsigned).encoding ns))
+    (length (code.encoding (GlobalGet 3 ∷ []))) (length ((vector unsigned).encoding ns))
+    (length (unsigned.encoding (length ns)))
     (length (flat_map unsigned.encoding ns)) n (length ns)
-    (length-append (unsigned.encoding 0) (code.encoding (GlobalGet 3 ∷ []) ++ (vector unsigned).encoding ns)) (unsigned_short 0 refl)
+    (length-append (unsigned.encoding 0) (code.encoding (GlobalGet 3 ∷ []) ++ (vector unsigned).encoding ns))
+    (unsigned_short 0 refl)
     (length-append (code.encoding (GlobalGet 3 ∷ [])) ((vector unsigned).encoding ns)) (offset_short 3 refl)
-    (length-append (unsigned.encoding (length ns)) (flat_map unsigned.encoding ns)) (unsigned_short (length ns) (lt-ltb _ _ (few_slots n _ count h)))
+    (length-append (unsigned.encoding (length ns)) (flat_map unsigned.encoding ns))
+    (unsigned_short (length ns) (lt-ltb _ _ (few_slots n _ count h)))
     (labels_short ns (slots_fit body_index n (within_bytes n h))) count
 
 alone_sum : (m u b x : ℕ) → m ≡ u + b → b ≡ x + 0 → u ≤ 5 → x < 2 ^ 31 → m < max_bytes
@@ -137,8 +150,11 @@ element_room m n h l = omega (arith, h, l)
 elements_fit : (n : ℕ) → n ≤ few_entries → (section 9 element_segment).fits (slots_of n ∷ []) ≡ true
 elements_fit n h =
     both_true _ _ (both_true true _ refl (both_true true _ refl (both_true _ _ (element_fits n h) refl)))
-    (lt-ltb _ _ (alone_sum _ (length (unsigned.encoding 1)) (length (element_segment.encoding (slots_of n) ++ [])) (length (element_segment.encoding (slots_of n))) (length-append (unsigned.encoding 1) (element_segment.encoding (slots_of n) ++ []))
-    (length-append (element_segment.encoding (slots_of n)) []) (unsigned_short 1 refl) (element_room _ n (element_short n h) h)))
+    (lt-ltb _ _ (alone_sum _ (length (unsigned.encoding 1)) (length (element_segment.encoding (slots_of n) ++ []))
+    (length (element_segment.encoding (slots_of n)))
+    (length-append (unsigned.encoding 1) (element_segment.encoding (slots_of n) ++ []))
+    (length-append (element_segment.encoding (slots_of n)) []) (unsigned_short 1 refl)
+    (element_room _ n (element_short n h) h)))
 
 -- ---- the texts
 
@@ -148,27 +164,39 @@ segment_of bs = record { memory = 0; offset = GlobalGet 2 ∷ []; bytes = bs }
 few_bytes : (n : ℕ) → n ≤ few_entries → n < max_bytes
 few_bytes n h = omega (arith, h)
 
-segment_fits : (bs : List ℕ) → list_all (λ b. nat_lt b 256) bs ≡ true → length bs ≤ few_entries → data_segment.fits (segment_of bs) ≡ true
+segment_fits : (bs : List ℕ) → list_all (λ b. nat_lt b 256) bs ≡ true → length bs ≤ few_entries
+    → data_segment.fits (segment_of bs) ≡ true
 unfolding data_segment
-segment_fits bs e h = both_true _ _ refl (both_true _ _ (offset_fits 2 refl) (both_true _ _ e (lt-ltb _ _ (few_bytes (length bs) h))))
+segment_fits bs e h = both_true _ _ refl
+    (both_true _ _ (offset_fits 2 refl) (both_true _ _ e (lt-ltb _ _ (few_bytes (length bs) h))))
 
-segment_sum : (m a r o v c n : ℕ) → m ≡ a + r → a ≤ 5 → r ≡ o + v → o ≤ 7 → v ≡ c + n → c ≤ 5 → n ≤ few_entries → m < 2 ^ 31
+segment_sum : (m a r o v c n : ℕ) → m ≡ a + r → a ≤ 5 → r ≡ o + v → o ≤ 7 → v ≡ c + n → c ≤ 5 → n ≤ few_entries
+    → m < 2 ^ 31
 segment_sum m a r o v c n e h g l i j p = omega (arith, e, h, g, l, i, j, p)
 
 segment_short : (bs : List ℕ) → length bs ≤ few_entries → length (data_segment.encoding (segment_of bs)) < 2 ^ 31
 unfolding data_segment
 segment_short bs h =
-    segment_sum _ (length (unsigned.encoding 0)) (length (code.encoding (GlobalGet 2 ∷ []) ++ (with_size bytes_left).encoding bs)) (length (code.encoding (GlobalGet 2 ∷ []))) (length ((with_size bytes_left).encoding bs)) (length (unsigned.encoding (length bs))) (length bs)
-    (length-append (unsigned.encoding 0) (code.encoding (GlobalGet 2 ∷ []) ++ (with_size bytes_left).encoding bs)) (unsigned_short 0 refl)
+    segment_sum _ (length (unsigned.encoding 0))
+    (length (code.encoding (GlobalGet 2 ∷ []) ++ (with_size bytes_left).encoding bs))
+    (length (code.encoding (GlobalGet 2 ∷ []))) (length ((with_size bytes_left).encoding bs))
+    (length (unsigned.encoding (length bs))) (length bs)
+    (length-append (unsigned.encoding 0) (code.encoding (GlobalGet 2 ∷ []) ++ (with_size bytes_left).encoding bs))
+    (unsigned_short 0 refl)
     (length-append (code.encoding (GlobalGet 2 ∷ [])) ((with_size bytes_left).encoding bs)) (offset_short 2 refl)
-    (length-append (unsigned.encoding (length bs)) bs) (unsigned_short (length bs) (lt-ltb _ _ (few_bytes (length bs) h))) h
+    (length-append (unsigned.encoding (length bs)) bs)
+    (unsigned_short (length bs) (lt-ltb _ _ (few_bytes (length bs) h))) h
 
-texts_fit : (bs : List ℕ) → list_all (λ b. nat_lt b 256) bs ≡ true → length bs ≤ few_entries → (section 11 data_segment).fits (data_of bs) ≡ true
+texts_fit : (bs : List ℕ) → list_all (λ b. nat_lt b 256) bs ≡ true → length bs ≤ few_entries
+    → (section 11 data_segment).fits (data_of bs) ≡ true
 texts_fit [] e h = refl
 texts_fit (b ∷ bs) e h =
     both_true _ _ (both_true true _ refl (both_true true _ refl (both_true _ _ (segment_fits (b ∷ bs) e h) refl)))
-    (lt-ltb _ _ (alone_sum _ (length (unsigned.encoding 1)) (length (data_segment.encoding (segment_of (b ∷ bs)) ++ [])) (length (data_segment.encoding (segment_of (b ∷ bs)))) (length-append (unsigned.encoding 1) (data_segment.encoding (segment_of (b ∷ bs)) ++ []))
-    (length-append (data_segment.encoding (segment_of (b ∷ bs))) []) (unsigned_short 1 refl) (segment_short (b ∷ bs) h)))
+    (lt-ltb _ _ (alone_sum _ (length (unsigned.encoding 1)) (length (data_segment.encoding (segment_of (b ∷ bs)) ++ []))
+    (length (data_segment.encoding (segment_of (b ∷ bs))))
+    (length-append (unsigned.encoding 1) (data_segment.encoding (segment_of (b ∷ bs)) ++ []))
+    (length-append (data_segment.encoding (segment_of (b ∷ bs))) []) (unsigned_short 1 refl)
+    (segment_short (b ∷ bs) h)))
 
 -- ---- the module
 

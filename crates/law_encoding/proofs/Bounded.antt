@@ -18,9 +18,12 @@ at_most : (n k l : ℕ) → n ≤ 4 * (1 + k) → k ≤ l → n ≤ 4 * (1 + l)
 at_most n k l h i = omega (arith, h, i)
 
 -- a tree of a text that is not too long
-pub tree_bounded : (text : List ℕ) (ts : List Token) (m : Module) → length text ≤ max_text → HasTokens text ts → IsModule ts m → size_module m ≤ most
-tree_bounded text ts m l h d = at_most (size_module m) (length text) max_text (text_below text ts (size_module m) h (module_below ts m d)) l
+pub tree_bounded : (text : List ℕ) (ts : List Token) (m : Module) → length text ≤ max_text → HasTokens text ts
+    → IsModule ts m → size_module m ≤ most
+tree_bounded text ts m l h d = at_most (size_module m) (length text) max_text
+    (text_below text ts (size_module m) h (module_below ts m d)) l
 
-pub bounded : (g : Gathers) (text : List ℕ) (ts : List Token) (m : Module) → length text ≤ max_text → HasTokens text ts → IsModule ts m → {r : Result TypedModule g.Reported} → AtMost size_bodies (size_module m) r
+pub bounded : (g : Gathers) (text : List ℕ) (ts : List Token) (m : Module) → length text ≤ max_text → HasTokens text ts
+    → IsModule ts m → {r : Result TypedModule g.Reported} → AtMost size_bodies (size_module m) r
     → AtMost size_bodies most r
 bounded g text ts m l h d p = at_more (tree_bounded text ts m l h d) p

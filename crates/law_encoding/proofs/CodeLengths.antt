@@ -90,17 +90,22 @@ bytes_map code = total_map bytes_in code
 -- ---- blocks
 
 pub block_bytes : (t : Option ValueType) (code : List Instr) → bytes_in (instr.Block t code) ≡ 3 + bytes code
-block_bytes t code = at (instr.Block t code) (layer.Block t code) (instr.outs-Block t code) ∙ ap (λ n. 3 + n) (bytes_map code)
+block_bytes t code = at (instr.Block t code) (layer.Block t code) (instr.outs-Block t code)
+    ∙ ap (λ n. 3 + n) (bytes_map code)
 
 pub loop_bytes : (t : Option ValueType) (code : List Instr) → bytes_in (instr.Loop t code) ≡ 3 + bytes code
-loop_bytes t code = at (instr.Loop t code) (layer.Loop t code) (instr.outs-Loop t code) ∙ ap (λ n. 3 + n) (bytes_map code)
+loop_bytes t code = at (instr.Loop t code) (layer.Loop t code) (instr.outs-Loop t code)
+    ∙ ap (λ n. 3 + n) (bytes_map code)
 
 pub if_bytes : (t : Option ValueType) (code : List Instr) → bytes_in (instr.If t code None) ≡ 4 + (bytes code + 0)
-if_bytes t code = at (instr.If t code None) (layer.If t code None) (instr.outs-If t code None) ∙ ap (λ n. 4 + (n + 0)) (bytes_map code)
+if_bytes t code = at (instr.If t code None) (layer.If t code None) (instr.outs-If t code None)
+    ∙ ap (λ n. 4 + (n + 0)) (bytes_map code)
 
-pub else_bytes : (t : Option ValueType) (code others : List Instr) → bytes_in (instr.If t code (Some others)) ≡ 4 + (bytes code + bytes others)
+pub else_bytes : (t : Option ValueType) (code others : List Instr)
+    → bytes_in (instr.If t code (Some others)) ≡ 4 + (bytes code + bytes others)
 else_bytes t code others =
-    at (instr.If t code (Some others)) (layer.If t code (Some others)) (instr.outs-If t code (Some others)) ∙ ap (λ n. 4 + (n + total (map bytes_in others))) (bytes_map code)
+    at (instr.If t code (Some others)) (layer.If t code (Some others)) (instr.outs-If t code (Some others))
+    ∙ ap (λ n. 4 + (n + total (map bytes_in others))) (bytes_map code)
     ∙ ap (λ n. 4 + (bytes code + n)) (bytes_map others)
 
 -- ---- code of at most so many bytes
@@ -125,10 +130,16 @@ same a n e = omega (arith, e)
 
 infixr 60 ◌▹◌
 pub ◌▹◌ : {i : Instr} {code : List Instr} {k n : ℕ} → bytes_in i ≡ k → Short n code → Short (k + n) (i ∷ code)
-◌▹◌ {i} {code} {k} {n} h p = record { at_most = joined _ (bytes_in i) (bytes code) k n (bytes_cons i code) (same _ k h) p.at_most }
+◌▹◌ {i} {code} {k} {n} h p = record {
+  at_most =
+      joined _ (bytes_in i) (bytes code) k n (bytes_cons i code) (same _ k h) p.at_most;
+}
 
 pub short_both : {xs ys : List Instr} {k n : ℕ} → Short k xs → Short n ys → Short (k + n) (xs ++ ys)
-short_both {xs} {ys} {k} {n} p q = record { at_most = joined _ (bytes xs) (bytes ys) k n (bytes_append xs ys) p.at_most q.at_most }
+short_both {xs} {ys} {k} {n} p q = record {
+  at_most =
+      joined _ (bytes xs) (bytes ys) k n (bytes_append xs ys) p.at_most q.at_most;
+}
 
 most : (a n k : ℕ) → a ≤ n → n ≤ k → a ≤ k
 most a n k h l = omega (arith, h, l)
@@ -147,7 +158,9 @@ short_unless {n} b p = short_either b (short_none n) p
 in_sides : (m a b k n : ℕ) → m ≡ 4 + (a + b) → a ≤ k → b ≤ n → m ≤ 4 + (k + n)
 in_sides m a b k n e h l = omega (arith, e, h, l)
 
-pub short_if : {t : Option ValueType} {first second code : List Instr} {k l n : ℕ} → Short k first → Short l second → Short n code → Short (4 + (k + l) + n) (instr.If t first (Some second) ∷ code)
+pub short_if : {t : Option ValueType} {first second code : List Instr} {k l n : ℕ} → Short k first → Short l second
+    → Short n code → Short (4 + (k + l) + n) (instr.If t first (Some second) ∷ code)
 short_if {t} {first} {second} {code} {k} {l} {n} p q r = record {
-  at_most = joined _ (bytes_in (instr.If t first (Some second))) (bytes code) (4 + (k + l)) n (bytes_cons _ code) (in_sides _ (bytes first) (bytes second) k l (else_bytes t first second) p.at_most q.at_most) r.at_most;
+  at_most = joined _ (bytes_in (instr.If t first (Some second))) (bytes code) (4 + (k + l)) n (bytes_cons _ code)
+      (in_sides _ (bytes first) (bytes second) k l (else_bytes t first second) p.at_most q.at_most) r.at_most;
 }

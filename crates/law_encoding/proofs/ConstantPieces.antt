@@ -54,7 +54,8 @@ index_shaped types small (shape.Record fs) r q = absurd cc
 index_shaped types small (shape.Procedure p) r q = absurd cc
 index_shaped types small (shape.Open e) r q = absurd cc
 
-index_made_small : (types : Types) → AreSmall types → (o : Option Made) (r : Range) → index_made types o ≡ Some r → IsSmall r
+index_made_small : (types : Types) → AreSmall types → (o : Option Made) (r : Range) → index_made types o ≡ Some r
+    → IsSmall r
 index_made_small types small None r q = absurd cc
 index_made_small types small (Some m) r q = index_shaped types small m.shape r q
 
@@ -81,7 +82,8 @@ pub const_load : (c : Scalar) → IsLow (lower c) → Const (load_scalar c)
 const_load c h = loads _ ▹ const_unless (is_nought (lower c)) (signed (lower c) h ▹ computes _ ▹ const_end)
 
 pub const_store : (c : Scalar) → IsLow (lower c) → Const (store_scalar c)
-const_store c h = const_both (const_unless (is_nought (lower c)) (signed (lower c) h ▹ computes _ ▹ const_end)) (stores _ ▹ const_end)
+const_store c h = const_both (const_unless (is_nought (lower c)) (signed (lower c) h ▹ computes _ ▹ const_end))
+    (stores _ ▹ const_end)
 
 nought_low : IsLow (pos 0)
 nought_low = omega (arith, ints)
@@ -120,17 +122,21 @@ const_stored types t cells = const_store_tree (tree types t) (cells t)
 
 pub const_in_range : (o : Option Range) (k : ℕ) → ((r : Range) → o ≡ Some r → IsSmall r) → k < 16 → Const (in_range o k)
 const_in_range None k h j = const_end
-const_in_range (Some s) k h j = let p = h s refl in const_checked s.low s.high k (low_between s.low s.high p.some p.high) (narrow_low s.high p.high) j
+const_in_range (Some s) k h j = let p = h s refl in
+    const_checked s.low s.high k (low_between s.low s.high p.some p.high) (narrow_low s.high p.high) j
 
 pub const_in_type : (types : Types) (t : TypeNo) (k : ℕ) → AreSmall types → k < 16 → Const (in_type types t k)
 const_in_type types t k small j = const_in_range (scalar_at types t) k (small t) j
 
-pub const_taken : (types : Types) (t : TypeNo) (constant : Bool) (of : TypeNo) → AreSmall types → Const (check_taken types t constant of)
-const_taken types t constant of small = const_unless (is_free types t constant of) (const_in_type types t range_fault small (omega arith))
+pub const_taken : (types : Types) (t : TypeNo) (constant : Bool) (of : TypeNo) → AreSmall types
+    → Const (check_taken types t constant of)
+const_taken types t constant of small = const_unless (is_free types t constant of)
+    (const_in_type types t range_fault small (omega arith))
 
 pub const_check_changed : (types : Types) (t : TypeNo) → AreSmall types → Const (check_changed types t)
 const_check_changed types t small =
-    const_both (const_in_type types (base_of types t) overflow small (omega arith)) (const_either (is_subrange types t) (const_in_type types t range_fault small (omega arith)) const_end)
+    const_both (const_in_type types (base_of types t) overflow small (omega arith))
+    (const_either (is_subrange types t) (const_in_type types t range_fault small (omega arith)) const_end)
 
 -- addresses, HIGH and links
 pub const_word : Const (store_scalar word)
@@ -145,11 +151,14 @@ const_outwards (suc k) = loads _ ▹ computes _ ▹ const_outwards k
 const_frame : (up : ℕ) → Const (frame_code up)
 const_frame up = gets 0 ▹ const_outwards up
 
-pub const_slot : (s : Setting) (slot : Slot) (path : List ℕ) → slot_path s slot path < max_bytes → Const (slot_code s slot path)
+pub const_slot : (s : Setting) (slot : Slot) (path : List ℕ) → slot_path s slot path < max_bytes
+    → Const (slot_code s slot path)
 const_slot s slot path h = const_both (const_frame slot.up) (const_raised _ h)
 
-pub const_kept : (s : Setting) (slot : Slot) (path : List ℕ) → slot_path s slot path < max_bytes → Const (kept_address s slot path)
-const_kept s slot path h = const_both (const_slot s slot path h) (const_both (const_load word nought_low) (computes _ ▹ const_end))
+pub const_kept : (s : Setting) (slot : Slot) (path : List ℕ) → slot_path s slot path < max_bytes
+    → Const (kept_address s slot path)
+const_kept s slot path h = const_both (const_slot s slot path h)
+    (const_both (const_load word nought_low) (computes _ ▹ const_end))
 
 pub const_open : (s : Setting) (slot : Slot) → slot_path s slot (0 ∷ []) < max_bytes → Const (open_address s slot)
 const_open s slot h = const_kept s slot (0 ∷ []) h
@@ -165,16 +174,22 @@ const_scaled bytes h = amount _ (few_amount bytes h) ▹ computes _ ▹ computes
 
 const_from_lower : (o : Option Range) → ((r : Range) → o ≡ Some r → IsSmall r) → Const (from_lower o)
 const_from_lower None h = const_end
-const_from_lower (Some s) h = let p = h s refl in const_unless (is_nought s.low) (signed s.low (low_between s.low s.high p.some p.high) ▹ computes _ ▹ const_end)
+const_from_lower (Some s) h = let p = h s refl in
+    const_unless (is_nought s.low) (signed s.low (low_between s.low s.high p.some p.high) ▹ computes _ ▹ const_end)
 
-pub const_element : (types : Types) (t : TypeNo) → AreSmall types → size (element_tree (tree types t)) ≤ few_entries → Const (element_code types t)
+pub const_element : (types : Types) (t : TypeNo) → AreSmall types → size (element_tree (tree types t)) ≤ few_entries
+    → Const (element_code types t)
 const_element types t small h =
-    const_both (const_in_range (index_of types t) index_fault (index_small types small t) (omega arith)) (const_both (const_from_lower (index_of types t) (index_small types small t)) (const_scaled _ h))
+    const_both (const_in_range (index_of types t) index_fault (index_small types small t) (omega arith))
+    (const_both (const_from_lower (index_of types t) (index_small types small t)) (const_scaled _ h))
 
-pub const_open_element : (s : Setting) (slot : Slot) (t : TypeNo) → slot_path s slot (1 ∷ []) < max_bytes → size (tree s.home.types t) ≤ few_entries → Const (open_element_code s slot t)
-const_open_element s slot t h l = amount 0 (omega arith) ▹ const_both (const_high s slot h) (amount 3 (omega arith) ▹ calls _ ▹ const_scaled _ l)
+pub const_open_element : (s : Setting) (slot : Slot) (t : TypeNo) → slot_path s slot (1 ∷ []) < max_bytes
+    → size (tree s.home.types t) ≤ few_entries → Const (open_element_code s slot t)
+const_open_element s slot t h l = amount 0 (omega arith) ▹ const_both (const_high s slot h)
+    (amount 3 (omega arith) ▹ calls _ ▹ const_scaled _ l)
 
-pub const_global : (m : TypedModule) (v : Variable) → offset (variables_row m v.home) (v.number ∷ []) < max_bytes → Const (global_code m v)
+pub const_global : (m : TypedModule) (v : Variable) → offset (variables_row m v.home) (v.number ∷ []) < max_bytes
+    → Const (global_code m v)
 const_global m v h = globals _ ▹ const_raised _ h
 
 pub const_with : (o : Option ℕ) → Const (with_code o)
@@ -183,7 +198,8 @@ const_with (Some w) = gets w ▹ const_end
 
 -- ---- expressions and calls
 
-pub const_arithmetic : (types : Types) (o : Arithmetic) (t : TypeNo) → AreSmall types → Const (arithmetic_code types o t)
+pub const_arithmetic : (types : Types) (o : Arithmetic) (t : TypeNo) → AreSmall types
+    → Const (arithmetic_code types o t)
 const_arithmetic types op.Add t small = computes _ ▹ const_in_type types t overflow small (omega arith)
 const_arithmetic types op.Subtract t small = computes _ ▹ const_in_type types t overflow small (omega arith)
 const_arithmetic types op.Multiply t small = computes _ ▹ const_in_type types t overflow small (omega arith)
@@ -203,7 +219,8 @@ pub const_empty : Const empty_code
 const_empty = computes _ ▹ computes _ ▹ const_end
 
 pub const_ord : (types : Types) (t : TypeNo) → Const (ord_check types t)
-const_ord types t = const_either (are_same (base_of types t) integer) (const_checked (pos 0) (pos 2147483647) range_fault nought_low (omega (arith, ints)) (omega arith)) const_end
+const_ord types t = const_either (are_same (base_of types t) integer)
+    (const_checked (pos 0) (pos 2147483647) range_fault nought_low (omega (arith, ints)) (omega arith)) const_end
 
 few_next : (n : ℕ) → n ≤ few_entries → suc n < 2 ^ 64
 few_next n h = omega (arith, h)
@@ -220,13 +237,16 @@ const_text at h = globals _ ▹ const_raised at h
 pub const_link : (numbered : Numbered) (up : ℕ) → Const (link_code numbered up)
 const_link numbered up = const_both (const_frame up) (computes _ ▹ const_end)
 
-pub const_module_call : (numbered : Numbered) (m : TypedModule) (f : Procedure) → f.number ≤ few_entries → Const (module_call numbered m f)
-const_module_call numbered m f h = const_either (is_own m f.home) (calls _ ▹ const_end) (globals _ ▹ const_both (const_raised _ (few_slot f.number h)) (calls_by _ ▹ const_end))
+pub const_module_call : (numbered : Numbered) (m : TypedModule) (f : Procedure) → f.number ≤ few_entries
+    → Const (module_call numbered m f)
+const_module_call numbered m f h = const_either (is_own m f.home) (calls _ ▹ const_end)
+    (globals _ ▹ const_both (const_raised _ (few_slot f.number h)) (calls_by _ ▹ const_end))
 
 pub const_nested_call : (numbered : Numbered) (m : TypedModule) (f : LocalProcedure) → Const (nested_call numbered m f)
 const_nested_call numbered m f = calls _ ▹ const_end
 
-pub const_value_call : (numbered : Numbered) (types : Types) (t : ℕ) (heading : TypeNo) → Const (LocalGet t ∷ wrap_word ∷ indirect numbered types heading ∷ [])
+pub const_value_call : (numbered : Numbered) (types : Types) (t : ℕ) (heading : TypeNo)
+    → Const (LocalGet t ∷ wrap_word ∷ indirect numbered types heading ∷ [])
 const_value_call numbered types t heading = gets t ▹ computes _ ▹ calls_by _ ▹ const_end
 
 -- ---- statements
@@ -235,7 +255,8 @@ span_low : (a b : ℤ) → a ≤ℤ pos 4294967295 → negsuc 2147483647 ≤ℤ 
 span_low a b h l = omega (arith, ints, h, l)
 
 const_label : (t : ℕ) (x : Label) → IsLabel x → Const (label_code t x)
-const_label t x p = gets t ▹ signed x.low (low_between x.low x.high p.order p.high) ▹ computes _ ▹ signed _ (span_low x.high x.low p.high p.low) ▹ computes _ ▹ jumps_if 0 ▹ const_end
+const_label t x p = gets t ▹ signed x.low (low_between x.low x.high p.order p.high) ▹ computes _ ▹ signed _
+    (span_low x.high x.low p.high p.low) ▹ computes _ ▹ jumps_if 0 ▹ const_end
 
 const_labels : (t : ℕ) (labels : List Label) → AreLabels labels → Const (flat_map (label_code t) labels)
 const_labels t [] p = const_end
@@ -250,9 +271,11 @@ const_from_least t low h = gets t ▹ signed low h ▹ computes _ ▹ const_end
 few_values : (n : ℕ) → n ≤ 1024 → n - 1 < 2 ^ 64
 few_values n h = omega (arith, h)
 
-pub const_dispatch : (t : ℕ) (arms : List Arm) (low : ℤ) (span : ℕ) → IsLow low → span ≤ 1024 → Const (dispatch t arms low span)
+pub const_dispatch : (t : ℕ) (arms : List Arm) (low : ℤ) (span : ℕ) → IsLow low → span ≤ 1024
+    → Const (dispatch t arms low span)
 const_dispatch t arms low span h l =
-    const_both (const_from_least t low h) (amount _ (few_values span l) ▹ computes _ ▹ jumps_if _ ▹ const_both (const_from_least t low h) (computes _ ▹ jumps_by _ _ ▹ const_end))
+    const_both (const_from_least t low h) (amount _ (few_values span l) ▹ computes _ ▹ jumps_if _ ▹ const_both
+    (const_from_least t low h) (computes _ ▹ jumps_by _ _ ▹ const_end))
 
 const_read_again : (w : ℕ) (types : Types) (t : TypeNo) → AreCells types → Const (read_again w types t)
 const_read_again w types t cells = gets w ▹ gets w ▹ const_loaded types t cells
@@ -261,9 +284,11 @@ one_operation : (o : Change) → constants_fit (change_operation o) ≡ true
 one_operation change.Increase = computes _
 one_operation change.Decrease = computes _
 
-pub const_changed : (o : Change) (w n : ℕ) (types : Types) (t : TypeNo) → AreCells types → AreSmall types → Const (change_instructions o w n types t)
+pub const_changed : (o : Change) (w n : ℕ) (types : Types) (t : TypeNo) → AreCells types → AreSmall types
+    → Const (change_instructions o w n types t)
 const_changed o w n types t cells small =
-    const_both (const_read_again w types t cells) (gets n ▹ one_operation o ▹ const_both (const_check_changed types t small) (const_stored types t cells))
+    const_both (const_read_again w types t cells)
+    (gets n ▹ one_operation o ▹ const_both (const_check_changed types t small) (const_stored types t cells))
 
 const_member : (o : Membership) → Const (member_operation o)
 const_member member.Include = computes _ ▹ const_end
@@ -271,8 +296,11 @@ const_member member.Exclude = const_both const_complement (computes _ ▹ const_
 
 pub const_with_member : (o : Membership) (w n : ℕ) (types : Types) → AreCells types → Const (with_member o w n types)
 const_with_member o w n types cells =
-    const_both (const_read_again w types bitset cells) (amount 1 (omega arith) ▹ gets n ▹ computes _ ▹ const_both (const_member o) (const_stored types bitset cells))
+    const_both (const_read_again w types bitset cells)
+    (amount 1 (omega arith) ▹ gets n ▹ computes _ ▹ const_both (const_member o) (const_stored types bitset cells))
 
-pub const_copied : (at bytes rest w : ℕ) → at < max_bytes → bytes < max_bytes → rest < max_bytes → Const (text_copied at bytes rest w)
+pub const_copied : (at bytes rest w : ℕ) → at < max_bytes → bytes < max_bytes → rest < max_bytes
+    → Const (text_copied at bytes rest w)
 const_copied at bytes rest w h l k =
-    const_both (const_text at h) (address bytes l ▹ calls _ ▹ gets w ▹ const_both (const_raised bytes l) (address rest k ▹ calls _ ▹ const_end))
+    const_both (const_text at h) (address bytes l ▹ calls _ ▹ gets w ▹ const_both (const_raised bytes l)
+    (address rest k ▹ calls _ ▹ const_end))

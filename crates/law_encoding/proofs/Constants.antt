@@ -94,7 +94,8 @@ nothing_fits = refl
 pub const_end : Const []
 const_end = record { fit = nothing_fits }
 
-next_fits : (i : Instr) (code : List Instr) → constants_fit i ≡ true → code_constants_fit code ≡ true → code_constants_fit (i ∷ code) ≡ true
+next_fits : (i : Instr) (code : List Instr) → constants_fit i ≡ true → code_constants_fit code ≡ true
+    → code_constants_fit (i ∷ code) ≡ true
 unfolding code_constants_fit
 next_fits i code h e = both_true _ _ h e
 
@@ -102,10 +103,12 @@ infixr 60 ◌▹◌
 pub ◌▹◌ : {i : Instr} {code : List Instr} → constants_fit i ≡ true → Const code → Const (i ∷ code)
 ◌▹◌ {i} {code} h p = record { fit = next_fits i code h p.fit }
 
-both_fit : (xs ys : List Instr) → code_constants_fit xs ≡ true → code_constants_fit ys ≡ true → code_constants_fit (xs ++ ys) ≡ true
+both_fit : (xs ys : List Instr) → code_constants_fit xs ≡ true → code_constants_fit ys ≡ true
+    → code_constants_fit (xs ++ ys) ≡ true
 unfolding code_constants_fit
 both_fit [] ys e h = h
-both_fit (x ∷ xs) ys e h = let both = and_parts (constants_fit x) (list_all constants_fit xs) e in both_true _ _ both.0 (both_fit xs ys both.1 h)
+both_fit (x ∷ xs) ys e h = let both = and_parts (constants_fit x) (list_all constants_fit xs) e in
+    both_true _ _ both.0 (both_fit xs ys both.1 h)
 
 pub const_both : {xs ys : List Instr} → Const xs → Const ys → Const (xs ++ ys)
 const_both {xs} {ys} p q = record { fit = both_fit xs ys p.fit q.fit }
@@ -121,14 +124,19 @@ unfolding code_constants_fit
 constants_mapped code e = mapped_all constants_fit code ∙ e
 
 pub blocks : (t : Option ValueType) {code : List Instr} → Const code → constants_fit (instr.Block t code) ≡ true
-blocks t {code} p = at_constants (instr.Block t code) (layer.Block t code) (instr.outs-Block t code) ∙ constants_mapped code p.fit
+blocks t {code} p = at_constants (instr.Block t code) (layer.Block t code) (instr.outs-Block t code)
+    ∙ constants_mapped code p.fit
 
 pub loops : (t : Option ValueType) {code : List Instr} → Const code → constants_fit (instr.Loop t code) ≡ true
-loops t {code} p = at_constants (instr.Loop t code) (layer.Loop t code) (instr.outs-Loop t code) ∙ constants_mapped code p.fit
+loops t {code} p = at_constants (instr.Loop t code) (layer.Loop t code) (instr.outs-Loop t code)
+    ∙ constants_mapped code p.fit
 
 pub tests : (t : Option ValueType) {code : List Instr} → Const code → constants_fit (instr.If t code None) ≡ true
-tests t {code} p = at_constants (instr.If t code None) (layer.If t code None) (instr.outs-If t code None) ∙ both_true _ _ (constants_mapped code p.fit) refl
+tests t {code} p = at_constants (instr.If t code None) (layer.If t code None) (instr.outs-If t code None)
+    ∙ both_true _ _ (constants_mapped code p.fit) refl
 
-pub chooses : (t : Option ValueType) {code others : List Instr} → Const code → Const others → constants_fit (instr.If t code (Some others)) ≡ true
+pub chooses : (t : Option ValueType) {code others : List Instr} → Const code → Const others
+    → constants_fit (instr.If t code (Some others)) ≡ true
 chooses t {code} {others} p q =
-    at_constants (instr.If t code (Some others)) (layer.If t code (Some others)) (instr.outs-If t code (Some others)) ∙ both_true _ _ (constants_mapped code p.fit) (constants_mapped others q.fit)
+    at_constants (instr.If t code (Some others)) (layer.If t code (Some others)) (instr.outs-If t code (Some others))
+    ∙ both_true _ _ (constants_mapped code p.fit) (constants_mapped others q.fit)

@@ -51,9 +51,14 @@ weaker : (a b n k : ℕ) → n ≤ k → b ≤ a + n → b ≤ a + k
 weaker a b n k h l = omega (arith, h, l)
 
 pub grows_more : (n k : ℕ) {x : Coded} → n ≤ k → Grows n x → Grows k x
-grows_more n k l p = record { numbers = λ s c. weaker c.numbers _ n k l (p.numbers s c); addresses = λ s c. weaker c.addresses _ n k l (p.addresses s c) }
+grows_more n k l p = record {
+  numbers = λ s c. weaker c.numbers _ n k l (p.numbers s c);
+  addresses =
+      λ s c. weaker c.addresses _ n k l (p.addresses s c);
+}
 
-pub within_grows : (n : ℕ) (labels : ℕ) (wrap : List Instr → List Instr) {x : Coded} → Grows n x → Grows n (within labels wrap x)
+pub within_grows : (n : ℕ) (labels : ℕ) (wrap : List Instr → List Instr) {x : Coded} → Grows n x
+    → Grows n (within labels wrap x)
 within_grows n labels wrap p = record {
   numbers = λ s c. p.numbers (record s { exit = s.exit + labels }) c;
   addresses = λ s c. p.addresses (record s { exit = s.exit + labels }) c;
@@ -70,14 +75,18 @@ same_locals a b n l = omega (arith, l)
 
 pub number_grows : (n : ℕ) {f : ℕ → Coded} → ((t : ℕ) → Grows n (f t)) → Grows (1 + n) (with_number f)
 number_grows n p = record {
-  numbers = λ s c. next_local c.numbers _ n ((p (number_local s c.numbers)).numbers s (record c { numbers = suc c.numbers }));
-  addresses = λ s c. same_locals c.addresses _ n ((p (number_local s c.numbers)).addresses s (record c { numbers = suc c.numbers }));
+  numbers = λ s c. next_local c.numbers _ n
+      ((p (number_local s c.numbers)).numbers s (record c { numbers = suc c.numbers }));
+  addresses = λ s c. same_locals c.addresses _ n
+      ((p (number_local s c.numbers)).addresses s (record c { numbers = suc c.numbers }));
 }
 
 pub address_grows : (n : ℕ) {f : ℕ → Coded} → ((t : ℕ) → Grows n (f t)) → Grows (1 + n) (with_address f)
 address_grows n p = record {
-  numbers = λ s c. same_locals c.numbers _ n ((p (address_local s c.addresses)).numbers s (record c { addresses = suc c.addresses }));
-  addresses = λ s c. next_local c.addresses _ n ((p (address_local s c.addresses)).addresses s (record c { addresses = suc c.addresses }));
+  numbers = λ s c. same_locals c.numbers _ n
+      ((p (address_local s c.addresses)).numbers s (record c { addresses = suc c.addresses }));
+  addresses = λ s c. next_local c.addresses _ n
+      ((p (address_local s c.addresses)).addresses s (record c { addresses = suc c.addresses }));
 }
 
 pub text_grows : (n bytes : ℕ) {f : ℕ → Coded} → ((t : ℕ) → Grows n (f t)) → Grows n (with_text bytes f)
@@ -105,18 +114,22 @@ nothing_more n = omega arith
 pub then_plain : (n : ℕ) {x : Coded} (code : List Instr) → Grows n x → Grows n (x ⨾ plain code)
 then_plain n code p = grows_more (n + 0) n (nothing_more n) (both_grow n 0 p (plain_grows 0 code))
 
-pub then_setting : (n : ℕ) {x : Coded} (f : Setting → List Instr) → Grows n x → Grows n (x ⨾ with_setting (λ s. plain (f s)))
-then_setting n f p = grows_more (n + 0) n (nothing_more n) (both_grow n 0 p (setting_grows 0 (λ s. plain_grows 0 (f s))))
+pub then_setting : (n : ℕ) {x : Coded} (f : Setting → List Instr) → Grows n x
+    → Grows n (x ⨾ with_setting (λ s. plain (f s)))
+then_setting n f p = grows_more (n + 0) n (nothing_more n)
+    (both_grow n 0 p (setting_grows 0 (λ s. plain_grows 0 (f s))))
 
 pub plain_then : (n : ℕ) {x : Coded} (code : List Instr) → Grows n x → Grows n (plain code ⨾ x)
 plain_then n code p = grows_more (0 + n) n (none_before n) (both_grow 0 n (plain_grows 0 code) p) where
   none_before : (k : ℕ) → 0 + k ≤ k
   none_before k = omega arith
 
-pub setting_then : (n : ℕ) {x : Coded} (f : Setting → List Instr) → Grows n x → Grows n (with_setting (λ s. plain (f s)) ⨾ x)
-setting_then n f p = grows_more (0 + n) n (none_before n) (both_grow 0 n (setting_grows 0 (λ s. plain_grows 0 (f s))) p) where
-  none_before : (k : ℕ) → 0 + k ≤ k
-  none_before k = omega arith
+pub setting_then : (n : ℕ) {x : Coded} (f : Setting → List Instr) → Grows n x
+    → Grows n (with_setting (λ s. plain (f s)) ⨾ x)
+setting_then n f p = grows_more (0 + n) n (none_before n) (both_grow 0 n (setting_grows 0 (λ s. plain_grows 0 (f s))) p)
+  where
+    none_before : (k : ℕ) → 0 + k ≤ k
+    none_before k = omega arith
 
 root_grows : (n : ℕ) (r : Root) → Grows n (root_layer r)
 root_grows n (root.Global v) = setting_grows n (λ s. plain_grows n _)
@@ -133,75 +146,111 @@ two_sum n k = omega arith
 
 include_grows : (n k : ℕ) (o : Inclusion) {x y : Coded} → Grows n x → Grows k y → Grows (n + k) (include_code o x y)
 include_grows n k inclusion.Within p q = both_grow n k p (then_plain k _ q)
-include_grows n k inclusion.Around p q = both_grow n k p (plain_then k complement (then_plain k (operation And ∷ empty_code) q))
+include_grows n k inclusion.Around p q =
+    both_grow n k p (plain_then k complement (then_plain k (operation And ∷ empty_code) q))
 
 in_sum : (n k : ℕ) → n + (1 + k) ≤ 1 + n + k
 in_sum n k = omega arith
 
 in_grows : (n k : ℕ) {x y : Coded} → Grows n x → Grows k y → Grows (1 + n + k) (in_code x y)
-in_grows n k p q = grows_more (n + (1 + k)) (1 + n + k) (in_sum n k) (both_grow n (1 + k) p (plain_then (1 + k) (check_code (pos 0) (pos 31) 1)
-    (number_grows k (λ t. plain_then k (LocalSet t ∷ []) (then_plain k (LocalGet t ∷ operation ShrU ∷ I64Const 1 ∷ operation And ∷ []) q)))))
+in_grows n k p q = grows_more (n + (1 + k)) (1 + n + k) (in_sum n k)
+    (both_grow n (1 + k) p (plain_then (1 + k) (check_code (pos 0) (pos 31) 1)
+    (number_grows k (λ t. plain_then k (LocalSet t ∷ [])
+    (then_plain k (LocalGet t ∷ operation ShrU ∷ I64Const 1 ∷ operation And ∷ []) q)))))
 
 own_number : (n : ℕ) → n + (1 + 0) ≤ 1 + n
 own_number n = omega arith
 
-abs_by : (b : Bool) (n : ℕ) {x : Coded} (f : ℕ → List Instr) → Grows n x → Grows (1 + n) (if b then x ⨾ with_number (λ t. plain (f t)) else x)
-abs_by true n f p = grows_more (n + (1 + 0)) (1 + n) (own_number n) (both_grow n (1 + 0) p (number_grows 0 (λ t. plain_grows 0 (f t))))
+abs_by : (b : Bool) (n : ℕ) {x : Coded} (f : ℕ → List Instr) → Grows n x
+    → Grows (1 + n) (if b then x ⨾ with_number (λ t. plain (f t)) else x)
+abs_by true n f p = grows_more (n + (1 + 0)) (1 + n) (own_number n)
+    (both_grow n (1 + 0) p (number_grows 0 (λ t. plain_grows 0 (f t))))
 abs_by false n f p = grows_more n (1 + n) (one_more n) p
 
 -- ---- trees
 
 module _ (numbered : Numbered) where
   abbrev of_argument : Argument → Coded
-  of_argument = fold-Argument Coded Coded Coded Linked Part Coded argument_layer (call_layer numbered) component_layer link_layer expr_layer place_layer
+  of_argument = fold-Argument Coded Coded Coded Linked Part Coded argument_layer (call_layer numbered) component_layer
+      link_layer expr_layer place_layer
 
   abbrev of_component : Component → Coded
-  of_component = fold-Component Coded Coded Coded Linked Part Coded argument_layer (call_layer numbered) component_layer link_layer expr_layer place_layer
+  of_component = fold-Component Coded Coded Coded Linked Part Coded argument_layer (call_layer numbered) component_layer
+      link_layer expr_layer place_layer
 
   abbrev of_link : Link → Linked
-  of_link = fold-Link Coded Coded Coded Linked Part Coded argument_layer (call_layer numbered) component_layer link_layer expr_layer place_layer
+  of_link = fold-Link Coded Coded Coded Linked Part Coded argument_layer (call_layer numbered) component_layer
+      link_layer expr_layer place_layer
 
-  abbrev opened_argument : Argument-F Argument Call Component Link TypedExpr Place → Argument-F Coded Coded Coded Linked Part Coded
-  opened_argument x = map-Argument Argument Call Component Link TypedExpr Place Coded Coded Coded Linked Part Coded of_argument (call_code numbered) of_component of_link (expr_part numbered) (place_code numbered) x
+  abbrev opened_argument : Argument-F Argument Call Component Link TypedExpr Place
+      → Argument-F Coded Coded Coded Linked Part Coded
+  opened_argument x = map-Argument Argument Call Component Link TypedExpr Place Coded Coded Coded Linked Part Coded
+      of_argument (call_code numbered) of_component of_link (expr_part numbered) (place_code numbered) x
 
-  at_argument : (e : Argument) (x : Argument-F Argument Call Component Link TypedExpr Place) → out-Argument e ≡ x → of_argument e ≡ argument_layer (opened_argument x)
+  at_argument : (e : Argument) (x : Argument-F Argument Call Component Link TypedExpr Place) → out-Argument e ≡ x
+      → of_argument e ≡ argument_layer (opened_argument x)
   unfolding expr_part place_code call_code
-  at_argument e x h = fold_out-Argument Coded Coded Coded Linked Part Coded argument_layer (call_layer numbered) component_layer link_layer expr_layer place_layer e ∙ ap (λ (y : Argument-F Argument Call Component Link TypedExpr Place). argument_layer (opened_argument y)) h
+  at_argument e x h = fold_out-Argument Coded Coded Coded Linked Part Coded argument_layer (call_layer numbered)
+      component_layer link_layer expr_layer place_layer e
+      ∙ ap (λ (y : Argument-F Argument Call Component Link TypedExpr Place). argument_layer (opened_argument y)) h
 
   abbrev opened_call : Call-F Argument Call Component Link TypedExpr Place → Call-F Coded Coded Coded Linked Part Coded
-  opened_call x = map-Call Argument Call Component Link TypedExpr Place Coded Coded Coded Linked Part Coded of_argument (call_code numbered) of_component of_link (expr_part numbered) (place_code numbered) x
+  opened_call x = map-Call Argument Call Component Link TypedExpr Place Coded Coded Coded Linked Part Coded of_argument
+      (call_code numbered) of_component of_link (expr_part numbered) (place_code numbered) x
 
-  at_call : (e : Call) (x : Call-F Argument Call Component Link TypedExpr Place) → out-Call e ≡ x → call_code numbered e ≡ call_layer numbered (opened_call x)
+  at_call : (e : Call) (x : Call-F Argument Call Component Link TypedExpr Place) → out-Call e ≡ x
+      → call_code numbered e ≡ call_layer numbered (opened_call x)
   unfolding expr_part place_code call_code
-  at_call e x h = fold_out-Call Coded Coded Coded Linked Part Coded argument_layer (call_layer numbered) component_layer link_layer expr_layer place_layer e ∙ ap (λ (y : Call-F Argument Call Component Link TypedExpr Place). call_layer numbered (opened_call y)) h
+  at_call e x h = fold_out-Call Coded Coded Coded Linked Part Coded argument_layer (call_layer numbered) component_layer
+      link_layer expr_layer place_layer e ∙ ap
+      (λ (y : Call-F Argument Call Component Link TypedExpr Place). call_layer numbered (opened_call y)) h
 
-  abbrev opened_component : Component-F Argument Call Component Link TypedExpr Place → Component-F Coded Coded Coded Linked Part Coded
-  opened_component x = map-Component Argument Call Component Link TypedExpr Place Coded Coded Coded Linked Part Coded of_argument (call_code numbered) of_component of_link (expr_part numbered) (place_code numbered) x
+  abbrev opened_component : Component-F Argument Call Component Link TypedExpr Place
+      → Component-F Coded Coded Coded Linked Part Coded
+  opened_component x = map-Component Argument Call Component Link TypedExpr Place Coded Coded Coded Linked Part Coded
+      of_argument (call_code numbered) of_component of_link (expr_part numbered) (place_code numbered) x
 
-  at_component : (e : Component) (x : Component-F Argument Call Component Link TypedExpr Place) → out-Component e ≡ x → of_component e ≡ component_layer (opened_component x)
+  at_component : (e : Component) (x : Component-F Argument Call Component Link TypedExpr Place) → out-Component e ≡ x
+      → of_component e ≡ component_layer (opened_component x)
   unfolding expr_part place_code call_code
-  at_component e x h = fold_out-Component Coded Coded Coded Linked Part Coded argument_layer (call_layer numbered) component_layer link_layer expr_layer place_layer e ∙ ap (λ (y : Component-F Argument Call Component Link TypedExpr Place). component_layer (opened_component y)) h
+  at_component e x h = fold_out-Component Coded Coded Coded Linked Part Coded argument_layer (call_layer numbered)
+      component_layer link_layer expr_layer place_layer e
+      ∙ ap (λ (y : Component-F Argument Call Component Link TypedExpr Place). component_layer (opened_component y)) h
 
   abbrev opened_link : Link-F Argument Call Component Link TypedExpr Place → Link-F Coded Coded Coded Linked Part Coded
-  opened_link x = map-Link Argument Call Component Link TypedExpr Place Coded Coded Coded Linked Part Coded of_argument (call_code numbered) of_component of_link (expr_part numbered) (place_code numbered) x
+  opened_link x = map-Link Argument Call Component Link TypedExpr Place Coded Coded Coded Linked Part Coded of_argument
+      (call_code numbered) of_component of_link (expr_part numbered) (place_code numbered) x
 
-  at_link : (e : Link) (x : Link-F Argument Call Component Link TypedExpr Place) → out-Link e ≡ x → of_link e ≡ link_layer (opened_link x)
+  at_link : (e : Link) (x : Link-F Argument Call Component Link TypedExpr Place) → out-Link e ≡ x
+      → of_link e ≡ link_layer (opened_link x)
   unfolding expr_part place_code call_code
-  at_link e x h = fold_out-Link Coded Coded Coded Linked Part Coded argument_layer (call_layer numbered) component_layer link_layer expr_layer place_layer e ∙ ap (λ (y : Link-F Argument Call Component Link TypedExpr Place). link_layer (opened_link y)) h
+  at_link e x h = fold_out-Link Coded Coded Coded Linked Part Coded argument_layer (call_layer numbered) component_layer
+      link_layer expr_layer place_layer e ∙ ap
+      (λ (y : Link-F Argument Call Component Link TypedExpr Place). link_layer (opened_link y)) h
 
-  abbrev opened_expr : TypedExpr-F Argument Call Component Link TypedExpr Place → TypedExpr-F Coded Coded Coded Linked Part Coded
-  opened_expr x = map-TypedExpr Argument Call Component Link TypedExpr Place Coded Coded Coded Linked Part Coded of_argument (call_code numbered) of_component of_link (expr_part numbered) (place_code numbered) x
+  abbrev opened_expr : TypedExpr-F Argument Call Component Link TypedExpr Place
+      → TypedExpr-F Coded Coded Coded Linked Part Coded
+  opened_expr x = map-TypedExpr Argument Call Component Link TypedExpr Place Coded Coded Coded Linked Part Coded
+      of_argument (call_code numbered) of_component of_link (expr_part numbered) (place_code numbered) x
 
-  at_expr : (e : TypedExpr) (x : TypedExpr-F Argument Call Component Link TypedExpr Place) → out-TypedExpr e ≡ x → expr_part numbered e ≡ expr_layer (opened_expr x)
+  at_expr : (e : TypedExpr) (x : TypedExpr-F Argument Call Component Link TypedExpr Place) → out-TypedExpr e ≡ x
+      → expr_part numbered e ≡ expr_layer (opened_expr x)
   unfolding expr_part place_code call_code
-  at_expr e x h = fold_out-TypedExpr Coded Coded Coded Linked Part Coded argument_layer (call_layer numbered) component_layer link_layer expr_layer place_layer e ∙ ap (λ (y : TypedExpr-F Argument Call Component Link TypedExpr Place). expr_layer (opened_expr y)) h
+  at_expr e x h = fold_out-TypedExpr Coded Coded Coded Linked Part Coded argument_layer (call_layer numbered)
+      component_layer link_layer expr_layer place_layer e
+      ∙ ap (λ (y : TypedExpr-F Argument Call Component Link TypedExpr Place). expr_layer (opened_expr y)) h
 
-  abbrev opened_place : Place-F Argument Call Component Link TypedExpr Place → Place-F Coded Coded Coded Linked Part Coded
-  opened_place x = map-Place Argument Call Component Link TypedExpr Place Coded Coded Coded Linked Part Coded of_argument (call_code numbered) of_component of_link (expr_part numbered) (place_code numbered) x
+  abbrev opened_place : Place-F Argument Call Component Link TypedExpr Place
+      → Place-F Coded Coded Coded Linked Part Coded
+  opened_place x = map-Place Argument Call Component Link TypedExpr Place Coded Coded Coded Linked Part Coded
+      of_argument (call_code numbered) of_component of_link (expr_part numbered) (place_code numbered) x
 
-  at_place : (e : Place) (x : Place-F Argument Call Component Link TypedExpr Place) → out-Place e ≡ x → place_code numbered e ≡ place_layer (opened_place x)
+  at_place : (e : Place) (x : Place-F Argument Call Component Link TypedExpr Place) → out-Place e ≡ x
+      → place_code numbered e ≡ place_layer (opened_place x)
   unfolding expr_part place_code call_code
-  at_place e x h = fold_out-Place Coded Coded Coded Linked Part Coded argument_layer (call_layer numbered) component_layer link_layer expr_layer place_layer e ∙ ap (λ (y : Place-F Argument Call Component Link TypedExpr Place). place_layer (opened_place y)) h
+  at_place e x h = fold_out-Place Coded Coded Coded Linked Part Coded argument_layer (call_layer numbered)
+      component_layer link_layer expr_layer place_layer e
+      ∙ ap (λ (y : Place-F Argument Call Component Link TypedExpr Place). place_layer (opened_place y)) h
 
   abbrev PA : Argument → Type 0
   PA e = Grows (size_passed e) (of_argument e)
@@ -240,42 +289,54 @@ module _ (numbered : Numbered) where
   SP = (e : Place) × PP e
 
   abbrev bare_argument : Argument-F SA SC SK SL SE SP → Argument-F Argument Call Component Link TypedExpr Place
-  bare_argument x = map-Argument SA SC SK SL SE SP Argument Call Component Link TypedExpr Place (λ e. e.0) (λ e. e.0) (λ e. e.0) (λ e. e.0) (λ e. e.0) (λ e. e.0) x
+  bare_argument x = map-Argument SA SC SK SL SE SP Argument Call Component Link TypedExpr Place (λ e. e.0) (λ e. e.0)
+      (λ e. e.0) (λ e. e.0) (λ e. e.0) (λ e. e.0) x
 
   abbrev bare_call : Call-F SA SC SK SL SE SP → Call-F Argument Call Component Link TypedExpr Place
-  bare_call x = map-Call SA SC SK SL SE SP Argument Call Component Link TypedExpr Place (λ e. e.0) (λ e. e.0) (λ e. e.0) (λ e. e.0) (λ e. e.0) (λ e. e.0) x
+  bare_call x = map-Call SA SC SK SL SE SP Argument Call Component Link TypedExpr Place (λ e. e.0) (λ e. e.0) (λ e. e.0)
+      (λ e. e.0) (λ e. e.0) (λ e. e.0) x
 
   abbrev bare_component : Component-F SA SC SK SL SE SP → Component-F Argument Call Component Link TypedExpr Place
-  bare_component x = map-Component SA SC SK SL SE SP Argument Call Component Link TypedExpr Place (λ e. e.0) (λ e. e.0) (λ e. e.0) (λ e. e.0) (λ e. e.0) (λ e. e.0) x
+  bare_component x = map-Component SA SC SK SL SE SP Argument Call Component Link TypedExpr Place (λ e. e.0) (λ e. e.0)
+      (λ e. e.0) (λ e. e.0) (λ e. e.0) (λ e. e.0) x
 
   abbrev bare_link : Link-F SA SC SK SL SE SP → Link-F Argument Call Component Link TypedExpr Place
-  bare_link x = map-Link SA SC SK SL SE SP Argument Call Component Link TypedExpr Place (λ e. e.0) (λ e. e.0) (λ e. e.0) (λ e. e.0) (λ e. e.0) (λ e. e.0) x
+  bare_link x = map-Link SA SC SK SL SE SP Argument Call Component Link TypedExpr Place (λ e. e.0) (λ e. e.0) (λ e. e.0)
+      (λ e. e.0) (λ e. e.0) (λ e. e.0) x
 
   abbrev bare_expr : TypedExpr-F SA SC SK SL SE SP → TypedExpr-F Argument Call Component Link TypedExpr Place
-  bare_expr x = map-TypedExpr SA SC SK SL SE SP Argument Call Component Link TypedExpr Place (λ e. e.0) (λ e. e.0) (λ e. e.0) (λ e. e.0) (λ e. e.0) (λ e. e.0) x
+  bare_expr x = map-TypedExpr SA SC SK SL SE SP Argument Call Component Link TypedExpr Place (λ e. e.0) (λ e. e.0)
+      (λ e. e.0) (λ e. e.0) (λ e. e.0) (λ e. e.0) x
 
   abbrev bare_place : Place-F SA SC SK SL SE SP → Place-F Argument Call Component Link TypedExpr Place
-  bare_place x = map-Place SA SC SK SL SE SP Argument Call Component Link TypedExpr Place (λ e. e.0) (λ e. e.0) (λ e. e.0) (λ e. e.0) (λ e. e.0) (λ e. e.0) x
+  bare_place x = map-Place SA SC SK SL SE SP Argument Call Component Link TypedExpr Place (λ e. e.0) (λ e. e.0)
+      (λ e. e.0) (λ e. e.0) (λ e. e.0) (λ e. e.0) x
 
-  all_args : (xs : List SA) → AllGrow (map size_passed (map (λ (e : SA). e.0) xs)) (map of_argument (map (λ (e : SA). e.0) xs))
+  all_args : (xs : List SA) → AllGrow (map size_passed (map (λ (e : SA). e.0) xs))
+      (map of_argument (map (λ (e : SA). e.0) xs))
   all_args [] = tt
   all_args (x ∷ xs) = (x.1, all_args xs)
 
-  args_grow : (xs : List SA) → Grows (total (map size_passed (map (λ (e : SA). e.0) xs))) (all_coded (map of_argument (map (λ (e : SA). e.0) xs)))
+  args_grow : (xs : List SA) → Grows (total (map size_passed (map (λ (e : SA). e.0) xs)))
+      (all_coded (map of_argument (map (λ (e : SA). e.0) xs)))
   args_grow xs = all_grow _ _ (all_args xs)
 
-  all_components : (xs : List SK) → AllGrow (map size_component (map (λ (e : SK). e.0) xs)) (map of_component (map (λ (e : SK). e.0) xs))
+  all_components : (xs : List SK) → AllGrow (map size_component (map (λ (e : SK). e.0) xs))
+      (map of_component (map (λ (e : SK). e.0) xs))
   all_components [] = tt
   all_components (x ∷ xs) = (x.1, all_components xs)
 
-  links_grow : (xs : List SL) → Grows (total (map size_link (map (λ (e : SL). e.0) xs))) (chain_code (map of_link (map (λ (e : SL). e.0) xs)))
+  links_grow : (xs : List SL) → Grows (total (map size_link (map (λ (e : SL). e.0) xs)))
+      (chain_code (map of_link (map (λ (e : SL). e.0) xs)))
   links_grow [] = plain_grows 0 []
   links_grow (x ∷ xs) = both_grow (size_link x.0) _ x.1 (links_grow xs)
 
   two : (n : ℕ) → 1 ≤ 2 + n
   two n = omega arith
 
-  argument_grows : (y : Argument-F SA SC SK SL SE SP) → Grows (sizes.argument_layer (typed.weights_argument by_size (bare_argument y))) (argument_layer (opened_argument (bare_argument y)))
+  argument_grows : (y : Argument-F SA SC SK SL SE SP)
+      → Grows (sizes.argument_layer (typed.weights_argument by_size (bare_argument y)))
+      (argument_layer (opened_argument (bare_argument y)))
   argument_grows (layer.Value t e) = grows_more (size_typed e.0) _ (one_more _) (then_setting (size_typed e.0) _ e.1)
   argument_grows (layer.Place d) = grows_more (size_place d.0) _ (one_more _) (then_plain (size_place d.0) _ d.1)
   argument_grows (layer.Array t d) = grows_more (size_place d.0) _ (one_more _) (then_setting (size_place d.0) _ d.1)
@@ -288,42 +349,66 @@ module _ (numbered : Numbered) where
   abbrev top : Setting → List Instr
   top s = LocalGet (top_local s) ∷ []
 
-  call_grows : (y : Call-F SA SC SK SL SE SP) → Grows (sizes.call_layer (typed.weights_call by_size (bare_call y))) (call_layer numbered (opened_call (bare_call y)))
-  call_grows (layer.Module f args) = grows_more _ _ (one_more _) (setting_then _ top (then_setting _ (λ s. module_call numbered s.home f) (args_grow args)))
-  call_grows (layer.Nested f args) = grows_more _ _ (one_more _) (setting_then _ top (plain_then _ (link_code numbered f.up) (then_setting _ (λ s. nested_call numbered s.home f) (args_grow args))))
+  call_grows : (y : Call-F SA SC SK SL SE SP)
+      → Grows (sizes.call_layer (typed.weights_call by_size (bare_call y)))
+      (call_layer numbered (opened_call (bare_call y)))
+  call_grows (layer.Module f args) = grows_more _ _ (one_more _)
+      (setting_then _ top (then_setting _ (λ s. module_call numbered s.home f) (args_grow args)))
+  call_grows (layer.Nested f args) = grows_more _ _ (one_more _)
+      (setting_then _ top (plain_then _ (link_code numbered f.up)
+      (then_setting _ (λ s. nested_call numbered s.home f) (args_grow args))))
   call_grows (layer.Variable t d args) =
-      grows_more (size_place d.0 + (1 + total (map size_passed (map (λ (e : SA). e.0) args)))) _ (call_sum (size_place d.0) _)
-      (both_grow (size_place d.0) (1 + total (map size_passed (map (λ (e : SA). e.0) args))) (then_setting (size_place d.0) (λ s. load_code s.home.types t) d.1)
+      grows_more (size_place d.0 + (1 + total (map size_passed (map (λ (e : SA). e.0) args)))) _
+      (call_sum (size_place d.0) _)
+      (both_grow (size_place d.0) (1 + total (map size_passed (map (λ (e : SA). e.0) args)))
+      (then_setting (size_place d.0) (λ s. load_code s.home.types t) d.1)
       (plain_then _ (check_code (pos 1) (pos 4294967295) 7)
       (number_grows (total (map size_passed (map (λ (e : SA). e.0) args)))
-      (λ n. plain_then _ (LocalSet n ∷ []) (setting_then _ top (then_setting _ (λ s. LocalGet n ∷ wrap_word ∷ indirect numbered s.home.types t ∷ []) (args_grow args)))))))
+      (λ n. plain_then _ (LocalSet n ∷ []) (setting_then _ top
+      (then_setting _ (λ s. LocalGet n ∷ wrap_word ∷ indirect numbered s.home.types t ∷ []) (args_grow args)))))))
 
-  component_grows : (y : Component-F SA SC SK SL SE SP) → Grows (sizes.component_layer (typed.weights_component by_size (bare_component y))) (component_layer (opened_component (bare_component y)))
+  component_grows : (y : Component-F SA SC SK SL SE SP)
+      → Grows (sizes.component_layer (typed.weights_component by_size (bare_component y)))
+      (component_layer (opened_component (bare_component y)))
   component_grows (layer.Field t k) = setting_grows 1 (λ s. plain_grows 1 _)
   component_grows (layer.Element t i) = grows_more (size_typed i.0) _ (one_more _) (then_setting (size_typed i.0) _ i.1)
-  component_grows (layer.OpenElement slot t i) = grows_more (size_typed i.0) _ (one_more _) (then_setting (size_typed i.0) _ i.1)
+  component_grows (layer.OpenElement slot t i) =
+      grows_more (size_typed i.0) _ (one_more _) (then_setting (size_typed i.0) _ i.1)
 
-  link_grows : (y : Link-F SA SC SK SL SE SP) → Grows (sizes.link_layer (typed.weights_link by_size (bare_link y))) (link_layer (opened_link (bare_link y))).code
+  link_grows : (y : Link-F SA SC SK SL SE SP)
+      → Grows (sizes.link_layer (typed.weights_link by_size (bare_link y)))
+      (link_layer (opened_link (bare_link y))).code
   link_grows (layer.Arithmetic o t b) = grows_more (size_typed b.0) _ (one_more _) (then_setting (size_typed b.0) _ b.1)
   link_grows (layer.And b) =
-      grows_more (size_typed b.0) _ (one_more _) (plain_then (size_typed b.0) (wrap_word ∷ []) (within_grows (size_typed b.0) 1 (λ code. chosen_number code (I64Const 0 ∷ []) ∷ []) b.1))
+      grows_more (size_typed b.0) _ (one_more _)
+      (plain_then (size_typed b.0) (wrap_word ∷ [])
+      (within_grows (size_typed b.0) 1 (λ code. chosen_number code (I64Const 0 ∷ []) ∷ []) b.1))
   link_grows (layer.Or b) =
-      grows_more (size_typed b.0) _ (one_more _) (plain_then (size_typed b.0) (wrap_word ∷ []) (within_grows (size_typed b.0) 1 (λ code. chosen_number (I64Const 1 ∷ []) code ∷ []) b.1))
+      grows_more (size_typed b.0) _ (one_more _)
+      (plain_then (size_typed b.0) (wrap_word ∷ [])
+      (within_grows (size_typed b.0) 1 (λ code. chosen_number (I64Const 1 ∷ []) code ∷ []) b.1))
   link_grows (layer.Combine o b) = grows_more (size_typed b.0) _ (one_more _) (then_plain (size_typed b.0) _ b.1)
 
   pair_sum : (n k : ℕ) → n + k ≤ 1 + n + k
   pair_sum n k = omega arith
 
-  expr_grows : (y : TypedExpr-F SA SC SK SL SE SP) → Grows (sizes.expr_layer (typed.weights_expr by_size (bare_expr y))) (expr_layer (opened_expr (bare_expr y))).code
+  expr_grows : (y : TypedExpr-F SA SC SK SL SE SP)
+      → Grows (sizes.expr_layer (typed.weights_expr by_size (bare_expr y)))
+      (expr_layer (opened_expr (bare_expr y))).code
   expr_grows (layer.Constant t n) = plain_grows 1 _
   expr_grows (layer.Load t d) = grows_more (size_place d.0) _ (one_more _) (then_setting (size_place d.0) _ d.1)
   expr_grows (layer.Procedure f) = setting_grows 1 (λ s. plain_grows 1 _)
   expr_grows (layer.Plus t e) = grows_more (size_typed e.0) _ (one_more _) e.1
-  expr_grows (layer.Negate e) = grows_more (size_typed e.0) _ (one_more _) (plain_then (size_typed e.0) (I64Const 0 ∷ []) (then_setting (size_typed e.0) (λ s. operation Sub ∷ in_type s.home.types integer 2) e.1))
-  expr_grows (layer.Chain e links) = grows_more _ _ (pair_sum (size_typed e.0) _) (both_grow (size_typed e.0) _ e.1 (links_grow links))
-  expr_grows (layer.Compare o a b) = grows_more _ _ (pair_sum (size_typed a.0) (size_typed b.0)) (both_grow (size_typed a.0) (size_typed b.0) a.1 (then_plain (size_typed b.0) _ b.1))
+  expr_grows (layer.Negate e) = grows_more (size_typed e.0) _ (one_more _)
+      (plain_then (size_typed e.0) (I64Const 0 ∷ [])
+      (then_setting (size_typed e.0) (λ s. operation Sub ∷ in_type s.home.types integer 2) e.1))
+  expr_grows (layer.Chain e links) = grows_more _ _ (pair_sum (size_typed e.0) _)
+      (both_grow (size_typed e.0) _ e.1 (links_grow links))
+  expr_grows (layer.Compare o a b) = grows_more _ _ (pair_sum (size_typed a.0) (size_typed b.0))
+      (both_grow (size_typed a.0) (size_typed b.0) a.1 (then_plain (size_typed b.0) _ b.1))
   expr_grows (layer.Not e) = grows_more (size_typed e.0) _ (one_more _) (then_plain (size_typed e.0) _ e.1)
-  expr_grows (layer.Include o a b) = grows_more _ _ (pair_sum (size_typed a.0) (size_typed b.0)) (include_grows (size_typed a.0) (size_typed b.0) o a.1 b.1)
+  expr_grows (layer.Include o a b) = grows_more _ _ (pair_sum (size_typed a.0) (size_typed b.0))
+      (include_grows (size_typed a.0) (size_typed b.0) o a.1 b.1)
   expr_grows (layer.In a b) = in_grows (size_typed a.0) (size_typed b.0) a.1 b.1
   expr_grows (layer.Abs t e) = abs_by (are_same t integer) (size_typed e.0) absolute_code e.1
   expr_grows (layer.Cap e) = abs_by true (size_typed e.0) capital_code e.1
@@ -337,44 +422,65 @@ module _ (numbered : Numbered) where
   root_sum : (n : ℕ) → 0 + n ≤ 1 + n
   root_sum n = omega arith
 
-  place_grows : (y : Place-F SA SC SK SL SE SP) → Grows (sizes.place_layer (typed.weights_place by_size (bare_place y))) (place_layer (opened_place (bare_place y)))
-  place_grows y = grows_more _ _ (root_sum _) (both_grow 0 _ (root_grows 0 y.root) (all_grow _ _ (all_components y.components)))
+  place_grows : (y : Place-F SA SC SK SL SE SP)
+      → Grows (sizes.place_layer (typed.weights_place by_size (bare_place y)))
+      (place_layer (opened_place (bare_place y)))
+  place_grows y = grows_more _ _ (root_sum _)
+      (both_grow 0 _ (root_grows 0 y.root) (all_grow _ _ (all_components y.components)))
 
-  step_argument : (x : Argument-F Argument Call Component Link TypedExpr Place) (y : Argument-F SA SC SK SL SE SP) → bare_argument y ≡ x → PA (roll-Argument x)
+  step_argument : (x : Argument-F Argument Call Component Link TypedExpr Place) (y : Argument-F SA SC SK SL SE SP)
+      → bare_argument y ≡ x → PA (roll-Argument x)
   step_argument x y q =
       let e = out-roll-Argument x ∙ sym q in
-      subst (λ (n : ℕ). Grows n (of_argument (roll-Argument x))) (sym (typed.at_argument by_size (roll-Argument x) (bare_argument y) e))
-      (subst (Grows (sizes.argument_layer (typed.weights_argument by_size (bare_argument y)))) (sym (at_argument (roll-Argument x) (bare_argument y) e)) (argument_grows y))
+      subst (λ (n : ℕ). Grows n (of_argument (roll-Argument x)))
+      (sym (typed.at_argument by_size (roll-Argument x) (bare_argument y) e))
+      (subst (Grows (sizes.argument_layer (typed.weights_argument by_size (bare_argument y))))
+      (sym (at_argument (roll-Argument x) (bare_argument y) e)) (argument_grows y))
 
-  step_call : (x : Call-F Argument Call Component Link TypedExpr Place) (y : Call-F SA SC SK SL SE SP) → bare_call y ≡ x → PC (roll-Call x)
+  step_call : (x : Call-F Argument Call Component Link TypedExpr Place) (y : Call-F SA SC SK SL SE SP) → bare_call y ≡ x
+      → PC (roll-Call x)
   step_call x y q =
       let e = out-roll-Call x ∙ sym q in
-      subst (λ (n : ℕ). Grows n (call_code numbered (roll-Call x))) (sym (typed.at_call by_size (roll-Call x) (bare_call y) e))
-      (subst (Grows (sizes.call_layer (typed.weights_call by_size (bare_call y)))) (sym (at_call (roll-Call x) (bare_call y) e)) (call_grows y))
+      subst (λ (n : ℕ). Grows n (call_code numbered (roll-Call x)))
+      (sym (typed.at_call by_size (roll-Call x) (bare_call y) e))
+      (subst (Grows (sizes.call_layer (typed.weights_call by_size (bare_call y))))
+      (sym (at_call (roll-Call x) (bare_call y) e)) (call_grows y))
 
-  step_component : (x : Component-F Argument Call Component Link TypedExpr Place) (y : Component-F SA SC SK SL SE SP) → bare_component y ≡ x → PK (roll-Component x)
+  step_component : (x : Component-F Argument Call Component Link TypedExpr Place) (y : Component-F SA SC SK SL SE SP)
+      → bare_component y ≡ x → PK (roll-Component x)
   step_component x y q =
       let e = out-roll-Component x ∙ sym q in
-      subst (λ (n : ℕ). Grows n (of_component (roll-Component x))) (sym (typed.at_component by_size (roll-Component x) (bare_component y) e))
-      (subst (Grows (sizes.component_layer (typed.weights_component by_size (bare_component y)))) (sym (at_component (roll-Component x) (bare_component y) e)) (component_grows y))
+      subst (λ (n : ℕ). Grows n (of_component (roll-Component x)))
+      (sym (typed.at_component by_size (roll-Component x) (bare_component y) e))
+      (subst (Grows (sizes.component_layer (typed.weights_component by_size (bare_component y))))
+      (sym (at_component (roll-Component x) (bare_component y) e)) (component_grows y))
 
-  step_link : (x : Link-F Argument Call Component Link TypedExpr Place) (y : Link-F SA SC SK SL SE SP) → bare_link y ≡ x → PL (roll-Link x)
+  step_link : (x : Link-F Argument Call Component Link TypedExpr Place) (y : Link-F SA SC SK SL SE SP) → bare_link y ≡ x
+      → PL (roll-Link x)
   step_link x y q =
       let e = out-roll-Link x ∙ sym q in
-      subst (λ (n : ℕ). Grows n (of_link (roll-Link x)).code) (sym (typed.at_link by_size (roll-Link x) (bare_link y) e))
-      (subst (λ (z : Linked). Grows (sizes.link_layer (typed.weights_link by_size (bare_link y))) z.code) (sym (at_link (roll-Link x) (bare_link y) e)) (link_grows y))
+      subst (λ (n : ℕ). Grows n (of_link (roll-Link x)).code)
+      (sym (typed.at_link by_size (roll-Link x) (bare_link y) e))
+      (subst (λ (z : Linked). Grows (sizes.link_layer (typed.weights_link by_size (bare_link y))) z.code)
+      (sym (at_link (roll-Link x) (bare_link y) e)) (link_grows y))
 
-  step_expr : (x : TypedExpr-F Argument Call Component Link TypedExpr Place) (y : TypedExpr-F SA SC SK SL SE SP) → bare_expr y ≡ x → PE (roll-TypedExpr x)
+  step_expr : (x : TypedExpr-F Argument Call Component Link TypedExpr Place) (y : TypedExpr-F SA SC SK SL SE SP)
+      → bare_expr y ≡ x → PE (roll-TypedExpr x)
   step_expr x y q =
       let e = out-roll-TypedExpr x ∙ sym q in
-      subst (λ (n : ℕ). Grows n (expr_part numbered (roll-TypedExpr x)).code) (sym (typed.at_expr by_size (roll-TypedExpr x) (bare_expr y) e))
-      (subst (λ (z : Part). Grows (sizes.expr_layer (typed.weights_expr by_size (bare_expr y))) z.code) (sym (at_expr (roll-TypedExpr x) (bare_expr y) e)) (expr_grows y))
+      subst (λ (n : ℕ). Grows n (expr_part numbered (roll-TypedExpr x)).code)
+      (sym (typed.at_expr by_size (roll-TypedExpr x) (bare_expr y) e))
+      (subst (λ (z : Part). Grows (sizes.expr_layer (typed.weights_expr by_size (bare_expr y))) z.code)
+      (sym (at_expr (roll-TypedExpr x) (bare_expr y) e)) (expr_grows y))
 
-  step_place : (x : Place-F Argument Call Component Link TypedExpr Place) (y : Place-F SA SC SK SL SE SP) → bare_place y ≡ x → PP (roll-Place x)
+  step_place : (x : Place-F Argument Call Component Link TypedExpr Place) (y : Place-F SA SC SK SL SE SP)
+      → bare_place y ≡ x → PP (roll-Place x)
   step_place x y q =
       let e = out-roll-Place x ∙ sym q in
-      subst (λ (n : ℕ). Grows n (place_code numbered (roll-Place x))) (sym (typed.at_place by_size (roll-Place x) (bare_place y) e))
-      (subst (Grows (sizes.place_layer (typed.weights_place by_size (bare_place y)))) (sym (at_place (roll-Place x) (bare_place y) e)) (place_grows y))
+      subst (λ (n : ℕ). Grows n (place_code numbered (roll-Place x)))
+      (sym (typed.at_place by_size (roll-Place x) (bare_place y) e))
+      (subst (Grows (sizes.place_layer (typed.weights_place by_size (bare_place y))))
+      (sym (at_place (roll-Place x) (bare_place y) e)) (place_grows y))
 
   pub expr_counts : (e : TypedExpr) → PE e
   expr_counts = ind-TypedExpr PA PC PK PL PE PP step_argument step_call step_component step_link step_expr step_place

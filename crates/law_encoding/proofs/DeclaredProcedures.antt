@@ -75,15 +75,18 @@ filled_same : (rs : Bodies) (w : Which) (r : Routine) → length (put_routine rs
 filled_same rs (which.Module k) r = length_set rs.procedures k r
 filled_same rs (which.Local k) r = refl
 
-begun_same : (b : Bool) (rs more : Bodies) → more.procedures ≡ rs.procedures → length (cond b rs more).procedures ≡ length rs.procedures
+begun_same : (b : Bool) (rs more : Bodies) → more.procedures ≡ rs.procedures
+    → length (cond b rs more).procedures ≡ length rs.procedures
 begun_same true rs more e = refl
 begun_same false rs more e = ap (λ (ps : List Routine). length ps) e
 
 module _ (g : Gathers) (elaborates : Elaborates g.Reported) where
-  with_routine_same : (s : Scope g.Reported) (name : Ident) (around : Option Which) (formals : ℕ) (o : Option Numbered) (body : Result (List TypedStmt) g.Reported) (rs : Bodies)
+  with_routine_same : (s : Scope g.Reported) (name : Ident) (around : Option Which) (formals : ℕ) (o : Option Numbered)
+      (body : Result (List TypedStmt) g.Reported) (rs : Bodies)
       → length (with_routine s name around formals o body rs).procedures ≡ length rs.procedures
   with_routine_same s name around formals None body rs = refl
-  with_routine_same s name around formals (Some k) (Ok xs) rs = filled_same rs k.which (routine s name k around formals xs)
+  with_routine_same s name around formals (Some k) (Ok xs) rs =
+      filled_same rs k.which (routine s name k around formals xs)
   with_routine_same s name around formals (Some k) (Err e) rs = refl
 
   abbrev count : Walk g.Reported → ℕ
@@ -93,13 +96,16 @@ module _ (g : Gathers) (elaborates : Elaborates g.Reported) where
   Same f = (around : Option Which) (seen : ℕ) (w : Walk g.Reported) → count (f around seen w) ≡ count w
 
   abbrev SameBlock : ChecksBlock g.Reported → Type 0
-  SameBlock f = (around : Option Which) (returns : Option (Result TypeNo g.Reported)) (w : Walk g.Reported) → count (f around returns w).0 ≡ count w
+  SameBlock f = (around : Option Which) (returns : Option (Result TypeNo g.Reported)) (w : Walk g.Reported)
+      → count (f around returns w).0 ≡ count w
 
-  procedure_same : (ends : List ℕ) (h : Heading) (block : ChecksBlock g.Reported) → SameBlock block → Same (procedure_checked g elaborates ends h block)
+  procedure_same : (ends : List ℕ) (h : Heading) (block : ChecksBlock g.Reported) → SameBlock block
+      → Same (procedure_checked g elaborates ends h block)
   procedure_same ends h block same around seen w =
       let b = begun_procedure g w seen h in
       let i = block (which_of b.1.procedure) b.1.returns b.0 in
-      with_routine_same i.0.scope h.name around b.1.formals b.1.procedure i.1 i.0.bodies ∙ (same (which_of b.1.procedure) b.1.returns b.0 ∙ begun_same (w.scope.level == 0) w.bodies _ refl)
+      with_routine_same i.0.scope h.name around b.1.formals b.1.procedure i.1 i.0.bodies
+      ∙ (same (which_of b.1.procedure) b.1.returns b.0 ∙ begun_same (w.scope.level == 0) w.bodies _ refl)
 
   module _ (ends : List ℕ) where
     abbrev steps_of : Decl → Steps g.Reported
@@ -134,16 +140,23 @@ module _ (g : Gathers) (elaborates : Elaborates g.Reported) where
 
     at : (e : Decl) (x : Decl-F Decl Block) → out-Decl e ≡ x → steps_of e ≡ steps_layer g elaborates ends (opened x)
     unfolding steps checks_block
-    at e x h = fold_out-Decl (Steps g.Reported) (ChecksBlock g.Reported) (steps_layer g elaborates ends) (block_layer g elaborates ends) e ∙ ap (λ (y : Decl-F Decl Block). steps_layer g elaborates ends (opened y)) h
+    at e x h = fold_out-Decl (Steps g.Reported) (ChecksBlock g.Reported) (steps_layer g elaborates ends)
+        (block_layer g elaborates ends) e ∙ ap (λ (y : Decl-F Decl Block). steps_layer g elaborates ends (opened y)) h
 
-    at_block : (e : Block) (x : Block-F Decl Block) → out-Block e ≡ x → block_of e ≡ block_layer g elaborates ends (opened_block x)
+    at_block : (e : Block) (x : Block-F Decl Block) → out-Block e ≡ x
+        → block_of e ≡ block_layer g elaborates ends (opened_block x)
     unfolding steps checks_block
-    at_block e x h = fold_out-Block (Steps g.Reported) (ChecksBlock g.Reported) (steps_layer g elaborates ends) (block_layer g elaborates ends) e ∙ ap (λ (y : Block-F Decl Block). block_layer g elaborates ends (opened_block y)) h
+    at_block e x h = fold_out-Block (Steps g.Reported) (ChecksBlock g.Reported) (steps_layer g elaborates ends)
+        (block_layer g elaborates ends) e ∙ ap
+        (λ (y : Block-F Decl Block). block_layer g elaborates ends (opened_block y)) h
 
     bodies_same : (around : Option Which) (seen : List ℕ) (xs : List SD) (st : Walk g.Reported × ℕ)
-        → count (fold (with_body (λ (x : Steps g.Reported). checked_by x around) seen) st (map steps_of (map (λ (x : SD). x.0) xs))).0 ≡ count st.0
+        → count (fold (with_body (λ (x : Steps g.Reported). checked_by x around) seen) st
+        (map steps_of (map (λ (x : SD). x.0) xs))).0 ≡ count st.0
     bodies_same around seen [] st = refl
-    bodies_same around seen (x ∷ xs) st = bodies_same around seen xs (with_body (λ (x : Steps g.Reported). checked_by x around) seen st (steps_of x.0)) ∙ x.1 around (unwrap_or (slice_get seen st.1) 0) st.0
+    bodies_same around seen (x ∷ xs) st = bodies_same around seen xs
+        (with_body (λ (x : Steps g.Reported). checked_by x around) seen st (steps_of x.0))
+        ∙ x.1 around (unwrap_or (slice_get seen st.1) 0) st.0
 
     decl_same : (y : Decl-F SD SB) → Same (steps_layer g elaborates ends (opened (bare y))).checks
     decl_same (layer.Constants cs) around seen w = refl
@@ -158,24 +171,32 @@ module _ (g : Gathers) (elaborates : Elaborates g.Reported) where
         bodies_same around d.2 y.decls (begun_from d w.bodies, 0)
 
     step_decl : (x : Decl-F Decl Block) (y : Decl-F SD SB) → bare y ≡ x → PD (roll-Decl x)
-    step_decl x y q = subst (λ (f : Steps g.Reported). Same f.checks) (sym (at (roll-Decl x) (bare y) (out-roll-Decl x ∙ sym q))) (decl_same y)
+    step_decl x y q = subst (λ (f : Steps g.Reported). Same f.checks)
+        (sym (at (roll-Decl x) (bare y) (out-roll-Decl x ∙ sym q))) (decl_same y)
 
     step_block : (x : Block-F Decl Block) (y : Block-F SD SB) → bare_block y ≡ x → PB (roll-Block x)
-    step_block x y q = subst SameBlock (sym (at_block (roll-Block x) (bare_block y) (out-roll-Block x ∙ sym q))) (block_same y)
+    step_block x y q = subst SameBlock (sym (at_block (roll-Block x) (bare_block y) (out-roll-Block x ∙ sym q)))
+        (block_same y)
 
     decls_same : (d : Decl) → PD d
     decls_same = ind-Decl PD PB step_decl step_block
 
-    written_same : (seen : List ℕ) (ds : List Decl) (st : Walk g.Reported × ℕ) → count (fold (with_body (λ (d : Decl). checks_decl g elaborates ends d None) seen) st ds).0 ≡ count st.0
+    written_same : (seen : List ℕ) (ds : List Decl) (st : Walk g.Reported × ℕ)
+        → count (fold (with_body (λ (d : Decl). checks_decl g elaborates ends d None) seen) st ds).0 ≡ count st.0
     written_same seen [] st = refl
-    written_same seen (d ∷ ds) st = written_same seen ds (with_body (λ (d : Decl). checks_decl g elaborates ends d None) seen st d) ∙ decls_same d None (unwrap_or (slice_get seen st.1) 0) st.0
+    written_same seen (d ∷ ds) st = written_same seen ds
+        (with_body (λ (d : Decl). checks_decl g elaborates ends d None) seen st d)
+        ∙ decls_same d None (unwrap_or (slice_get seen st.1) 0) st.0
 
     -- what was reported before is reported behind the bodies
     module _ (forms : FormsStatements g elaborates) where
-      written_reported : (seen : List ℕ) (ds : List Decl) (st : Walk g.Reported × ℕ) → (fold (with_body (λ (d : Decl). checks_decl g elaborates ends d None) seen) st ds).0.so_far ≡ Ok tt → st.0.so_far ≡ Ok tt
+      written_reported : (seen : List ℕ) (ds : List Decl) (st : Walk g.Reported × ℕ)
+          → (fold (with_body (λ (d : Decl). checks_decl g elaborates ends d None) seen) st ds).0.so_far ≡ Ok tt
+          → st.0.so_far ≡ Ok tt
       written_reported seen [] st e = e
       written_reported seen (d ∷ ds) st e =
-          step_reported g elaborates ends None (decls_formed g elaborates forms ends d) (unwrap_or (slice_get seen st.1) 0) st.0
+          step_reported g elaborates ends None (decls_formed g elaborates forms ends d)
+          (unwrap_or (slice_get seen st.1) 0) st.0
           (written_reported seen ds (with_body (λ (d : Decl). checks_decl g elaborates ends d None) seen st d) e)
 
 -- ---- no procedure is awaited at the end
@@ -184,7 +205,8 @@ or_none : (a b : Bool) → (a || b) ≡ false → (a ≡ false) × (b ≡ false)
 or_none true b e = absurd cc
 or_none false b e = (refl, e)
 
-lack_by : (g : Gathers) (b : Bool) (at : Pos) → reported_where g {A = Unit {0}} b at rule.MissingProcedure (Ok tt) ≡ Ok tt → b ≡ false
+lack_by : (g : Gathers) (b : Bool) (at : Pos)
+    → reported_where g {A = Unit {0}} b at rule.MissingProcedure (Ok tt) ≡ Ok tt → b ≡ false
 lack_by g true at e = absurd cc
 lack_by g false at e = refl
 
@@ -195,12 +217,16 @@ nothing_in : (n : ℕ) → 0 ≤ n
 nothing_in n = omega arith
 
 module _ (weight : TypeNo → ℕ) where
-  none_left : {T : Type 0} (so : Bool) (es : Names T) → fold or_awaited so es ≡ false → (so ≡ false) × (awaiting weight es ≤ 0)
+  none_left : {T : Type 0} (so : Bool) (es : Names T) → fold or_awaited so es ≡ false → (so ≡ false)
+      × (awaiting weight es ≤ 0)
   none_left so [] e = (e, nothing_in 0)
   none_left so (x ∷ es) e =
       let r = none_left (so || is_awaiting x.1) es e in
-      let o = or_none so (is_awaiting x.1) r.0 in
-      (o.0, none_sum (standing_weight weight (standing_known x.1)) (awaiting weight es) (no_weight weight (standing_known x.1) o.1) r.1)
+      let o = or_none so (is_awaiting x.1) r.0 in (
+        o.0,
+        none_sum (standing_weight weight (standing_known x.1)) (awaiting weight es)
+            (no_weight weight (standing_known x.1) o.1) r.1,
+      )
 
 -- ---- the procedures of a definition are awaited
 
@@ -226,9 +252,15 @@ one_more a b n e = omega (arith, e)
 abbrev AreNew : {T : Type 0} → Names T → List (List ℕ × Meaning) → Type 0
 AreNew ns es = AllByRecursion (λ e. find_name e.0 ns ≡ None) es
 
-still_new : {T : Type 0} (ns : Names T) (name : List ℕ) (k : Known T) (es : List (List ℕ × Meaning)) → AllByRecursion (λ y. name ≡ y → ⊥) (map (λ (e : List ℕ × Meaning). e.0) es) → AreNew ns es → AreNew (enter_name name k ns) es
+still_new : {T : Type 0} (ns : Names T) (name : List ℕ) (k : Known T) (es : List (List ℕ × Meaning))
+    → AllByRecursion (λ y. name ≡ y → ⊥) (map (λ (e : List ℕ × Meaning). e.0) es) → AreNew ns es
+    → AreNew (enter_name name k ns) es
 still_new ns name k [] d n = tt
-still_new ns name k (e ∷ es) d n = (found_other name k ns e.0 (other_name e.0 name d.0) ∙ n.0, still_new ns name k es d.1 n.1)
+still_new ns name k (e ∷ es) d n = (
+  found_other name k ns e.0 (other_name e.0 name d.0)
+      ∙ n.0,
+  still_new ns name k es d.1 n.1,
+)
 
 awaits_sum : (a b c d e : ℕ) → a ≤ b → c ≤ a + d → b + d ≤ e → c ≤ e
 awaits_sum a b c d e h i j = omega (arith, h, i, j)
@@ -240,17 +272,23 @@ module _ (weight : TypeNo → ℕ) where
   abbrev of_known : {T : Type 0} → Known T → ℕ
   of_known k = of_standing (standing_known k)
 
-  new_by : {T : Type 0} (b : Bool) (k : Known T) (e : List ℕ × Known T) (es more : Names T) (o : Option (Known T)) → cond b (Some e.1) o ≡ None → (o ≡ None → awaiting weight es + of_known k ≤ awaiting weight more)
+  new_by : {T : Type 0} (b : Bool) (k : Known T) (e : List ℕ × Known T) (es more : Names T) (o : Option (Known T))
+      → cond b (Some e.1) o ≡ None → (o ≡ None → awaiting weight es + of_known k ≤ awaiting weight more)
       → awaiting weight (e ∷ es) + of_known k ≤ awaiting weight (cond b ((e.0, k) ∷ es) (e ∷ more))
   new_by true k e es more o h i = absurd cc
-  new_by false k e es more o h i = new_behind (of_known e.1) (awaiting weight es) (awaiting weight more) (of_known k) (i h)
+  new_by false k e es more o h i = new_behind (of_known e.1) (awaiting weight es) (awaiting weight more) (of_known k)
+      (i h)
 
-  new_awaits : {T : Type 0} (name : List ℕ) (k : Known T) (es : Names T) → find_name name es ≡ None → awaiting weight es + of_known k ≤ awaiting weight (enter_name name k es)
+  new_awaits : {T : Type 0} (name : List ℕ) (k : Known T) (es : Names T) → find_name name es ≡ None
+      → awaiting weight es + of_known k ≤ awaiting weight (enter_name name k es)
   new_awaits name k [] h = new_here (of_known k)
-  new_awaits name k (e ∷ es) h = new_by (same_name name e.0) k e es (enter_name name k es) (find_name name es) h (new_awaits name k es)
+  new_awaits name k (e ∷ es) h = new_by (same_name name e.0) k e es (enter_name name k es) (find_name name es) h
+      (new_awaits name k es)
 
-  heading_awaits : (ts : List TypeNo) (m : Meaning) → sum_of weight (with_heading_of ts m) ≤ sum_of weight ts + of_standing (standing_of m)
-  heading_awaits ts (meaning.Procedure p) = one_more (sum_of weight ts) _ (weight p.heading) (sum_append weight ts (p.heading ∷ []))
+  heading_awaits : (ts : List TypeNo) (m : Meaning)
+      → sum_of weight (with_heading_of ts m) ≤ sum_of weight ts + of_standing (standing_of m)
+  heading_awaits ts (meaning.Procedure p) =
+      one_more (sum_of weight ts) _ (weight p.heading) (sum_append weight ts (p.heading ∷ []))
   heading_awaits ts (meaning.Constant v) = no_more (sum_of weight ts)
   heading_awaits ts (meaning.Type t n) = no_more (sum_of weight ts)
   heading_awaits ts (meaning.Variable v) = no_more (sum_of weight ts)
@@ -261,12 +299,15 @@ module _ (weight : TypeNo → ℕ) where
   heading_awaits ts (meaning.Standard f) = no_more (sum_of weight ts)
   heading_awaits ts (meaning.Module k) = no_more (sum_of weight ts)
 
-  exports_await : {T : Type 0} (es : List (List ℕ × Meaning)) (ts : List TypeNo) (ns : Names T) → Differ (map (λ (e : List ℕ × Meaning). e.0) es) → AreNew ns es → sum_of weight ts ≤ awaiting weight ns
+  exports_await : {T : Type 0} (es : List (List ℕ × Meaning)) (ts : List TypeNo) (ns : Names T)
+      → Differ (map (λ (e : List ℕ × Meaning). e.0) es) → AreNew ns es → sum_of weight ts ≤ awaiting weight ns
       → sum_of weight (fold with_exported_heading ts es) ≤ awaiting weight (fold with_own_name ns es)
   exports_await [] ts ns d n h = h
   exports_await (e ∷ es) ts ns d n h =
-      exports_await es (with_exported_heading ts e) (with_own_name ns e) d.1 (still_new ns e.0 (Declared Here (Ok e.1)) es d.0 n.1)
-      (awaits_sum (sum_of weight ts) (awaiting weight ns) _ (of_standing (standing_of e.1)) _ h (heading_awaits ts e.1) (new_awaits e.0 (Declared Here (Ok e.1)) ns n.0))
+      exports_await es (with_exported_heading ts e) (with_own_name ns e) d.1
+      (still_new ns e.0 (Declared Here (Ok e.1)) es d.0 n.1)
+      (awaits_sum (sum_of weight ts) (awaiting weight ns) _ (of_standing (standing_of e.1)) _ h (heading_awaits ts e.1)
+      (new_awaits e.0 (Declared Here (Ok e.1)) ns n.0))
 
 all_new : (T : Type 0) (es : List (List ℕ × Meaning)) → AreNew {T = T} [] es
 all_new T [] = tt
@@ -285,15 +326,18 @@ module _ (weight : TypeNo → ℕ) where
   abbrev pub AwaitsAll : {T : Type 0} → Scope T → Type 0
   AwaitsAll s = sum_of weight s.procedures ≤ awaiting weight s.own
 
-  pub own_awaits : (T : Type 0) (own : Table) (tables : List Table) → ExportsOnce (Some own) → AwaitsAll {T = T} (implementation_scope own tables)
-  own_awaits T own tables once = exports_await weight {T = T} own.exported [] [] (distinct_differ (map (λ (e : List ℕ × Meaning). e.0) own.exported) once) (all_new T own.exported) (omega arith)
+  pub own_awaits : (T : Type 0) (own : Table) (tables : List Table) → ExportsOnce (Some own)
+      → AwaitsAll {T = T} (implementation_scope own tables)
+  own_awaits T own tables once = exports_await weight {T = T} own.exported [] []
+      (distinct_differ (map (λ (e : List ℕ × Meaning). e.0) own.exported) once) (all_new T own.exported) (omega arith)
 
 -- ---- the block of a module
 
 end_sum : (d a n p w : ℕ) → d + a ≤ 0 + (0 + n) + p + w → p ≤ a → w ≤ 0 → d ≤ n
 end_sum d a n p w h i e = omega (arith, h, i, e)
 
-module _ (weight : TypeNo → ℕ) (count : Heading → ℕ) (g : Gathers) (modules : List (List ℕ × ℕ)) (s : Scope g.Reported) (m : Module) (ds : List Decl) where
+module _ (weight : TypeNo → ℕ) (count : Heading → ℕ) (g : Gathers) (modules : List (List ℕ × ℕ)) (s : Scope g.Reported)
+    (m : Module) (ds : List Decl) where
   abbrev ends : List ℕ
   ends = procedure_ends ds
 
@@ -301,7 +345,9 @@ module _ (weight : TypeNo → ℕ) (count : Heading → ℕ) (g : Gathers) (modu
   imported = fold (with_import g modules) (s, Ok tt) m.imports
 
   imports_stay : Stays weight s imported.0
-  imports_stay = imports_keep g (λ z. Stays weight s z) (λ z name k e h. stays_then h (known_stays z name k (free_unawaited (find_name name z.own) e))) modules m.imports (s, Ok tt) (stays_refl s)
+  imports_stay = imports_keep g (λ z. Stays weight s z)
+      (λ z name k e h. stays_then h (known_stays z name k (free_unawaited (find_name name z.own) e))) modules m.imports
+      (s, Ok tt) (stays_refl s)
 
   abbrev marks : Scope g.Reported × List ℕ
   marks = fold (with_marks marked_decl) (imported.0, []) ds
@@ -310,7 +356,9 @@ module _ (weight : TypeNo → ℕ) (count : Heading → ℕ) (g : Gathers) (modu
   HeadingsFit = AllFit weight g count ends (marks.0, imported.1, 0) ds
 
   block_fills : HeadingsFit → Fills weight (0 + (0 + all_counts count ds)) s (declared_module g modules ends s m ds).0
-  block_fills fits = fills_then imports_stay (fills_then (marks_stay weight g ds (imported.0, [])) (decls_fill weight g count ends ds (marks.0, imported.1, 0) fits))
+  block_fills fits = fills_then imports_stay
+      (fills_then (marks_stay weight g ds (imported.0, []))
+      (decls_fill weight g count ends ds (marks.0, imported.1, 0) fits))
 
   abbrev block : Behind g.Reported
   block = declared_block g ends imported 0 ds
@@ -324,9 +372,11 @@ module _ (weight : TypeNo → ℕ) (count : Heading → ℕ) (g : Gathers) (modu
       (lack_by g (lacks block.0.own) m.name.pos (beside_right g block.1 (reported_of_lack g m.name.pos block.0) e))).1
 
   -- all its procedures are declared in it
-  pub headings_few : HeadingsFit → AwaitsAll weight s → begun.0.so_far ≡ Ok tt → sum_of weight begun.0.scope.procedures ≤ all_counts count ds
+  pub headings_few : HeadingsFit → AwaitsAll weight s → begun.0.so_far ≡ Ok tt
+      → sum_of weight begun.0.scope.procedures ≤ all_counts count ds
   headings_few fits start e =
-      end_sum (sum_of weight begun.0.scope.procedures) (awaiting weight s.own) (all_counts count ds) (sum_of weight s.procedures) (awaiting weight begun.0.scope.own)
+      end_sum (sum_of weight begun.0.scope.procedures) (awaiting weight s.own) (all_counts count ds)
+      (sum_of weight s.procedures) (awaiting weight begun.0.scope.own)
       (block_fills fits).most start (none_awaited_yet e)
 
 -- ---- whole modules
@@ -380,38 +430,53 @@ module _ (g : Gathers) where
   all_fit es (d ∷ ds) c = (decl_fits (with_decl g es c d).0.own (out-Decl d), all_fit es ds (with_decl g es c d))
 
 module _ (g : Gathers) (elaborates : Elaborates g.Reported) (forms : FormsStatements g elaborates) where
-  both_few : (n : ℕ) (a : Result (Unit {0}) g.Reported) (r : Result (List TypedStmt) g.Reported) (f : List TypedStmt → TypedModule) → ((ys : List TypedStmt) → a ≡ Ok tt → procedures_of (f ys) ≤ n) → AtMost procedures_of n (both g a r ▷ λ p. Ok (f p.1))
+  both_few : (n : ℕ) (a : Result (Unit {0}) g.Reported) (r : Result (List TypedStmt) g.Reported)
+      (f : List TypedStmt → TypedModule) → ((ys : List TypedStmt) → a ≡ Ok tt → procedures_of (f ys) ≤ n)
+      → AtMost procedures_of n (both g a r ▷ λ p. Ok (f p.1))
   both_few n (Ok u) (Ok ys) f k = fine (f ys) (k ys refl)
   both_few n (Ok u) (Err e) f k = broken e
   both_few n (Err e) (Ok ys) f k = broken e
   both_few n (Err e) (Err x) f k = broken (g.join e x)
 
-  module _ (modules : List (List ℕ × ℕ)) (s : Scope g.Reported) (m : Module) (ds : List Decl) (start : AwaitsAll one s) where
-    abbrev begins : Walk g.Reported × List ℕ
-    begins = begun_module g modules (procedure_ends ds) s m ds
+  module _ (modules : List (List ℕ × ℕ)) (s : Scope g.Reported) (m : Module) (ds : List Decl) (start : AwaitsAll one s)
+    where
+      abbrev begins : Walk g.Reported × List ℕ
+      begins = begun_module g modules (procedure_ends ds) s m ds
 
-    abbrev behind : Walk g.Reported
-    behind = bodies_checked g elaborates (procedure_ends ds) None begins.1 begins.0 ds
+      abbrev behind : Walk g.Reported
+      behind = bodies_checked g elaborates (procedure_ends ds) None begins.1 begins.0 ds
 
-    bodies_few : behind.so_far ≡ Ok tt → length behind.bodies.procedures ≤ declared_headings ds
-    bodies_few e =
-        few_sum (declared_headings ds) (length begins.0.scope.procedures) _ _ _
-        (headings_few one one_heading g modules s m ds (all_fit g (procedure_ends ds) ds _) start (written_reported g elaborates (procedure_ends ds) forms begins.1 ds (begins.0, 0) e))
-        (count_one begins.0.scope.procedures) (written_same g elaborates (procedure_ends ds) begins.1 ds (begins.0, 0) ∙ count_map begins.0.scope.procedures) (all_one ds)
+      bodies_few : behind.so_far ≡ Ok tt → length behind.bodies.procedures ≤ declared_headings ds
+      bodies_few e =
+          few_sum (declared_headings ds) (length begins.0.scope.procedures) _ _ _
+          (headings_few one one_heading g modules s m ds (all_fit g (procedure_ends ds) ds _) start
+          (written_reported g elaborates (procedure_ends ds) forms begins.1 ds (begins.0, 0) e))
+          (count_one begins.0.scope.procedures)
+          (written_same g elaborates (procedure_ends ds) begins.1 ds (begins.0, 0)
+          ∙ count_map begins.0.scope.procedures) (all_one ds)
 
-  walk_few : (modules : List (List ℕ × ℕ)) (s : Scope g.Reported) (own : Option Table) (m : Module) (b : Block) → AwaitsAll one s → AtMost procedures_of (declared_headings (out-Block b).decls) (of_walk g elaborates modules s own m b)
+  walk_few : (modules : List (List ℕ × ℕ)) (s : Scope g.Reported) (own : Option Table) (m : Module) (b : Block)
+      → AwaitsAll one s → AtMost procedures_of (declared_headings (out-Block b).decls)
+      (of_walk g elaborates modules s own m b)
   walk_few modules s own m b start =
       let c = walk_body g elaborates modules (procedure_ends (out-Block b).decls) s m b in
-      both_few (declared_headings (out-Block b).decls) c.0.so_far c.1 (λ ys. typed_module c.0.scope modules own m c.0.bodies ys) (λ ys e. bodies_few modules s m (out-Block b).decls start e)
+      both_few (declared_headings (out-Block b).decls) c.0.so_far c.1
+      (λ ys. typed_module c.0.scope modules own m c.0.bodies ys)
+      (λ ys e. bodies_few modules s m (out-Block b).decls start e)
 
-  implementation_few : (m : Module) (o : Option Table) (tables : List Table) (b : Block) → ExportsOnce o → AtMost procedures_of (declared_headings (out-Block b).decls) (of_implementation g elaborates m o tables b)
+  implementation_few : (m : Module) (o : Option Table) (tables : List Table) (b : Block) → ExportsOnce o
+      → AtMost procedures_of (declared_headings (out-Block b).decls) (of_implementation g elaborates m o tables b)
   implementation_few m None tables b once = broken _
-  implementation_few m (Some own) tables b once = walk_few _ (implementation_scope own tables) (Some own) m b (own_awaits one g.Reported own tables once)
+  implementation_few m (Some own) tables b once =
+      walk_few _ (implementation_scope own tables) (Some own) m b (own_awaits one g.Reported own tables once)
 
-  contents_few : (number : ℕ) (m : Module) (own : Option Table) (tables : List Table) (c : Contents) → ExportsOnce own → AtMost procedures_of (outermost_in c) (of_contents g elaborates number m own tables c)
+  contents_few : (number : ℕ) (m : Module) (own : Option Table) (tables : List Table) (c : Contents) → ExportsOnce own
+      → AtMost procedures_of (outermost_in c) (of_contents g elaborates number m own tables c)
   contents_few number m own tables (contents.Definition defs) once = broken _
   contents_few number m own tables (contents.Implementation b) once = implementation_few m own tables b once
-  contents_few number m own tables (contents.Program b) once = walk_few _ (first_scope number tables) None m b (nothing_in _)
+  contents_few number m own tables (contents.Program b) once =
+      walk_few _ (first_scope number tables) None m b (nothing_in _)
 
-  pub procedures_declared : (number : ℕ) (m : Module) (own : Option Table) (tables : List Table) → ExportsOnce own → AtMost procedures_of (outermost_in m.contents) (body_module g elaborates number m own tables)
+  pub procedures_declared : (number : ℕ) (m : Module) (own : Option Table) (tables : List Table) → ExportsOnce own
+      → AtMost procedures_of (outermost_in m.contents) (body_module g elaborates number m own tables)
   procedures_declared number m own tables once = contents_few number m own (tables ++ console ∷ []) m.contents once

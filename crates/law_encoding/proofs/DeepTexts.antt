@@ -88,12 +88,15 @@ weight (named g) p = 4 ⊔ (weight g p.1 ⊔ 4)
 -- ---- lists
 
 -- those that are there, where each is one of a list that may have gaps
-present_below : {X : Type 0} (f : X → ℕ) (xs : List (Option X)) (w : Option X → ℕ) → ((x : X) → f x ≤ w (Some x)) → deepest_of f (present xs) ≤ deepest_of w xs
+present_below : {X : Type 0} (f : X → ℕ) (xs : List (Option X)) (w : Option X → ℕ) → ((x : X) → f x ≤ w (Some x))
+    → deepest_of f (present xs) ≤ deepest_of w xs
 present_below f [] w h = omega arith
-present_below f (None ∷ xs) w h = more_below (deepest_of f (present xs)) (deepest_of w xs) (w None) (present_below f xs w h) where
-  more_below : (a b c : ℕ) → a ≤ b → a ≤ c ⊔ b
-  more_below a b c e = omega (arith, e)
-present_below f (Some x ∷ xs) w h = both_below (f x) (w (Some x)) (deepest_of f (present xs)) (deepest_of w xs) (h x) (present_below f xs w h)
+present_below f (None ∷ xs) w h = more_below (deepest_of f (present xs)) (deepest_of w xs) (w None)
+    (present_below f xs w h) where
+      more_below : (a b c : ℕ) → a ≤ b → a ≤ c ⊔ b
+      more_below a b c e = omega (arith, e)
+present_below f (Some x ∷ xs) w h = both_below (f x) (w (Some x)) (deepest_of f (present xs)) (deepest_of w xs) (h x)
+    (present_below f xs w h)
 
 -- ---- expressions
 
@@ -121,14 +124,18 @@ related_below x (Some p) = two_below (depth_expr x) (depth_expr p.1) _ (relation
 add_step : (e c d : ℕ) → 1 + c ≤ 1 ⊔ d → 1 + ((1 + e) ⊔ c) ≤ 1 ⊔ ((4 ⊔ (2 + e)) ⊔ d)
 add_step e c d h = omega (arith, h)
 
-adds_below : (ps : List (Token × Expr)) → 1 + deepest_of depth_operand (map add_operand ps) ≤ 1 ⊔ deepest_of (λ (p : Token × Expr). 4 ⊔ (2 + depth_expr p.1)) ps
+adds_below : (ps : List (Token × Expr)) →
+    1 + deepest_of depth_operand (map add_operand ps) ≤ 1 ⊔ deepest_of (λ (p : Token × Expr). 4 ⊔ (2 + depth_expr p.1))
+    ps
 adds_below [] = omega arith
 adds_below (p ∷ ps) = add_step (depth_expr p.1) _ _ (adds_below ps)
 
 times_step : (e c d : ℕ) → 2 + c ≤ 2 ⊔ d → 2 + ((1 + e) ⊔ c) ≤ 2 ⊔ ((4 ⊔ (3 + e)) ⊔ d)
 times_step e c d h = omega (arith, h)
 
-times_below : (ps : List (Token × Expr)) → 2 + deepest_of depth_operand (map multiply_operand ps) ≤ 2 ⊔ deepest_of (λ (p : Token × Expr). 4 ⊔ (3 + depth_expr p.1)) ps
+times_below : (ps : List (Token × Expr))
+    → 2 + deepest_of depth_operand (map multiply_operand ps) ≤ 2 ⊔ deepest_of
+    (λ (p : Token × Expr). 4 ⊔ (3 + depth_expr p.1)) ps
 times_below [] = omega arith
 times_below (p ∷ ps) = times_step (depth_expr p.1) _ _ (times_below ps)
 
@@ -140,15 +147,18 @@ with_sign n a c d e h = omega (arith, e, h)
 
 sum_below : (o : Option Token) (x : Expr) (ps : List (Token × Expr)) → Shallow sum_rule (o, (x, ps))
 sum_below None x [] = omega arith
-sum_below None x (p ∷ ps) = one_more _ (depth_expr x) (depth_expr p.1) _ _ (sum_depth None x (map add_operand (p ∷ ps))) (adds_below ps)
-sum_below (Some t) x ps = with_sign _ (depth_expr x) _ _ (sum_depth (Some (sign_of t)) x (map add_operand ps)) (adds_below ps)
+sum_below None x (p ∷ ps) = one_more _ (depth_expr x) (depth_expr p.1) _ _ (sum_depth None x (map add_operand (p ∷ ps)))
+    (adds_below ps)
+sum_below (Some t) x ps = with_sign _ (depth_expr x) _ _ (sum_depth (Some (sign_of t)) x (map add_operand ps))
+    (adds_below ps)
 
 added_to : (n a c d : ℕ) → n ≡ a ⊔ c → 2 + c ≤ 2 ⊔ d → 2 + n ≤ (3 + a) ⊔ d
 added_to n a c d e h = omega (arith, e, h)
 
 term_below : (x : Expr) (ps : List (Token × Expr)) → Shallow term_rule (x, ps)
 term_below x [] = omega arith
-term_below x (p ∷ ps) = added_to _ (depth_expr x) _ _ (term_depth x (map multiply_operand (p ∷ ps))) (times_below (p ∷ ps))
+term_below x (p ∷ ps) = added_to _ (depth_expr x) _ _ (term_depth x (map multiply_operand (p ∷ ps)))
+    (times_below (p ∷ ps))
 
 set_begun : (n : ℕ) → n ≡ 1 → 3 + n ≤ 4 ⊔ 4
 set_begun n e = omega (arith, e)
@@ -166,9 +176,11 @@ no_more_args : (o : Option (List Expr)) → 3 + depth_arguments o ≤ 3 ⊔ weig
 no_more_args None = omega arith
 no_more_args (Some es) = omega arith
 
-begun_below : (t : Token) (x : (Pos × List Item) ⊎ (List Selector × Option (List Expr))) → Shallow factor_rule (inr (inl (t, x)))
+begun_below : (t : Token) (x : (Pos × List Item) ⊎ (List Selector × Option (List Expr)))
+    → Shallow factor_rule (inr (inl (t, x)))
 begun_below t (inl q) = set_begun _ (set_depth (Some (ident_of t)) q.0 q.1)
-begun_below t (inr q) = use_below _ _ (deepest_of depth_selector q.0) _ _ _ (use_depth _ q.1) (designator_depth (ident_of t) q.0) (picks_below q.0) (no_more_args q.1)
+begun_below t (inr q) = use_below _ _ (deepest_of depth_selector q.0) _ _ _ (use_depth _ q.1)
+    (designator_depth (ident_of t) q.0) (picks_below q.0) (no_more_args q.1)
 
 not_below : (n a : ℕ) → n ≡ 1 ⊔ a → 3 + n ≤ 18 + (4 ⊔ (3 + a))
 not_below n a e = omega (arith, e)
@@ -188,7 +200,9 @@ factor_below (inr (inr (inr (inr p)))) = bracketed_below _ _ (bracketed_depth p.
 index_step : (n e c d : ℕ) → n ≡ 1 ⊔ e → c ≤ 18 + d → (3 + n) ⊔ c ≤ 18 + ((4 ⊔ e) ⊔ d)
 index_step n e c d q h = omega (arith, q, h)
 
-indexes_below : (p : Pos) (es : List Expr) → deepest_of (λ s. 3 + depth_selector s) (map (sel.Index p) es) ≤ 18 + deepest_of (λ (x : Expr). 4 ⊔ depth_expr x) es
+indexes_below : (p : Pos) (es : List Expr)
+    → deepest_of (λ s. 3 + depth_selector s) (map (sel.Index p) es) ≤ 18 + deepest_of (λ (x : Expr). 4 ⊔ depth_expr x)
+    es
 indexes_below p [] = omega arith
 indexes_below p (x ∷ es) = index_step _ (depth_expr x) _ _ (index_depth p x) (indexes_below p es)
 
@@ -198,14 +212,16 @@ first_index n e c d q h = omega (arith, q, h)
 field_below : (n : ℕ) → n ≡ 1 → (3 + n) ⊔ 0 ≤ 4 ⊔ 4
 field_below n e = omega (arith, e)
 
-selected_below : (x : (Token × Token) ⊎ (Token × (Expr × List Expr))) → deepest_of (λ s. 3 + depth_selector s) (selectors_of x) ≤ weight selector x
+selected_below : (x : (Token × Token) ⊎ (Token × (Expr × List Expr)))
+    → deepest_of (λ s. 3 + depth_selector s) (selectors_of x) ≤ weight selector x
 selected_below (inl p) = field_below _ (field_selector_depth p.0.pos (ident_of p.1))
 selected_below (inr p) = first_index _ (depth_expr p.1.0) _ _ (index_depth p.0.pos p.1.0) (indexes_below p.0.pos p.1.1)
 
 selectors_below : (xs : El (grammar selectors_rule).shape) → Shallow selectors_rule xs
 selectors_below [] = omega arith
 selectors_below (x ∷ xs) =
-    le_by _ _ _ (deepest_append (λ s. 3 + depth_selector s) (selectors_of x) (flatten_lists (map selectors_of xs))) (both_below _ _ _ _ (selected_below x) (selectors_below xs))
+    le_by _ _ _ (deepest_append (λ s. 3 + depth_selector s) (selectors_of x) (flatten_lists (map selectors_of xs)))
+    (both_below _ _ _ _ (selected_below x) (selectors_below xs))
 
 args_below : (es : List Expr) → deepest_of depth_argument es ≤ deepest_of (λ (x : Expr). 4 ⊔ depth_expr x) es
 args_below es = deepest_below depth_argument (λ (x : Expr). 4 ⊔ depth_expr x) (λ x. omega arith) es
@@ -245,7 +261,8 @@ called n d a b q h = omega (arith, q, h)
 if_below : (n c b r : ℕ) → n ≡ if_levels + (c ⊔ b ⊔ r) → n ≤ 18 + (4 ⊔ (c ⊔ (4 ⊔ (b ⊔ (r ⊔ 4)))))
 if_below n c b r q = omega (arith, q)
 
-case_below : (n e a b o p : ℕ) → n ≡ case_levels + (e ⊔ a ⊔ o) → a ≤ b → o ≤ p → n ≤ 18 + (4 ⊔ (e ⊔ (4 ⊔ (b ⊔ (p ⊔ 4)))))
+case_below : (n e a b o p : ℕ) → n ≡ case_levels + (e ⊔ a ⊔ o) → a ≤ b → o ≤ p
+    → n ≤ 18 + (4 ⊔ (e ⊔ (4 ⊔ (b ⊔ (p ⊔ 4)))))
 case_below n e a b o p q h k = omega (arith, q, h, k)
 
 while_below : (n c b : ℕ) → n ≡ loop_levels + (c ⊔ b) → n ≤ 18 + (4 ⊔ (c ⊔ (4 ⊔ (b ⊔ 4))))
@@ -272,16 +289,19 @@ later a b c h = omega (arith, h)
 around_three : (n x y b r : ℕ) → n ≡ loop_levels + (1 ⊔ x ⊔ y ⊔ b) → 4 ≤ r → x ≤ r → y ≤ r → b ≤ r → n ≤ 18 + r
 around_three n x y b r q h i j k = omega (arith, q, h, i, j, k)
 
-for_below : (n x y p b : ℕ) → n ≡ loop_levels + (1 ⊔ x ⊔ y ⊔ b) → n ≤ 18 + (4 ⊔ (4 ⊔ (4 ⊔ (x ⊔ (4 ⊔ (y ⊔ (p ⊔ (4 ⊔ (b ⊔ 4)))))))))
+for_below : (n x y p b : ℕ) → n ≡ loop_levels + (1 ⊔ x ⊔ y ⊔ b)
+    → n ≤ 18 + (4 ⊔ (4 ⊔ (4 ⊔ (x ⊔ (4 ⊔ (y ⊔ (p ⊔ (4 ⊔ (b ⊔ 4)))))))))
 for_below n x y p b q =
     around_three n x y b _ q (here 4 _) (later x 4 _ (later x 4 _ (later x 4 _ (here x _))))
     (later y 4 _ (later y 4 _ (later y 4 _ (later y x _ (later y 4 _ (here y _))))))
-    (later b 4 _ (later b 4 _ (later b 4 _ (later b x _ (later b 4 _ (later b y _ (later b p _ (later b 4 _ (here b 4)))))))))
+    (later b 4 _ (later b 4 _ (later b 4 _
+    (later b x _ (later b 4 _ (later b y _ (later b p _ (later b 4 _ (here b 4)))))))))
 
 with_below : (n d b : ℕ) → n ≡ 1 ⊔ d ⊔ b → n ≤ 18 + (4 ⊔ ((1 ⊔ d) ⊔ (4 ⊔ (b ⊔ 4))))
 with_below n d b q = omega (arith, q)
 
-arms_below : (xs : List (Option Arm)) → deepest_of depth_arm (present xs) ≤ deepest_of (λ (o : Option Arm). 4 ⊔ weight (opt arm) o) xs
+arms_below : (xs : List (Option Arm)) → deepest_of depth_arm (present xs) ≤ deepest_of
+    (λ (o : Option Arm). 4 ⊔ weight (opt arm) o) xs
 arms_below xs = present_below depth_arm xs (λ (o : Option Arm). 4 ⊔ weight (opt arm) o) (λ x. omega arith)
 
 first_arm : (o : Option Arm) (xs : List (Option Arm)) → deepest_of depth_arm (present (o ∷ xs)) ≤ weight arms (o, xs)
@@ -294,12 +314,14 @@ stmt_below (inl p) = simple_below p.0 p.1 where
   simple_below d (inl v) = assigned _ _ _ (assign_depth d v)
   simple_below d (inr args) = called _ _ _ _ (call_depth d args) (no_more_args args)
 stmt_below (inr (inl p)) = if_below _ _ _ _ (if_depth p.0 p.1.0 p.1.1)
-stmt_below (inr (inr (inl p))) = case_below _ _ _ _ _ _ (case_depth p.0 (present (with_first p.1.0)) p.1.1) (first_arm p.1.0.0 p.1.0.1) (else_below p.1.1)
+stmt_below (inr (inr (inl p))) = case_below _ _ _ _ _ _ (case_depth p.0 (present (with_first p.1.0)) p.1.1)
+    (first_arm p.1.0.0 p.1.0.1) (else_below p.1.1)
 stmt_below (inr (inr (inr (inl p)))) = while_below _ _ _ (while_depth p.0 p.1)
 stmt_below (inr (inr (inr (inr (inl p))))) = repeat_below _ _ _ (repeat_depth p.0 p.1)
 stmt_below (inr (inr (inr (inr (inr (inl body)))))) = loop_below _ _ (loop_depth body)
 stmt_below (inr (inr (inr (inr (inr (inr (inl t))))))) = exit_below _ (exit_depth t.pos)
-stmt_below (inr (inr (inr (inr (inr (inr (inr (inl p)))))))) = return_below _ _ _ (return_depth p.0.pos p.1) (if_there_below p.1)
+stmt_below (inr (inr (inr (inr (inr (inr (inr (inl p)))))))) =
+    return_below _ _ _ (return_depth p.0.pos p.1) (if_there_below p.1)
 stmt_below (inr (inr (inr (inr (inr (inr (inr (inr (inl p))))))))) =
     for_below _ _ _ (weight step p.1.1.1.0) _ (for_depth (ident_of p.0) p.1.0 p.1.1.0 p.1.1.1.0 p.1.1.1.1)
 stmt_below (inr (inr (inr (inr (inr (inr (inr (inr (inr p))))))))) = with_below _ _ _ (with_depth p.0 p.1)
@@ -311,7 +333,8 @@ rest_below : (x : El (grammar rest_rule).shape) → Shallow rest_rule x
 rest_below (inl p) = elsif_below _ _ _ _ (elsif_depth p.0 p.1.0 p.1.1)
 rest_below (inr o) = le_by _ _ _ (else_depth o) (else_below o)
 
-some_stmts : (xs : List (Option Stmt)) → deepest_of depth_stmt (present xs) ≤ deepest_of (λ (o : Option Stmt). 4 ⊔ weight (opt stmt) o) xs
+some_stmts : (xs : List (Option Stmt)) →
+    deepest_of depth_stmt (present xs) ≤ deepest_of (λ (o : Option Stmt). 4 ⊔ weight (opt stmt) o) xs
 some_stmts xs = present_below depth_stmt xs (λ (o : Option Stmt). 4 ⊔ weight (opt stmt) o) (λ x. omega arith)
 
 stmts_below : (o : Option Stmt) (xs : List (Option Stmt)) → Shallow stmts_rule (o, xs)
@@ -360,7 +383,8 @@ held_depth false b = refl
 module_below : (x : El (grammar module_rule).shape) → Shallow module_rule x
 module_below (inl p) = definition_below _
 module_below (inr p) =
-    le_by _ _ _ (held_depth (is_there p.0) p.1.1.1) (body_below (weight (opt (symbol Implementation)) p.0) _ (depth_block p.1.1.1))
+    le_by _ _ _ (held_depth (is_there p.0) p.1.1.1)
+    (body_below (weight (opt (symbol Implementation)) p.0) _ (depth_block p.1.1.1))
 
 -- ---- all productions
 
@@ -428,19 +452,24 @@ one_level : (a n : ℕ) → a ≤ Bound n → 18 + a ≤ Bound (suc n)
 one_level a n h = omega (arith, h)
 
 -- a part that counts has a token
-begins_deep : {a : Ty} (g : Gr a) (x : El a) (ts us : List Token) → Spells a g x ts → nullable g ≡ false → FirstOf g ts → NotDeep (nest g) 0 (ts ++ us) → ⊥
+begins_deep : {a : Ty} (g : Gr a) (x : El a) (ts us : List Token) → Spells a g x ts → nullable g ≡ false → FirstOf g ts
+    → NotDeep (nest g) 0 (ts ++ us) → ⊥
 begins_deep g x [] us p e f h = clash (nullable g) f e
 begins_deep g x (t ∷ ts) us p e f h = h (t ∷ (ts ++ us)) (too_deep (x, ts, p))
 
-pub spelled_below : {a : Ty} {g : Gr a} {x : El a} {ts : List Token} → Spells a g x ts → one_ahead g ≡ true → (n : ℕ) (us : List Token) → NotDeep g n (ts ++ us) → weight g x ≤ Bound n
+pub spelled_below : {a : Ty} {g : Gr a} {x : El a} {ts : List Token} → Spells a g x ts → one_ahead g ≡ true
+    → (n : ℕ) (us : List Token) → NotDeep g n (ts ++ us) → weight g x ≤ Bound n
 spelled_below (one i) l n us h = token_below n
-spelled_below (made {r = r} {x = x} d) l n us h = le_trans _ _ _ (shallow r x) (spelled_below d (tabled r).ahead n us (λ at b. h at (in_rule b)))
+spelled_below (made {r = r} {x = x} d) l n us h =
+    le_trans _ _ _ (shallow r x) (spelled_below d (tabled r).ahead n us (λ at b. h at (in_rule b)))
 spelled_below (pair {g = g} {h = k} {ts = ts} {us = vs} d c) l n us h =
     let b = and_both (one_ahead g) _ l in
     let o = and_both (one_ahead k) _ b.1 in
     let all = subst (λ (ws : List Token). NotDeep (g · k) n ws) (append_assoc ts vs us) h in
-    two_texts _ _ n (spelled_below d b.0 n (vs ++ us) (λ at x. all at (in_first x))) (spelled_below c o.0 n us (λ at x. all at (in_second d x)))
-spelled_below (left {g = g} d) l n us h = let b = and_both (one_ahead g) _ l in spelled_below d b.0 n us (λ at x. h at (in_left x))
+    two_texts _ _ n (spelled_below d b.0 n (vs ++ us) (λ at x. all at (in_first x)))
+    (spelled_below c o.0 n us (λ at x. all at (in_second d x)))
+spelled_below (left {g = g} d) l n us h = let b = and_both (one_ahead g) _ l in
+    spelled_below d b.0 n us (λ at x. h at (in_left x))
 spelled_below (right {g = g} {h = k} d) l n us h =
     let b = and_both (one_ahead g) _ l in
     let o = and_both (one_ahead k) _ b.1 in
@@ -451,15 +480,19 @@ spelled_below (behind {k = j} {g = g} {ts = ts} t d i) l n us h =
     let all = subst (λ (ws : List Token). NotDeep (trail g j) n ws) (append_assoc ts (t ∷ []) us) h in
     token_behind _ n (spelled_below d b.0 n (t ∷ us) (λ at x. all at (in_front x)))
 spelled_below absent l n us h = nothing_below n
-spelled_below (there_is {g = g} d) l n us h = let b = and_both (one_ahead g) _ l in spelled_below d b.0 n us (λ at x. h at (in_opt x))
+spelled_below (there_is {g = g} d) l n us h = let b = and_both (one_ahead g) _ l in
+    spelled_below d b.0 n us (λ at x. h at (in_opt x))
 spelled_below none l n us h = nothing_below n
 spelled_below (more {g = g} {ts = ts} {us = vs} d c) l n us h =
     let b = and_both (one_ahead g) _ l in
     let all = subst (λ (ws : List Token). NotDeep (many g) n ws) (append_assoc ts vs us) h in
-    two_texts _ _ n (spelled_below d b.0 n (vs ++ us) (λ at x. all at (in_turn_now x))) (spelled_below c l n us (λ at x. all at (in_turn_later d x)))
+    two_texts _ _ n (spelled_below d b.0 n (vs ++ us) (λ at x. all at (in_turn_now x)))
+    (spelled_below c l n us (λ at x. all at (in_turn_later d x)))
 spelled_below (nested {g = g} {x = x} {ts = ts} d) l zero us h =
-    let b = and_both (one_ahead g) _ l in absurd (begins_deep g x ts us d (not_true (nullable g) b.1) (first_of_text d) h)
-spelled_below (nested {g = g} d) l (suc n) us h = let b = and_both (one_ahead g) _ l in one_level _ n (spelled_below d b.0 n us (λ at x. h at (in_nest x)))
+    let b = and_both (one_ahead g) _ l in absurd
+    (begins_deep g x ts us d (not_true (nullable g) b.1) (first_of_text d) h)
+spelled_below (nested {g = g} d) l (suc n) us h = let b = and_both (one_ahead g) _ l in
+    one_level _ n (spelled_below d b.0 n us (λ at x. h at (in_nest x)))
 spelled_below (closed {g = g} {ts = ts} t u k d i) l n us h =
     let b = and_both (one_ahead g) _ l in
     let all = subst (λ (ws : List Token). NotDeep (named g) n (t ∷ ws)) (append_assoc ts (u ∷ []) us) h in
@@ -472,4 +505,6 @@ no_more [] = refl
 no_more (t ∷ ts) = ap (λ (us : List Token). t ∷ us) (no_more ts)
 
 pub tree_below : (ts : List Token) (m : Module) → IsTree ts m → depth_module m ≤ most_nesting
-tree_below ts m d = spelled_below d.0 refl max_nesting [] (λ at b. d.1 at TooDeep (subst (λ (us : List Token). Breaks (ast module_rule) (rule module_rule) max_nesting us at TooDeep) (no_more ts) b))
+tree_below ts m d = spelled_below d.0 refl max_nesting []
+    (λ at b. d.1 at TooDeep (subst (λ (us : List Token). Breaks (ast module_rule) (rule module_rule) max_nesting us at
+    TooDeep) (no_more ts) b))

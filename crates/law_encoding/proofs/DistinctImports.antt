@@ -40,7 +40,8 @@ abbrev pub Differ : {A : Type 0} → List A → Type 0
 Differ [] = Unit {0}
 Differ (x ∷ xs) = AllByRecursion (λ y. x ≡ y → ⊥) xs × Differ xs
 
-each_less : {A : Type 0} (P : A → Type 0) (xs : List A) (y : A) (ys : List A) → AllByRecursion P (xs ++ y ∷ ys) → AllByRecursion P (xs ++ ys)
+each_less : {A : Type 0} (P : A → Type 0) (xs : List A) (y : A) (ys : List A) → AllByRecursion P (xs ++ y ∷ ys)
+    → AllByRecursion P (xs ++ ys)
 each_less P [] y ys all = all.1
 each_less P (x ∷ xs) y ys all = (all.0, each_less P xs y ys all.1)
 
@@ -71,14 +72,16 @@ one_out [] k x h = absurd cc
 one_out (y ∷ xs) zero x h = refl
 one_out (y ∷ xs) (suc k) x h = ap suc (one_out xs k x h)
 
-others_in : {A : Type 0} (xs : List A) (k : ℕ) (x : A) (j : ℕ) (y : A) → slice_get xs k ≡ Some x → slice_get xs j ≡ Some y → (x ≡ y → ⊥) → IsIn (without xs k) y
+others_in : {A : Type 0} (xs : List A) (k : ℕ) (x : A) (j : ℕ) (y : A) → slice_get xs k ≡ Some x
+    → slice_get xs j ≡ Some y → (x ≡ y → ⊥) → IsIn (without xs k) y
 others_in [] k x j y h i d = absurd cc
 others_in (z ∷ xs) zero x zero y h i d = absurd (d (same_Some x y (sym h ∙ i)))
 others_in (z ∷ xs) zero x (suc j) y h i d = (j, i)
 others_in (z ∷ xs) (suc k) x zero y h i d = (zero, i)
 others_in (z ∷ xs) (suc k) x (suc j) y h i d = let r = others_in xs k x j y h i d in (suc r.0, r.1)
 
-all_others : {A : Type 0} (xs : List A) (k : ℕ) (x : A) (ys : List A) → slice_get xs k ≡ Some x → AllByRecursion (λ y. x ≡ y → ⊥) ys → AllByRecursion (IsIn xs) ys → AllByRecursion (IsIn (without xs k)) ys
+all_others : {A : Type 0} (xs : List A) (k : ℕ) (x : A) (ys : List A) → slice_get xs k ≡ Some x
+    → AllByRecursion (λ y. x ≡ y → ⊥) ys → AllByRecursion (IsIn xs) ys → AllByRecursion (IsIn (without xs k)) ys
 all_others xs k x [] h d all = tt
 all_others xs k x (y ∷ ys) h d all = (others_in xs k x all.0.0 y h all.0.1 d.0, all_others xs k x ys h d.1 all.1)
 
@@ -88,7 +91,9 @@ one_more a b c l e = omega (arith, l, e)
 pub differ_few : {A : Type 0} (ys xs : List A) → Differ ys → AllByRecursion (IsIn xs) ys → length ys ≤ length xs
 differ_few [] xs d all = omega arith
 differ_few (y ∷ ys) xs d all =
-    one_more (length ys) (length (without xs all.0.0)) (length xs) (differ_few ys (without xs all.0.0) d.1 (all_others xs all.0.0 y ys all.0.1 d.0 all.1)) (one_out xs all.0.0 y all.0.1)
+    one_more (length ys) (length (without xs all.0.0)) (length xs)
+    (differ_few ys (without xs all.0.0) d.1 (all_others xs all.0.0 y ys all.0.1 d.0 all.1))
+    (one_out xs all.0.0 y all.0.1)
 
 -- ---- names that are entered
 
@@ -103,11 +108,18 @@ apart name other key n s e =
     absurd cc
 
 module _ {V : Type 0} where
-  differ_by : (name : List ℕ) (v : V) (e : List ℕ × V) (es : List (List ℕ × V)) (b : Bool) → same_name name e.0 ≡ b → KeysDiffer (e ∷ es) → KeysDiffer (enter_name name v es) → KeysDiffer (cond b ((e.0, v) ∷ es) (e ∷ enter_name name v es))
+  differ_by : (name : List ℕ) (v : V) (e : List ℕ × V) (es : List (List ℕ × V)) (b : Bool) → same_name name e.0 ≡ b
+      → KeysDiffer (e ∷ es) → KeysDiffer (enter_name name v es)
+      → KeysDiffer (cond b ((e.0, v) ∷ es) (e ∷ enter_name name v es))
   differ_by name v e es true h d more = d
-  differ_by name v e es false h d more = (each_entered (λ (x : List ℕ × V). e.0 ≡ x.0 → ⊥) name v es (λ other s. apart name other e.0 h s) d.0, more)
+  differ_by name v e es false h d more = (
+    each_entered (λ (x : List ℕ × V). e.0 ≡ x.0 → ⊥) name v es
+        (λ other s. apart name other e.0 h s) d.0,
+    more,
+  )
 
-  pub entered_differ : (name : List ℕ) (v : V) (es : List (List ℕ × V)) → KeysDiffer es → KeysDiffer (enter_name name v es)
+  pub entered_differ : (name : List ℕ) (v : V) (es : List (List ℕ × V)) → KeysDiffer es
+      → KeysDiffer (enter_name name v es)
   entered_differ name v [] d = (tt, tt)
   entered_differ name v (e ∷ es) d = differ_by name v e es (same_name name e.0) refl d (entered_differ name v es d.1)
 
@@ -120,28 +132,35 @@ definition_differ None = tt
 definition_differ (Some t) = copies_differ t.imports [] tt
 
 module _ (modules : List (List ℕ × ℕ)) (tables : List Table) where
-  table_differ : (so : List (List ℕ × ℕ)) (name : List ℕ) (o : Option Table) → KeysDiffer so → KeysDiffer (with_table_if so name o)
+  table_differ : (so : List (List ℕ × ℕ)) (name : List ℕ) (o : Option Table) → KeysDiffer so
+      → KeysDiffer (with_table_if so name o)
   table_differ so name None d = d
   table_differ so name (Some t) d = entered_differ name t.number so d
 
-  place_differ : (so : List (List ℕ × ℕ)) (name : List ℕ) (o : Option ℕ) → KeysDiffer so → KeysDiffer (with_place_if tables so name o)
+  place_differ : (so : List (List ℕ × ℕ)) (name : List ℕ) (o : Option ℕ) → KeysDiffer so
+      → KeysDiffer (with_place_if tables so name o)
   place_differ so name None d = d
   place_differ so name (Some k) d = table_differ so name (slice_get tables k) d
 
-  one_differ : (so : List (List ℕ × ℕ)) (name : Ident) → KeysDiffer so → KeysDiffer (with_imported modules tables so name)
+  one_differ : (so : List (List ℕ × ℕ)) (name : Ident) → KeysDiffer so
+      → KeysDiffer (with_imported modules tables so name)
   one_differ so name d = place_differ so name.name (find_name name.name modules) d
 
-  names_differ : (names : List Ident) (so : List (List ℕ × ℕ)) → KeysDiffer so → KeysDiffer (fold (with_imported modules tables) so names)
+  names_differ : (names : List Ident) (so : List (List ℕ × ℕ)) → KeysDiffer so
+      → KeysDiffer (fold (with_imported modules tables) so names)
   names_differ [] so d = d
   names_differ (x ∷ xs) so d = names_differ xs (with_imported modules tables so x) (one_differ so x d)
 
-  of_import_differ : (so : List (List ℕ × ℕ)) (from : Option Ident) (names : List Ident) → KeysDiffer so → KeysDiffer (with_imports_of modules tables so from names)
+  of_import_differ : (so : List (List ℕ × ℕ)) (from : Option Ident) (names : List Ident) → KeysDiffer so
+      → KeysDiffer (with_imports_of modules tables so from names)
   of_import_differ so None names d = names_differ names so d
   of_import_differ so (Some m) names d = one_differ so m d
 
-  imports_differ : (is : List Import) (so : List (List ℕ × ℕ)) → KeysDiffer so → KeysDiffer (fold (with_import_of modules tables) so is)
+  imports_differ : (is : List Import) (so : List (List ℕ × ℕ)) → KeysDiffer so
+      → KeysDiffer (fold (with_import_of modules tables) so is)
   imports_differ [] so d = d
-  imports_differ (i ∷ is) so d = imports_differ is (with_import_of modules tables so i) (of_import_differ so i.from i.names d)
+  imports_differ (i ∷ is) so d = imports_differ is (with_import_of modules tables so i)
+      (of_import_differ so i.from i.names d)
 
   all_differ : (own : Option Table) (is : List Import) → KeysDiffer (all_imports modules tables own is)
   all_differ own is = imports_differ is (definition_imports own) (definition_differ own)
@@ -154,7 +173,8 @@ keys es = map (λ e. e.0) es
 abbrev pub imported_by_name : List Imported → List (List ℕ)
 imported_by_name is = map (λ i. i.name) is
 
-keys_apart : {V : Type 0} (name : List ℕ) (es : List (List ℕ × V)) → AllByRecursion (λ x. name ≡ x.0 → ⊥) es → AllByRecursion (λ y. name ≡ y → ⊥) (keys es)
+keys_apart : {V : Type 0} (name : List ℕ) (es : List (List ℕ × V)) → AllByRecursion (λ x. name ≡ x.0 → ⊥) es
+    → AllByRecursion (λ y. name ≡ y → ⊥) (keys es)
 keys_apart name [] d = tt
 keys_apart name (e ∷ es) d = (d.0, keys_apart name es d.1)
 
@@ -166,34 +186,44 @@ keys_differ (e ∷ es) d = (keys_apart e.0 es d.0, keys_differ es d.1)
 abbrev WillDiffer : List Imported → List (List ℕ) → Type 0
 WillDiffer so rest = Differ (imported_by_name so ++ rest)
 
-pushed : (so : List Imported) (i : Imported) (rest : List (List ℕ)) → imported_by_name (so ++ i ∷ []) ++ rest ≡ imported_by_name so ++ i.name ∷ rest
+pushed : (so : List Imported) (i : Imported) (rest : List (List ℕ))
+    → imported_by_name (so ++ i ∷ []) ++ rest ≡ imported_by_name so ++ i.name ∷ rest
 pushed [] i rest = refl
 pushed (s ∷ so) i rest = ap (λ ns. s.name ∷ ns) (pushed so i rest)
 
-instance_differs : (b : Bool) (so : List Imported) (i : Imported) (rest : List (List ℕ)) → WillDiffer so (i.name ∷ rest) → WillDiffer (cond b so (so ++ i ∷ [])) rest
+instance_differs : (b : Bool) (so : List Imported) (i : Imported) (rest : List (List ℕ)) → WillDiffer so (i.name ∷ rest)
+    → WillDiffer (cond b so (so ++ i ∷ [])) rest
 instance_differs true so i rest d = one_less (imported_by_name so) i.name rest d
 instance_differs false so i rest d = subst Differ (sym (pushed so i rest)) d
 
 module _ (tables : List Table) where
-  table_named : (so : List Imported) (name : List ℕ) (rest : List (List ℕ)) (o : Option Table) → ((t : Table) → o ≡ Some t → t.name ≡ name) → WillDiffer so (name ∷ rest) → WillDiffer (with_table_of so o) rest
+  table_named : (so : List Imported) (name : List ℕ) (rest : List (List ℕ)) (o : Option Table)
+      → ((t : Table) → o ≡ Some t → t.name ≡ name) → WillDiffer so (name ∷ rest) → WillDiffer (with_table_of so o) rest
   table_named so name rest None k d = one_less (imported_by_name so) name rest d
-  table_named so name rest (Some t) k d = instance_differs (is_console t.name) so (imported_as t) rest (subst (λ n. WillDiffer so (n ∷ rest)) (sym (k t refl)) d)
+  table_named so name rest (Some t) k d =
+      instance_differs (is_console t.name) so (imported_as t) rest
+      (subst (λ n. WillDiffer so (n ∷ rest)) (sym (k t refl)) d)
 
-  place_named : (so : List Imported) (e : List ℕ × ℕ) (rest : List (List ℕ)) (o : Option ℕ) → ((k : ℕ) → o ≡ Some k → (t : Table) → slice_get tables k ≡ Some t → t.name ≡ e.0) → WillDiffer so (e.0 ∷ rest)
+  place_named : (so : List Imported) (e : List ℕ × ℕ) (rest : List (List ℕ)) (o : Option ℕ)
+      → ((k : ℕ) → o ≡ Some k → (t : Table) → slice_get tables k ≡ Some t → t.name ≡ e.0) → WillDiffer so (e.0 ∷ rest)
       → WillDiffer (with_place_of tables so e o) rest
-  place_named so e rest None k d = instance_differs (is_console e.0) so (record { name = e.0; number = e.1; variables = [] }) rest d
+  place_named so e rest None k d = instance_differs (is_console e.0) so
+      (record { name = e.0; number = e.1; variables = [] }) rest d
   place_named so e rest (Some n) k d = table_named so e.0 rest (slice_get tables n) (k n refl) d
 
   module _ (modules : List (List ℕ × ℕ)) (placed : AllByRecursion (IsPlaced tables) modules) where
-    named_at : (name : List ℕ) (k : ℕ) → find_name name modules ≡ Some k → (t : Table) → slice_get tables k ≡ Some t → t.name ≡ name
+    named_at : (name : List ℕ) (k : ℕ) → find_name name modules ≡ Some k → (t : Table) → slice_get tables k ≡ Some t
+        → t.name ≡ name
     named_at name k h t e =
         let f = found_each (IsPlaced tables) name modules k placed h in
         let same : t ≡ f.2.0 = same_Some t f.2.0 (sym e ∙ f.2.1) in
         ap (λ (x : Table). x.name) same ∙ (f.2.2 ∙ sym (same_is name f.0 f.1))
 
-    typed_differ : (es : List (List ℕ × ℕ)) (so : List Imported) → WillDiffer so (keys es) → WillDiffer (fold (with_module_of modules tables) so es) []
+    typed_differ : (es : List (List ℕ × ℕ)) (so : List Imported) → WillDiffer so (keys es)
+        → WillDiffer (fold (with_module_of modules tables) so es) []
     typed_differ [] so d = d
-    typed_differ (e ∷ es) so d = typed_differ es (with_module_of modules tables so e) (place_named so e (keys es) (find_name e.0 modules) (named_at e.0) d)
+    typed_differ (e ∷ es) so d = typed_differ es (with_module_of modules tables so e)
+        (place_named so e (keys es) (find_name e.0 modules) (named_at e.0) d)
 
 -- ---- whole modules
 
@@ -202,48 +232,61 @@ ImportsDiffer t = Differ (imported_by_name t.imports)
 
 module _ (m : Module) (own : Option Table) where
   abbrev imports_by : (tables others : List Table) → List Imported
-  imports_by tables others = typed_imports (numbered_modules tables).0 others (all_imports (numbered_modules tables).0 others own m.imports)
+  imports_by tables others = typed_imports (numbered_modules tables).0 others
+      (all_imports (numbered_modules tables).0 others own m.imports)
 
   imports_at : (tables others : List Table) → others ≡ tables → Differ (imported_by_name (imports_by tables others))
   imports_at tables others e =
       let modules = (numbered_modules tables).0 in
       subst (λ (ts : List Table). Differ (imported_by_name (imports_by tables ts))) (sym e)
-      (first_differ (imported_by_name (imports_by tables tables)) (typed_differ tables modules (numbered_placed tables) (all_imports modules tables own m.imports) [] (keys_differ _ (all_differ modules tables own m.imports))))
+      (first_differ (imported_by_name (imports_by tables tables))
+      (typed_differ tables modules (numbered_placed tables) (all_imports modules tables own m.imports) []
+      (keys_differ _ (all_differ modules tables own m.imports))))
 
   module _ (g : Gathers) where
-    differ_if : (s : Scope g.Reported) (tables : List Table) (rs : Bodies) (r : Result (Unit {0} × List TypedStmt) g.Reported) → s.tables ≡ tables
+    differ_if : (s : Scope g.Reported) (tables : List Table) (rs : Bodies)
+        (r : Result (Unit {0} × List TypedStmt) g.Reported) → s.tables ≡ tables
         → IfOk (r ▷ λ p. Ok (typed_module s (numbered_modules tables).0 own m rs p.1)) ImportsDiffer
     differ_if s tables rs (Ok p) e = imports_at tables s.tables e
     differ_if s tables rs (Err f) e = tt
 
-    body_differs : (elaborates : Elaborates g.Reported) (s : Scope g.Reported) (b : Block) → IfOk (of_body g elaborates s own m b) ImportsDiffer
+    body_differs : (elaborates : Elaborates g.Reported) (s : Scope g.Reported) (b : Block)
+        → IfOk (of_body g elaborates s own m b) ImportsDiffer
     body_differs elaborates s b =
         let modules = (numbered_modules s.tables).0 in
         let c = walk_body g elaborates modules (procedure_ends (out-Block b).decls) s m b in
-        differ_if c.0.scope s.tables c.0.bodies (both g c.0.so_far c.1) (ap (λ (k : List Table × ℕ). k.0) (walk_keeps g elaborates (procedure_ends (out-Block b).decls) modules s m b))
+        differ_if c.0.scope s.tables c.0.bodies (both g c.0.so_far c.1)
+        (ap (λ (k : List Table × ℕ). k.0) (walk_keeps g elaborates (procedure_ends (out-Block b).decls) modules s m
+        b))
 
 module _ (g : Gathers) (elaborates : Elaborates g.Reported) (m : Module) where
-  implementation_differs : (o : Option Table) (tables : List Table) (b : Block) → IfOk (of_implementation g elaborates m o tables b) ImportsDiffer
+  implementation_differs : (o : Option Table) (tables : List Table) (b : Block)
+      → IfOk (of_implementation g elaborates m o tables b) ImportsDiffer
   implementation_differs None tables b = tt
-  implementation_differs (Some own) tables b = body_differs m (Some own) g elaborates (implementation_scope own tables) b
+  implementation_differs (Some own) tables b =
+      body_differs m (Some own) g elaborates (implementation_scope own tables) b
 
-  contents_differ : (home : ℕ) (o : Option Table) (tables : List Table) (c : Contents) → IfOk (of_contents g elaborates home m o tables c) ImportsDiffer
+  contents_differ : (home : ℕ) (o : Option Table) (tables : List Table) (c : Contents)
+      → IfOk (of_contents g elaborates home m o tables c) ImportsDiffer
   contents_differ home o tables (contents.Definition defs) = tt
   contents_differ home o tables (contents.Implementation b) = implementation_differs o tables b
   contents_differ home o tables (contents.Program b) = body_differs m None g elaborates (first_scope home tables) b
 
-  pub module_differs : (home : ℕ) (o : Option Table) (tables : List Table) → IfOk (body_module g elaborates home m o tables) ImportsDiffer
+  pub module_differs : (home : ℕ) (o : Option Table) (tables : List Table)
+      → IfOk (body_module g elaborates home m o tables) ImportsDiffer
   module_differs home o tables = contents_differ home o (tables ++ console ∷ []) m.contents
 
 -- ---- in a program
 
 module _ (p : Program) (m : TypedModule) where
-  name_at : (k : ℕ) (q : Program) (home : TypedModule) → slice_get q k ≡ Some home → slice_get (map (λ (n : TypedModule). n.name) q) k ≡ Some home.name
+  name_at : (k : ℕ) (q : Program) (home : TypedModule) → slice_get q k ≡ Some home
+      → slice_get (map (λ (n : TypedModule). n.name) q) k ≡ Some home.name
   name_at k [] home h = absurd cc
   name_at zero (n ∷ q) home h = ap (λ (x : TypedModule). Some x.name) (same_Some n home h)
   name_at (suc k) (n ∷ q) home h = name_at k q home h
 
-  all_in : (is : List Imported) → All (Knows p m) is → AllByRecursion (IsIn (map (λ (n : TypedModule). n.name) p)) (imported_by_name is)
+  all_in : (is : List Imported) → All (Knows p m) is
+      → AllByRecursion (IsIn (map (λ (n : TypedModule). n.name) p)) (imported_by_name is)
   all_in [] known = tt
   all_in (i ∷ is) known =
       let k = All-head (Knows p m) i is known in
@@ -258,6 +301,7 @@ module _ (p : Program) (m : TypedModule) where
 
   pub imports_few : ImportsDiffer m → All (Knows p m) m.imports → length m.imports ≤ length p
   imports_few differ known =
-      as_counted (length (imported_by_name m.imports)) (length (map (λ (n : TypedModule). n.name) p)) (length m.imports) (length p)
+      as_counted (length (imported_by_name m.imports)) (length (map (λ (n : TypedModule). n.name) p)) (length m.imports)
+      (length p)
       (differ_few (imported_by_name m.imports) (map (λ (n : TypedModule). n.name) p) differ (all_in m.imports known))
       (count_names (λ (i : Imported). i.name) m.imports) (count_names (λ (n : TypedModule). n.name) p)

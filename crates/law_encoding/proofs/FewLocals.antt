@@ -33,26 +33,40 @@ one_more : (a b k n : ℕ) → a ≤ 2 + 2 * k → b ≤ 2 + 2 * n → a ⊔ b �
 one_more a b k n h l = omega (arith, h, l)
 
 module _ (types : Numbered) (m : TypedModule) where
-  routines_few : (w : ℕ → Which) (n : ℕ) (rs : List Routine) → deepest_of function_locals (functions_from types m w n rs) ≤ 2 + 2 * sum_of size_routine rs
+  routines_few : (w : ℕ → Which) (n : ℕ) (rs : List Routine)
+      → deepest_of function_locals (functions_from types m w n rs) ≤ 2 + 2 * sum_of size_routine rs
   routines_few w n [] = none _
   routines_few w n (r ∷ rs) =
-      one_more _ _ (size_routine r) (sum_of size_routine rs) (few (size_body r.body) (routine_coded types m r (characters (texts_before m (w n) m.order))).1 ((body_counts types r.body).addresses _ (from_text (characters (texts_before m (w n) m.order)))) ((body_counts types r.body).numbers _ (from_text (characters (texts_before m (w n) m.order))))) (routines_few w (suc n) rs)
+      one_more _ _ (size_routine r) (sum_of size_routine rs)
+      (few (size_body r.body) (routine_coded types m r (characters (texts_before m (w n) m.order))).1
+      ((body_counts types r.body).addresses _ (from_text (characters (texts_before m (w n) m.order))))
+      ((body_counts types r.body).numbers _ (from_text (characters (texts_before m (w n) m.order)))))
+      (routines_few w (suc n) rs)
 
   body_few : function_locals (module_function types m) ≤ 2 + 2 * size_body m.body
-  body_few = few (size_body m.body) (module_coded types m).1 ((body_counts types m.body).addresses _ (from_text (characters (routines_texts m)))) ((body_counts types m.body).numbers _ (from_text (characters (routines_texts m))))
+  body_few = few (size_body m.body) (module_coded types m).1
+      ((body_counts types m.body).addresses _ (from_text (characters (routines_texts m))))
+      ((body_counts types m.body).numbers _ (from_text (characters (routines_texts m))))
 
 helpers_few : deepest_of function_locals helpers ≤ 2
 helpers_few = omega arith
 
-functions_sum : (all h rest b rs p x y z : ℕ) → all ≡ h ⊔ (b ⊔ rest) → rest ≡ rs ⊔ p → h ≤ 2 → b ≤ 2 + 2 * z → rs ≤ 2 + 2 * x → p ≤ 2 + 2 * y → all ≤ 2 + 2 * (x + y + z)
+functions_sum : (all h rest b rs p x y z : ℕ) → all ≡ h ⊔ (b ⊔ rest) → rest ≡ rs ⊔ p → h ≤ 2 → b ≤ 2 + 2 * z
+    → rs ≤ 2 + 2 * x → p ≤ 2 + 2 * y → all ≤ 2 + 2 * (x + y + z)
 functions_sum all h rest b rs p x y z e f g i j k = omega (arith, e, f, g, i, j, k)
 
 pub functions_few : (m : TypedModule) → most_locals m ≤ 2 + 2 * size_bodies m
 functions_few m =
-    functions_sum _ (deepest_of function_locals helpers) _ (function_locals (module_function (numbering_of m) m)) _ _ (sum_of size_routine m.procedures) (sum_of size_routine m.locals) (size_body m.body)
-    (deepest_append function_locals helpers (module_function (numbering_of m) m ∷ (functions_from (numbering_of m) m which.Module 0 m.procedures ++ functions_from (numbering_of m) m which.Local 0 m.locals)))
-    (deepest_append function_locals (functions_from (numbering_of m) m which.Module 0 m.procedures) (functions_from (numbering_of m) m which.Local 0 m.locals))
-    helpers_few (body_few (numbering_of m) m) (routines_few (numbering_of m) m which.Module 0 m.procedures) (routines_few (numbering_of m) m which.Local 0 m.locals)
+    functions_sum _ (deepest_of function_locals helpers) _ (function_locals (module_function (numbering_of m) m)) _ _
+    (sum_of size_routine m.procedures) (sum_of size_routine m.locals) (size_body m.body)
+    (deepest_append function_locals helpers
+    (module_function (numbering_of m) m ∷
+    (functions_from (numbering_of m) m which.Module 0 m.procedures
+    ++ functions_from (numbering_of m) m which.Local 0 m.locals)))
+    (deepest_append function_locals (functions_from (numbering_of m) m which.Module 0 m.procedures)
+    (functions_from (numbering_of m) m which.Local 0 m.locals))
+    helpers_few (body_few (numbering_of m) m) (routines_few (numbering_of m) m which.Module 0 m.procedures)
+    (routines_few (numbering_of m) m which.Local 0 m.locals)
 
 in_all : (a b n : ℕ) → a ≤ 2 + 2 * b → b ≤ n → a ≤ 2 + 2 * n
 in_all a b n h l = omega (arith, h, l)

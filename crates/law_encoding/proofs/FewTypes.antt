@@ -40,13 +40,17 @@ one_more m a b n e h l = omega (arith, e, h, l)
 
 types_short : (ts : List ValueType) → length (flat_map value_type.encoding ts) ≤ length ts
 types_short [] = omega arith
-types_short (t ∷ ts) = one_more _ (length (value_type.encoding t)) _ (length ts) (length-append (value_type.encoding t) (flat_map value_type.encoding ts)) (one_byte t) (types_short ts)
+types_short (t ∷ ts) = one_more _ (length (value_type.encoding t)) _ (length ts)
+    (length-append (value_type.encoding t) (flat_map value_type.encoding ts)) (one_byte t) (types_short ts)
 
 vector_sum : (m a b n : ℕ) → m ≡ a + b → a ≤ 5 → b ≤ n → m ≤ 5 + n
 vector_sum m a b n e h l = omega (arith, e, h, l)
 
-vector_short : (ts : List ValueType) → nat_lt (length ts) max_bytes ≡ true → length ((vector value_type).encoding ts) ≤ 5 + length ts
-vector_short ts e = vector_sum _ (length (unsigned.encoding (length ts))) _ (length ts) (length-append (unsigned.encoding (length ts)) (flat_map value_type.encoding ts)) (unsigned_short (length ts) e) (types_short ts)
+vector_short : (ts : List ValueType) → nat_lt (length ts) max_bytes ≡ true
+    → length ((vector value_type).encoding ts) ≤ 5 + length ts
+vector_short ts e = vector_sum _ (length (unsigned.encoding (length ts))) _ (length ts)
+    (length-append (unsigned.encoding (length ts)) (flat_map value_type.encoding ts)) (unsigned_short (length ts) e)
+    (types_short ts)
 
 -- ---- types of functions
 
@@ -61,9 +65,11 @@ some_bytes t = some (length t.params + length t.results) where
 few_each : (n : ℕ) → n ≤ suc few_entries → n < max_bytes
 few_each n h = omega (arith, h)
 
-pub type_fits : (t : FuncType) → length t.params ≤ suc few_entries → length t.results ≤ suc few_entries → func_type.fits t ≡ true
+pub type_fits : (t : FuncType) → length t.params ≤ suc few_entries → length t.results ≤ suc few_entries
+    → func_type.fits t ≡ true
 unfolding func_type
-type_fits t h l = both_true _ _ (both_true _ _ (lt-ltb _ max_bytes (few_each _ h)) (all_types t.params)) (both_true _ _ (lt-ltb _ max_bytes (few_each _ l)) (all_types t.results))
+type_fits t h l = both_true _ _ (both_true _ _ (lt-ltb _ max_bytes (few_each _ h)) (all_types t.params))
+    (both_true _ _ (lt-ltb _ max_bytes (few_each _ l)) (all_types t.results))
 
 parts_sum : (m a b n k : ℕ) → m ≡ a + b → a ≤ 5 + n → b ≤ 5 + k → suc m ≤ 11 + (n + k)
 parts_sum m a b n k e h l = omega (arith, e, h, l)
@@ -74,7 +80,8 @@ type_short t e =
     let both = and_parts ((vector value_type).fits t.params) ((vector value_type).fits t.results) e in
     let first = and_parts (nat_lt (length t.params) max_bytes) (list_all value_type.fits t.params) both.0 in
     let second = and_parts (nat_lt (length t.results) max_bytes) (list_all value_type.fits t.results) both.1 in
-    parts_sum _ (length ((vector value_type).encoding t.params)) _ (length t.params) (length t.results) (length-append ((vector value_type).encoding t.params) ((vector value_type).encoding t.results))
+    parts_sum _ (length ((vector value_type).encoding t.params)) _ (length t.params) (length t.results)
+    (length-append ((vector value_type).encoding t.params) ((vector value_type).encoding t.results))
     (vector_short t.params first.0) (vector_short t.results second.0)
 
 -- ---- signatures
@@ -99,14 +106,16 @@ rest_few a b h = omega (arith, h)
 all_fit : (ss : Signatures) → types_count ss ≤ few_entries → list_all func_type.fits (map type_of ss) ≡ true
 all_fit [] h = refl
 all_fit (s ∷ ss) h =
-    both_true _ _ (type_fits (type_of s) (params_few _ s.arguments _ (many_long s.arguments) h) (results_few _ (one_result s.result))) (all_fit ss (rest_few s.arguments (types_count ss) h))
+    both_true _ _ (type_fits (type_of s) (params_few _ s.arguments _ (many_long s.arguments) h)
+    (results_few _ (one_result s.result))) (all_fit ss (rest_few s.arguments (types_count ss) h))
 
 signature_sum : (l n r a b : ℕ) → l ≡ n → r ≤ 1 → a ≤ 13 * b → 11 + (suc l + r) + a ≤ 13 * (1 + n + b)
 signature_sum l n r a b e h k = omega (arith, e, h, k)
 
 signatures_short : (ss : Signatures) → sum_of type_bytes (map type_of ss) ≤ 13 * types_count ss
 signatures_short [] = omega arith
-signatures_short (s ∷ ss) = signature_sum _ s.arguments _ _ (types_count ss) (many_long s.arguments) (one_result s.result) (signatures_short ss)
+signatures_short (s ∷ ss) = signature_sum _ s.arguments _ _ (types_count ss) (many_long s.arguments)
+    (one_result s.result) (signatures_short ss)
 
 whole_sum : (m a b n : ℕ) → m ≡ a + b → a ≡ 81 → b ≤ 13 * n → n ≤ few_entries → 5 + m < max_bytes
 whole_sum m a b n e q h l = omega (arith, e, q, h, l)
@@ -118,16 +127,29 @@ listed_within a b h l = omega (arith, h, l)
 abbrev IsFew : FuncType → Type 0
 IsFew t = (length t.params ≤ suc few_entries) × (length t.results ≤ suc few_entries)
 
-with_few : (us ts : List FuncType) → AllByRecursion IsFew us → list_all func_type.fits ts ≡ true → list_all func_type.fits (us ++ ts) ≡ true
+with_few : (us ts : List FuncType) → AllByRecursion IsFew us → list_all func_type.fits ts ≡ true
+    → list_all func_type.fits (us ++ ts) ≡ true
 with_few [] ts a e = e
 with_few (u ∷ us) ts a e = both_true _ _ (type_fits u a.0.0 a.0.1) (with_few us ts a.1 e)
 
 body_types_few : AllByRecursion IsFew body_types
-body_types_few = ((omega arith, omega arith), ((omega arith, omega arith), ((omega arith, omega arith), ((omega arith, omega arith), ((omega arith, omega arith), ((omega arith, omega arith), tt))))))
+body_types_few = (
+  (omega arith, omega arith),
+  (
+    (omega arith, omega arith),
+    (
+      (omega arith, omega arith),
+      ((omega arith, omega arith), ((omega arith, omega arith), ((omega arith, omega arith), tt))),
+    ),
+  ),
+)
 
-pub types_fit : (m : TypedModule) → types_count (signatures_needed m) ≤ few_entries → (section 1 func_type).fits (body_types ++ map type_of (signatures m)) ≡ true
+pub types_fit : (m : TypedModule) → types_count (signatures_needed m) ≤ few_entries
+    → (section 1 func_type).fits (body_types ++ map type_of (signatures m)) ≡ true
 types_fit m h =
     let few = listed_within _ _ (listed_few (signatures_needed m)) h in
     let ts = map type_of (signatures m) in
-    section_fits 1 func_type type_bytes some_bytes type_short (body_types ++ ts) (with_few body_types ts body_types_few (all_fit (signatures m) few))
-    (whole_sum _ (sum_of type_bytes body_types) _ (types_count (signatures m)) (sum_append type_bytes body_types ts) refl (signatures_short (signatures m)) few)
+    section_fits 1 func_type type_bytes some_bytes type_short (body_types ++ ts)
+    (with_few body_types ts body_types_few (all_fit (signatures m) few))
+    (whole_sum _ (sum_of type_bytes body_types) _ (types_count (signatures m)) (sum_append type_bytes body_types ts)
+    refl (signatures_short (signatures m)) few)

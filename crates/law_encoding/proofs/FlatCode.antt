@@ -85,7 +85,8 @@ pub flat_taken : (types : Types) (t : TypeNo) (constant : Bool) (of : TypeNo) �
 flat_taken types t constant of = flat_unless (is_free types t constant of) (flat_in_type types t 1)
 
 pub flat_check_changed : (types : Types) (t : TypeNo) → Flat (check_changed types t)
-flat_check_changed types t = flat_both (flat_in_type types (base_of types t) 2) (flat_either (is_subrange types t) (flat_in_type types t 1) flat_end)
+flat_check_changed types t = flat_both (flat_in_type types (base_of types t) 2)
+    (flat_either (is_subrange types t) (flat_in_type types t 1) flat_end)
 
 -- ---- places
 
@@ -116,7 +117,8 @@ flat_from_lower None = flat_end
 flat_from_lower (Some s) = flat_unless (is_nought s.low) (amount _ ▹ computes _ ▹ flat_end)
 
 pub flat_element : (types : Types) (t : TypeNo) → Flat (element_code types t)
-flat_element types t = flat_both (flat_in_range (index_of types t) 3) (flat_both (flat_from_lower (index_of types t)) (flat_scaled _))
+flat_element types t = flat_both (flat_in_range (index_of types t) 3)
+    (flat_both (flat_from_lower (index_of types t)) (flat_scaled _))
 
 pub flat_open_element : (s : Setting) (slot : Slot) (t : TypeNo) → Flat (open_element_code s slot t)
 flat_open_element s slot t = amount 0 ▹ flat_both (flat_high s slot) (amount 3 ▹ calls _ ▹ flat_scaled _)
@@ -162,12 +164,14 @@ pub flat_link : (numbered : Numbered) (up : ℕ) → Flat (link_code numbered up
 flat_link numbered up = flat_both (flat_frame up) (computes _ ▹ flat_end)
 
 pub flat_module_call : (numbered : Numbered) (m : TypedModule) (f : Procedure) → Flat (module_call numbered m f)
-flat_module_call numbered m f = flat_either (is_own m f.home) (calls _ ▹ flat_end) (globals _ ▹ flat_both (flat_raised _) (calls_by _ ▹ flat_end))
+flat_module_call numbered m f = flat_either (is_own m f.home) (calls _ ▹ flat_end)
+    (globals _ ▹ flat_both (flat_raised _) (calls_by _ ▹ flat_end))
 
 pub flat_nested_call : (numbered : Numbered) (m : TypedModule) (f : LocalProcedure) → Flat (nested_call numbered m f)
 flat_nested_call numbered m f = calls _ ▹ flat_end
 
-pub flat_value_call : (numbered : Numbered) (types : Types) (t : ℕ) (heading : TypeNo) → Flat (LocalGet t ∷ wrap_word ∷ indirect numbered types heading ∷ [])
+pub flat_value_call : (numbered : Numbered) (types : Types) (t : ℕ) (heading : TypeNo)
+    → Flat (LocalGet t ∷ wrap_word ∷ indirect numbered types heading ∷ [])
 flat_value_call numbered types t heading = gets t ▹ computes _ ▹ calls_by _ ▹ flat_end
 
 -- ---- statements
@@ -186,7 +190,8 @@ flat_from_least : (t : ℕ) (low : ℤ) → Flat (from_least t low)
 flat_from_least t low = gets t ▹ amount _ ▹ computes _ ▹ flat_end
 
 pub flat_dispatch : (t : ℕ) (arms : List Arm) (low : ℤ) (span : ℕ) → Flat (dispatch t arms low span)
-flat_dispatch t arms low span = flat_both (flat_from_least t low) (amount _ ▹ computes _ ▹ jumps_if _ ▹ flat_both (flat_from_least t low) (computes _ ▹ jumps_by _ _ ▹ flat_end))
+flat_dispatch t arms low span = flat_both (flat_from_least t low)
+    (amount _ ▹ computes _ ▹ jumps_if _ ▹ flat_both (flat_from_least t low) (computes _ ▹ jumps_by _ _ ▹ flat_end))
 
 flat_read_again : (w : ℕ) (types : Types) (t : TypeNo) → Flat (read_again w types t)
 flat_read_again w types t = gets w ▹ gets w ▹ flat_loaded types t
@@ -196,14 +201,17 @@ one_operation change.Increase = computes _
 one_operation change.Decrease = computes _
 
 pub flat_changed : (o : Change) (w n : ℕ) (types : Types) (t : TypeNo) → Flat (change_instructions o w n types t)
-flat_changed o w n types t = flat_both (flat_read_again w types t) (gets n ▹ one_operation o ▹ flat_both (flat_check_changed types t) (flat_stored types t))
+flat_changed o w n types t = flat_both (flat_read_again w types t)
+    (gets n ▹ one_operation o ▹ flat_both (flat_check_changed types t) (flat_stored types t))
 
 flat_member : (o : Membership) → Flat (member_operation o)
 flat_member member.Include = computes _ ▹ flat_end
 flat_member member.Exclude = flat_both flat_complement (computes _ ▹ flat_end)
 
 pub flat_with_member : (o : Membership) (w n : ℕ) (types : Types) → Flat (with_member o w n types)
-flat_with_member o w n types = flat_both (flat_read_again w types bitset) (amount 1 ▹ gets n ▹ computes _ ▹ flat_both (flat_member o) (flat_stored types bitset))
+flat_with_member o w n types = flat_both (flat_read_again w types bitset)
+    (amount 1 ▹ gets n ▹ computes _ ▹ flat_both (flat_member o) (flat_stored types bitset))
 
 pub flat_copied : (at bytes rest w : ℕ) → Flat (text_copied at bytes rest w)
-flat_copied at bytes rest w = flat_both (flat_text at) (address _ ▹ calls _ ▹ gets w ▹ flat_both (flat_raised bytes) (address _ ▹ calls _ ▹ flat_end))
+flat_copied at bytes rest w = flat_both (flat_text at)
+    (address _ ▹ calls _ ▹ gets w ▹ flat_both (flat_raised bytes) (address _ ▹ calls _ ▹ flat_end))

@@ -62,17 +62,22 @@ module _ {T : Type 0} where
   one_few fs (Ok f) = one_sum (length fs) _ (length-append fs (f ∷ []))
   one_few fs (Err e) = no_sum (length fs)
 
-  names_few : (r : Result Formal T) (xs : List Ident) (fs : List Formal) → length (with_names r fs xs) ≤ length fs + length xs
+  names_few : (r : Result Formal T) (xs : List Ident) (fs : List Formal)
+      → length (with_names r fs xs) ≤ length fs + length xs
   names_few r [] fs = same_sum (length fs)
-  names_few r (x ∷ xs) fs = more_names (length (with_names r (with_one fs r) xs)) (length (with_one fs r)) (length fs) (length xs) (names_few r xs (with_one fs r)) (one_few fs r)
+  names_few r (x ∷ xs) fs = more_names (length (with_names r (with_one fs r) xs)) (length (with_one fs r)) (length fs)
+      (length xs) (names_few r xs (with_one fs r)) (one_few fs r)
 
 module _ (g : Gathers) where
-  sections_few : (s : Scope g.Reported) (xs : List Section) (fs : List Formal) → length (fold (with_formals_of g s) fs xs) ≤ length fs + sum_of (λ (x : Section). length x.names) xs
+  sections_few : (s : Scope g.Reported) (xs : List Section) (fs : List Formal)
+      → length (fold (with_formals_of g s) fs xs) ≤ length fs + sum_of (λ (x : Section). length x.names) xs
   sections_few s [] fs = same_sum (length fs)
   sections_few s (x ∷ xs) fs =
-      more_sections _ (length (with_formals_of g s fs x)) (length fs) _ (length x.names) (sections_few s xs (with_formals_of g s fs x)) (names_few (formal_of g s x.is_var x.of) x.names fs)
+      more_sections _ (length (with_formals_of g s fs x)) (length fs) _ (length x.names)
+      (sections_few s xs (with_formals_of g s fs x)) (names_few (formal_of g s x.is_var x.of) x.names fs)
 
-  formals_few : (s : Scope g.Reported) (xs : List Section) → length (all_formals g s xs) ≤ 0 + sum_of (λ (x : Section). length x.names) xs
+  formals_few : (s : Scope g.Reported) (xs : List Section)
+      → length (all_formals g s xs) ≤ 0 + sum_of (λ (x : Section). length x.names) xs
   formals_few s xs = sections_few s xs []
 
 -- ---- the types that the module has in the end
@@ -96,13 +101,18 @@ module _ (types : Types) where
     weight_sum : (w f n : ℕ) → w ≡ f → f ≤ 0 + n → 1 + w ≤ 1 + n
     weight_sum w f n e h = omega (arith, e, h)
 
-    stands_fit : (w : Scope g.Reported) (n : ℕ) (h : Heading) → HeadingStands g w n h → Within w → HeadFits type_weight (heading_names h) w.own h.name.name
+    stands_fit : (w : Scope g.Reported) (n : ℕ) (h : Heading) → HeadingStands g w n h → Within w
+        → HeadFits type_weight (heading_names h) w.own h.name.name
     stands_fit w n h k within m t named is =
-        let same : k.means ≡ m = let e : ◌≡◌ {A = Option (Known g.Reported)} (Some (Headed (Ok k.means))) (Some (Headed (Ok m))) = sym k.named ∙ named in cc in
-        let heading : t ≡ k.heading = let e : ◌≡◌ {A = Option TypeNo} (Some t) (Some k.heading) = sym is ∙ ap heading_in (sym same) ∙ k.is in cc in
-        let made : made_at types t ≡ Some k.made = ap (λ (u : TypeNo). made_at types u) heading ∙ within k.heading k.made k.there in
+        let same : k.means ≡ m = let e : ◌≡◌ {A = Option (Known g.Reported)} (Some (Headed (Ok k.means)))
+        (Some (Headed (Ok m))) = sym k.named ∙ named in cc in
+        let heading : t ≡ k.heading = let e : ◌≡◌ {A = Option TypeNo} (Some t) (Some k.heading) = sym is
+        ∙ ap heading_in (sym same) ∙ k.is in cc in
+        let made : made_at types t ≡ Some k.made = ap (λ (u : TypeNo). made_at types u) heading
+        ∙ within k.heading k.made k.there in
         let formals = ap (λ (o : Option Made). formals_made o) made ∙ ap (λ (x : Shape). formals_in x) k.shape in
-        weight_sum (length (formals_of types t)) _ (names_in h) (ap (λ (fs : List Formal). length fs) formals) (formals_few g (inwards w n) h.formals)
+        weight_sum (length (formals_of types t)) _ (names_in h) (ap (λ (fs : List Formal). length fs) formals)
+        (formals_few g (inwards w n) h.formals)
 
     -- ---- the declarations of a block whose names are all marked
 
@@ -114,9 +124,11 @@ module _ (types : Types) where
       declared ds = fold (with_decl g ends) (marked a ds, Ok tt, first) ds
 
       last_withs : (ds : List Decl) → (declared ds).0.withs ≡ []
-      last_withs ds = (block_changes g ends ds (marked a ds, Ok tt, first)).keeps.withs ∙ ((block_marked g ends ds a).keeps.withs ∙ withs)
+      last_withs ds = (block_changes g ends ds (marked a ds, Ok tt, first)).keeps.withs
+          ∙ ((block_marked g ends ds a).keeps.withs ∙ withs)
 
-      one_by : (before : List Decl) (d : Decl) (rest : List Decl) → (declared (before ++ d ∷ rest)).1 ≡ Ok tt → Within (declared (before ++ d ∷ rest)).0 → (x : Decl-F Decl Block) → out-Decl d ≡ x
+      one_by : (before : List Decl) (d : Decl) (rest : List Decl) → (declared (before ++ d ∷ rest)).1 ≡ Ok tt
+          → Within (declared (before ++ d ∷ rest)).0 → (x : Decl-F Decl Block) → out-Decl d ≡ x
           → HeadingFits {A = Decl} {B = Block} (declared (before ++ d ∷ rest)).0.own x
       one_by before d rest ok within (layer.Constants cs) e = tt
       one_by before d rest ok within (layer.Types ts) e = tt
@@ -129,31 +141,40 @@ module _ (types : Types) where
           (λ t x k. k) h b e)
           within
 
-      all_from : (ds : List Decl) → (declared ds).1 ≡ Ok tt → Within (declared ds).0 → (before rest : List Decl) → ds ≡ before ++ rest → HeadingsFit (declared ds).0.own rest
+      all_from : (ds : List Decl) → (declared ds).1 ≡ Ok tt → Within (declared ds).0 → (before rest : List Decl)
+          → ds ≡ before ++ rest → HeadingsFit (declared ds).0.own rest
       all_from ds ok within before [] e = tt
       all_from ds ok within before (d ∷ rest) e = (
-        subst (λ (ys : List Decl). (declared ys).1 ≡ Ok tt → Within (declared ys).0 → HeadingFits {A = Decl} {B = Block} (declared ys).0.own (out-Decl d)) (sym e) (λ o k. one_by before d rest o k (out-Decl d) refl) ok within,
+        subst (λ (ys : List Decl). (declared ys).1 ≡ Ok tt → Within (declared ys).0
+            → HeadingFits {A = Decl} {B = Block} (declared ys).0.own (out-Decl d)) (sym e)
+            (λ o k. one_by before d rest o k (out-Decl d) refl) ok within,
         all_from ds ok within (before ++ d ∷ []) rest (e ∙ sym (append_assoc before (d ∷ []) rest)),
       )
 
-      pub all_fit : (ds : List Decl) → (declared ds).1 ≡ Ok tt → Within (declared ds).0 → HeadingsFit (declared ds).0.own ds
+      pub all_fit : (ds : List Decl) → (declared ds).1 ≡ Ok tt → Within (declared ds).0
+          → HeadingsFit (declared ds).0.own ds
       all_fit ds ok within = all_from ds ok within [] ds refl
 
     -- ---- behind each declaration
 
-    heading_back : {A B : Type 0} (s s' : Scope g.Reported) → ((name : List ℕ) (k : Known g.Reported) → is_settled k ≡ true → find_name name s.own ≡ Some k → find_name name s'.own ≡ Some k) → (y : Decl-F A B) → HeadingFits s'.own y → HeadingFits s.own y
+    heading_back : {A B : Type 0} (s s' : Scope g.Reported)
+        → ((name : List ℕ) (k : Known g.Reported) → is_settled k ≡ true → find_name name s.own ≡ Some k
+        → find_name name s'.own ≡ Some k) → (y : Decl-F A B) → HeadingFits s'.own y → HeadingFits s.own y
     heading_back s s' settled (layer.Constants cs) fits = tt
     heading_back s s' settled (layer.Types ts) fits = tt
     heading_back s s' settled (layer.Variables vs) fits = tt
-    heading_back s s' settled (layer.Procedure h b) fits = λ m t named is. fits m t (settled h.name.name (Headed (Ok m)) refl named) is
+    heading_back s s' settled (layer.Procedure h b) fits =
+        λ m t named is. fits m t (settled h.name.name (Headed (Ok m)) refl named) is
 
     module _ (ends : List ℕ) where
-      fits_along : (ds : List Decl) (c : Course g.Reported) (es : Names g.Reported) → (fold (with_decl g ends) c ds).0.own ≡ es → HeadingsFit es ds → AllFit type_weight g heading_names ends c ds
+      fits_along : (ds : List Decl) (c : Course g.Reported) (es : Names g.Reported)
+          → (fold (with_decl g ends) c ds).0.own ≡ es → HeadingsFit es ds → AllFit type_weight g heading_names ends c ds
       fits_along [] c es e fits = tt
       fits_along (d ∷ ds) c es e fits =
           let next : Course g.Reported = with_decl g ends c d in
           let last : Scope g.Reported = (fold (with_decl g ends) next ds).0 in (
-            heading_back next.0 last (block_changes g ends ds next).keeps.settled (out-Decl d) (subst (λ (ns : Names g.Reported). HeadingFits ns (out-Decl d)) (sym e) fits.0),
+            heading_back next.0 last (block_changes g ends ds next).keeps.settled (out-Decl d)
+                (subst (λ (ns : Names g.Reported). HeadingFits ns (out-Decl d)) (sym e) fits.0),
             fits_along ds next es e fits.1,
           )
 
@@ -161,9 +182,11 @@ module _ (types : Types) where
 
       all_reported : (ds : List Decl) (c : Course g.Reported) → (fold (with_decl g ends) c ds).1 ≡ Ok tt → c.1 ≡ Ok tt
       all_reported [] c e = e
-      all_reported (d ∷ ds) c e = decl_reported g {A = Decl} {B = Block} ends c (out-Decl d) (all_reported ds (with_decl g ends c d) e)
+      all_reported (d ∷ ds) c e = decl_reported g {A = Decl} {B = Block} ends c (out-Decl d)
+          (all_reported ds (with_decl g ends c d) e)
 
-      marks_are : (ds : List Decl) (s : Scope g.Reported) (l : List ℕ) → (fold (with_marks marked_decl) (s, l) ds).0 ≡ marked s ds
+      marks_are : (ds : List Decl) (s : Scope g.Reported) (l : List ℕ)
+          → (fold (with_marks marked_decl) (s, l) ds).0 ≡ marked s ds
       marks_are [] s l = refl
       marks_are (d ∷ ds) s l = marks_are ds (marked_decl s d) (l ++ length s.own ∷ [])
 
@@ -172,21 +195,27 @@ module _ (types : Types) where
         abbrev pub BlockFits : Scope g.Reported → Result (Unit {0}) g.Reported → Type 0
         BlockFits s so_far =
             let c : Course g.Reported = fold (with_decl g ends) (s, so_far, first) ds in
-            c.1 ≡ Ok tt → Within c.0 → HeadingsFit c.0.own ds × AllFit type_weight g heading_names ends (s, so_far, first) ds
+            c.1 ≡ Ok tt → Within c.0 → HeadingsFit c.0.own ds
+            × AllFit type_weight g heading_names ends (s, so_far, first) ds
 
         -- no record is opened
-        pub block_withs : (a : Scope g.Reported) (so_far : Result (Unit {0}) g.Reported) → a.withs ≡ [] → (fold (with_decl g ends) ((fold (with_marks marked_decl) (a, []) ds).0, so_far, first) ds).0.withs ≡ []
+        pub block_withs : (a : Scope g.Reported) (so_far : Result (Unit {0}) g.Reported) → a.withs ≡ []
+            → (fold (with_decl g ends) ((fold (with_marks marked_decl) (a, []) ds).0, so_far, first) ds).0.withs ≡ []
         block_withs a so_far withs =
             (block_changes g ends ds ((fold (with_marks marked_decl) (a, []) ds).0, so_far, first)).keeps.withs
-            ∙ (ap (λ (s : Scope g.Reported). s.withs) (marks_are ds a []) ∙ ((block_marked g ends ds a).keeps.withs ∙ withs))
+            ∙ (ap (λ (s : Scope g.Reported). s.withs) (marks_are ds a [])
+            ∙ ((block_marked g ends ds a).keeps.withs ∙ withs))
 
         marked_fit : (a : Scope g.Reported) → a.withs ≡ [] → BlockFits (marked a ds) (Ok tt)
         marked_fit a withs ok within =
-            let fits : HeadingsFit (declared ends a first withs ds).0.own ds = all_fit ends a first withs ds ok within in
+            let fits : HeadingsFit (declared ends a first withs ds).0.own ds =
+            all_fit ends a first withs ds ok within in
             (fits, fits_along ds (marked a ds, Ok tt, first) (declared ends a first withs ds).0.own refl fits)
 
-        pub block_fits : (a : Scope g.Reported) (so_far : Result (Unit {0}) g.Reported) → a.withs ≡ [] → BlockFits (fold (with_marks marked_decl) (a, []) ds).0 so_far
+        pub block_fits : (a : Scope g.Reported) (so_far : Result (Unit {0}) g.Reported) → a.withs ≡ []
+            → BlockFits (fold (with_marks marked_decl) (a, []) ds).0 so_far
         block_fits a so_far withs =
             subst (λ (s : Scope g.Reported). BlockFits s so_far) (sym (marks_are ds a []))
             (λ ok within.
-            subst (λ (r : Result (Unit {0}) g.Reported). BlockFits (marked a ds) r) (sym (all_reported ds (marked a ds, so_far, first) ok)) (marked_fit a withs) ok within)
+            subst (λ (r : Result (Unit {0}) g.Reported). BlockFits (marked a ds) r)
+            (sym (all_reported ds (marked a ds, so_far, first) ok)) (marked_fit a withs) ok within)

@@ -87,17 +87,22 @@ levels_map code = deepest_map levels_in code
 -- ---- blocks
 
 pub block_levels : (t : Option ValueType) (code : List Instr) → levels_in (instr.Block t code) ≡ 1 + levels code
-block_levels t code = at (instr.Block t code) (layer.Block t code) (instr.outs-Block t code) ∙ ap (λ n. 1 + n) (levels_map code)
+block_levels t code = at (instr.Block t code) (layer.Block t code) (instr.outs-Block t code)
+    ∙ ap (λ n. 1 + n) (levels_map code)
 
 pub loop_levels : (t : Option ValueType) (code : List Instr) → levels_in (instr.Loop t code) ≡ 1 + levels code
-loop_levels t code = at (instr.Loop t code) (layer.Loop t code) (instr.outs-Loop t code) ∙ ap (λ n. 1 + n) (levels_map code)
+loop_levels t code = at (instr.Loop t code) (layer.Loop t code) (instr.outs-Loop t code)
+    ∙ ap (λ n. 1 + n) (levels_map code)
 
 pub if_levels : (t : Option ValueType) (code : List Instr) → levels_in (instr.If t code None) ≡ 1 + (levels code ⊔ 0)
-if_levels t code = at (instr.If t code None) (layer.If t code None) (instr.outs-If t code None) ∙ ap (λ n. 1 + (n ⊔ 0)) (levels_map code)
+if_levels t code = at (instr.If t code None) (layer.If t code None) (instr.outs-If t code None)
+    ∙ ap (λ n. 1 + (n ⊔ 0)) (levels_map code)
 
-pub else_levels : (t : Option ValueType) (code others : List Instr) → levels_in (instr.If t code (Some others)) ≡ 1 + (levels code ⊔ levels others)
+pub else_levels : (t : Option ValueType) (code others : List Instr)
+    → levels_in (instr.If t code (Some others)) ≡ 1 + (levels code ⊔ levels others)
 else_levels t code others =
-    at (instr.If t code (Some others)) (layer.If t code (Some others)) (instr.outs-If t code (Some others)) ∙ ap (λ n. 1 + (n ⊔ deepest (map levels_in others))) (levels_map code)
+    at (instr.If t code (Some others)) (layer.If t code (Some others)) (instr.outs-If t code (Some others))
+    ∙ ap (λ n. 1 + (n ⊔ deepest (map levels_in others))) (levels_map code)
     ∙ ap (λ n. 1 + (levels code ⊔ n)) (levels_map others)
 
 -- ---- code without blocks

@@ -31,7 +31,8 @@ use Rattle.law_encoding.proofs.CodeFits.{both_true}
 
 -- ---- letters and digits
 
-run_case : (s l d q : Bool) → in_run (if s then Space else if l then Letter else if d then Digit else if q then Quote else Other) ≡ true → (l ≡ true) ⊎ (d ≡ true)
+run_case : (s l d q : Bool) → in_run (if s then Space else if l then Letter else if d then Digit else if q then Quote
+    else Other) ≡ true → (l ≡ true) ⊎ (d ≡ true)
 run_case true l d q e = absurd cc
 run_case false true d q e = inl refl
 run_case false false true q e = inr refl
@@ -62,7 +63,8 @@ run_low b e = lt-ltb b 128 (byte_low b (run_case (is_space b) (is_letter b) (is_
 
 bytes_low : (bs : List ℕ) → list_all is_run_byte bs ≡ true → list_all (λ b. nat_lt b 128) bs ≡ true
 bytes_low [] e = refl
-bytes_low (b ∷ bs) e = let both = and_parts (is_run_byte b) (list_all is_run_byte bs) e in both_true _ _ (run_low b both.0) (bytes_low bs both.1)
+bytes_low (b ∷ bs) e = let both = and_parts (is_run_byte b) (list_all is_run_byte bs) e in
+    both_true _ _ (run_low b both.0) (bytes_low bs both.1)
 
 name_low : (w : Text) → IsRun Letter w → list_all (λ b. nat_lt b 128) w ≡ true
 name_low [] h = absurd h
@@ -77,14 +79,16 @@ abbrev AreShort : List Token → Type 0
 AreShort ts = AllByRecursion (λ t. is_short t ≡ true) ts
 
 lexeme_short : (w : Text) (l : Lexeme) → forms.Spells w l → is_short_name (name_said l) ≡ true
-lexeme_short w (lexeme.Name n) h = subst (λ (v : Text). is_short_name v ≡ true) (sym h.3) (both_true _ _ (name_low w h.0) (le-leb (length w) max_name h.1))
+lexeme_short w (lexeme.Name n) h = subst (λ (v : Text). is_short_name v ≡ true) (sym h.3)
+    (both_true _ _ (name_low w h.0) (le-leb (length w) max_name h.1))
 lexeme_short w (lexeme.Number n) h = refl
 lexeme_short w (lexeme.Char c) h = refl
 lexeme_short w (lexeme.Text text) h = refl
 lexeme_short w (lexeme.Symbol s) h = refl
 lexeme_short w lexeme.End h = refl
 
-members_short : (text front : Text) (ms : List Member) (rest : Text) → Divides text ms rest → AreShort (tokens_behind front ms)
+members_short : (text front : Text) (ms : List Member) (rest : Text) → Divides text ms rest
+    → AreShort (tokens_behind front ms)
 members_short text front [] rest h = tt
 members_short text front ((w, None) ∷ ms) rest h = members_short h.0 (front ++ w) ms rest h.4
 members_short text front ((w, Some t) ∷ ms) rest h = (lexeme_short w t h.3, members_short h.0 (front ++ w) ms rest h.4)
@@ -94,7 +98,9 @@ with_end [] t h k = (k, tt)
 with_end (x ∷ ts) t h k = (h.0, with_end ts t h.1 k)
 
 tokens_short : (text : Text) (ts : List Token) → HasTokens text ts → AreShort ts
-tokens_short text ts h = subst (λ (us : List Token). AreShort us) (sym h.2) (with_end (tokens_behind [] h.0) (record { lexeme = lexeme.End; pos = place text }) (members_short text [] h.0 [] h.1) refl)
+tokens_short text ts h = subst (λ (us : List Token). AreShort us) (sym h.2)
+    (with_end (tokens_behind [] h.0) (record { lexeme = lexeme.End; pos = place text })
+    (members_short text [] h.0 [] h.1) refl)
 
 front_short : (ts us : List Token) → AreShort (ts ++ us) → AreShort ts
 front_short [] us h = tt
@@ -118,7 +124,8 @@ NamesIn (either a b) x = EitherFits (NamesIn a) (NamesIn b) x
 NamesIn (maybe a) x = MaybeFits (NamesIn a) x
 NamesIn (list a) x = AllByRecursion (NamesIn a) x
 
-module_named : (x : El (grammar module_rule).shape) → NamesIn (grammar module_rule).shape x → is_short_name (module_of x).name.name ≡ true
+module_named : (x : El (grammar module_rule).shape) → NamesIn (grammar module_rule).shape x
+    → is_short_name (module_of x).name.name ≡ true
 module_named (inl p) h = h.0
 module_named (inr p) h = h.1.0
 
@@ -158,7 +165,8 @@ tree_named set_rule x h = tt
 spelled_named : {a : Ty} {g : Gr a} {x : El a} {ts : List Token} → Spells a g x ts → AreShort ts → NamesIn a x
 spelled_named (one i) h = h.0
 spelled_named (made {r = r} {x = x} d) h = tree_named r x (spelled_named d h)
-spelled_named (pair {ts = ts} {us = us} d c) h = (spelled_named d (front_short ts us h), spelled_named c (rest_short ts us h))
+spelled_named (pair {ts = ts} {us = us} d c) h =
+    (spelled_named d (front_short ts us h), spelled_named c (rest_short ts us h))
 spelled_named (left d) h = spelled_named d h
 spelled_named (right d) h = spelled_named d h
 spelled_named (before k d) h = spelled_named d h.1
@@ -166,17 +174,20 @@ spelled_named (behind {ts = ts} t d k) h = spelled_named d (front_short ts (t �
 spelled_named absent h = tt
 spelled_named (there_is d) h = spelled_named d h
 spelled_named none h = tt
-spelled_named (more {ts = ts} {us = us} d c) h = (spelled_named d (front_short ts us h), spelled_named c (rest_short ts us h))
+spelled_named (more {ts = ts} {us = us} d c) h =
+    (spelled_named d (front_short ts us h), spelled_named c (rest_short ts us h))
 spelled_named (nested d) h = spelled_named d h
 spelled_named (closed {ts = ts} t u k d l) h = (h.0, spelled_named d (front_short ts (u ∷ []) h.1))
 
-pub text_named : (text : List ℕ) (ts : List Token) (m : Module) → HasTokens text ts → IsModule ts m → is_short_name m.name.name ≡ true
+pub text_named : (text : List ℕ) (ts : List Token) (m : Module) → HasTokens text ts → IsModule ts m
+    → is_short_name m.name.name ≡ true
 text_named text ts m t d = spelled_named d (tokens_short text ts t)
 
 -- ---- room
 
 short_parts : (n : List ℕ) → is_short_name n ≡ true → (list_all (λ b. nat_lt b 128) n ≡ true) × (length n ≤ 64)
-short_parts n e = let both = and_parts (list_all (λ b. nat_lt b 128) n) (nat_le (length n) max_name) e in (both.0, leb-true (length n) max_name both.1)
+short_parts n e = let both = and_parts (list_all (λ b. nat_lt b 128) n) (nat_le (length n) max_name) e in
+    (both.0, leb-true (length n) max_name both.1)
 
 short_sum : (n : ℕ) → n ≤ 64 → n < max_bytes
 short_sum n h = omega (arith, h)
@@ -191,15 +202,19 @@ more_sum : (n s k : ℕ) → n ≤ 64 → s ≤ 64 * k → n + s ≤ 64 * suc k
 more_sum n s k h l = omega (arith, h, l)
 
 module _ {A : Type 0} (called : A → List ℕ) where
-  pub all_fit : (xs : List A) → list_all (λ x. is_short_name (called x)) xs ≡ true → list_all (λ x. name.fits (called x)) xs ≡ true
+  pub all_fit : (xs : List A) → list_all (λ x. is_short_name (called x)) xs ≡ true
+      → list_all (λ x. name.fits (called x)) xs ≡ true
   all_fit [] e = refl
-  all_fit (x ∷ xs) e = let both = and_parts (is_short_name (called x)) (list_all (λ y. is_short_name (called y)) xs) e in both_true _ _ (short_fits (called x) both.0) (all_fit xs both.1)
+  all_fit (x ∷ xs) e = let both = and_parts (is_short_name (called x)) (list_all (λ y. is_short_name (called y)) xs) e
+      in both_true _ _ (short_fits (called x) both.0) (all_fit xs both.1)
 
-  pub all_sum : (xs : List A) → list_all (λ x. is_short_name (called x)) xs ≡ true → sum_of (λ x. length (called x)) xs ≤ 64 * length xs
+  pub all_sum : (xs : List A) → list_all (λ x. is_short_name (called x)) xs ≡ true
+      → sum_of (λ x. length (called x)) xs ≤ 64 * length xs
   all_sum [] e = omega arith
   all_sum (x ∷ xs) e =
       let both = and_parts (is_short_name (called x)) (list_all (λ y. is_short_name (called y)) xs) e in
-      more_sum (length (called x)) (sum_of (λ y. length (called y)) xs) (length xs) (short_parts (called x) both.0).1 (all_sum xs both.1)
+      more_sum (length (called x)) (sum_of (λ y. length (called y)) xs) (length xs) (short_parts (called x) both.0).1
+      (all_sum xs both.1)
 
 pub sum_few : (s n : ℕ) → s ≤ 64 * n → n ≤ few_names → s ≤ few_entries
 sum_few s n h l = omega (arith, h, l)
@@ -207,7 +222,8 @@ sum_few s n h l = omega (arith, h, l)
 pub count_few : (n : ℕ) → n ≤ few_names → n ≤ few_entries
 count_few n h = omega (arith, h)
 
-pub names_room : (m : TypedModule) → is_short_name m.name ≡ true → list_all (λ i. is_short_name i.name) m.imports ≡ true → length m.imports ≤ few_names → NamesAreShort m
+pub names_room : (m : TypedModule) → is_short_name m.name ≡ true → list_all (λ i. is_short_name i.name) m.imports ≡ true
+    → length m.imports ≤ few_names → NamesAreShort m
 names_room m own others few = record {
   own = short_fits m.name own;
   own_length = few_sum (length m.name) (short_parts m.name own).1;

@@ -46,7 +46,8 @@ at_decl d x q = fold_out-Decl ℕ ℕ decl_layer block_layer d ∙ ap (λ (y : D
 
 pub at_block : (b : Block) (x : Block-F Decl Block) → out-Block b ≡ x → procedures_block b ≡ block_layer (all_block x)
 unfolding procedures_decl procedures_block
-at_block b x q = fold_out-Block ℕ ℕ decl_layer block_layer b ∙ ap (λ (y : Block-F Decl Block). block_layer (all_block y)) q
+at_block b x q = fold_out-Block ℕ ℕ decl_layer block_layer b
+    ∙ ap (λ (y : Block-F Decl Block). block_layer (all_block y)) q
 
 constants_none : (cs : List Constant) → procedures_decl (decl.Constants cs) ≡ 0
 constants_none cs = at_decl (decl.Constants cs) (dlayer.Constants cs) (outs-Constants cs)
@@ -60,9 +61,11 @@ variables_none vs = at_decl (decl.Variables vs) (dlayer.Variables vs) (outs-Vari
 one_around : (x : Heading) (b : Block) → procedures_decl (decl.Procedure x b) ≡ 1 + procedures_block b
 one_around x b = at_decl (decl.Procedure x b) (dlayer.Procedure x b) (outs-Body x b)
 
-of_block : (ds : List Decl) (body : Option (List Stmt)) → procedures_block (roll-Block (record { decls = ds; body = body })) ≡ deepest_of procedures_decl ds
+of_block : (ds : List Decl) (body : Option (List Stmt))
+    → procedures_block (roll-Block (record { decls = ds; body = body })) ≡ deepest_of procedures_decl ds
 of_block ds body =
-    at_block (roll-Block (record { decls = ds; body = body })) (record { decls = ds; body = body }) (out-roll-Block (record { decls = ds; body = body }))
+    at_block (roll-Block (record { decls = ds; body = body })) (record { decls = ds; body = body })
+    (out-roll-Block (record { decls = ds; body = body }))
     ∙ deepest_map procedures_decl ds
 
 -- ---- what parts of the grammar count
@@ -150,7 +153,8 @@ no_procedure n = omega arith
 module_below : (x : El (grammar module_rule).shape) → Shallow module_rule x
 module_below (inl p) = no_procedure _
 module_below (inr p) =
-    le_by _ _ _ (held_in (is_there p.0) p.1.1.1) (body_below (weight (opt (symbol Implementation)) p.0) _ (procedures_block p.1.1.1))
+    le_by _ _ _ (held_in (is_there p.0) p.1.1.1)
+    (body_below (weight (opt (symbol Implementation)) p.0) _ (procedures_block p.1.1.1))
 
 -- ---- all productions
 
@@ -200,19 +204,24 @@ one_level : (a n : ℕ) → a ≤ n → 1 + a ≤ suc n
 one_level a n h = omega (arith, h)
 
 -- a part that counts has a token
-begins_deep : {a : Ty} (g : Gr a) (x : El a) (ts us : List Token) → Spells a g x ts → nullable g ≡ false → FirstOf g ts → NotDeep (nest g) 0 (ts ++ us) → ⊥
+begins_deep : {a : Ty} (g : Gr a) (x : El a) (ts us : List Token) → Spells a g x ts → nullable g ≡ false → FirstOf g ts
+    → NotDeep (nest g) 0 (ts ++ us) → ⊥
 begins_deep g x [] us p e f h = clash (nullable g) f e
 begins_deep g x (t ∷ ts) us p e f h = h (t ∷ (ts ++ us)) (too_deep (x, ts, p))
 
-pub spelled_below : {a : Ty} {g : Gr a} {x : El a} {ts : List Token} → Spells a g x ts → one_ahead g ≡ true → (n : ℕ) (us : List Token) → NotDeep g n (ts ++ us) → weight g x ≤ n
+pub spelled_below : {a : Ty} {g : Gr a} {x : El a} {ts : List Token} → Spells a g x ts → one_ahead g ≡ true
+    → (n : ℕ) (us : List Token) → NotDeep g n (ts ++ us) → weight g x ≤ n
 spelled_below (one i) l n us h = no_procedure n
-spelled_below (made {r = r} {x = x} d) l n us h = le_trans _ _ _ (shallow r x) (spelled_below d (tabled r).ahead n us (λ at b. h at (in_rule b)))
+spelled_below (made {r = r} {x = x} d) l n us h =
+    le_trans _ _ _ (shallow r x) (spelled_below d (tabled r).ahead n us (λ at b. h at (in_rule b)))
 spelled_below (pair {g = g} {h = k} {ts = ts} {us = vs} d c) l n us h =
     let b = and_both (one_ahead g) _ l in
     let o = and_both (one_ahead k) _ b.1 in
     let all = subst (λ (ws : List Token). NotDeep (g · k) n ws) (append_assoc ts vs us) h in
-    two_texts _ _ n (spelled_below d b.0 n (vs ++ us) (λ at x. all at (in_first x))) (spelled_below c o.0 n us (λ at x. all at (in_second d x)))
-spelled_below (left {g = g} d) l n us h = let b = and_both (one_ahead g) _ l in spelled_below d b.0 n us (λ at x. h at (in_left x))
+    two_texts _ _ n (spelled_below d b.0 n (vs ++ us) (λ at x. all at (in_first x)))
+    (spelled_below c o.0 n us (λ at x. all at (in_second d x)))
+spelled_below (left {g = g} d) l n us h = let b = and_both (one_ahead g) _ l in
+    spelled_below d b.0 n us (λ at x. h at (in_left x))
 spelled_below (right {g = g} {h = k} d) l n us h =
     let b = and_both (one_ahead g) _ l in
     let o = and_both (one_ahead k) _ b.1 in
@@ -223,15 +232,19 @@ spelled_below (behind {k = j} {g = g} {ts = ts} t d i) l n us h =
     let all = subst (λ (ws : List Token). NotDeep (trail g j) n ws) (append_assoc ts (t ∷ []) us) h in
     (spelled_below d b.0 n (t ∷ us) (λ at x. all at (in_front x)))
 spelled_below absent l n us h = no_procedure n
-spelled_below (there_is {g = g} d) l n us h = let b = and_both (one_ahead g) _ l in spelled_below d b.0 n us (λ at x. h at (in_opt x))
+spelled_below (there_is {g = g} d) l n us h = let b = and_both (one_ahead g) _ l in
+    spelled_below d b.0 n us (λ at x. h at (in_opt x))
 spelled_below none l n us h = no_procedure n
 spelled_below (more {g = g} {ts = ts} {us = vs} d c) l n us h =
     let b = and_both (one_ahead g) _ l in
     let all = subst (λ (ws : List Token). NotDeep (many g) n ws) (append_assoc ts vs us) h in
-    two_texts _ _ n (spelled_below d b.0 n (vs ++ us) (λ at x. all at (in_turn_now x))) (spelled_below c l n us (λ at x. all at (in_turn_later d x)))
+    two_texts _ _ n (spelled_below d b.0 n (vs ++ us) (λ at x. all at (in_turn_now x)))
+    (spelled_below c l n us (λ at x. all at (in_turn_later d x)))
 spelled_below (nested {g = g} {x = x} {ts = ts} d) l zero us h =
-    let b = and_both (one_ahead g) _ l in absurd (begins_deep g x ts us d (not_true (nullable g) b.1) (first_of_text d) h)
-spelled_below (nested {g = g} d) l (suc n) us h = let b = and_both (one_ahead g) _ l in one_level _ n (spelled_below d b.0 n us (λ at x. h at (in_nest x)))
+    let b = and_both (one_ahead g) _ l in absurd
+    (begins_deep g x ts us d (not_true (nullable g) b.1) (first_of_text d) h)
+spelled_below (nested {g = g} d) l (suc n) us h = let b = and_both (one_ahead g) _ l in
+    one_level _ n (spelled_below d b.0 n us (λ at x. h at (in_nest x)))
 spelled_below (closed {g = g} {ts = ts} t u k d i) l n us h =
     let b = and_both (one_ahead g) _ l in
     let all = subst (λ (ws : List Token). NotDeep (named g) n (t ∷ ws)) (append_assoc ts (u ∷ []) us) h in
@@ -244,4 +257,6 @@ no_more [] = refl
 no_more (t ∷ ts) = ap (λ (us : List Token). t ∷ us) (no_more ts)
 
 pub tree_below : (ts : List Token) (m : Module) → IsTree ts m → procedures_module m ≤ max_nesting
-tree_below ts m d = spelled_below d.0 refl max_nesting [] (λ at b. d.1 at TooDeep (subst (λ (us : List Token). Breaks (ast module_rule) (rule module_rule) max_nesting us at TooDeep) (no_more ts) b))
+tree_below ts m d = spelled_below d.0 refl max_nesting []
+    (λ at b. d.1 at TooDeep (subst (λ (us : List Token). Breaks (ast module_rule) (rule module_rule) max_nesting us at
+    TooDeep) (no_more ts) b))

@@ -11,7 +11,8 @@ use Rattle.law_encoding.specs.Counted.{AtMost, fine, broken}
 use Rattle.law_encoding.proofs.Sums.{le_trans}
 
 module _ {A B T : Type 0} where
-  pub then_most : {f : A → ℕ} {n : ℕ} {h : B → ℕ} {k : ℕ} {r : Result A T} {q : A → Result B T} → AtMost f n r → ((x : A) → f x ≤ n → AtMost h k (q x)) → AtMost h k (r ▷ q)
+  pub then_most : {f : A → ℕ} {n : ℕ} {h : B → ℕ} {k : ℕ} {r : Result A T} {q : A → Result B T} → AtMost f n r
+      → ((x : A) → f x ≤ n → AtMost h k (q x)) → AtMost h k (r ▷ q)
   then_most (fine x p) c = c x p
   then_most (broken e) c = broken e
 
@@ -20,7 +21,8 @@ at_more {f = f} {n = n} {k = k} l (fine x p) = fine x (le_trans (f x) n k p l)
 at_more l (broken e) = broken e
 
 -- the same of what it makes of it
-pub at_mapped : {A T : Type 0} {f h : A → ℕ} {n k : ℕ} {r : Result A T} → ((x : A) → f x ≤ n → h x ≤ k) → AtMost f n r → AtMost h k r
+pub at_mapped : {A T : Type 0} {f h : A → ℕ} {n k : ℕ} {r : Result A T} → ((x : A) → f x ≤ n → h x ≤ k) → AtMost f n r
+    → AtMost h k r
 at_mapped c (fine x p) = fine x (c x p)
 at_mapped c (broken e) = broken e
 
@@ -28,41 +30,49 @@ module _ (g : Gathers) where
   pub reported_most : {A : Type 0} {f : A → ℕ} {n : ℕ} (at : Pos) (k : Rule) → AtMost f n (report g {A = A} at k)
   reported_most at k = broken _
 
-  pub where_most : {A : Type 0} {f : A → ℕ} {n : ℕ} (q : Bool) (at : Pos) (k : Rule) {r : Result A g.Reported} → AtMost f n r → AtMost f n (reported_where g q at k r)
+  pub where_most : {A : Type 0} {f : A → ℕ} {n : ℕ} (q : Bool) (at : Pos) (k : Rule) {r : Result A g.Reported}
+      → AtMost f n r → AtMost f n (reported_where g q at k r)
   where_most true at k h = broken _
   where_most false at k h = h
 
-  pub refused_most : {A : Type 0} {f : A → ℕ} {n : ℕ} (e : g.Reported) (rest : Result (Unit {0}) g.Reported) → AtMost f n (refusal_beside g {A = A} e rest)
+  pub refused_most : {A : Type 0} {f : A → ℕ} {n : ℕ} (e : g.Reported) (rest : Result (Unit {0}) g.Reported)
+      → AtMost f n (refusal_beside g {A = A} e rest)
   refused_most e (Ok x) = broken e
   refused_most e (Err f) = broken (g.join e f)
 
-  pub reported_beside_most : {A : Type 0} {f : A → ℕ} {n : ℕ} (at : Pos) (k : Rule) (rest : Result (Unit {0}) g.Reported) → AtMost f n (reported_beside g {A = A} at k rest)
+  pub reported_beside_most : {A : Type 0} {f : A → ℕ} {n : ℕ} (at : Pos) (k : Rule)
+      (rest : Result (Unit {0}) g.Reported) → AtMost f n (reported_beside g {A = A} at k rest)
   reported_beside_most at k rest = refused_most (g.one (record { pos = at; number = number_of k })) rest
 
-  pub ahead_most : {A B : Type 0} {f : A → ℕ} {n : ℕ} {h : B → ℕ} {k : ℕ} {r : Result A g.Reported} (rest : Result (Unit {0}) g.Reported) {q : A → Result B g.Reported}
+  pub ahead_most : {A B : Type 0} {f : A → ℕ} {n : ℕ} {h : B → ℕ} {k : ℕ} {r : Result A g.Reported}
+      (rest : Result (Unit {0}) g.Reported) {q : A → Result B g.Reported}
       → AtMost f n r → ((x : A) → f x ≤ n → AtMost h k (q x)) → AtMost h k (ahead g r rest q)
   ahead_most rest (fine x p) c = c x p
   ahead_most rest (broken e) c = refused_most e rest
 
-  pub sort_most : {A : Type 0} {f : A → ℕ} {n : ℕ} (at : Pos) (k : Rule) {r : Result A (Meaningless g.Reported)} → AtMost f n r → AtMost f n (of_sort g at k r)
+  pub sort_most : {A : Type 0} {f : A → ℕ} {n : ℕ} (at : Pos) (k : Rule) {r : Result A (Meaningless g.Reported)}
+      → AtMost f n r → AtMost f n (of_sort g at k r)
   sort_most at k (fine x p) = fine x p
   sort_most at k (broken (Broken e)) = broken e
   sort_most at k (broken (Headless nested e)) = reported_most at k
 
-  pub of_value_most : {A : Type 0} {f : A → ℕ} {n : ℕ} (at : Pos) {r : Result A (Meaningless g.Reported)} → AtMost f n r → AtMost f n (of_value g at r)
+  pub of_value_most : {A : Type 0} {f : A → ℕ} {n : ℕ} (at : Pos) {r : Result A (Meaningless g.Reported)} → AtMost f n r
+      → AtMost f n (of_value g at r)
   of_value_most at (fine x p) = fine x p
   of_value_most at (broken (Broken e)) = broken e
   of_value_most at (broken (Headless true e)) = reported_most at rule.NoProcedureValue
   of_value_most at (broken (Headless false e)) = broken e
 
-  pub sort_of_value_most : {A : Type 0} {f : A → ℕ} {n : ℕ} (at : Pos) (k : Rule) {r : Result A (Meaningless g.Reported)} → AtMost f n r → AtMost f n (of_sort_of_value g at k r)
+  pub sort_of_value_most : {A : Type 0} {f : A → ℕ} {n : ℕ} (at : Pos) (k : Rule)
+      {r : Result A (Meaningless g.Reported)} → AtMost f n r → AtMost f n (of_sort_of_value g at k r)
   sort_of_value_most at k (fine x p) = fine x p
   sort_of_value_most at k (broken (Broken e)) = broken e
   sort_of_value_most at k (broken (Headless true e)) = reported_most at rule.NoProcedureValue
   sort_of_value_most at k (broken (Headless false e)) = reported_most at k
 
 module _ {T : Type 0} where
-  pub of_heading_most : {A : Type 0} {f : A → ℕ} {n : ℕ} {r : Result A (Meaningless T)} → AtMost f n r → AtMost f n (of_heading r)
+  pub of_heading_most : {A : Type 0} {f : A → ℕ} {n : ℕ} {r : Result A (Meaningless T)} → AtMost f n r
+      → AtMost f n (of_heading r)
   of_heading_most (fine x p) = fine x p
   of_heading_most (broken (Broken e)) = broken e
   of_heading_most (broken (Headless nested e)) = broken e

@@ -29,19 +29,25 @@ some n = omega arith
 
 module _ {A : Type 0} (number : ℕ) (p : Format A) where
   -- entries that take at most this number of bytes
-  pub entries_fit : (xs : List A) (n : ℕ) → list_all p.fits xs ≡ true → length xs ≤ n → length (flat_map p.encoding xs) ≤ n → 5 + n < max_bytes → (section number p).fits xs ≡ true
+  pub entries_fit : (xs : List A) (n : ℕ) → list_all p.fits xs ≡ true → length xs ≤ n
+      → length (flat_map p.encoding xs) ≤ n → 5 + n < max_bytes → (section number p).fits xs ≡ true
   entries_fit [] n e h l k = refl
   entries_fit (x ∷ xs) n e h l k =
       let few = lt-ltb (length (x ∷ xs)) max_bytes (few_entries (length (x ∷ xs)) n h k) in
       both_true _ _ (both_true _ _ (lt-ltb 0 (length (x ∷ xs)) (some (length xs))) (both_true _ _ few e))
-      (lt-ltb _ max_bytes (few_in_all _ (length (unsigned.encoding (length (x ∷ xs)))) _ n (length-append (unsigned.encoding (length (x ∷ xs))) (flat_map p.encoding (x ∷ xs))) (unsigned_short (length (x ∷ xs)) few) l k))
+      (lt-ltb _ max_bytes (few_in_all _ (length (unsigned.encoding (length (x ∷ xs)))) _ n
+      (length-append (unsigned.encoding (length (x ∷ xs))) (flat_map p.encoding (x ∷ xs)))
+      (unsigned_short (length (x ∷ xs)) few) l k))
 
-  module _ (size : A → ℕ) (each : (x : A) → 1 ≤ size x) (short : (x : A) → p.fits x ≡ true → length (p.encoding x) ≤ size x) where
+  module _ (size : A → ℕ) (each : (x : A) → 1 ≤ size x)
+      (short : (x : A) → p.fits x ≡ true → length (p.encoding x) ≤ size x) where
     pub all_short : (xs : List A) → list_all p.fits xs ≡ true → length (flat_map p.encoding xs) ≤ sum_of size xs
     all_short [] e = nothing_short
     all_short (x ∷ xs) e =
         let both = and_parts (p.fits x) (list_all p.fits xs) e in
-        one_more _ (length (p.encoding x)) _ (size x) _ (length-append (p.encoding x) (flat_map p.encoding xs)) (short x both.0) (all_short xs both.1)
+        one_more _ (length (p.encoding x)) _ (size x) _ (length-append (p.encoding x) (flat_map p.encoding xs))
+        (short x both.0) (all_short xs both.1)
 
-    pub section_fits : (xs : List A) → list_all p.fits xs ≡ true → 5 + sum_of size xs < max_bytes → (section number p).fits xs ≡ true
+    pub section_fits : (xs : List A) → list_all p.fits xs ≡ true → 5 + sum_of size xs < max_bytes
+        → (section number p).fits xs ≡ true
     section_fits xs e h = entries_fit xs (sum_of size xs) e (length_below size each xs) (all_short xs e) h

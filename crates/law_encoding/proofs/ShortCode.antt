@@ -50,7 +50,8 @@ pub short_load : (c : Scalar) → Short 15 (load_scalar c)
 short_load c = loads _ ▹ short_unless (is_nought (lower c)) (amount _ ▹ computes _ ▹ short_end)
 
 pub short_store : (c : Scalar) → Short 15 (store_scalar c)
-short_store c = short_both (short_unless (is_nought (lower c)) (amount _ ▹ computes _ ▹ short_end)) (stores _ ▹ short_end)
+short_store c = short_both (short_unless (is_nought (lower c)) (amount _ ▹ computes _ ▹ short_end))
+    (stores _ ▹ short_end)
 
 short_load_tree : (t : Ty) → Short 15 (load_tree t)
 short_load_tree (Cell c) = short_load c
@@ -79,11 +80,13 @@ short_in_range (Some s) k = short_checked s.low s.high k
 pub short_in_type : (types : Types) (t : TypeNo) (k : ℕ) → Short 39 (in_type types t k)
 short_in_type types t k = short_in_range (scalar_at types t) k
 
-pub short_taken : (types : Types) (t : TypeNo) (constant : Bool) (of : TypeNo) → Short 39 (check_taken types t constant of)
+pub short_taken : (types : Types) (t : TypeNo) (constant : Bool) (of : TypeNo)
+    → Short 39 (check_taken types t constant of)
 short_taken types t constant of = short_unless (is_free types t constant of) (short_in_type types t 1)
 
 pub short_check_changed : (types : Types) (t : TypeNo) → Short 78 (check_changed types t)
-short_check_changed types t = short_both (short_in_type types (base_of types t) 2) (short_either (is_subrange types t) (short_in_type types t 1) (short_none 39))
+short_check_changed types t = short_both (short_in_type types (base_of types t) 2)
+    (short_either (is_subrange types t) (short_in_type types t 1) (short_none 39))
 
 -- ---- places
 
@@ -125,9 +128,11 @@ short_from_lower None = short_none 12
 short_from_lower (Some s) = short_unless (is_nought s.low) (amount _ ▹ computes _ ▹ short_end)
 
 pub short_element : (types : Types) (t : TypeNo) → Short 65 (element_code types t)
-short_element types t = short_both (short_in_range (index_of types t) 3) (short_both (short_from_lower (index_of types t)) (short_scaled _))
+short_element types t = short_both (short_in_range (index_of types t) 3)
+    (short_both (short_from_lower (index_of types t)) (short_scaled _))
 
-pub short_open_element : (s : Setting) (slot : Slot) (t : TypeNo) → IsNear slot.up → Short 870 (open_element_code s slot t)
+pub short_open_element : (s : Setting) (slot : Slot) (t : TypeNo) → IsNear slot.up
+    → Short 870 (open_element_code s slot t)
 short_open_element s slot t h = amount 0 ▹ short_both (short_high s slot h) (amount 3 ▹ calls _ ▹ short_scaled _)
 
 pub short_global : (m : TypedModule) (v : Variable) → Short 13 (global_code m v)
@@ -159,7 +164,8 @@ pub short_empty : Short 2 empty_code
 short_empty = computes _ ▹ computes _ ▹ short_end
 
 pub short_ord : (types : Types) (t : TypeNo) → Short 39 (ord_check types t)
-short_ord types t = short_either (are_same (base_of types t) integer) (short_checked (pos 0) (pos 2147483647) 1) (short_none 39)
+short_ord types t = short_either (are_same (base_of types t) integer) (short_checked (pos 0) (pos 2147483647) 1)
+    (short_none 39)
 
 pub short_procedure : (m : TypedModule) (f : Procedure) → Short 19 (procedure_code m f)
 short_procedure m f = globals _ ▹ computes _ ▹ amount _ ▹ computes _ ▹ short_end
@@ -171,12 +177,15 @@ pub short_link : (numbered : Numbered) (up : ℕ) → IsNear up → Short 807 (l
 short_link numbered up h = short_both (short_frame up h) (computes _ ▹ short_end)
 
 pub short_module_call : (numbered : Numbered) (m : TypedModule) (f : Procedure) → Short 20 (module_call numbered m f)
-short_module_call numbered m f = short_either (is_own m f.home) (calls _ ▹ short_none 14) (globals _ ▹ short_both (short_raised _) (calls_by _ ▹ short_end))
+short_module_call numbered m f = short_either (is_own m f.home) (calls _ ▹ short_none 14)
+    (globals _ ▹ short_both (short_raised _) (calls_by _ ▹ short_end))
 
-pub short_nested_call : (numbered : Numbered) (m : TypedModule) (f : LocalProcedure) → Short 6 (nested_call numbered m f)
+pub short_nested_call : (numbered : Numbered) (m : TypedModule) (f : LocalProcedure)
+    → Short 6 (nested_call numbered m f)
 short_nested_call numbered m f = calls _ ▹ short_end
 
-pub short_value_call : (numbered : Numbered) (types : Types) (t : ℕ) (heading : TypeNo) → Short 14 (LocalGet t ∷ wrap_word ∷ indirect numbered types heading ∷ [])
+pub short_value_call : (numbered : Numbered) (types : Types) (t : ℕ) (heading : TypeNo)
+    → Short 14 (LocalGet t ∷ wrap_word ∷ indirect numbered types heading ∷ [])
 short_value_call numbered types t heading = gets t ▹ computes _ ▹ calls_by _ ▹ short_end
 
 -- ---- statements
@@ -189,7 +198,8 @@ one_label n = omega arith
 
 short_labels : (t : ℕ) (labels : List Label) → Short (36 * length labels) (flat_map (label_code t) labels)
 short_labels t [] = short_none _
-short_labels t (x ∷ labels) = short_more (one_label (length labels)) (short_both (short_label t x) (short_labels t labels))
+short_labels t (x ∷ labels) = short_more (one_label (length labels))
+    (short_both (short_label t x) (short_labels t labels))
 
 pub short_tests : (t : ℕ) (labels : List Label) → Short (36 * length labels + 6) (tests_code t labels)
 short_tests t labels = short_both (short_labels t labels) (jumps 1 ▹ short_end)
@@ -204,10 +214,12 @@ all_targets arms low span = length-map-range_with_len (λ k. target arms (low +�
 table_bytes : (n span : ℕ) → n ≡ span → span ≤ 1024 → 18 + (11 + (1 + (6 + (18 + (1 + (11 + 5 * n + 0)))))) ≤ 5186
 table_bytes n span e h = omega (arith, e, h)
 
-pub short_dispatch : (t : ℕ) (arms : List Arm) (low : ℤ) (span : ℕ) → span ≤ 1024 → Short 5186 (dispatch t arms low span)
+pub short_dispatch : (t : ℕ) (arms : List Arm) (low : ℤ) (span : ℕ) → span ≤ 1024
+    → Short 5186 (dispatch t arms low span)
 short_dispatch t arms low span h =
     short_more (table_bytes (length (targets arms low span)) span (all_targets arms low span) h)
-    (short_both (short_from_least t low) (amount _ ▹ computes _ ▹ jumps_if _ ▹ short_both (short_from_least t low) (computes _ ▹ jumps_by _ _ ▹ short_end)))
+    (short_both (short_from_least t low) (amount _ ▹ computes _ ▹ jumps_if _ ▹ short_both (short_from_least t low)
+    (computes _ ▹ jumps_by _ _ ▹ short_end)))
 
 short_read_again : (w : ℕ) (types : Types) (t : TypeNo) → Short 27 (read_again w types t)
 short_read_again w types t = gets w ▹ gets w ▹ short_loaded types t
@@ -217,14 +229,17 @@ one_operation change.Increase = computes _
 one_operation change.Decrease = computes _
 
 pub short_changed : (o : Change) (w n : ℕ) (types : Types) (t : TypeNo) → Short 127 (change_instructions o w n types t)
-short_changed o w n types t = short_both (short_read_again w types t) (gets n ▹ one_operation o ▹ short_both (short_check_changed types t) (short_stored types t))
+short_changed o w n types t = short_both (short_read_again w types t)
+    (gets n ▹ one_operation o ▹ short_both (short_check_changed types t) (short_stored types t))
 
 short_member : (o : Membership) → Short 13 (member_operation o)
 short_member member.Include = computes _ ▹ short_none 12
 short_member member.Exclude = short_both short_complement (computes _ ▹ short_end)
 
 pub short_with_member : (o : Membership) (w n : ℕ) (types : Types) → Short 73 (with_member o w n types)
-short_with_member o w n types = short_both (short_read_again w types bitset) (amount 1 ▹ gets n ▹ computes _ ▹ short_both (short_member o) (short_stored types bitset))
+short_with_member o w n types = short_both (short_read_again w types bitset)
+    (amount 1 ▹ gets n ▹ computes _ ▹ short_both (short_member o) (short_stored types bitset))
 
 pub short_copied : (at bytes rest w : ℕ) → Short 50 (text_copied at bytes rest w)
-short_copied at bytes rest w = short_both (short_text at) (address _ ▹ calls _ ▹ gets w ▹ short_both (short_raised bytes) (address _ ▹ calls _ ▹ short_end))
+short_copied at bytes rest w = short_both (short_text at)
+    (address _ ▹ calls _ ▹ gets w ▹ short_both (short_raised bytes) (address _ ▹ calls _ ▹ short_end))

@@ -45,12 +45,14 @@ plain_most a k h = omega (arith, h)
 pub plain_costs : {k : ℕ} {code : List Instr} → Short k code → Costs 0 k (plain code)
 plain_costs {k} {code} p = record { at_most = λ s c. plain_most (bytes code) k p.at_most }
 
-both_most : (m a b n k u v : ℕ) → m ≡ a + b → a ≤ unit_bytes * n + u → b ≤ unit_bytes * k + v → m ≤ unit_bytes * (n + k) + (u + v)
+both_most : (m a b n k u v : ℕ) → m ≡ a + b → a ≤ unit_bytes * n + u → b ≤ unit_bytes * k + v
+    → m ≤ unit_bytes * (n + k) + (u + v)
 both_most m a b n k u v e h l = omega (arith, e, h, l)
 
 pub both_cost : {n k u v : ℕ} {x y : Coded} → Costs n u x → Costs k v y → Costs (n + k) (u + v) (x ⨾ y)
 both_cost {n} {k} {u} {v} {x} {y} p q = record {
-  at_most = λ s c. both_most _ (bytes (x s c).0) (bytes (y s (x s c).1).0) n k u v (bytes_append (x s c).0 (y s (x s c).1).0) (p.at_most s c) (q.at_most s (x s c).1);
+  at_most = λ s c. both_most _ (bytes (x s c).0) (bytes (y s (x s c).1).0) n k u v
+      (bytes_append (x s c).0 (y s (x s c).1).0) (p.at_most s c) (q.at_most s (x s c).1);
 }
 
 fewer : (a n k u v : ℕ) → n ≤ k → u ≤ v → a ≤ unit_bytes * n + u → a ≤ unit_bytes * k + v
@@ -61,7 +63,10 @@ settled : (a n k u j : ℕ) → u ≤ unit_bytes * j → j + n ≤ k → a ≤ u
 settled a n k u j h l p = omega (arith, h, l, p)
 
 pub settles : (j : ℕ) {n k u : ℕ} {x : Coded} → nat_le u (unit_bytes * j) ≡ true → j + n ≤ k → Costs n u x → Costs k 0 x
-settles j {n} {k} {u} e l p = record { at_most = λ s c. settled _ n k u j (leb-true u (unit_bytes * j) e) l (p.at_most s c) }
+settles j {n} {k} {u} e l p = record {
+  at_most =
+      λ s c. settled _ n k u j (leb-true u (unit_bytes * j) e) l (p.at_most s c);
+}
 
 pub costs_more : {n k u : ℕ} {x : Coded} → n ≤ k → Costs n u x → Costs k u x
 costs_more {n} {k} {u} l p = record { at_most = λ s c. fewer _ n k u u l (itself u) (p.at_most s c) } where
@@ -69,9 +74,10 @@ costs_more {n} {k} {u} l p = record { at_most = λ s c. fewer _ n k u u l (itsel
   itself m = omega arith
 
 pub extra_costs : {n u v : ℕ} {x : Coded} → nat_le u v ≡ true → Costs n u x → Costs n v x
-extra_costs {n} {u} {v} e p = record { at_most = λ s c. fewer _ n n u v (itself n) (leb-true u v e) (p.at_most s c) } where
-  itself : (m : ℕ) → m ≤ m
-  itself m = omega arith
+extra_costs {n} {u} {v} e p = record { at_most = λ s c. fewer _ n n u v (itself n) (leb-true u v e) (p.at_most s c) }
+  where
+    itself : (m : ℕ) → m ≤ m
+    itself m = omega arith
 
 -- in blocks, which take so many bytes more
 abbrev pub Wraps : (w : ℕ) → (List Instr → List Instr) → Type 0
@@ -80,17 +86,25 @@ Wraps w wrap = (code : List Instr) → bytes (wrap code) ≤ bytes code + w
 pub wrapped_most : (m a n u w : ℕ) → m ≤ a + w → a ≤ unit_bytes * n + u → m ≤ unit_bytes * n + (u + w)
 wrapped_most m a n u w h l = omega (arith, h, l)
 
-pub within_costs : {n u : ℕ} (w labels : ℕ) (wrap : List Instr → List Instr) {x : Coded} → Wraps w wrap → Costs n u x → Costs n (u + w) (within labels wrap x)
-within_costs {n} {u} w labels wrap h p = record { at_most = λ s c. wrapped_most _ _ n u w (h _) (p.at_most (record s { exit = s.exit + labels }) c) }
+pub within_costs : {n u : ℕ} (w labels : ℕ) (wrap : List Instr → List Instr) {x : Coded} → Wraps w wrap → Costs n u x
+    → Costs n (u + w) (within labels wrap x)
+within_costs {n} {u} w labels wrap h p =
+    record { at_most = λ s c. wrapped_most _ _ n u w (h _) (p.at_most (record s { exit = s.exit + labels }) c) }
 
 pub setting_costs : {n u : ℕ} {f : Setting → Coded} → ((s : Setting) → Costs n u (f s)) → Costs n u (with_setting f)
 setting_costs p = record { at_most = λ s c. (p s).at_most s c }
 
 pub number_costs : {n u : ℕ} {f : ℕ → Coded} → ((t : ℕ) → Costs n u (f t)) → Costs n u (with_number f)
-number_costs p = record { at_most = λ s c. (p (number_local s c.numbers)).at_most s (record c { numbers = suc c.numbers }) }
+number_costs p = record {
+  at_most = λ s c. (p (number_local s c.numbers)).at_most s
+      (record c { numbers = suc c.numbers });
+}
 
 pub address_costs : {n u : ℕ} {f : ℕ → Coded} → ((t : ℕ) → Costs n u (f t)) → Costs n u (with_address f)
-address_costs p = record { at_most = λ s c. (p (address_local s c.addresses)).at_most s (record c { addresses = suc c.addresses }) }
+address_costs p = record {
+  at_most = λ s c. (p (address_local s c.addresses)).at_most s
+      (record c { addresses = suc c.addresses });
+}
 
 pub text_costs : {n u : ℕ} (length : ℕ) {f : ℕ → Coded} → ((t : ℕ) → Costs n u (f t)) → Costs n u (with_text length f)
 text_costs length p = record { at_most = λ s c. (p c.texts).at_most s (record c { texts = c.texts + length }) }
@@ -115,17 +129,35 @@ behind_most m a b n u v e h l = omega (arith, e, h, l)
 before_most : (m a b n u v : ℕ) → m ≡ b + a → a ≤ unit_bytes * n + u → b ≤ v → m ≤ unit_bytes * n + (v + u)
 before_most m a b n u v e h l = omega (arith, e, h, l)
 
-pub then_setting : {n u v : ℕ} {x : Coded} {f : Setting → List Instr} → ((s : Setting) → Short v (f s)) → Costs n u x → Costs n (u + v) (x ⨾ with_setting (λ s. plain (f s)))
-then_setting {n} {u} {v} {x} {f} h p = record { at_most = λ s c. behind_most _ (bytes (x s c).0) (bytes (f s)) n u v (bytes_append (x s c).0 (f s)) (p.at_most s c) (h s).at_most }
+pub then_setting : {n u v : ℕ} {x : Coded} {f : Setting → List Instr} → ((s : Setting) → Short v (f s)) → Costs n u x
+    → Costs n (u + v) (x ⨾ with_setting (λ s. plain (f s)))
+then_setting {n} {u} {v} {x} {f} h p = record {
+  at_most =
+      λ s c. behind_most _ (bytes (x s c).0) (bytes (f s)) n u v (bytes_append (x s c).0 (f s)) (p.at_most s c)
+      (h s).at_most;
+}
 
-pub then_plain : {n u v : ℕ} {x : Coded} {code : List Instr} → Short v code → Costs n u x → Costs n (u + v) (x ⨾ plain code)
-then_plain {n} {u} {v} {x} {code} h p = record { at_most = λ s c. behind_most _ (bytes (x s c).0) (bytes code) n u v (bytes_append (x s c).0 code) (p.at_most s c) h.at_most }
+pub then_plain : {n u v : ℕ} {x : Coded} {code : List Instr} → Short v code → Costs n u x
+    → Costs n (u + v) (x ⨾ plain code)
+then_plain {n} {u} {v} {x} {code} h p = record {
+  at_most =
+      λ s c. behind_most _ (bytes (x s c).0) (bytes code) n u v (bytes_append (x s c).0 code) (p.at_most s c) h.at_most;
+}
 
-pub setting_then : {n u v : ℕ} {x : Coded} {f : Setting → List Instr} → ((s : Setting) → Short v (f s)) → Costs n u x → Costs n (v + u) (with_setting (λ s. plain (f s)) ⨾ x)
-setting_then {n} {u} {v} {x} {f} h p = record { at_most = λ s c. before_most _ (bytes (x s c).0) (bytes (f s)) n u v (bytes_append (f s) (x s c).0) (p.at_most s c) (h s).at_most }
+pub setting_then : {n u v : ℕ} {x : Coded} {f : Setting → List Instr} → ((s : Setting) → Short v (f s)) → Costs n u x
+    → Costs n (v + u) (with_setting (λ s. plain (f s)) ⨾ x)
+setting_then {n} {u} {v} {x} {f} h p = record {
+  at_most =
+      λ s c. before_most _ (bytes (x s c).0) (bytes (f s)) n u v (bytes_append (f s) (x s c).0) (p.at_most s c)
+      (h s).at_most;
+}
 
-pub plain_then : {n u v : ℕ} {x : Coded} {code : List Instr} → Short v code → Costs n u x → Costs n (v + u) (plain code ⨾ x)
-plain_then {n} {u} {v} {x} {code} h p = record { at_most = λ s c. before_most _ (bytes (x s c).0) (bytes code) n u v (bytes_append code (x s c).0) (p.at_most s c) h.at_most }
+pub plain_then : {n u v : ℕ} {x : Coded} {code : List Instr} → Short v code → Costs n u x
+    → Costs n (v + u) (plain code ⨾ x)
+plain_then {n} {u} {v} {x} {code} h p = record {
+  at_most =
+      λ s c. before_most _ (bytes (x s c).0) (bytes code) n u v (bytes_append code (x s c).0) (p.at_most s c) h.at_most;
+}
 
 -- ---- an if
 
@@ -145,10 +177,12 @@ constant_bytes : (n : ℕ) → Short 11 (I64Const n ∷ [])
 constant_bytes n = amount n ▹ short_end
 
 and_wraps : Wraps 15 (λ code. chosen_number code (I64Const 0 ∷ []) ∷ [])
-and_wraps code = alone _ _ (beside_constant _ (bytes code) (bytes (I64Const 0 ∷ [])) (else_bytes (Some type.I64) code (I64Const 0 ∷ [])) (constant_bytes 0).at_most)
+and_wraps code = alone _ _ (beside_constant _ (bytes code) (bytes (I64Const 0 ∷ []))
+    (else_bytes (Some type.I64) code (I64Const 0 ∷ [])) (constant_bytes 0).at_most)
 
 or_wraps : Wraps 15 (λ code. chosen_number (I64Const 1 ∷ []) code ∷ [])
-or_wraps code = alone _ _ (behind_constant _ (bytes code) (bytes (I64Const 1 ∷ [])) (else_bytes (Some type.I64) (I64Const 1 ∷ []) code) (constant_bytes 1).at_most)
+or_wraps code = alone _ _ (behind_constant _ (bytes code) (bytes (I64Const 1 ∷ []))
+    (else_bytes (Some type.I64) (I64Const 1 ∷ []) code) (constant_bytes 1).at_most)
 
 -- ---- expressions
 
@@ -162,7 +196,8 @@ root_costs (root.With k) h = extra_costs refl (setting_costs (λ s. plain_costs 
 pub own : (n : ℕ) → 1 + n ≤ 1 + n
 own n = omega arith
 
-include_costs : {n k : ℕ} (o : Inclusion) {x y : Coded} → Costs n 0 x → Costs k 0 y → Costs (n + k) 15 (include_code o x y)
+include_costs : {n k : ℕ} (o : Inclusion) {x y : Coded} → Costs n 0 x → Costs k 0 y
+    → Costs (n + k) 15 (include_code o x y)
 include_costs inclusion.Within p q = both_cost p (then_plain (short_both short_complement (computes _ ▹ short_empty)) q)
 include_costs inclusion.Around p q = both_cost p (plain_then short_complement (then_plain (computes _ ▹ short_empty) q))
 
@@ -170,19 +205,22 @@ short_in : (t : ℕ) → Short 19 (LocalGet t ∷ operation ShrU ∷ I64Const 1 
 short_in t = gets t ▹ computes _ ▹ amount 1 ▹ computes _ ▹ short_end
 
 in_costs : {n k : ℕ} {x y : Coded} → Costs n 0 x → Costs k 0 y → Costs (n + k) 64 (in_code x y)
-in_costs p q = both_cost p (plain_then (short_checked (pos 0) (pos 31) 1) (number_costs (λ t. plain_then (sets t ▹ short_end) (then_plain (short_in t) q))))
+in_costs p q = both_cost p (plain_then (short_checked (pos 0) (pos 31) 1)
+    (number_costs (λ t. plain_then (sets t ▹ short_end) (then_plain (short_in t) q))))
 
 short_absolute : (t : ℕ) → Short 91 (absolute_code t)
 short_absolute t =
     sets t ▹ gets t ▹ amount 0 ▹ computes _
-    ▹ short_if (amount 0 ▹ gets t ▹ computes _ ▹ short_end) (gets t ▹ short_end) (short_checked (pos 0) (pos 2147483647) 2)
+    ▹ short_if (amount 0 ▹ gets t ▹ computes _ ▹ short_end) (gets t ▹ short_end)
+    (short_checked (pos 0) (pos 2147483647) 2)
 
 short_capital : (t : ℕ) → Short 64 (capital_code t)
 short_capital t =
     sets t ▹ gets t ▹ amount 97 ▹ computes _ ▹ amount 25 ▹ computes _
     ▹ short_if (gets t ▹ amount 32 ▹ computes _ ▹ short_end) (gets t ▹ short_end) short_end
 
-abs_by : (b : Bool) {n : ℕ} {x : Coded} (f : ℕ → List Instr) → ((t : ℕ) → Short 91 (f t)) → Costs n 0 x → Costs n 91 (if b then x ⨾ with_number (λ t. plain (f t)) else x)
+abs_by : (b : Bool) {n : ℕ} {x : Coded} (f : ℕ → List Instr) → ((t : ℕ) → Short 91 (f t)) → Costs n 0 x
+    → Costs n 91 (if b then x ⨾ with_number (λ t. plain (f t)) else x)
 abs_by true {n} f h p = costs_more (no_more n) (both_cost p (number_costs (λ t. plain_costs (h t)))) where
   no_more : (k : ℕ) → k + 0 ≤ k
   no_more k = omega arith
@@ -200,55 +238,86 @@ second_near a b h = omega (arith, h)
 
 module _ (numbered : Numbered) where
   abbrev of_argument : Argument → Coded
-  of_argument = fold-Argument Coded Coded Coded Linked Part Coded argument_layer (call_layer numbered) component_layer link_layer expr_layer place_layer
+  of_argument = fold-Argument Coded Coded Coded Linked Part Coded argument_layer (call_layer numbered) component_layer
+      link_layer expr_layer place_layer
 
   abbrev of_component : Component → Coded
-  of_component = fold-Component Coded Coded Coded Linked Part Coded argument_layer (call_layer numbered) component_layer link_layer expr_layer place_layer
+  of_component = fold-Component Coded Coded Coded Linked Part Coded argument_layer (call_layer numbered) component_layer
+      link_layer expr_layer place_layer
 
   abbrev of_link : Link → Linked
-  of_link = fold-Link Coded Coded Coded Linked Part Coded argument_layer (call_layer numbered) component_layer link_layer expr_layer place_layer
+  of_link = fold-Link Coded Coded Coded Linked Part Coded argument_layer (call_layer numbered) component_layer
+      link_layer expr_layer place_layer
 
-  abbrev opened_argument : Argument-F Argument Call Component Link TypedExpr Place → Argument-F Coded Coded Coded Linked Part Coded
-  opened_argument x = map-Argument Argument Call Component Link TypedExpr Place Coded Coded Coded Linked Part Coded of_argument (call_code numbered) of_component of_link (expr_part numbered) (place_code numbered) x
+  abbrev opened_argument : Argument-F Argument Call Component Link TypedExpr Place
+      → Argument-F Coded Coded Coded Linked Part Coded
+  opened_argument x = map-Argument Argument Call Component Link TypedExpr Place Coded Coded Coded Linked Part Coded
+      of_argument (call_code numbered) of_component of_link (expr_part numbered) (place_code numbered) x
 
-  at_argument : (e : Argument) (x : Argument-F Argument Call Component Link TypedExpr Place) → out-Argument e ≡ x → of_argument e ≡ argument_layer (opened_argument x)
+  at_argument : (e : Argument) (x : Argument-F Argument Call Component Link TypedExpr Place) → out-Argument e ≡ x
+      → of_argument e ≡ argument_layer (opened_argument x)
   unfolding expr_part place_code call_code
-  at_argument e x h = fold_out-Argument Coded Coded Coded Linked Part Coded argument_layer (call_layer numbered) component_layer link_layer expr_layer place_layer e ∙ ap (λ (y : Argument-F Argument Call Component Link TypedExpr Place). argument_layer (opened_argument y)) h
+  at_argument e x h = fold_out-Argument Coded Coded Coded Linked Part Coded argument_layer (call_layer numbered)
+      component_layer link_layer expr_layer place_layer e
+      ∙ ap (λ (y : Argument-F Argument Call Component Link TypedExpr Place). argument_layer (opened_argument y)) h
 
   abbrev opened_call : Call-F Argument Call Component Link TypedExpr Place → Call-F Coded Coded Coded Linked Part Coded
-  opened_call x = map-Call Argument Call Component Link TypedExpr Place Coded Coded Coded Linked Part Coded of_argument (call_code numbered) of_component of_link (expr_part numbered) (place_code numbered) x
+  opened_call x = map-Call Argument Call Component Link TypedExpr Place Coded Coded Coded Linked Part Coded of_argument
+      (call_code numbered) of_component of_link (expr_part numbered) (place_code numbered) x
 
-  at_call : (e : Call) (x : Call-F Argument Call Component Link TypedExpr Place) → out-Call e ≡ x → call_code numbered e ≡ call_layer numbered (opened_call x)
+  at_call : (e : Call) (x : Call-F Argument Call Component Link TypedExpr Place) → out-Call e ≡ x
+      → call_code numbered e ≡ call_layer numbered (opened_call x)
   unfolding expr_part place_code call_code
-  at_call e x h = fold_out-Call Coded Coded Coded Linked Part Coded argument_layer (call_layer numbered) component_layer link_layer expr_layer place_layer e ∙ ap (λ (y : Call-F Argument Call Component Link TypedExpr Place). call_layer numbered (opened_call y)) h
+  at_call e x h = fold_out-Call Coded Coded Coded Linked Part Coded argument_layer (call_layer numbered) component_layer
+      link_layer expr_layer place_layer e ∙ ap
+      (λ (y : Call-F Argument Call Component Link TypedExpr Place). call_layer numbered (opened_call y)) h
 
-  abbrev opened_component : Component-F Argument Call Component Link TypedExpr Place → Component-F Coded Coded Coded Linked Part Coded
-  opened_component x = map-Component Argument Call Component Link TypedExpr Place Coded Coded Coded Linked Part Coded of_argument (call_code numbered) of_component of_link (expr_part numbered) (place_code numbered) x
+  abbrev opened_component : Component-F Argument Call Component Link TypedExpr Place
+      → Component-F Coded Coded Coded Linked Part Coded
+  opened_component x = map-Component Argument Call Component Link TypedExpr Place Coded Coded Coded Linked Part Coded
+      of_argument (call_code numbered) of_component of_link (expr_part numbered) (place_code numbered) x
 
-  at_component : (e : Component) (x : Component-F Argument Call Component Link TypedExpr Place) → out-Component e ≡ x → of_component e ≡ component_layer (opened_component x)
+  at_component : (e : Component) (x : Component-F Argument Call Component Link TypedExpr Place) → out-Component e ≡ x
+      → of_component e ≡ component_layer (opened_component x)
   unfolding expr_part place_code call_code
-  at_component e x h = fold_out-Component Coded Coded Coded Linked Part Coded argument_layer (call_layer numbered) component_layer link_layer expr_layer place_layer e ∙ ap (λ (y : Component-F Argument Call Component Link TypedExpr Place). component_layer (opened_component y)) h
+  at_component e x h = fold_out-Component Coded Coded Coded Linked Part Coded argument_layer (call_layer numbered)
+      component_layer link_layer expr_layer place_layer e
+      ∙ ap (λ (y : Component-F Argument Call Component Link TypedExpr Place). component_layer (opened_component y)) h
 
   abbrev opened_link : Link-F Argument Call Component Link TypedExpr Place → Link-F Coded Coded Coded Linked Part Coded
-  opened_link x = map-Link Argument Call Component Link TypedExpr Place Coded Coded Coded Linked Part Coded of_argument (call_code numbered) of_component of_link (expr_part numbered) (place_code numbered) x
+  opened_link x = map-Link Argument Call Component Link TypedExpr Place Coded Coded Coded Linked Part Coded of_argument
+      (call_code numbered) of_component of_link (expr_part numbered) (place_code numbered) x
 
-  at_link : (e : Link) (x : Link-F Argument Call Component Link TypedExpr Place) → out-Link e ≡ x → of_link e ≡ link_layer (opened_link x)
+  at_link : (e : Link) (x : Link-F Argument Call Component Link TypedExpr Place) → out-Link e ≡ x
+      → of_link e ≡ link_layer (opened_link x)
   unfolding expr_part place_code call_code
-  at_link e x h = fold_out-Link Coded Coded Coded Linked Part Coded argument_layer (call_layer numbered) component_layer link_layer expr_layer place_layer e ∙ ap (λ (y : Link-F Argument Call Component Link TypedExpr Place). link_layer (opened_link y)) h
+  at_link e x h = fold_out-Link Coded Coded Coded Linked Part Coded argument_layer (call_layer numbered) component_layer
+      link_layer expr_layer place_layer e ∙ ap
+      (λ (y : Link-F Argument Call Component Link TypedExpr Place). link_layer (opened_link y)) h
 
-  abbrev opened_expr : TypedExpr-F Argument Call Component Link TypedExpr Place → TypedExpr-F Coded Coded Coded Linked Part Coded
-  opened_expr x = map-TypedExpr Argument Call Component Link TypedExpr Place Coded Coded Coded Linked Part Coded of_argument (call_code numbered) of_component of_link (expr_part numbered) (place_code numbered) x
+  abbrev opened_expr : TypedExpr-F Argument Call Component Link TypedExpr Place
+      → TypedExpr-F Coded Coded Coded Linked Part Coded
+  opened_expr x = map-TypedExpr Argument Call Component Link TypedExpr Place Coded Coded Coded Linked Part Coded
+      of_argument (call_code numbered) of_component of_link (expr_part numbered) (place_code numbered) x
 
-  at_expr : (e : TypedExpr) (x : TypedExpr-F Argument Call Component Link TypedExpr Place) → out-TypedExpr e ≡ x → expr_part numbered e ≡ expr_layer (opened_expr x)
+  at_expr : (e : TypedExpr) (x : TypedExpr-F Argument Call Component Link TypedExpr Place) → out-TypedExpr e ≡ x
+      → expr_part numbered e ≡ expr_layer (opened_expr x)
   unfolding expr_part place_code call_code
-  at_expr e x h = fold_out-TypedExpr Coded Coded Coded Linked Part Coded argument_layer (call_layer numbered) component_layer link_layer expr_layer place_layer e ∙ ap (λ (y : TypedExpr-F Argument Call Component Link TypedExpr Place). expr_layer (opened_expr y)) h
+  at_expr e x h = fold_out-TypedExpr Coded Coded Coded Linked Part Coded argument_layer (call_layer numbered)
+      component_layer link_layer expr_layer place_layer e
+      ∙ ap (λ (y : TypedExpr-F Argument Call Component Link TypedExpr Place). expr_layer (opened_expr y)) h
 
-  abbrev opened_place : Place-F Argument Call Component Link TypedExpr Place → Place-F Coded Coded Coded Linked Part Coded
-  opened_place x = map-Place Argument Call Component Link TypedExpr Place Coded Coded Coded Linked Part Coded of_argument (call_code numbered) of_component of_link (expr_part numbered) (place_code numbered) x
+  abbrev opened_place : Place-F Argument Call Component Link TypedExpr Place
+      → Place-F Coded Coded Coded Linked Part Coded
+  opened_place x = map-Place Argument Call Component Link TypedExpr Place Coded Coded Coded Linked Part Coded
+      of_argument (call_code numbered) of_component of_link (expr_part numbered) (place_code numbered) x
 
-  at_place : (e : Place) (x : Place-F Argument Call Component Link TypedExpr Place) → out-Place e ≡ x → place_code numbered e ≡ place_layer (opened_place x)
+  at_place : (e : Place) (x : Place-F Argument Call Component Link TypedExpr Place) → out-Place e ≡ x
+      → place_code numbered e ≡ place_layer (opened_place x)
   unfolding expr_part place_code call_code
-  at_place e x h = fold_out-Place Coded Coded Coded Linked Part Coded argument_layer (call_layer numbered) component_layer link_layer expr_layer place_layer e ∙ ap (λ (y : Place-F Argument Call Component Link TypedExpr Place). place_layer (opened_place y)) h
+  at_place e x h = fold_out-Place Coded Coded Coded Linked Part Coded argument_layer (call_layer numbered)
+      component_layer link_layer expr_layer place_layer e
+      ∙ ap (λ (y : Place-F Argument Call Component Link TypedExpr Place). place_layer (opened_place y)) h
 
   abbrev PA : Argument → Type 0
   PA e = IsNear (outward_passed e) → Costs (size_passed e) 0 (of_argument e)
@@ -287,22 +356,28 @@ module _ (numbered : Numbered) where
   SP = (e : Place) × PP e
 
   abbrev bare_argument : Argument-F SA SC SK SL SE SP → Argument-F Argument Call Component Link TypedExpr Place
-  bare_argument x = map-Argument SA SC SK SL SE SP Argument Call Component Link TypedExpr Place (λ e. e.0) (λ e. e.0) (λ e. e.0) (λ e. e.0) (λ e. e.0) (λ e. e.0) x
+  bare_argument x = map-Argument SA SC SK SL SE SP Argument Call Component Link TypedExpr Place (λ e. e.0) (λ e. e.0)
+      (λ e. e.0) (λ e. e.0) (λ e. e.0) (λ e. e.0) x
 
   abbrev bare_call : Call-F SA SC SK SL SE SP → Call-F Argument Call Component Link TypedExpr Place
-  bare_call x = map-Call SA SC SK SL SE SP Argument Call Component Link TypedExpr Place (λ e. e.0) (λ e. e.0) (λ e. e.0) (λ e. e.0) (λ e. e.0) (λ e. e.0) x
+  bare_call x = map-Call SA SC SK SL SE SP Argument Call Component Link TypedExpr Place (λ e. e.0) (λ e. e.0) (λ e. e.0)
+      (λ e. e.0) (λ e. e.0) (λ e. e.0) x
 
   abbrev bare_component : Component-F SA SC SK SL SE SP → Component-F Argument Call Component Link TypedExpr Place
-  bare_component x = map-Component SA SC SK SL SE SP Argument Call Component Link TypedExpr Place (λ e. e.0) (λ e. e.0) (λ e. e.0) (λ e. e.0) (λ e. e.0) (λ e. e.0) x
+  bare_component x = map-Component SA SC SK SL SE SP Argument Call Component Link TypedExpr Place (λ e. e.0) (λ e. e.0)
+      (λ e. e.0) (λ e. e.0) (λ e. e.0) (λ e. e.0) x
 
   abbrev bare_link : Link-F SA SC SK SL SE SP → Link-F Argument Call Component Link TypedExpr Place
-  bare_link x = map-Link SA SC SK SL SE SP Argument Call Component Link TypedExpr Place (λ e. e.0) (λ e. e.0) (λ e. e.0) (λ e. e.0) (λ e. e.0) (λ e. e.0) x
+  bare_link x = map-Link SA SC SK SL SE SP Argument Call Component Link TypedExpr Place (λ e. e.0) (λ e. e.0) (λ e. e.0)
+      (λ e. e.0) (λ e. e.0) (λ e. e.0) x
 
   abbrev bare_expr : TypedExpr-F SA SC SK SL SE SP → TypedExpr-F Argument Call Component Link TypedExpr Place
-  bare_expr x = map-TypedExpr SA SC SK SL SE SP Argument Call Component Link TypedExpr Place (λ e. e.0) (λ e. e.0) (λ e. e.0) (λ e. e.0) (λ e. e.0) (λ e. e.0) x
+  bare_expr x = map-TypedExpr SA SC SK SL SE SP Argument Call Component Link TypedExpr Place (λ e. e.0) (λ e. e.0)
+      (λ e. e.0) (λ e. e.0) (λ e. e.0) (λ e. e.0) x
 
   abbrev bare_place : Place-F SA SC SK SL SE SP → Place-F Argument Call Component Link TypedExpr Place
-  bare_place x = map-Place SA SC SK SL SE SP Argument Call Component Link TypedExpr Place (λ e. e.0) (λ e. e.0) (λ e. e.0) (λ e. e.0) (λ e. e.0) (λ e. e.0) x
+  bare_place x = map-Place SA SC SK SL SE SP Argument Call Component Link TypedExpr Place (λ e. e.0) (λ e. e.0)
+      (λ e. e.0) (λ e. e.0) (λ e. e.0) (λ e. e.0) x
 
   abbrev args_of : List SA → List Argument
   args_of xs = map (λ (e : SA). e.0) xs
@@ -313,18 +388,22 @@ module _ (numbered : Numbered) where
   abbrev links_of : List SL → List Link
   links_of xs = map (λ (e : SL). e.0) xs
 
-  all_args : (xs : List SA) → IsNear (deepest (map outward_passed (args_of xs))) → AllCost (map size_passed (args_of xs)) (map of_argument (args_of xs))
+  all_args : (xs : List SA) → IsNear (deepest (map outward_passed (args_of xs)))
+      → AllCost (map size_passed (args_of xs)) (map of_argument (args_of xs))
   all_args [] h = tt
   all_args (x ∷ xs) h = (x.1 (first_near _ _ h), all_args xs (second_near (outward_passed x.0) _ h))
 
-  args_cost : (xs : List SA) → IsNear (deepest (map outward_passed (args_of xs))) → Costs (total (map size_passed (args_of xs))) 0 (all_coded (map of_argument (args_of xs)))
+  args_cost : (xs : List SA) → IsNear (deepest (map outward_passed (args_of xs)))
+      → Costs (total (map size_passed (args_of xs))) 0 (all_coded (map of_argument (args_of xs)))
   args_cost xs h = all_cost _ _ (all_args xs h)
 
-  all_components : (xs : List SK) → IsNear (deepest (map outward_component (components_of xs))) → AllCost (map size_component (components_of xs)) (map of_component (components_of xs))
+  all_components : (xs : List SK) → IsNear (deepest (map outward_component (components_of xs)))
+      → AllCost (map size_component (components_of xs)) (map of_component (components_of xs))
   all_components [] h = tt
   all_components (x ∷ xs) h = (x.1 (first_near _ _ h), all_components xs (second_near (outward_component x.0) _ h))
 
-  links_cost : (xs : List SL) → IsNear (deepest (map outward_link (links_of xs))) → Costs (total (map size_link (links_of xs))) 0 (chain_code (map of_link (links_of xs)))
+  links_cost : (xs : List SL) → IsNear (deepest (map outward_link (links_of xs)))
+      → Costs (total (map size_link (links_of xs))) 0 (chain_code (map of_link (links_of xs)))
   links_cost [] h = plain_costs short_end
   links_cost (x ∷ xs) h = both_cost (x.1 (first_near _ _ h)) (links_cost xs (second_near (outward_link x.0) _ h))
 
@@ -334,12 +413,19 @@ module _ (numbered : Numbered) where
   one_alone : 1 + 0 ≤ 1
   one_alone = omega arith
 
-  argument_costs : (y : Argument-F SA SC SK SL SE SP) → IsNear (outward.argument_layer (typed.weights_argument (by_distance 0) (bare_argument y))) → Costs (sizes.argument_layer (typed.weights_argument by_size (bare_argument y))) 0 (argument_layer (opened_argument (bare_argument y)))
-  argument_costs (layer.Value t e) h = settles 1 refl (own (size_typed e.0)) (then_setting (λ s. short_taken s.home.types t _ _) (e.1 h))
+  argument_costs : (y : Argument-F SA SC SK SL SE SP)
+      → IsNear (outward.argument_layer (typed.weights_argument (by_distance 0) (bare_argument y)))
+      → Costs (sizes.argument_layer (typed.weights_argument by_size (bare_argument y))) 0
+      (argument_layer (opened_argument (bare_argument y)))
+  argument_costs (layer.Value t e) h = settles 1 refl (own (size_typed e.0))
+      (then_setting (λ s. short_taken s.home.types t _ _) (e.1 h))
   argument_costs (layer.Place d) h = settles 1 refl (own (size_place d.0)) (then_plain (computes _ ▹ short_end) (d.1 h))
-  argument_costs (layer.Array t d) h = settles 1 refl (own (size_place d.0)) (then_setting (λ s. computes _ ▹ amount _ ▹ short_end) (d.1 h))
-  argument_costs (layer.Open slot) h = settles 2 refl two_alone (setting_costs (λ s. plain_costs (short_both (short_open s slot h) (computes _ ▹ short_high s slot h))))
-  argument_costs (layer.Text text) h = settles 1 refl one_alone (text_costs _ (λ at. plain_costs (short_both (short_text at) (computes _ ▹ amount _ ▹ short_end))))
+  argument_costs (layer.Array t d) h = settles 1 refl (own (size_place d.0))
+      (then_setting (λ s. computes _ ▹ amount _ ▹ short_end) (d.1 h))
+  argument_costs (layer.Open slot) h = settles 2 refl two_alone
+      (setting_costs (λ s. plain_costs (short_both (short_open s slot h) (computes _ ▹ short_high s slot h))))
+  argument_costs (layer.Text text) h = settles 1 refl one_alone
+      (text_costs _ (λ at. plain_costs (short_both (short_text at) (computes _ ▹ amount _ ▹ short_end))))
 
   call_sum : (d a : ℕ) → 1 + (d + a) ≤ 1 + d + a
   call_sum d a = omega arith
@@ -347,99 +433,161 @@ module _ (numbered : Numbered) where
   short_top : (s : Setting) → Short 6 (LocalGet (top_local s) ∷ [])
   short_top s = gets _ ▹ short_end
 
-  call_costs : (y : Call-F SA SC SK SL SE SP) → IsNear (outward.call_layer (typed.weights_call (by_distance 0) (bare_call y))) → Costs (sizes.call_layer (typed.weights_call by_size (bare_call y))) 0 (call_layer numbered (opened_call (bare_call y)))
-  call_costs (layer.Module f args) h = settles 1 refl (own _) (setting_then short_top (then_setting (λ s. short_module_call numbered s.home f) (args_cost args h)))
+  call_costs : (y : Call-F SA SC SK SL SE SP)
+      → IsNear (outward.call_layer (typed.weights_call (by_distance 0) (bare_call y)))
+      → Costs (sizes.call_layer (typed.weights_call by_size (bare_call y))) 0
+      (call_layer numbered (opened_call (bare_call y)))
+  call_costs (layer.Module f args) h = settles 1 refl (own _)
+      (setting_then short_top (then_setting (λ s. short_module_call numbered s.home f) (args_cost args h)))
   call_costs (layer.Nested f args) h =
       settles 1 refl (own _)
-      (setting_then short_top (plain_then (short_link numbered f.up (first_near _ _ h)) (then_setting (λ s. short_nested_call numbered s.home f) (args_cost args (second_near f.up _ h)))))
+      (setting_then short_top (plain_then (short_link numbered f.up (first_near _ _ h))
+      (then_setting (λ s. short_nested_call numbered s.home f) (args_cost args (second_near f.up _ h)))))
   call_costs (layer.Variable t d args) h =
       settles 1 refl (call_sum (size_place d.0) _)
       (both_cost (then_setting (λ s. short_loaded s.home.types t) (d.1 (first_near _ _ h)))
       (plain_then (short_checked (pos 1) (pos 4294967295) 7)
-      (number_costs (λ n. plain_then (sets n ▹ short_end) (setting_then short_top (then_setting (λ s. short_value_call numbered s.home.types n t) (args_cost args (second_near (outward_place d.0) _ h))))))))
+      (number_costs (λ n. plain_then (sets n ▹ short_end)
+      (setting_then short_top (then_setting (λ s. short_value_call numbered s.home.types n t)
+      (args_cost args (second_near (outward_place d.0) _ h))))))))
 
-  component_costs : (y : Component-F SA SC SK SL SE SP) → IsNear (outward.component_layer (typed.weights_component (by_distance 0) (bare_component y))) → Costs (sizes.component_layer (typed.weights_component by_size (bare_component y))) 0 (component_layer (opened_component (bare_component y)))
+  component_costs : (y : Component-F SA SC SK SL SE SP)
+      → IsNear (outward.component_layer (typed.weights_component (by_distance 0) (bare_component y)))
+      → Costs (sizes.component_layer (typed.weights_component by_size (bare_component y))) 0
+      (component_layer (opened_component (bare_component y)))
   component_costs (layer.Field t k) h = settles 1 refl one_alone (setting_costs (λ s. plain_costs (short_raised _)))
-  component_costs (layer.Element t i) h = settles 1 refl (own (size_typed i.0)) (then_setting (λ s. short_element s.home.types t) (i.1 h))
-  component_costs (layer.OpenElement slot t i) h = settles 1 refl (own (size_typed i.0)) (then_setting (λ s. short_open_element s slot t (first_near _ _ h)) (i.1 (second_near slot.up _ h)))
+  component_costs (layer.Element t i) h =
+      settles 1 refl (own (size_typed i.0)) (then_setting (λ s. short_element s.home.types t) (i.1 h))
+  component_costs (layer.OpenElement slot t i) h =
+      settles 1 refl (own (size_typed i.0)) (then_setting (λ s. short_open_element s slot t (first_near _ _ h))
+      (i.1 (second_near slot.up _ h)))
 
-  link_costs : (y : Link-F SA SC SK SL SE SP) → IsNear (outward.link_layer (typed.weights_link (by_distance 0) (bare_link y))) → Costs (sizes.link_layer (typed.weights_link by_size (bare_link y))) 0 (link_layer (opened_link (bare_link y))).code
-  link_costs (layer.Arithmetic o t b) h = settles 1 refl (own (size_typed b.0)) (then_setting (λ s. short_arithmetic s.home.types o t) (b.1 h))
-  link_costs (layer.And b) h = settles 1 refl (own (size_typed b.0)) (plain_then (computes _ ▹ short_end) (within_costs 15 1 (λ code. chosen_number code (I64Const 0 ∷ []) ∷ []) and_wraps (b.1 h)))
-  link_costs (layer.Or b) h = settles 1 refl (own (size_typed b.0)) (plain_then (computes _ ▹ short_end) (within_costs 15 1 (λ code. chosen_number (I64Const 1 ∷ []) code ∷ []) or_wraps (b.1 h)))
+  link_costs : (y : Link-F SA SC SK SL SE SP)
+      → IsNear (outward.link_layer (typed.weights_link (by_distance 0) (bare_link y)))
+      → Costs (sizes.link_layer (typed.weights_link by_size (bare_link y))) 0
+      (link_layer (opened_link (bare_link y))).code
+  link_costs (layer.Arithmetic o t b) h =
+      settles 1 refl (own (size_typed b.0)) (then_setting (λ s. short_arithmetic s.home.types o t) (b.1 h))
+  link_costs (layer.And b) h = settles 1 refl (own (size_typed b.0))
+      (plain_then (computes _ ▹ short_end) (within_costs 15 1 (λ code. chosen_number code (I64Const 0 ∷ []) ∷ [])
+      and_wraps (b.1 h)))
+  link_costs (layer.Or b) h = settles 1 refl (own (size_typed b.0))
+      (plain_then (computes _ ▹ short_end) (within_costs 15 1 (λ code. chosen_number (I64Const 1 ∷ []) code ∷ [])
+      or_wraps (b.1 h)))
   link_costs (layer.Combine o b) h = settles 1 refl (own (size_typed b.0)) (then_plain (short_set o) (b.1 h))
 
   pair_sum : (n k : ℕ) → 1 + (n + k) ≤ 1 + n + k
   pair_sum n k = omega arith
 
-  expr_costs : (y : TypedExpr-F SA SC SK SL SE SP) → IsNear (outward.expr_layer (typed.weights_expr (by_distance 0) (bare_expr y))) → Costs (sizes.expr_layer (typed.weights_expr by_size (bare_expr y))) 0 (expr_layer (opened_expr (bare_expr y))).code
+  expr_costs : (y : TypedExpr-F SA SC SK SL SE SP)
+      → IsNear (outward.expr_layer (typed.weights_expr (by_distance 0) (bare_expr y)))
+      → Costs (sizes.expr_layer (typed.weights_expr by_size (bare_expr y))) 0
+      (expr_layer (opened_expr (bare_expr y))).code
   expr_costs (layer.Constant t n) h = settles 1 refl one_alone (plain_costs (amount _ ▹ short_end))
-  expr_costs (layer.Load t d) h = settles 1 refl (own (size_place d.0)) (then_setting (λ s. short_loaded s.home.types t) (d.1 h))
-  expr_costs (layer.Procedure f) h = settles 1 refl one_alone (setting_costs (λ s. plain_costs (short_procedure s.home f)))
+  expr_costs (layer.Load t d) h = settles 1 refl (own (size_place d.0))
+      (then_setting (λ s. short_loaded s.home.types t) (d.1 h))
+  expr_costs (layer.Procedure f) h = settles 1 refl one_alone
+      (setting_costs (λ s. plain_costs (short_procedure s.home f)))
   expr_costs (layer.Plus t e) h = settles 1 refl (own (size_typed e.0)) (e.1 h)
-  expr_costs (layer.Negate e) h = settles 1 refl (own (size_typed e.0)) (plain_then (amount 0 ▹ short_end) (then_setting (λ s. computes _ ▹ short_in_type s.home.types integer 2) (e.1 h)))
-  expr_costs (layer.Chain e links) h = settles 1 refl (pair_sum (size_typed e.0) _) (both_cost (e.1 (first_near _ _ h)) (links_cost links (second_near (outward_typed e.0) _ h)))
-  expr_costs (layer.Compare o a b) h = settles 1 refl (pair_sum (size_typed a.0) (size_typed b.0)) (both_cost (a.1 (first_near _ _ h)) (then_plain (computes _ ▹ computes _ ▹ short_end) (b.1 (second_near (outward_typed a.0) _ h))))
+  expr_costs (layer.Negate e) h = settles 1 refl (own (size_typed e.0))
+      (plain_then (amount 0 ▹ short_end) (then_setting (λ s. computes _ ▹ short_in_type s.home.types integer 2)
+      (e.1 h)))
+  expr_costs (layer.Chain e links) h = settles 1 refl (pair_sum (size_typed e.0) _)
+      (both_cost (e.1 (first_near _ _ h)) (links_cost links (second_near (outward_typed e.0) _ h)))
+  expr_costs (layer.Compare o a b) h = settles 1 refl (pair_sum (size_typed a.0) (size_typed b.0))
+      (both_cost (a.1 (first_near _ _ h)) (then_plain (computes _ ▹ computes _ ▹ short_end)
+      (b.1 (second_near (outward_typed a.0) _ h))))
   expr_costs (layer.Not e) h = settles 1 refl (own (size_typed e.0)) (then_plain short_empty (e.1 h))
-  expr_costs (layer.Include o a b) h = settles 1 refl (pair_sum (size_typed a.0) (size_typed b.0)) (include_costs o (a.1 (first_near _ _ h)) (b.1 (second_near (outward_typed a.0) _ h)))
-  expr_costs (layer.In a b) h = settles 1 refl (pair_sum (size_typed a.0) (size_typed b.0)) (in_costs (a.1 (first_near _ _ h)) (b.1 (second_near (outward_typed a.0) _ h)))
-  expr_costs (layer.Abs t e) h = settles 1 refl (own (size_typed e.0)) (abs_by (are_same t integer) absolute_code short_absolute (e.1 h))
-  expr_costs (layer.Cap e) h = settles 1 refl (sum_alone (size_typed e.0)) (both_cost (e.1 h) (number_costs (λ t. plain_costs (short_capital t)))) where
-    sum_alone : (n : ℕ) → 1 + (n + 0) ≤ 1 + n
-    sum_alone n = omega arith
-  expr_costs (layer.Chr e) h = settles 1 refl (own (size_typed e.0)) (then_plain (short_checked (pos 0) (pos 255) 1) (e.1 h))
-  expr_costs (layer.Odd e) h = settles 1 refl (own (size_typed e.0)) (then_plain (amount 1 ▹ computes _ ▹ short_end) (e.1 h))
-  expr_costs (layer.Ord e) h = settles 1 refl (own (size_typed e.0)) (then_setting (λ s. short_ord s.home.types (expr_part numbered e.0).of) (e.1 h))
-  expr_costs (layer.Val t e) h = settles 1 refl (own (size_typed e.0)) (then_setting (λ s. short_in_type s.home.types t 1) (e.1 h))
+  expr_costs (layer.Include o a b) h = settles 1 refl (pair_sum (size_typed a.0) (size_typed b.0))
+      (include_costs o (a.1 (first_near _ _ h)) (b.1 (second_near (outward_typed a.0) _ h)))
+  expr_costs (layer.In a b) h = settles 1 refl (pair_sum (size_typed a.0) (size_typed b.0))
+      (in_costs (a.1 (first_near _ _ h)) (b.1 (second_near (outward_typed a.0) _ h)))
+  expr_costs (layer.Abs t e) h = settles 1 refl (own (size_typed e.0))
+      (abs_by (are_same t integer) absolute_code short_absolute (e.1 h))
+  expr_costs (layer.Cap e) h = settles 1 refl (sum_alone (size_typed e.0))
+      (both_cost (e.1 h) (number_costs (λ t. plain_costs (short_capital t)))) where
+        sum_alone : (n : ℕ) → 1 + (n + 0) ≤ 1 + n
+        sum_alone n = omega arith
+  expr_costs (layer.Chr e) h = settles 1 refl (own (size_typed e.0))
+      (then_plain (short_checked (pos 0) (pos 255) 1) (e.1 h))
+  expr_costs (layer.Odd e) h = settles 1 refl (own (size_typed e.0))
+      (then_plain (amount 1 ▹ computes _ ▹ short_end) (e.1 h))
+  expr_costs (layer.Ord e) h = settles 1 refl (own (size_typed e.0))
+      (then_setting (λ s. short_ord s.home.types (expr_part numbered e.0).of) (e.1 h))
+  expr_costs (layer.Val t e) h = settles 1 refl (own (size_typed e.0))
+      (then_setting (λ s. short_in_type s.home.types t 1) (e.1 h))
   expr_costs (layer.High slot) h = settles 1 refl one_alone (setting_costs (λ s. plain_costs (short_high s slot h)))
   expr_costs (layer.Call t c) h = settles 1 refl (own (size_call c.0)) (c.1 h)
 
   root_sum : (n : ℕ) → 1 + (0 + n) ≤ 1 + n
   root_sum n = omega arith
 
-  place_costs : (y : Place-F SA SC SK SL SE SP) → IsNear (outward.place_layer (typed.weights_place (by_distance 0) (bare_place y))) → Costs (sizes.place_layer (typed.weights_place by_size (bare_place y))) 0 (place_layer (opened_place (bare_place y)))
-  place_costs y h = settles 1 refl (root_sum _) (both_cost (root_costs y.root (first_near _ _ h)) (all_cost _ _ (all_components y.components (second_near (outward_root y.root) _ h))))
+  place_costs : (y : Place-F SA SC SK SL SE SP)
+      → IsNear (outward.place_layer (typed.weights_place (by_distance 0) (bare_place y)))
+      → Costs (sizes.place_layer (typed.weights_place by_size (bare_place y))) 0
+      (place_layer (opened_place (bare_place y)))
+  place_costs y h = settles 1 refl (root_sum _)
+      (both_cost (root_costs y.root (first_near _ _ h))
+      (all_cost _ _ (all_components y.components (second_near (outward_root y.root) _ h))))
 
-  step_argument : (x : Argument-F Argument Call Component Link TypedExpr Place) (y : Argument-F SA SC SK SL SE SP) → bare_argument y ≡ x → PA (roll-Argument x)
+  step_argument : (x : Argument-F Argument Call Component Link TypedExpr Place) (y : Argument-F SA SC SK SL SE SP)
+      → bare_argument y ≡ x → PA (roll-Argument x)
   step_argument x y q h =
       let e = out-roll-Argument x ∙ sym q in
-      subst (λ (n : ℕ). Costs n 0 (of_argument (roll-Argument x))) (sym (typed.at_argument by_size (roll-Argument x) (bare_argument y) e))
-      (subst (λ (z : Coded). Costs (sizes.argument_layer (typed.weights_argument by_size (bare_argument y))) 0 z) (sym (at_argument (roll-Argument x) (bare_argument y) e))
+      subst (λ (n : ℕ). Costs n 0 (of_argument (roll-Argument x)))
+      (sym (typed.at_argument by_size (roll-Argument x) (bare_argument y) e))
+      (subst (λ (z : Coded). Costs (sizes.argument_layer (typed.weights_argument by_size (bare_argument y))) 0 z)
+      (sym (at_argument (roll-Argument x) (bare_argument y) e))
       (argument_costs y (subst IsNear (typed.at_argument (by_distance 0) (roll-Argument x) (bare_argument y) e) h)))
 
-  step_call : (x : Call-F Argument Call Component Link TypedExpr Place) (y : Call-F SA SC SK SL SE SP) → bare_call y ≡ x → PC (roll-Call x)
+  step_call : (x : Call-F Argument Call Component Link TypedExpr Place) (y : Call-F SA SC SK SL SE SP) → bare_call y ≡ x
+      → PC (roll-Call x)
   step_call x y q h =
       let e = out-roll-Call x ∙ sym q in
-      subst (λ (n : ℕ). Costs n 0 (call_code numbered (roll-Call x))) (sym (typed.at_call by_size (roll-Call x) (bare_call y) e))
-      (subst (λ (z : Coded). Costs (sizes.call_layer (typed.weights_call by_size (bare_call y))) 0 z) (sym (at_call (roll-Call x) (bare_call y) e))
+      subst (λ (n : ℕ). Costs n 0 (call_code numbered (roll-Call x)))
+      (sym (typed.at_call by_size (roll-Call x) (bare_call y) e))
+      (subst (λ (z : Coded). Costs (sizes.call_layer (typed.weights_call by_size (bare_call y))) 0 z)
+      (sym (at_call (roll-Call x) (bare_call y) e))
       (call_costs y (subst IsNear (typed.at_call (by_distance 0) (roll-Call x) (bare_call y) e) h)))
 
-  step_component : (x : Component-F Argument Call Component Link TypedExpr Place) (y : Component-F SA SC SK SL SE SP) → bare_component y ≡ x → PK (roll-Component x)
+  step_component : (x : Component-F Argument Call Component Link TypedExpr Place) (y : Component-F SA SC SK SL SE SP)
+      → bare_component y ≡ x → PK (roll-Component x)
   step_component x y q h =
       let e = out-roll-Component x ∙ sym q in
-      subst (λ (n : ℕ). Costs n 0 (of_component (roll-Component x))) (sym (typed.at_component by_size (roll-Component x) (bare_component y) e))
-      (subst (λ (z : Coded). Costs (sizes.component_layer (typed.weights_component by_size (bare_component y))) 0 z) (sym (at_component (roll-Component x) (bare_component y) e))
+      subst (λ (n : ℕ). Costs n 0 (of_component (roll-Component x)))
+      (sym (typed.at_component by_size (roll-Component x) (bare_component y) e))
+      (subst (λ (z : Coded). Costs (sizes.component_layer (typed.weights_component by_size (bare_component y))) 0 z)
+      (sym (at_component (roll-Component x) (bare_component y) e))
       (component_costs y (subst IsNear (typed.at_component (by_distance 0) (roll-Component x) (bare_component y) e) h)))
 
-  step_link : (x : Link-F Argument Call Component Link TypedExpr Place) (y : Link-F SA SC SK SL SE SP) → bare_link y ≡ x → PL (roll-Link x)
+  step_link : (x : Link-F Argument Call Component Link TypedExpr Place) (y : Link-F SA SC SK SL SE SP) → bare_link y ≡ x
+      → PL (roll-Link x)
   step_link x y q h =
       let e = out-roll-Link x ∙ sym q in
-      subst (λ (n : ℕ). Costs n 0 (of_link (roll-Link x)).code) (sym (typed.at_link by_size (roll-Link x) (bare_link y) e))
-      (subst (λ (z : Linked). Costs (sizes.link_layer (typed.weights_link by_size (bare_link y))) 0 z.code) (sym (at_link (roll-Link x) (bare_link y) e))
+      subst (λ (n : ℕ). Costs n 0 (of_link (roll-Link x)).code)
+      (sym (typed.at_link by_size (roll-Link x) (bare_link y) e))
+      (subst (λ (z : Linked). Costs (sizes.link_layer (typed.weights_link by_size (bare_link y))) 0 z.code)
+      (sym (at_link (roll-Link x) (bare_link y) e))
       (link_costs y (subst IsNear (typed.at_link (by_distance 0) (roll-Link x) (bare_link y) e) h)))
 
-  step_expr : (x : TypedExpr-F Argument Call Component Link TypedExpr Place) (y : TypedExpr-F SA SC SK SL SE SP) → bare_expr y ≡ x → PE (roll-TypedExpr x)
+  step_expr : (x : TypedExpr-F Argument Call Component Link TypedExpr Place) (y : TypedExpr-F SA SC SK SL SE SP)
+      → bare_expr y ≡ x → PE (roll-TypedExpr x)
   step_expr x y q h =
       let e = out-roll-TypedExpr x ∙ sym q in
-      subst (λ (n : ℕ). Costs n 0 (expr_part numbered (roll-TypedExpr x)).code) (sym (typed.at_expr by_size (roll-TypedExpr x) (bare_expr y) e))
-      (subst (λ (z : Part). Costs (sizes.expr_layer (typed.weights_expr by_size (bare_expr y))) 0 z.code) (sym (at_expr (roll-TypedExpr x) (bare_expr y) e))
+      subst (λ (n : ℕ). Costs n 0 (expr_part numbered (roll-TypedExpr x)).code)
+      (sym (typed.at_expr by_size (roll-TypedExpr x) (bare_expr y) e))
+      (subst (λ (z : Part). Costs (sizes.expr_layer (typed.weights_expr by_size (bare_expr y))) 0 z.code)
+      (sym (at_expr (roll-TypedExpr x) (bare_expr y) e))
       (expr_costs y (subst IsNear (typed.at_expr (by_distance 0) (roll-TypedExpr x) (bare_expr y) e) h)))
 
-  step_place : (x : Place-F Argument Call Component Link TypedExpr Place) (y : Place-F SA SC SK SL SE SP) → bare_place y ≡ x → PP (roll-Place x)
+  step_place : (x : Place-F Argument Call Component Link TypedExpr Place) (y : Place-F SA SC SK SL SE SP)
+      → bare_place y ≡ x → PP (roll-Place x)
   step_place x y q h =
       let e = out-roll-Place x ∙ sym q in
-      subst (λ (n : ℕ). Costs n 0 (place_code numbered (roll-Place x))) (sym (typed.at_place by_size (roll-Place x) (bare_place y) e))
-      (subst (λ (z : Coded). Costs (sizes.place_layer (typed.weights_place by_size (bare_place y))) 0 z) (sym (at_place (roll-Place x) (bare_place y) e))
+      subst (λ (n : ℕ). Costs n 0 (place_code numbered (roll-Place x)))
+      (sym (typed.at_place by_size (roll-Place x) (bare_place y) e))
+      (subst (λ (z : Coded). Costs (sizes.place_layer (typed.weights_place by_size (bare_place y))) 0 z)
+      (sym (at_place (roll-Place x) (bare_place y) e))
       (place_costs y (subst IsNear (typed.at_place (by_distance 0) (roll-Place x) (bare_place y) e) h)))
 
   pub expr_short : (e : TypedExpr) → PE e

@@ -44,13 +44,17 @@ module _ (m : TypedModule) where
   abbrev pub opened_arm : TypedArm-F TypedStmt TypedArm → TypedArm-F Signatures Signatures
   opened_arm x = map-TypedArm TypedStmt TypedArm Signatures Signatures (of_step m) of_arm x
 
-  pub at_step : (e : TypedStmt) (x : TypedStmt-F TypedStmt TypedArm) → out-TypedStmt e ≡ x → of_step m e ≡ sign.step_layer m (opened_step x)
+  pub at_step : (e : TypedStmt) (x : TypedStmt-F TypedStmt TypedArm) → out-TypedStmt e ≡ x
+      → of_step m e ≡ sign.step_layer m (opened_step x)
   unfolding of_step
-  at_step e x h = fold_out-TypedStmt Signatures Signatures (sign.step_layer m) (sign.arm_layer m) e ∙ ap (λ (y : TypedStmt-F TypedStmt TypedArm). sign.step_layer m (opened_step y)) h
+  at_step e x h = fold_out-TypedStmt Signatures Signatures (sign.step_layer m) (sign.arm_layer m) e
+      ∙ ap (λ (y : TypedStmt-F TypedStmt TypedArm). sign.step_layer m (opened_step y)) h
 
-  pub at_arm : (e : TypedArm) (x : TypedArm-F TypedStmt TypedArm) → out-TypedArm e ≡ x → of_arm e ≡ sign.arm_layer m (opened_arm x)
+  pub at_arm : (e : TypedArm) (x : TypedArm-F TypedStmt TypedArm) → out-TypedArm e ≡ x
+      → of_arm e ≡ sign.arm_layer m (opened_arm x)
   unfolding of_step
-  at_arm e x h = fold_out-TypedArm Signatures Signatures (sign.step_layer m) (sign.arm_layer m) e ∙ ap (λ (y : TypedArm-F TypedStmt TypedArm). sign.arm_layer m (opened_arm y)) h
+  at_arm e x h = fold_out-TypedArm Signatures Signatures (sign.step_layer m) (sign.arm_layer m) e
+      ∙ ap (λ (y : TypedArm-F TypedStmt TypedArm). sign.arm_layer m (opened_arm y)) h
 
   abbrev PS : TypedStmt → Type 0
   PS x = length (of_step m x) ≤ size_step x
@@ -70,7 +74,8 @@ module _ (m : TypedModule) where
   abbrev bare_arm : TypedArm-F SS SA → TypedArm-F TypedStmt TypedArm
   bare_arm x = map-TypedArm SS SA TypedStmt TypedArm (λ e. e.0) (λ e. e.0) x
 
-  all_steps : (xs : List SS) → AllFew (map size_step (map (λ (e : SS). e.0) xs)) (map (of_step m) (map (λ (e : SS). e.0) xs))
+  all_steps : (xs : List SS) → AllFew (map size_step (map (λ (e : SS). e.0) xs))
+      (map (of_step m) (map (λ (e : SS). e.0) xs))
   all_steps [] = tt
   all_steps (x ∷ xs) = (x.1, all_steps xs)
 
@@ -84,47 +89,70 @@ module _ (m : TypedModule) where
   few_steps : (xs : List SS) → length (concatenation (map (of_step m) (map (λ (e : SS). e.0) xs))) ≤ count xs
   few_steps xs = all_few _ _ (all_steps xs)
 
-  few_arms : (xs : List SA) → length (concatenation (map of_arm (map (λ (e : SA). e.0) xs))) ≤ total (map size_arm (map (λ (e : SA). e.0) xs))
+  few_arms : (xs : List SA) → length (concatenation (map of_arm (map (λ (e : SA). e.0) xs))) ≤ total
+      (map size_arm (map (λ (e : SA). e.0) xs))
   few_arms xs = all_few _ _ (all_arms xs)
 
-  step_few : (y : TypedStmt-F SS SA) → length (sign.step_layer m (opened_step (bare_step y))) ≤ sizes.step_layer (typed.weights_step by_size (bare_step y))
-  step_few (layer.Assign d t e) = two_sum _ _ _ (both_few _ _ (size_place d) (size_typed e) (place_calls m d) (expr_calls m e))
-  step_few (layer.Copy to from t) = two_sum _ _ _ (both_few _ _ (size_place to) (size_place from) (place_calls m to) (place_calls m from))
+  step_few : (y : TypedStmt-F SS SA) → length (sign.step_layer m (opened_step (bare_step y))) ≤ sizes.step_layer
+      (typed.weights_step by_size (bare_step y))
+  step_few (layer.Assign d t e) = two_sum _ _ _
+      (both_few _ _ (size_place d) (size_typed e) (place_calls m d) (expr_calls m e))
+  step_few (layer.Copy to from t) = two_sum _ _ _
+      (both_few _ _ (size_place to) (size_place from) (place_calls m to) (place_calls m from))
   step_few (layer.CopyText d t text) = one_more _ _ (place_calls m d)
   step_few (layer.Call c) = call_calls m c
   step_few (layer.Put e) = one_more _ _ (expr_calls m e)
-  step_few (layer.Change o d t e) = change_sum _ _ _ (both_few _ _ (size_place d) (size_typed e) (place_calls m d) (expr_calls m e))
-  step_few (layer.Membership o d e) = change_sum _ _ _ (both_few _ _ (size_place d) (size_typed e) (place_calls m d) (expr_calls m e))
+  step_few (layer.Change o d t e) = change_sum _ _ _
+      (both_few _ _ (size_place d) (size_typed e) (place_calls m d) (expr_calls m e))
+  step_few (layer.Membership o d e) = change_sum _ _ _
+      (both_few _ _ (size_place d) (size_typed e) (place_calls m d) (expr_calls m e))
   step_few layer.Halt = none_of 1
-  step_few (layer.If e body None) = if_sum _ _ _ _ (both_few _ _ (size_typed e) (count body + 0) (expr_calls m e) (both_few _ [] (count body) 0 (few_steps body) (none_of 0)))
-  step_few (layer.If e body (Some others)) = if_sum _ _ _ _ (both_few _ _ (size_typed e) (count body + count others) (expr_calls m e) (both_few _ _ (count body) (count others) (few_steps body) (few_steps others)))
-  step_few (layer.Case e arms None) = case_sum _ _ _ _ (both_few _ _ (size_typed e) _ (expr_calls m e) (both_few _ [] _ 0 (few_arms arms) (none_of 0)))
-  step_few (layer.Case e arms (Some others)) = case_sum _ _ _ _ (both_few _ _ (size_typed e) _ (expr_calls m e) (both_few _ _ _ (count others) (few_arms arms) (few_steps others)))
-  step_few (layer.While e body) = two_sum _ _ _ (both_few _ _ (size_typed e) (count body) (expr_calls m e) (few_steps body))
-  step_few (layer.Repeat body e) = two_sum _ _ _ (both_few _ _ (count body) (size_typed e) (few_steps body) (expr_calls m e))
+  step_few (layer.If e body None) = if_sum _ _ _ _
+      (both_few _ _ (size_typed e) (count body + 0) (expr_calls m e)
+      (both_few _ [] (count body) 0 (few_steps body) (none_of 0)))
+  step_few (layer.If e body (Some others)) =
+      if_sum _ _ _ _ (both_few _ _ (size_typed e) (count body + count others) (expr_calls m e)
+      (both_few _ _ (count body) (count others) (few_steps body) (few_steps others)))
+  step_few (layer.Case e arms None) = case_sum _ _ _ _
+      (both_few _ _ (size_typed e) _ (expr_calls m e) (both_few _ [] _ 0 (few_arms arms) (none_of 0)))
+  step_few (layer.Case e arms (Some others)) =
+      case_sum _ _ _ _ (both_few _ _ (size_typed e) _ (expr_calls m e)
+      (both_few _ _ _ (count others) (few_arms arms) (few_steps others)))
+  step_few (layer.While e body) = two_sum _ _ _
+      (both_few _ _ (size_typed e) (count body) (expr_calls m e) (few_steps body))
+  step_few (layer.Repeat body e) = two_sum _ _ _
+      (both_few _ _ (count body) (size_typed e) (few_steps body) (expr_calls m e))
   step_few (layer.Loop body) = one_more _ _ (few_steps body)
   step_few layer.Exit = none_of 1
   step_few layer.Return = none_of 1
   step_few (layer.Give t e) = one_more _ _ (expr_calls m e)
   step_few (layer.For d t start limit by body) =
       for_sum _ (size_place d) (size_typed start) (size_typed limit) (count body)
-      (both_few _ _ (size_place d) _ (place_calls m d) (both_few _ _ (size_typed start) _ (expr_calls m start) (both_few _ _ (size_typed limit) (count body) (expr_calls m limit) (few_steps body))))
-  step_few (layer.With d body) = two_sum _ _ _ (both_few _ _ (size_place d) (count body) (place_calls m d) (few_steps body))
+      (both_few _ _ (size_place d) _ (place_calls m d)
+      (both_few _ _ (size_typed start) _ (expr_calls m start)
+      (both_few _ _ (size_typed limit) (count body) (expr_calls m limit) (few_steps body))))
+  step_few (layer.With d body) = two_sum _ _ _
+      (both_few _ _ (size_place d) (count body) (place_calls m d) (few_steps body))
 
-  arm_few : (y : TypedArm-F SS SA) → length (sign.arm_layer m (opened_arm (bare_arm y))) ≤ sizes.arm_layer (typed.weights_arm by_size (bare_arm y))
+  arm_few : (y : TypedArm-F SS SA) → length (sign.arm_layer m (opened_arm (bare_arm y))) ≤ sizes.arm_layer
+      (typed.weights_arm by_size (bare_arm y))
   arm_few y = arm_sum _ (length y.labels) _ (few_steps y.body)
 
   step_step : (x : TypedStmt-F TypedStmt TypedArm) (y : TypedStmt-F SS SA) → bare_step y ≡ x → PS (roll-TypedStmt x)
   step_step x y q =
       let e = out-roll-TypedStmt x ∙ sym q in
-      subst (λ (n : ℕ). length (of_step m (roll-TypedStmt x)) ≤ n) (sym (typed.at_step by_size (roll-TypedStmt x) (bare_step y) e))
-      (subst (λ (z : Signatures). length z ≤ sizes.step_layer (typed.weights_step by_size (bare_step y))) (sym (at_step (roll-TypedStmt x) (bare_step y) e)) (step_few y))
+      subst (λ (n : ℕ). length (of_step m (roll-TypedStmt x)) ≤ n)
+      (sym (typed.at_step by_size (roll-TypedStmt x) (bare_step y) e))
+      (subst (λ (z : Signatures). length z ≤ sizes.step_layer (typed.weights_step by_size (bare_step y)))
+      (sym (at_step (roll-TypedStmt x) (bare_step y) e)) (step_few y))
 
   step_arm : (x : TypedArm-F TypedStmt TypedArm) (y : TypedArm-F SS SA) → bare_arm y ≡ x → PA (roll-TypedArm x)
   step_arm x y q =
       let e = out-roll-TypedArm x ∙ sym q in
-      subst (λ (n : ℕ). length (of_arm (roll-TypedArm x)) ≤ n) (sym (typed.at_arm by_size (roll-TypedArm x) (bare_arm y) e))
-      (subst (λ (z : Signatures). length z ≤ sizes.arm_layer (typed.weights_arm by_size (bare_arm y))) (sym (at_arm (roll-TypedArm x) (bare_arm y) e)) (arm_few y))
+      subst (λ (n : ℕ). length (of_arm (roll-TypedArm x)) ≤ n)
+      (sym (typed.at_arm by_size (roll-TypedArm x) (bare_arm y) e))
+      (subst (λ (z : Signatures). length z ≤ sizes.arm_layer (typed.weights_arm by_size (bare_arm y)))
+      (sym (at_arm (roll-TypedArm x) (bare_arm y) e)) (arm_few y))
 
   pub step_calls : (x : TypedStmt) → PS x
   step_calls = ind-TypedStmt PS PA step_step step_arm

@@ -42,11 +42,14 @@ token_sum n k w m h e l = omega (arith, h, e, l)
 parts : (text w more : Text) → text ≡ w ++ more → length text ≡ length w + length more
 parts text w more e = ap (λ (v : Text). length v) e ∙ length-append w more
 
-members_below : (text front : Text) (ms : List Member) (rest : Text) → Divides text ms rest → length (tokens_behind front ms) ≤ length text
+members_below : (text front : Text) (ms : List Member) (rest : Text) → Divides text ms rest
+    → length (tokens_behind front ms) ≤ length text
 members_below text front [] rest h = omega arith
-members_below text front ((w, None) ∷ ms) rest h = behind_sum _ _ (length w) _ (members_below h.0 (front ++ w) ms rest h.4) (parts text w h.0 h.1)
+members_below text front ((w, None) ∷ ms) rest h =
+    behind_sum _ _ (length w) _ (members_below h.0 (front ++ w) ms rest h.4) (parts text w h.0 h.1)
 members_below text front ((w, Some t) ∷ ms) rest h =
-    token_sum _ _ (length w) _ (members_below h.0 (front ++ w) ms rest h.4) (parts text w h.0 h.1) (form_filled w h.2.form)
+    token_sum _ _ (length w) _ (members_below h.0 (front ++ w) ms rest h.4) (parts text w h.0 h.1)
+    (form_filled w h.2.form)
 
 with_end : (n k m : ℕ) → n ≡ k + 1 → k ≤ m → n ≤ 1 + m
 with_end n k m e l = omega (arith, e, l)
@@ -54,11 +57,13 @@ with_end n k m e l = omega (arith, e, l)
 pub tokens_below : (text : Text) (ts : List Token) → HasTokens text ts → length ts ≤ 1 + length text
 tokens_below text ts h =
     with_end _ (length (tokens_behind [] h.0)) _
-    (ap (λ (us : List Token). length us) h.2 ∙ length-append (tokens_behind [] h.0) (record { lexeme = lexeme.End; pos = place text } ∷ []))
+    (ap (λ (us : List Token). length us) h.2
+    ∙ length-append (tokens_behind [] h.0) (record { lexeme = lexeme.End; pos = place text } ∷ []))
     (members_below text [] h.0 [] h.1)
 
 text_sum : (n k m : ℕ) → n ≤ 4 * k → k ≤ 1 + m → n ≤ 4 * (1 + m)
 text_sum n k m h l = omega (arith, h, l)
 
-pub text_below : (text : Text) (ts : List Token) (n : ℕ) → HasTokens text ts → n ≤ 4 * length ts → n ≤ 4 * (1 + length text)
+pub text_below : (text : Text) (ts : List Token) (n : ℕ) → HasTokens text ts → n ≤ 4 * length ts
+    → n ≤ 4 * (1 + length text)
 text_below text ts n h l = text_sum n (length ts) (length text) l (tokens_below text ts h)

@@ -1,4 +1,5 @@
--- How much trees allow in each of the three ways, and what each form of them leaves to its parts. A tree leads no further
+-- How much trees allow in each of the three ways, and what each form of them leaves to its parts. A tree leads no
+-- further
 -- outwards than the procedure around it stands deep.
 use Rattle.std.proofs.Common.{◌≡◌, ℕ, ◌+◌, ◌≤◌, List, [], ◌∷◌, Option, Some, None, refl, arith}
 use Rattle.std.specs.Prelude.{map, ◌-◌}

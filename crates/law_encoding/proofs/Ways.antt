@@ -1,5 +1,6 @@
 -- Three ways to weigh what the checker makes: how large it is, how deep it nests, and how many procedures outwards it
--- goes. What the checker makes of a tree weighs no more than the tree allows. All three bounds have one proof, and what it
+-- goes. What the checker makes of a tree weighs no more than the tree allows. All three bounds have one proof, and what
+-- it
 -- needs of numbers is shown for each way.
 use Rattle.std.proofs.Common.{ℕ, ◌+◌, ◌*◌, List, Option, Some, None}
 use Rattle.typed_tree.specs.declared.computed.Argument.{Argument}

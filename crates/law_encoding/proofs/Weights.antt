@@ -88,12 +88,15 @@ idents_below [] = omega arith
 idents_below (t ∷ ts) = let h = idents_below ts in omega (arith, h)
 
 -- those that are there, where each is one of a list that may have gaps
-present_below : {X : Type 0} (f : X → ℕ) (xs : List (Option X)) (w : Option X → ℕ) → ((x : X) → f x ≤ w (Some x)) → sum_of f (present xs) ≤ sum_of w xs
+present_below : {X : Type 0} (f : X → ℕ) (xs : List (Option X)) (w : Option X → ℕ) → ((x : X) → f x ≤ w (Some x))
+    → sum_of f (present xs) ≤ sum_of w xs
 present_below f [] w h = omega arith
-present_below f (None ∷ xs) w h = more_below (sum_of f (present xs)) (sum_of w xs) (w None) (present_below f xs w h) where
-  more_below : (a b c : ℕ) → a ≤ b → a ≤ c + b
-  more_below a b c e = omega (arith, e)
-present_below f (Some x ∷ xs) w h = le_sum (f x) (w (Some x)) (sum_of f (present xs)) (sum_of w xs) (h x) (present_below f xs w h)
+present_below f (None ∷ xs) w h = more_below (sum_of f (present xs)) (sum_of w xs) (w None) (present_below f xs w h)
+  where
+    more_below : (a b c : ℕ) → a ≤ b → a ≤ c + b
+    more_below a b c e = omega (arith, e)
+present_below f (Some x ∷ xs) w h = le_sum (f x) (w (Some x)) (sum_of f (present xs)) (sum_of w xs) (h x)
+    (present_below f xs w h)
 
 -- ---- expressions
 
@@ -118,11 +121,13 @@ related_below : (x : Expr) (o : Option (Token × Expr)) → Sized expr_rule (x, 
 related_below x None = omega arith
 related_below x (Some p) = two_below (size_expr x) (size_expr p.1) _ (relation_size x _ p.1)
 
-adds_below : (ps : List (Token × Expr)) → sum_of size_operand (map add_operand ps) ≤ sum_of (λ (p : Token × Expr). 4 + size_expr p.1) ps
+adds_below : (ps : List (Token × Expr)) →
+    sum_of size_operand (map add_operand ps) ≤ sum_of (λ (p : Token × Expr). 4 + size_expr p.1) ps
 adds_below [] = omega arith
 adds_below (p ∷ ps) = let h = adds_below ps in le_sum (2 + size_expr p.1) (4 + size_expr p.1) _ _ (omega arith) h
 
-times_below : (ps : List (Token × Expr)) → sum_of size_operand (map multiply_operand ps) ≤ sum_of (λ (p : Token × Expr). 4 + size_expr p.1) ps
+times_below : (ps : List (Token × Expr))
+    → sum_of size_operand (map multiply_operand ps) ≤ sum_of (λ (p : Token × Expr). 4 + size_expr p.1) ps
 times_below [] = omega arith
 times_below (p ∷ ps) = let h = times_below ps in le_sum (2 + size_expr p.1) (4 + size_expr p.1) _ _ (omega arith) h
 
@@ -134,15 +139,18 @@ with_sign n a c d e h = omega (arith, e, h)
 
 sum_sized : (o : Option Token) (x : Expr) (ps : List (Token × Expr)) → Sized sum_rule (o, (x, ps))
 sum_sized None x [] = omega arith
-sum_sized None x (p ∷ ps) = one_more _ (size_expr x) (size_expr p.1) _ _ (sum_size None x (map add_operand (p ∷ ps))) (adds_below ps)
-sum_sized (Some t) x ps = with_sign _ (size_expr x) _ _ (sum_size (Some (sign_of t)) x (map add_operand ps)) (adds_below ps)
+sum_sized None x (p ∷ ps) = one_more _ (size_expr x) (size_expr p.1) _ _ (sum_size None x (map add_operand (p ∷ ps)))
+    (adds_below ps)
+sum_sized (Some t) x ps = with_sign _ (size_expr x) _ _ (sum_size (Some (sign_of t)) x (map add_operand ps))
+    (adds_below ps)
 
 added_to : (n a c d : ℕ) → n ≡ a + c → c ≤ d → n ≤ a + d
 added_to n a c d e h = omega (arith, e, h)
 
 term_sized : (x : Expr) (ps : List (Token × Expr)) → Sized term_rule (x, ps)
 term_sized x [] = omega arith
-term_sized x (p ∷ ps) = added_to _ (size_expr x) _ _ (term_size x (map multiply_operand (p ∷ ps))) (times_below (p ∷ ps))
+term_sized x (p ∷ ps) = added_to _ (size_expr x) _ _ (term_size x (map multiply_operand (p ∷ ps)))
+    (times_below (p ∷ ps))
 
 set_of_four : (n a : ℕ) → n ≡ 1 + a → n ≤ 4 + (1 + a)
 set_of_four n a e = omega (arith, e)
@@ -157,9 +165,11 @@ no_more_args : (o : Option (List Expr)) → size_arguments o ≤ weight (opt (ru
 no_more_args None = omega arith
 no_more_args (Some es) = omega arith
 
-begun_sized : (t : Token) (x : (Pos × List Item) ⊎ (List Selector × Option (List Expr))) → Sized factor_rule (inr (inl (t, x)))
+begun_sized : (t : Token) (x : (Pos × List Item) ⊎ (List Selector × Option (List Expr)))
+    → Sized factor_rule (inr (inl (t, x)))
 begun_sized t (inl q) = set_of_four _ _ (set_size (Some (ident_of t)) q.0 q.1)
-begun_sized t (inr q) = use_below _ _ (sum_of size_selector q.0) _ _ (use_size _ q.1) (designator_size (ident_of t) q.0) (no_more_args q.1)
+begun_sized t (inr q) = use_below _ _ (sum_of size_selector q.0) _ _ (use_size _ q.1) (designator_size (ident_of t) q.0)
+    (no_more_args q.1)
 
 below_by : (n a : ℕ) → n ≡ 2 + a → n ≤ 4 + a
 below_by n a e = omega (arith, e)
@@ -176,9 +186,11 @@ factor_sized (inr (inr (inr (inr p)))) = below_eight _ _ (bracketed_size p.0.pos
 
 -- ---- selectors, arguments and sets
 
-indexes_below : (p : Pos) (es : List Expr) → sum_of size_selector (map (sel.Index p) es) ≤ sum_of (λ (x : Expr). 4 + size_expr x) es
+indexes_below : (p : Pos) (es : List Expr)
+    → sum_of size_selector (map (sel.Index p) es) ≤ sum_of (λ (x : Expr). 4 + size_expr x) es
 indexes_below p [] = omega arith
-indexes_below p (x ∷ es) = le_sum _ (4 + size_expr x) _ _ (let h = index_size p x in omega (arith, h)) (indexes_below p es)
+indexes_below p (x ∷ es) = le_sum _ (4 + size_expr x) _ _ (let h = index_size p x in omega (arith, h))
+    (indexes_below p es)
 
 first_index : (n e c d : ℕ) → n ≡ 1 + e → c ≤ d → n + c ≤ 4 + (e + d + 4)
 first_index n e c d q h = omega (arith, q, h)
@@ -186,14 +198,16 @@ first_index n e c d q h = omega (arith, q, h)
 field_below : (n : ℕ) → n ≡ 1 → n + 0 ≤ 4 + 4
 field_below n e = omega (arith, e)
 
-selected_sized : (x : (Token × Token) ⊎ (Token × (Expr × List Expr))) → sum_of size_selector (selectors_of x) ≤ weight selector x
+selected_sized : (x : (Token × Token) ⊎ (Token × (Expr × List Expr)))
+    → sum_of size_selector (selectors_of x) ≤ weight selector x
 selected_sized (inl p) = field_below _ (field_selector_size p.0.pos (ident_of p.1))
 selected_sized (inr p) = first_index _ (size_expr p.1.0) _ _ (index_size p.0.pos p.1.0) (indexes_below p.0.pos p.1.1)
 
 selectors_sized : (xs : El (grammar selectors_rule).shape) → Sized selectors_rule xs
 selectors_sized [] = omega arith
 selectors_sized (x ∷ xs) =
-    le_by _ _ _ (sum_append size_selector (selectors_of x) (flatten_lists (map selectors_of xs))) (le_sum _ _ _ _ (selected_sized x) (selectors_sized xs))
+    le_by _ _ _ (sum_append size_selector (selectors_of x) (flatten_lists (map selectors_of xs)))
+    (le_sum _ _ _ _ (selected_sized x) (selectors_sized xs))
 
 args_below : (es : List Expr) → sum_of size_argument es ≤ sum_of (λ (x : Expr). 4 + size_expr x) es
 args_below es = sum_below size_argument (λ (x : Expr). 4 + size_expr x) (λ x. omega arith) es
@@ -273,7 +287,8 @@ step_below : (o : Option Expr) → size_if o ≤ weight step o
 step_below None = omega arith
 step_below (Some x) = omega arith
 
-arms_below : (xs : List (Option Arm)) → sum_of size_arm (present xs) ≤ sum_of (λ (o : Option Arm). 4 + weight (opt arm) o) xs
+arms_below : (xs : List (Option Arm)) → sum_of size_arm (present xs) ≤ sum_of
+    (λ (o : Option Arm). 4 + weight (opt arm) o) xs
 arms_below xs = present_below size_arm xs (λ (o : Option Arm). 4 + weight (opt arm) o) (λ x. omega arith)
 
 first_arm : (o : Option Arm) (xs : List (Option Arm)) → sum_of size_arm (present (o ∷ xs)) ≤ weight arms (o, xs)
@@ -286,12 +301,14 @@ other_sized (inl p) = simple_sized p.0 p.1 where
   simple_sized d (inl v) = assigned _ _ _ (assign_size d v)
   simple_sized d (inr args) = called _ _ _ _ (call_size d args) (no_more_args args)
 other_sized (inr (inl p)) = if_sum _ _ _ _ (if_size p.0 p.1.0 p.1.1)
-other_sized (inr (inr (inl p))) = case_sum _ _ _ _ _ _ (case_size p.0 (present (with_first p.1.0)) p.1.1) (first_arm p.1.0.0 p.1.0.1) (else_below p.1.1)
+other_sized (inr (inr (inl p))) = case_sum _ _ _ _ _ _ (case_size p.0 (present (with_first p.1.0)) p.1.1)
+    (first_arm p.1.0.0 p.1.0.1) (else_below p.1.1)
 other_sized (inr (inr (inr (inl p)))) = while_sum _ _ _ (while_size p.0 p.1)
 other_sized (inr (inr (inr (inr (inl p))))) = repeat_sum _ _ _ (repeat_size p.0 p.1)
 other_sized (inr (inr (inr (inr (inr (inl body)))))) = loop_sum _ _ (loop_size body)
 other_sized (inr (inr (inr (inr (inr (inr (inl t))))))) = one_le_four _ (exit_size t.pos)
-other_sized (inr (inr (inr (inr (inr (inr (inr (inl p)))))))) = return_sum _ _ _ (return_size p.0.pos p.1) (if_below p.1)
+other_sized (inr (inr (inr (inr (inr (inr (inr (inl p)))))))) =
+    return_sum _ _ _ (return_size p.0.pos p.1) (if_below p.1)
 other_sized (inr (inr (inr (inr (inr (inr (inr (inr (inl p))))))))) =
     for_sum _ _ _ _ _ _ (for_size (ident_of p.0) p.1.0 p.1.1.0 p.1.1.1.0 p.1.1.1.1) (step_below p.1.1.1.0)
 other_sized (inr (inr (inr (inr (inr (inr (inr (inr (inr p))))))))) = with_sum _ _ _ (with_size p.0 p.1)
@@ -303,7 +320,8 @@ rest_sized : (x : El (grammar rest_rule).shape) → Sized rest_rule x
 rest_sized (inl p) = rest_sum _ _ _ _ (elsif_size p.0 p.1.0 p.1.1)
 rest_sized (inr o) = le_by _ _ _ (else_size o) (else_below o)
 
-some_stmts : (xs : List (Option Stmt)) → sum_of size_stmt (present xs) ≤ sum_of (λ (o : Option Stmt). 4 + weight (opt stmt) o) xs
+some_stmts : (xs : List (Option Stmt)) →
+    sum_of size_stmt (present xs) ≤ sum_of (λ (o : Option Stmt). 4 + weight (opt stmt) o) xs
 some_stmts xs = present_below size_stmt xs (λ (o : Option Stmt). 4 + weight (opt stmt) o) (λ x. omega arith)
 
 stmts_sized : (o : Option Stmt) (xs : List (Option Stmt)) → Sized stmts_rule (o, xs)
@@ -339,10 +357,12 @@ simple_sized (inr (inr p)) = range_sum (size_expr p.1.0) (size_expr p.1.1)
 array_sum : (n i t : ℕ) → n ≡ 1 + i + t → n ≤ 4 + (i + t)
 array_sum n i t q = omega (arith, q)
 
-some_fields : (xs : List (Option Field)) → sum_of size_field (present xs) ≤ sum_of (λ (o : Option Field). 4 + weight (opt field) o) xs
+some_fields : (xs : List (Option Field))
+    → sum_of size_field (present xs) ≤ sum_of (λ (o : Option Field). 4 + weight (opt field) o) xs
 some_fields xs = present_below size_field xs (λ (o : Option Field). 4 + weight (opt field) o) (λ x. omega arith)
 
-first_field : (o : Option Field) (xs : List (Option Field)) → sum_of size_field (present (o ∷ xs)) ≤ weight fields (o, xs)
+first_field : (o : Option Field) (xs : List (Option Field))
+    → sum_of size_field (present (o ∷ xs)) ≤ weight fields (o, xs)
 first_field None xs = let h = some_fields xs in omega (arith, h)
 first_field (Some x) xs = le_sum (size_field x) (size_field x) _ _ (omega arith) (some_fields xs)
 
@@ -361,17 +381,20 @@ no_formals n r q = omega (arith, q)
 bare_procedure : (n : ℕ) → n ≡ 1 → n ≤ 4 + 0
 bare_procedure n q = omega (arith, q)
 
-procedure_sized : (t : Token) (o : Option (Option (Parameter × List Parameter) × Option Qualified)) → Sized type_rule (inr (inr (inr (t, o))))
+procedure_sized : (t : Token) (o : Option (Option (Parameter × List Parameter) × Option Qualified))
+    → Sized type_rule (inr (inr (inr (t, o))))
 procedure_sized t None = bare_procedure _ (procedure_size t.pos [] None)
 procedure_sized t (Some p) = by p.0 p.1 where
-  by : (xs : Option (Parameter × List Parameter)) (of : Option Qualified) → Sized type_rule (inr (inr (inr (t, Some (xs, of)))))
+  by : (xs : Option (Parameter × List Parameter)) (of : Option Qualified)
+      → Sized type_rule (inr (inr (inr (t, Some (xs, of)))))
   by None of = no_formals _ _ (procedure_size t.pos [] of)
   by (Some q) of = formals_sum _ _ _ _ (procedure_size t.pos (q.0 ∷ q.1) of) (parameters_below q.1)
 
 type_sized : (x : El (grammar type_rule).shape) → Sized type_rule x
 type_sized (inl s) = le_by _ _ _ (simple_type_size s) (omega arith)
 type_sized (inr (inl p)) = array_sum _ _ _ (array_size p.0.pos p.1.0 p.1.1)
-type_sized (inr (inr (inl p))) = record_sum _ _ _ (record_size p.0.pos (present (with_first p.1))) (first_field p.1.0 p.1.1)
+type_sized (inr (inr (inl p))) = record_sum _ _ _ (record_size p.0.pos (present (with_first p.1)))
+    (first_field p.1.0 p.1.1)
 type_sized (inr (inr (inr p))) = procedure_sized p.0 p.1
 
 dims_sum : (a n i t : ℕ) → n ≡ 1 + i + t → a + n ≤ a + (4 + (i + t))
@@ -505,7 +528,8 @@ token_around a m k h e = omega (arith, h, e)
 pub spelled_below : {a : Ty} {g : Gr a} {x : El a} {ts : List Token} → Spells a g x ts → weight g x ≤ 4 * length ts
 spelled_below (one i) = omega arith
 spelled_below (made {r = r} {x = x} d) = le_trans _ _ _ (sized r x) (spelled_below d)
-spelled_below (pair {ts = ts} {us = us} d c) = two_texts _ _ (length ts) (length us) _ (spelled_below d) (spelled_below c) (length-append ts us)
+spelled_below (pair {ts = ts} {us = us} d c) =
+    two_texts _ _ (length ts) (length us) _ (spelled_below d) (spelled_below c) (length-append ts us)
 spelled_below (left d) = spelled_below d
 spelled_below (right d) = spelled_below d
 spelled_below (before {ts = ts} k d) = token_before _ (length ts) (spelled_below d)
@@ -513,9 +537,11 @@ spelled_below (behind {ts = ts} t d k) = token_behind _ (length ts) _ (spelled_b
 spelled_below absent = omega arith
 spelled_below (there_is d) = spelled_below d
 spelled_below none = omega arith
-spelled_below (more {ts = ts} {us = us} d c) = two_texts _ _ (length ts) (length us) _ (spelled_below d) (spelled_below c) (length-append ts us)
+spelled_below (more {ts = ts} {us = us} d c) =
+    two_texts _ _ (length ts) (length us) _ (spelled_below d) (spelled_below c) (length-append ts us)
 spelled_below (nested d) = spelled_below d
 spelled_below (closed {ts = ts} t u k d l) = token_around _ (length ts) _ (spelled_below d) (length-append ts (u ∷ []))
 
-pub module_below : (ts : List Token) (m : Module) → Spells (ast module_rule) (rule module_rule) m ts → size_module m ≤ 4 * length ts
+pub module_below : (ts : List Token) (m : Module) → Spells (ast module_rule) (rule module_rule) m ts
+    → size_module m ≤ 4 * length ts
 module_below ts m d = spelled_below d

@@ -15,28 +15,42 @@ use Rattle.wasm_code.specs.Parts.{vector}
 use Rattle.wasm_code.specs.Opcode.{load_opcode, store_opcode, numeric_opcode}
 use Rattle.law_format.specs.Places.{Opcode, Cell, block_type_cells, opcode, cells_step, instr_cells}
 
-at : (i : Instr) (x : Instr-F Instr) → out-Instr i ≡ x → instr_cells i ≡ cells_step (map-Instr Instr (List Cell) instr_cells x)
+at : (i : Instr) (x : Instr-F Instr) → out-Instr i ≡ x
+    → instr_cells i ≡ cells_step (map-Instr Instr (List Cell) instr_cells x)
 unfolding instr_cells
-at i x e = fold_out-Instr (List Cell) cells_step i ∙ ap (λ (y : Instr-F Instr). cells_step (map-Instr Instr (List Cell) instr_cells y)) e
+at i x e = fold_out-Instr (List Cell) cells_step i
+    ∙ ap (λ (y : Instr-F Instr). cells_step (map-Instr Instr (List Cell) instr_cells y)) e
 
 joined : (is : List Instr) → flat_map (λ (c : List Cell). c) (map instr_cells is) ≡ flat_map instr_cells is
 joined [] = refl
 joined (i ∷ is) = ap (λ (r : List Cell). instr_cells i ++ r) (joined is)
 
-pub celled-Block : (t : Option ValueType) (is : List Instr) → instr_cells (Block t is) ≡ (Opcode, 0x02) ∷ (block_type_cells t ++ (flat_map instr_cells is ++ opcode 0x0B []))
-celled-Block t is = at (Block t is) (layer.Block t is) (outs-Block t is) ∙ ap (λ (r : List Cell). (Opcode, 0x02) ∷ (block_type_cells t ++ (r ++ opcode 0x0B []))) (joined is)
+pub celled-Block : (t : Option ValueType) (is : List Instr)
+    → instr_cells (Block t is) ≡ (Opcode, 0x02) ∷ (block_type_cells t ++ (flat_map instr_cells is ++ opcode 0x0B []))
+celled-Block t is = at (Block t is) (layer.Block t is) (outs-Block t is)
+    ∙ ap (λ (r : List Cell). (Opcode, 0x02) ∷ (block_type_cells t ++ (r ++ opcode 0x0B []))) (joined is)
 
-pub celled-Loop : (t : Option ValueType) (is : List Instr) → instr_cells (Loop t is) ≡ (Opcode, 0x03) ∷ (block_type_cells t ++ (flat_map instr_cells is ++ opcode 0x0B []))
-celled-Loop t is = at (Loop t is) (layer.Loop t is) (outs-Loop t is) ∙ ap (λ (r : List Cell). (Opcode, 0x03) ∷ (block_type_cells t ++ (r ++ opcode 0x0B []))) (joined is)
+pub celled-Loop : (t : Option ValueType) (is : List Instr)
+    → instr_cells (Loop t is) ≡ (Opcode, 0x03) ∷ (block_type_cells t ++ (flat_map instr_cells is ++ opcode 0x0B []))
+celled-Loop t is = at (Loop t is) (layer.Loop t is) (outs-Loop t is)
+    ∙ ap (λ (r : List Cell). (Opcode, 0x03) ∷ (block_type_cells t ++ (r ++ opcode 0x0B []))) (joined is)
 
-pub celled-If-None : (t : Option ValueType) (is : List Instr) → instr_cells (If t is None) ≡ (Opcode, 0x04) ∷ (block_type_cells t ++ (flat_map instr_cells is ++ opcode 0x0B []))
-celled-If-None t is = at (If t is None) (layer.If t is None) (outs-If t is None) ∙ ap (λ (r : List Cell). (Opcode, 0x04) ∷ (block_type_cells t ++ (r ++ opcode 0x0B []))) (joined is)
+pub celled-If-None : (t : Option ValueType) (is : List Instr)
+    → instr_cells (If t is None) ≡ (Opcode, 0x04) ∷ (block_type_cells t ++ (flat_map instr_cells is ++ opcode 0x0B []))
+celled-If-None t is = at (If t is None) (layer.If t is None) (outs-If t is None)
+    ∙ ap (λ (r : List Cell). (Opcode, 0x04) ∷ (block_type_cells t ++ (r ++ opcode 0x0B []))) (joined is)
 
-pub celled-If-Some : (t : Option ValueType) (is third : List Instr) → instr_cells (If t is (Some third)) ≡ (Opcode, 0x04) ∷ (block_type_cells t ++ (flat_map instr_cells is ++ ((Opcode, 0x05) ∷ (flat_map instr_cells third ++ opcode 0x0B []))))
+pub celled-If-Some : (t : Option ValueType) (is third : List Instr)
+    → instr_cells (If t is (Some third)) ≡ (Opcode, 0x04)
+    ∷ (block_type_cells t ++ (flat_map instr_cells is
+    ++ ((Opcode, 0x05) ∷ (flat_map instr_cells third ++ opcode 0x0B []))))
 celled-If-Some t is third =
     at (If t is (Some third)) (layer.If t is (Some third)) (outs-If t is (Some third))
-    ∙ ap (λ (r : List Cell). (Opcode, 0x04) ∷ (block_type_cells t ++ (r ++ ((Opcode, 0x05) ∷ (flat_map (λ (c : List Cell). c) (map instr_cells third) ++ opcode 0x0B []))))) (joined is)
-    ∙ ap (λ (r : List Cell). (Opcode, 0x04) ∷ (block_type_cells t ++ (flat_map instr_cells is ++ ((Opcode, 0x05) ∷ (r ++ opcode 0x0B []))))) (joined third)
+    ∙ ap (λ (r : List Cell). (Opcode, 0x04)
+    ∷ (block_type_cells t ++ (r ++ ((Opcode, 0x05)
+    ∷ (flat_map (λ (c : List Cell). c) (map instr_cells third) ++ opcode 0x0B []))))) (joined is)
+    ∙ ap (λ (r : List Cell). (Opcode, 0x04)
+    ∷ (block_type_cells t ++ (flat_map instr_cells is ++ ((Opcode, 0x05) ∷ (r ++ opcode 0x0B []))))) (joined third)
 
 pub celled-Unreachable : instr_cells Unreachable ≡ opcode 0x00 []
 celled-Unreachable = at Unreachable layer.Unreachable outs-Unreachable
@@ -47,7 +61,8 @@ celled-Br l = at (Br l) (layer.Br l) (outs-Br l)
 pub celled-BrIf : (l : ℕ) → instr_cells (BrIf l) ≡ opcode 0x0D (unsigned.encoding l)
 celled-BrIf l = at (BrIf l) (layer.BrIf l) (outs-BrIf l)
 
-pub celled-BrTable : (ls : List ℕ) (l : ℕ) → instr_cells (BrTable ls l) ≡ opcode 0x0E ((vector unsigned).encoding ls ++ unsigned.encoding l)
+pub celled-BrTable : (ls : List ℕ) (l : ℕ)
+    → instr_cells (BrTable ls l) ≡ opcode 0x0E ((vector unsigned).encoding ls ++ unsigned.encoding l)
 celled-BrTable ls l = at (BrTable ls l) (layer.BrTable ls l) (outs-BrTable ls l)
 
 pub celled-Return : instr_cells Return ≡ opcode 0x0F []

@@ -27,19 +27,26 @@ inner_bytes [] = tt
 inner_bytes (c ∷ cells) = inner_bytes cells
 
 inner_part : {A : Type 0} (marks : A → List Mark) (p : Part A) → Inner (marks p.content) → Inner (part_marks marks p)
-inner_part marks p h = inner_append (byte_marks (plain unsigned p.size)) (Opens p.size ∷ (marks p.content ++ Closes ∷ [])) (inner_bytes (plain unsigned p.size)) (inner_append (marks p.content) (Closes ∷ []) h tt)
+inner_part marks p h = inner_append (byte_marks (plain unsigned p.size))
+    (Opens p.size ∷ (marks p.content ++ Closes ∷ [])) (inner_bytes (plain unsigned p.size))
+    (inner_append (marks p.content) (Closes ∷ []) h tt)
 
-inner_section : {A : Type 0} (k : ℕ) (marks : List A → List Mark) (size : ℕ) (xs : List A) → Inner (marks xs) → Inner (section_marks k marks (record { size = size; content = xs }))
+inner_section : {A : Type 0} (k : ℕ) (marks : List A → List Mark) (size : ℕ) (xs : List A) → Inner (marks xs)
+    → Inner (section_marks k marks (record { size = size; content = xs }))
 inner_section k marks size [] h = tt
 inner_section k marks size (x ∷ xs) h = inner_part marks (record { size = size; content = x ∷ xs }) h
 
 inner_bodies : (bs : List (Part Body)) → Inner (flat_map (part_marks (λ (b : Body). byte_marks (body_cells b))) bs)
 inner_bodies [] = tt
 inner_bodies (b ∷ bs) =
-    inner_append (part_marks (λ (b : Body). byte_marks (body_cells b)) b) (flat_map (part_marks (λ (b : Body). byte_marks (body_cells b))) bs) (inner_part (λ (b : Body). byte_marks (body_cells b)) b (inner_bytes (body_cells b.content))) (inner_bodies bs)
+    inner_append (part_marks (λ (b : Body). byte_marks (body_cells b)) b)
+    (flat_map (part_marks (λ (b : Body). byte_marks (body_cells b))) bs)
+    (inner_part (λ (b : Body). byte_marks (body_cells b)) b (inner_bytes (body_cells b.content))) (inner_bodies bs)
 
 inner_all : (bs : List (Part Body)) → Inner (bodies_marks bs)
-inner_all bs = inner_append (byte_marks (plain unsigned (length bs))) (flat_map (part_marks (λ (b : Body). byte_marks (body_cells b))) bs) (inner_bytes (plain unsigned (length bs))) (inner_bodies bs)
+inner_all bs = inner_append (byte_marks (plain unsigned (length bs)))
+    (flat_map (part_marks (λ (b : Body). byte_marks (body_cells b))) bs) (inner_bytes (plain unsigned (length bs)))
+    (inner_bodies bs)
 
 -- marks with an end, and no other
 pub record Ended (marks : List Mark) : Type 0 where
@@ -54,10 +61,12 @@ ended_then xs ys h e = record {
   whole = ap (λ (t : List Mark). xs ++ t) e.whole ∙ sym (append_assoc xs e.front (Last ∷ []));
 }
 
-section_ended : {A : Type 0} (k : ℕ) (marks : List A → List Mark) (s : Part (List A)) (ys : List Mark) → Inner (marks s.content) → Ended ys → Ended (section_marks k marks s ++ ys)
+section_ended : {A : Type 0} (k : ℕ) (marks : List A → List Mark) (s : Part (List A)) (ys : List Mark)
+    → Inner (marks s.content) → Ended ys → Ended (section_marks k marks s ++ ys)
 section_ended k marks s ys h e = ended_then (section_marks k marks s) ys (inner_section k marks s.size s.content h) e
 
-entries_ended : {A : Type 0} (k : ℕ) (cells : A → List Cell) (s : Part (List A)) (ys : List Mark) → Ended ys → Ended (section_marks k (entry_marks cells) s ++ ys)
+entries_ended : {A : Type 0} (k : ℕ) (cells : A → List Cell) (s : Part (List A)) (ys : List Mark) → Ended ys
+    → Ended (section_marks k (entry_marks cells) s ++ ys)
 entries_ended k cells s ys e = section_ended k (entry_marks cells) s ys (inner_bytes (vector_cells cells s.content)) e
 
 pub layout_ended : (l : Layout) → Ended (layout_marks l)
@@ -103,18 +112,28 @@ inner_tail Closes xs h = h
 inner_tail Last xs h = absurd h
 
 -- what stands in front of a mark of a module
-pub inner_front : (all' front : List Mark) (next : Mark) (rest : List Mark) → Inner all' → all' ++ (Last ∷ []) ≡ front ++ (next ∷ rest) → Inner front
+pub inner_front : (all' front : List Mark) (next : Mark) (rest : List Mark) → Inner all'
+    → all' ++ (Last ∷ []) ≡ front ++ (next ∷ rest) → Inner front
 inner_front all' [] next rest h e = tt
-inner_front [] (m ∷ front) next rest h e = absurd (no_marks front next rest (more_marks Last m [] (front ++ (next ∷ rest)) e))
+inner_front [] (m ∷ front) next rest h e =
+    absurd (no_marks front next rest (more_marks Last m [] (front ++ (next ∷ rest)) e))
 inner_front (n ∷ all') (m ∷ front) next rest h e =
     subst (λ (k : Mark). Inner (k ∷ front)) (first_mark n m (all' ++ (Last ∷ [])) (front ++ (next ∷ rest)) e)
-    (inner_cons n all' front h (λ g. inner_front all' front next rest g (more_marks n m (all' ++ (Last ∷ [])) (front ++ (next ∷ rest)) e)))
+    (inner_cons n all' front h (λ g. inner_front all' front next rest g
+    (more_marks n m (all' ++ (Last ∷ [])) (front ++ (next ∷ rest)) e)))
 
 -- behind the end stands nothing
-pub last_is_end : (all' front rest : List Mark) → Inner all' → all' ++ (Last ∷ []) ≡ front ++ (Last ∷ rest) → (all' ≡ front) × (rest ≡ [])
+pub last_is_end : (all' front rest : List Mark) → Inner all' → all' ++ (Last ∷ []) ≡ front ++ (Last ∷ rest)
+    → (all' ≡ front) × (rest ≡ [])
 last_is_end [] [] rest h e = (refl, sym (more_marks Last Last [] rest e))
-last_is_end [] (m ∷ front) rest h e = absurd (no_marks front Last rest (more_marks Last m [] (front ++ (Last ∷ rest)) e))
-last_is_end (n ∷ all') [] rest h e = absurd (subst (λ (k : Mark). Inner (k ∷ all')) (first_mark n Last (all' ++ (Last ∷ [])) rest e) h)
+last_is_end [] (m ∷ front) rest h e = absurd
+    (no_marks front Last rest (more_marks Last m [] (front ++ (Last ∷ rest)) e))
+last_is_end (n ∷ all') [] rest h e = absurd
+    (subst (λ (k : Mark). Inner (k ∷ all')) (first_mark n Last (all' ++ (Last ∷ [])) rest e) h)
 last_is_end (n ∷ all') (m ∷ front) rest h e =
-    let r = last_is_end all' front rest (inner_tail n all' h) (more_marks n m (all' ++ (Last ∷ [])) (front ++ (Last ∷ rest)) e) in
-    (ap (λ (k : Mark). k ∷ all') (first_mark n m (all' ++ (Last ∷ [])) (front ++ (Last ∷ rest)) e) ∙ ap (λ (t : List Mark). m ∷ t) r.0, r.1)
+    let r = last_is_end all' front rest (inner_tail n all' h)
+    (more_marks n m (all' ++ (Last ∷ [])) (front ++ (Last ∷ rest)) e) in (
+      ap (λ (k : Mark). k ∷ all') (first_mark n m (all' ++ (Last ∷ [])) (front ++ (Last ∷ rest)) e)
+          ∙ ap (λ (t : List Mark). m ∷ t) r.0,
+      r.1,
+    )

@@ -52,11 +52,15 @@ ok11 y = section_fits data_segment y.0 × always y.1
 
 chain11 : Chain real11 free11 m11 ok11
 unfolding real11 free11 m11 ok11
-chain11 = section_chain 11 data_segment data_cells (entries_stops data_segment data_cells data_stops) (entries_whole data_segment data_cells data_spelling data_segment_law) (λ xs. at_end) (λ xs. at_end) end_marks (λ xs. always) (λ xs g. end_chain) (λ xs. tt) (λ xs g. tt) (λ u h. tt)
+chain11 = section_chain 11 data_segment data_cells (entries_stops data_segment data_cells data_stops)
+    (entries_whole data_segment data_cells data_spelling data_segment_law) (λ xs. at_end) (λ xs. at_end) end_marks
+    (λ xs. always) (λ xs g. end_chain) (λ xs. tt) (λ xs g. tt) (λ u h. tt)
 
 past11 : (y : Y11) → ok11 y → Past 9 (flat (m11 y))
 unfolding m11 ok11
-past11 = section_is_past 11 data_segment data_cells (entries_stops data_segment data_cells data_stops) (entries_whole data_segment data_cells data_spelling data_segment_law) (λ xs. at_end) (λ xs. at_end) end_marks (λ xs. always) (λ xs g. end_chain) (λ xs. tt) (λ xs g. tt) (λ u h. tt) 9 (omega arith)
+past11 = section_is_past 11 data_segment data_cells (entries_stops data_segment data_cells data_stops)
+    (entries_whole data_segment data_cells data_spelling data_segment_law) (λ xs. at_end) (λ xs. at_end) end_marks
+    (λ xs. always) (λ xs g. end_chain) (λ xs. tt) (λ xs g. tt) (λ u h. tt) 9 (omega arith)
 
 -- ---- code
 
@@ -73,7 +77,8 @@ unfoldable pub m10 : Y10 → List Mark
 m10 y = section_marks 10 bodies_marks y.0 ++ m11 y.1
 
 unfoldable pub ok10 : List ℕ → Y10 → Type 0
-ok10 types y = (part_fits (list_all body_fits) y.0.size y.0.content ≡ true) × (length y.0.content ≡ length types) × ok11 y.1
+ok10 types y = (part_fits (list_all body_fits) y.0.size y.0.content ≡ true) × (length y.0.content ≡ length types)
+    × ok11 y.1
 
 chain10 : (types : List ℕ) → length types < 2 ^ 32 → Chain (real10 types) (free10 types) m10 (ok10 types)
 unfolding real10 free10 m10 ok10
@@ -102,11 +107,19 @@ ok9 types y = section_fits element_segment y.0 × ok10 types y.1
 
 chain9 : (types : List ℕ) → length types < 2 ^ 32 → Chain (real9 types) (free9 types) m9 (ok9 types)
 unfolding real9 free9 m9 ok9
-chain9 types few = section_chain 9 element_segment element_cells (entries_stops element_segment element_cells element_stops) (entries_whole element_segment element_cells element_spelling element_law) (λ xs. real10 types) (λ xs. free10 types) m10 (λ xs. ok10 types) (λ xs g. chain10 types few) (λ xs. (chain10 types few).some) (λ xs g. (chain10 types few).some_fits) (λ y h. past10 types y h)
+chain9 types few = section_chain 9 element_segment element_cells
+    (entries_stops element_segment element_cells element_stops)
+    (entries_whole element_segment element_cells element_spelling element_law) (λ xs. real10 types) (λ xs. free10 types)
+    m10 (λ xs. ok10 types) (λ xs g. chain10 types few) (λ xs. (chain10 types few).some)
+    (λ xs g. (chain10 types few).some_fits) (λ y h. past10 types y h)
 
 past9 : (types : List ℕ) → length types < 2 ^ 32 → (y : Y9) → ok9 types y → Past 7 (flat (m9 y))
 unfolding m9 ok9
-past9 types few = section_is_past 9 element_segment element_cells (entries_stops element_segment element_cells element_stops) (entries_whole element_segment element_cells element_spelling element_law) (λ xs. real10 types) (λ xs. free10 types) m10 (λ xs. ok10 types) (λ xs g. chain10 types few) (λ xs. (chain10 types few).some) (λ xs g. (chain10 types few).some_fits) (λ y h. past10 types y h) 7 (omega arith)
+past9 types few = section_is_past 9 element_segment element_cells
+    (entries_stops element_segment element_cells element_stops)
+    (entries_whole element_segment element_cells element_spelling element_law) (λ xs. real10 types) (λ xs. free10 types)
+    m10 (λ xs. ok10 types) (λ xs g. chain10 types few) (λ xs. (chain10 types few).some)
+    (λ xs g. (chain10 types few).some_fits) (λ y h. past10 types y h) 7 (omega arith)
 
 -- ---- exports
 
@@ -127,11 +140,17 @@ ok7 types y = section_fits export y.0 × ok9 types y.1
 
 chain7 : (types : List ℕ) → length types < 2 ^ 32 → Chain (real7 types) (free7 types) m7 (ok7 types)
 unfolding real7 free7 m7 ok7
-chain7 types few = section_chain 7 export (plain export) (entries_stops export (plain export) export_stops) (entries_whole export (plain export) export_spelling export_law) (λ xs. real9 types) (λ xs. free9 types) m9 (λ xs. ok9 types) (λ xs g. chain9 types few) (λ xs. (chain9 types few).some) (λ xs g. (chain9 types few).some_fits) (λ y h. past9 types few y h)
+chain7 types few = section_chain 7 export (plain export) (entries_stops export (plain export) export_stops)
+    (entries_whole export (plain export) export_spelling export_law) (λ xs. real9 types) (λ xs. free9 types) m9
+    (λ xs. ok9 types) (λ xs g. chain9 types few) (λ xs. (chain9 types few).some) (λ xs g. (chain9 types few).some_fits)
+    (λ y h. past9 types few y h)
 
 past7 : (types : List ℕ) → length types < 2 ^ 32 → (y : Y7) → ok7 types y → Past 6 (flat (m7 y))
 unfolding m7 ok7
-past7 types few = section_is_past 7 export (plain export) (entries_stops export (plain export) export_stops) (entries_whole export (plain export) export_spelling export_law) (λ xs. real9 types) (λ xs. free9 types) m9 (λ xs. ok9 types) (λ xs g. chain9 types few) (λ xs. (chain9 types few).some) (λ xs g. (chain9 types few).some_fits) (λ y h. past9 types few y h) 6 (omega arith)
+past7 types few = section_is_past 7 export (plain export) (entries_stops export (plain export) export_stops)
+    (entries_whole export (plain export) export_spelling export_law) (λ xs. real9 types) (λ xs. free9 types) m9
+    (λ xs. ok9 types) (λ xs g. chain9 types few) (λ xs. (chain9 types few).some) (λ xs g. (chain9 types few).some_fits)
+    (λ y h. past9 types few y h) 6 (omega arith)
 
 -- ---- globals
 
@@ -152,11 +171,17 @@ ok6 types y = section_fits global y.0 × ok7 types y.1
 
 chain6 : (types : List ℕ) → length types < 2 ^ 32 → Chain (real6 types) (free6 types) m6 (ok6 types)
 unfolding real6 free6 m6 ok6
-chain6 types few = section_chain 6 global global_cells (entries_stops global global_cells global_stops) (entries_whole global global_cells global_spelling global_law) (λ xs. real7 types) (λ xs. free7 types) m7 (λ xs. ok7 types) (λ xs g. chain7 types few) (λ xs. (chain7 types few).some) (λ xs g. (chain7 types few).some_fits) (λ y h. past7 types few y h)
+chain6 types few = section_chain 6 global global_cells (entries_stops global global_cells global_stops)
+    (entries_whole global global_cells global_spelling global_law) (λ xs. real7 types) (λ xs. free7 types) m7
+    (λ xs. ok7 types) (λ xs g. chain7 types few) (λ xs. (chain7 types few).some) (λ xs g. (chain7 types few).some_fits)
+    (λ y h. past7 types few y h)
 
 past6 : (types : List ℕ) → length types < 2 ^ 32 → (y : Y6) → ok6 types y → Past 5 (flat (m6 y))
 unfolding m6 ok6
-past6 types few = section_is_past 6 global global_cells (entries_stops global global_cells global_stops) (entries_whole global global_cells global_spelling global_law) (λ xs. real7 types) (λ xs. free7 types) m7 (λ xs. ok7 types) (λ xs g. chain7 types few) (λ xs. (chain7 types few).some) (λ xs g. (chain7 types few).some_fits) (λ y h. past7 types few y h) 5 (omega arith)
+past6 types few = section_is_past 6 global global_cells (entries_stops global global_cells global_stops)
+    (entries_whole global global_cells global_spelling global_law) (λ xs. real7 types) (λ xs. free7 types) m7
+    (λ xs. ok7 types) (λ xs g. chain7 types few) (λ xs. (chain7 types few).some) (λ xs g. (chain7 types few).some_fits)
+    (λ y h. past7 types few y h) 5 (omega arith)
 
 -- ---- memories
 
@@ -177,11 +202,19 @@ ok5 types y = section_fits memory_type y.0 × ok6 types y.1
 
 chain5 : (types : List ℕ) → length types < 2 ^ 32 → Chain (real5 types) (free5 types) m5 (ok5 types)
 unfolding real5 free5 m5 ok5
-chain5 types few = section_chain 5 memory_type (plain memory_type) (entries_stops memory_type (plain memory_type) memory_type_stops) (entries_whole memory_type (plain memory_type) memory_type_spelling memory_type_law) (λ xs. real6 types) (λ xs. free6 types) m6 (λ xs. ok6 types) (λ xs g. chain6 types few) (λ xs. (chain6 types few).some) (λ xs g. (chain6 types few).some_fits) (λ y h. past6 types few y h)
+chain5 types few = section_chain 5 memory_type (plain memory_type)
+    (entries_stops memory_type (plain memory_type) memory_type_stops)
+    (entries_whole memory_type (plain memory_type) memory_type_spelling memory_type_law) (λ xs. real6 types)
+    (λ xs. free6 types) m6 (λ xs. ok6 types) (λ xs g. chain6 types few) (λ xs. (chain6 types few).some)
+    (λ xs g. (chain6 types few).some_fits) (λ y h. past6 types few y h)
 
 past5 : (types : List ℕ) → length types < 2 ^ 32 → (y : Y5) → ok5 types y → Past 4 (flat (m5 y))
 unfolding m5 ok5
-past5 types few = section_is_past 5 memory_type (plain memory_type) (entries_stops memory_type (plain memory_type) memory_type_stops) (entries_whole memory_type (plain memory_type) memory_type_spelling memory_type_law) (λ xs. real6 types) (λ xs. free6 types) m6 (λ xs. ok6 types) (λ xs g. chain6 types few) (λ xs. (chain6 types few).some) (λ xs g. (chain6 types few).some_fits) (λ y h. past6 types few y h) 4 (omega arith)
+past5 types few = section_is_past 5 memory_type (plain memory_type)
+    (entries_stops memory_type (plain memory_type) memory_type_stops)
+    (entries_whole memory_type (plain memory_type) memory_type_spelling memory_type_law) (λ xs. real6 types)
+    (λ xs. free6 types) m6 (λ xs. ok6 types) (λ xs g. chain6 types few) (λ xs. (chain6 types few).some)
+    (λ xs g. (chain6 types few).some_fits) (λ y h. past6 types few y h) 4 (omega arith)
 
 -- ---- tables
 
@@ -202,11 +235,19 @@ ok4 types y = section_fits table_type y.0 × ok5 types y.1
 
 chain4 : (types : List ℕ) → length types < 2 ^ 32 → Chain (real4 types) (free4 types) m4 (ok4 types)
 unfolding real4 free4 m4 ok4
-chain4 types few = section_chain 4 table_type (plain table_type) (entries_stops table_type (plain table_type) table_type_stops) (entries_whole table_type (plain table_type) table_type_spelling table_type_law) (λ xs. real5 types) (λ xs. free5 types) m5 (λ xs. ok5 types) (λ xs g. chain5 types few) (λ xs. (chain5 types few).some) (λ xs g. (chain5 types few).some_fits) (λ y h. past5 types few y h)
+chain4 types few = section_chain 4 table_type (plain table_type)
+    (entries_stops table_type (plain table_type) table_type_stops)
+    (entries_whole table_type (plain table_type) table_type_spelling table_type_law) (λ xs. real5 types)
+    (λ xs. free5 types) m5 (λ xs. ok5 types) (λ xs g. chain5 types few) (λ xs. (chain5 types few).some)
+    (λ xs g. (chain5 types few).some_fits) (λ y h. past5 types few y h)
 
 past4 : (types : List ℕ) → length types < 2 ^ 32 → (y : Y4) → ok4 types y → Past 3 (flat (m4 y))
 unfolding m4 ok4
-past4 types few = section_is_past 4 table_type (plain table_type) (entries_stops table_type (plain table_type) table_type_stops) (entries_whole table_type (plain table_type) table_type_spelling table_type_law) (λ xs. real5 types) (λ xs. free5 types) m5 (λ xs. ok5 types) (λ xs g. chain5 types few) (λ xs. (chain5 types few).some) (λ xs g. (chain5 types few).some_fits) (λ y h. past5 types few y h) 3 (omega arith)
+past4 types few = section_is_past 4 table_type (plain table_type)
+    (entries_stops table_type (plain table_type) table_type_stops)
+    (entries_whole table_type (plain table_type) table_type_spelling table_type_law) (λ xs. real5 types)
+    (λ xs. free5 types) m5 (λ xs. ok5 types) (λ xs g. chain5 types few) (λ xs. (chain5 types few).some)
+    (λ xs g. (chain5 types few).some_fits) (λ y h. past5 types few y h) 3 (omega arith)
 
 -- ---- the types of functions
 
@@ -217,7 +258,8 @@ few_uses (x ∷ xs) g =
     let all' : Bool = ltb (length (x ∷ xs)) (2 ^ 32) && list_all unsigned.fits (x ∷ xs) in
     let f = and_parts (unsigned.fits 0) (ltb 0 (length (x ∷ xs)) && all') g in
     let h = and_parts (ltb 0 (length (x ∷ xs))) all' f.1 in
-    ltb-true (length (x ∷ xs)) (2 ^ 32) (and_parts (ltb (length (x ∷ xs)) (2 ^ 32)) (list_all unsigned.fits (x ∷ xs)) h.1).0
+    ltb-true (length (x ∷ xs)) (2 ^ 32) (and_parts (ltb (length (x ∷ xs)) (2 ^ 32)) (list_all unsigned.fits (x ∷ xs))
+    h.1).0
 
 abbrev Few : List ℕ → Type 0
 Few xs = (length xs < 2 ^ 32) ⊎ (2 ^ 32 ≤ length xs)
@@ -261,11 +303,15 @@ ok3 y = section_fits unsigned y.0 × ok4 y.0.content y.1
 
 chain3 : Chain real3 free3 m3 ok3
 unfolding real3 free3 m3 ok3
-chain3 = section_chain 3 unsigned (plain unsigned) (entries_stops unsigned (plain unsigned) unsigned_stops) (entries_whole unsigned (plain unsigned) unsigned_spelling unsigned_law) real4 free4 m4 ok4 (λ xs g. chain4 xs (few_uses xs g)) some_uses uses_fit past_uses
+chain3 = section_chain 3 unsigned (plain unsigned) (entries_stops unsigned (plain unsigned) unsigned_stops)
+    (entries_whole unsigned (plain unsigned) unsigned_spelling unsigned_law) real4 free4 m4 ok4
+    (λ xs g. chain4 xs (few_uses xs g)) some_uses uses_fit past_uses
 
 past3 : (y : Y3) → ok3 y → Past 2 (flat (m3 y))
 unfolding m3 ok3
-past3 = section_is_past 3 unsigned (plain unsigned) (entries_stops unsigned (plain unsigned) unsigned_stops) (entries_whole unsigned (plain unsigned) unsigned_spelling unsigned_law) real4 free4 m4 ok4 (λ xs g. chain4 xs (few_uses xs g)) some_uses uses_fit past_uses 2 (omega arith)
+past3 = section_is_past 3 unsigned (plain unsigned) (entries_stops unsigned (plain unsigned) unsigned_stops)
+    (entries_whole unsigned (plain unsigned) unsigned_spelling unsigned_law) real4 free4 m4 ok4
+    (λ xs g. chain4 xs (few_uses xs g)) some_uses uses_fit past_uses 2 (omega arith)
 
 -- ---- imports
 
@@ -286,11 +332,15 @@ ok2 y = section_fits import y.0 × ok3 y.1
 
 chain2 : Chain real2 free2 m2 ok2
 unfolding real2 free2 m2 ok2
-chain2 = section_chain 2 import import_cells (entries_stops import import_cells import_stops) (entries_whole import import_cells import_spelling import_law) (λ xs. real3) (λ xs. free3) m3 (λ xs. ok3) (λ xs g. chain3) (λ xs. chain3.some) (λ xs g. chain3.some_fits) (λ y h. past3 y h)
+chain2 = section_chain 2 import import_cells (entries_stops import import_cells import_stops)
+    (entries_whole import import_cells import_spelling import_law) (λ xs. real3) (λ xs. free3) m3 (λ xs. ok3)
+    (λ xs g. chain3) (λ xs. chain3.some) (λ xs g. chain3.some_fits) (λ y h. past3 y h)
 
 past2 : (y : Y2) → ok2 y → Past 1 (flat (m2 y))
 unfolding m2 ok2
-past2 = section_is_past 2 import import_cells (entries_stops import import_cells import_stops) (entries_whole import import_cells import_spelling import_law) (λ xs. real3) (λ xs. free3) m3 (λ xs. ok3) (λ xs g. chain3) (λ xs. chain3.some) (λ xs g. chain3.some_fits) (λ y h. past3 y h) 1 (omega arith)
+past2 = section_is_past 2 import import_cells (entries_stops import import_cells import_stops)
+    (entries_whole import import_cells import_spelling import_law) (λ xs. real3) (λ xs. free3) m3 (λ xs. ok3)
+    (λ xs g. chain3) (λ xs. chain3.some) (λ xs g. chain3.some_fits) (λ y h. past3 y h) 1 (omega arith)
 
 -- ---- types
 
@@ -311,11 +361,15 @@ ok1 y = section_fits func_type y.0 × ok2 y.1
 
 chain1 : Chain real1 free1 m1 ok1
 unfolding real1 free1 m1 ok1
-chain1 = section_chain 1 func_type func_type_cells (entries_stops func_type func_type_cells func_type_stops) (entries_whole func_type func_type_cells func_type_spelling func_type_law) (λ xs. real2) (λ xs. free2) m2 (λ xs. ok2) (λ xs g. chain2) (λ xs. chain2.some) (λ xs g. chain2.some_fits) (λ y h. past2 y h)
+chain1 = section_chain 1 func_type func_type_cells (entries_stops func_type func_type_cells func_type_stops)
+    (entries_whole func_type func_type_cells func_type_spelling func_type_law) (λ xs. real2) (λ xs. free2) m2
+    (λ xs. ok2) (λ xs g. chain2) (λ xs. chain2.some) (λ xs g. chain2.some_fits) (λ y h. past2 y h)
 
 past1 : (y : Y1) → ok1 y → Past 0 (flat (m1 y))
 unfolding m1 ok1
-past1 = section_is_past 1 func_type func_type_cells (entries_stops func_type func_type_cells func_type_stops) (entries_whole func_type func_type_cells func_type_spelling func_type_law) (λ xs. real2) (λ xs. free2) m2 (λ xs. ok2) (λ xs g. chain2) (λ xs. chain2.some) (λ xs g. chain2.some_fits) (λ y h. past2 y h) 0 (omega arith)
+past1 = section_is_past 1 func_type func_type_cells (entries_stops func_type func_type_cells func_type_stops)
+    (entries_whole func_type func_type_cells func_type_spelling func_type_law) (λ xs. real2) (λ xs. free2) m2
+    (λ xs. ok2) (λ xs g. chain2) (λ xs. chain2.some) (λ xs g. chain2.some_fits) (λ y h. past2 y h) 0 (omega arith)
 
 -- ---- the whole
 
@@ -326,22 +380,26 @@ pub skipping : (hs : List ℕ) (next : List ℕ → Ends) → List ℕ → Ends
 skipping [] next bytes = next bytes
 skipping (h ∷ hs) next bytes = skip h bytes >>= λ s. skipping hs next s.1
 
-skipping_is : (hs : List ℕ) (next : List ℕ → Ends) (bytes : List ℕ) → skipping hs next bytes ≡ (skip_all hs bytes >>= next)
+skipping_is : (hs : List ℕ) (next : List ℕ → Ends) (bytes : List ℕ)
+    → skipping hs next bytes ≡ (skip_all hs bytes >>= next)
 unfolding skipping skip_all
 skipping_is [] next bytes = refl
 skipping_is (h ∷ hs) next bytes = inner (skip h bytes) (λ rest. skipping_is hs next rest)
   where
-    inner : (r : Reading (Unit {0})) → ((rest : List ℕ) → skipping hs next rest ≡ (skip_all hs rest >>= next)) → (r >>= λ s. skipping hs next s.1) ≡ (r >>= (λ s. skip_all hs s.1) >>= next)
+    inner : (r : Reading (Unit {0})) → ((rest : List ℕ) → skipping hs next rest ≡ (skip_all hs rest >>= next))
+        → (r >>= λ s. skipping hs next s.1) ≡ (r >>= (λ s. skip_all hs s.1) >>= next)
     inner (Ok s) k = k s.1
     inner (Err f) k = refl
 
 skipping_chain : (hs : List ℕ) → Chain (skipping hs real1) (skipping hs free1) (λ y. byte_marks (others hs) ++ m1 y) ok1
 unfolding skipping
 skipping_chain [] = chain1
-skipping_chain (h ∷ hs) = skip_chain h (skipping hs real1) (skipping hs free1) (λ y. byte_marks (others hs) ++ m1 y) ok1 (skipping_chain hs)
+skipping_chain (h ∷ hs) = skip_chain h (skipping hs real1) (skipping hs free1) (λ y. byte_marks (others hs) ++ m1 y) ok1
+    (skipping_chain hs)
 
 -- a module read by its sections, and what is left of it is its end
-bind_fails : {A B : Type 0} (r : Result A WFault) (f : A → Result B WFault) (g : A → Ends) (fault : WFault) → (r >>= f) ≡ Err fault → ((x : A) → f x ≡ Err fault → g x ≡ Err fault) → (r >>= g) ≡ Err fault
+bind_fails : {A B : Type 0} (r : Result A WFault) (f : A → Result B WFault) (g : A → Ends) (fault : WFault)
+    → (r >>= f) ≡ Err fault → ((x : A) → f x ≡ Err fault → g x ≡ Err fault) → (r >>= g) ≡ Err fault
 bind_fails (Ok x) f g fault e k = k x e
 bind_fails {A} {B} (Err d) f g fault e k = ap (λ (h : WFault). failed {A = Unit {0}} h) (err_is {A = B} d fault e)
 
@@ -368,6 +426,8 @@ module_fails bytes fault e =
 pub module_chain : Chain (skipping header real1) (skipping header free1) (λ y. byte_marks (others header) ++ m1 y) ok1
 module_chain = skipping_chain header
 
-pub module_break : (bytes : List ℕ) (fault : WFault) → IsBytes bytes → module_at bytes ≡ Err fault → Break (λ y. byte_marks (others header) ++ m1 y) ok1 (skipping header free1) bytes fault
+pub module_break : (bytes : List ℕ) (fault : WFault) → IsBytes bytes → module_at bytes ≡ Err fault
+    → Break (λ y. byte_marks (others header) ++ m1 y) ok1 (skipping header free1) bytes fault
 unfolding header_real
-module_break bytes fault fits e = module_chain.breaks bytes fault fits (skipping_is header real1 bytes ∙ module_fails bytes fault e)
+module_break bytes fault fits e = module_chain.breaks bytes fault fits
+    (skipping_is header real1 bytes ∙ module_fails bytes fault e)

@@ -64,7 +64,8 @@ record More (test : List ℕ → Bool) (top count : ℕ) (front : List ℕ) : Ty
   fit : fit_bytes top more ≡ true
   passes : test (front ++ more) ≡ true
 
-can_yes : (test : List ℕ → Bool) (top count : ℕ) (front : List ℕ) → can test top count front ≡ true → More test top count front
+can_yes : (test : List ℕ → Bool) (top count : ℕ) (front : List ℕ) → can test top count front ≡ true
+    → More test top count front
 unfolding can
 can_yes test top zero front e = record { more = []; len = refl; fit = refl; passes = ap test (append-nil front) ∙ e }
 can_yes test top (suc count) front e =
@@ -77,7 +78,8 @@ can_yes test top (suc count) front e =
       passes = ap test (sym (append_assoc front (r.0 ∷ []) s.more)) ∙ s.passes;
     }
 
-can_no : (test : List ℕ → Bool) (top count : ℕ) (front more : List ℕ) → can test top count front ≡ false → length more ≡ count → fit_bytes top more ≡ true → test (front ++ more) ≡ true → ⊥
+can_no : (test : List ℕ → Bool) (top count : ℕ) (front more : List ℕ) → can test top count front ≡ false
+    → length more ≡ count → fit_bytes top more ≡ true → test (front ++ more) ≡ true → ⊥
 unfolding can
 can_no test top zero front [] e len fit passes = true_false (sym passes ∙ ap test (append-nil front) ∙ e)
   where
@@ -88,14 +90,20 @@ can_no test top (suc count) front [] e len fit passes = absurd (omega arith)
 can_no test top (suc count) front (c ∷ more) e len fit passes =
     let f = and_parts (ltb c top) (fit_bytes top more) fit in
     let no' = below_no top (λ b. can test top count (front ++ b ∷ [])) e c (ltb-true c top f.0) in
-    can_no test top count (front ++ c ∷ []) more no' (omega arith) f.1 (ap test (append_assoc front (c ∷ []) more) ∙ passes)
+    can_no test top count (front ++ c ∷ []) more no' (omega arith) f.1
+    (ap test (append_assoc front (c ∷ []) more) ∙ passes)
 
 -- ---- texts of so many bytes that pass a test
 
 abbrev pub texts : (test : List ℕ → Bool) (count : ℕ) → Format (List ℕ)
 texts test count = record {
   encoding = λ t. t;
-  reading = λ bs. (that test (record { encoding = λ t. t; reading = λ bs. bytes_left.reading (take count bs) >>= λ x. close_part count bs x.1 >>= λ rest. Ok (x.0, rest); fits = λ t. true })).reading bs;
+  reading = λ bs. (that test (record {
+    encoding = λ t. t;
+    reading = λ bs. bytes_left.reading (take count bs) >>=
+        λ x. close_part count bs x.1 >>= λ rest. Ok (x.0, rest);
+    fits = λ t. true;
+  })).reading bs;
   fits = λ t. eqb (length t) count && (fit_bytes 256 t && test t);
 }
 
@@ -106,7 +114,8 @@ abbrev failing : WFault → Reading (List ℕ)
 failing f = Err f
 
 module _ (test : List ℕ → Bool) (n : ℕ) where
-  text_reads : (bs : List ℕ) → n ≤ length bs → test (take n bs) ≡ true → (texts test n).reading bs ≡ Ok (take n bs, drop n bs)
+  text_reads : (bs : List ℕ) → n ≤ length bs → test (take n bs) ≡ true
+      → (texts test n).reading bs ≡ Ok (take n bs, drop n bs)
   text_reads bs le passes = rw (le-leb n (length bs) le, passes) refl
 
   text_fails : (bs : List ℕ) → (n ≤ length bs → test (take n bs) ≡ true → ⊥) → (texts test n).reading bs ≡ malformed
@@ -129,9 +138,11 @@ module _ (test : List ℕ → Bool) (n : ℕ) where
         ]
   ]
 
-  text_fits : (front more : List ℕ) → length front + length more ≡ n → IsBytes front → fit_bytes 256 more ≡ true → test (front ++ more) ≡ true → (texts test n).fits (front ++ more) ≡ true
+  text_fits : (front more : List ℕ) → length front + length more ≡ n → IsBytes front → fit_bytes 256 more ≡ true
+      → test (front ++ more) ≡ true → (texts test n).fits (front ++ more) ≡ true
   text_fits front more len fits fit passes =
-      and_from _ _ (eq-eqb (length (front ++ more)) n (length-append front more ∙ len)) (and_from _ _ (all_bytes front fits) passes)
+      and_from _ _ (eq-eqb (length (front ++ more)) n (length-append front more ∙ len))
+      (and_from _ _ (all_bytes front fits) passes)
     where
       all_bytes : (front : List ℕ) → IsBytes front → fit_bytes 256 (front ++ more) ≡ true
       all_bytes [] fits = fit
@@ -151,25 +162,34 @@ take_front (d ∷ done) bs zero k e = absurd (omega arith)
 take_front (d ∷ done) bs (suc m) k e = ap (λ (t : List ℕ). d ∷ t) (take_front done bs m k (omega arith))
 
 module _ (test : List ℕ → Bool) (n : ℕ) where
-  done_no : (done : List ℕ) (bs : List ℕ) (fault : WFault) → length done ≡ n → test done ≡ true → (texts test n).reading (done ++ bs) ≡ Err fault → ⊥
+  done_no : (done : List ℕ) (bs : List ℕ) (fault : WFault) → length done ≡ n → test done ≡ true
+      → (texts test n).reading (done ++ bs) ≡ Err fault → ⊥
   done_no done bs fault len passes e =
       let room : n ≤ length (done ++ bs) = omega (arith, length-append done bs) in
       let all' : take n (done ++ bs) ≡ done = take_at done bs n len in
-      ok_no_err (take n (done ++ bs), drop n (done ++ bs)) fault (sym (text_reads test n (done ++ bs) room (ap test all' ∙ passes)) ∙ e)
+      ok_no_err (take n (done ++ bs), drop n (done ++ bs)) fault
+      (sym (text_reads test n (done ++ bs) room (ap test all' ∙ passes)) ∙ e)
 
-  no_text : (done : List ℕ) (j b : ℕ) (follow : List ℕ) → length done + suc j ≡ n → IsBytes (done ++ (b ∷ follow)) → can test 256 j (done ++ b ∷ []) ≡ false → (texts test n).reading (done ++ (b ∷ follow)) ≡ malformed
+  no_text : (done : List ℕ) (j b : ℕ) (follow : List ℕ) → length done + suc j ≡ n → IsBytes (done ++ (b ∷ follow))
+      → can test 256 j (done ++ b ∷ []) ≡ false → (texts test n).reading (done ++ (b ∷ follow)) ≡ malformed
   no_text done j b follow len fits none = text_fails test n (done ++ (b ∷ follow)) (λ room passes.
       let enough : j ≤ length follow = omega (arith, length-append done (b ∷ follow)) in
-      let text : take n (done ++ (b ∷ follow)) ≡ done ++ (b ∷ take j follow) = take_front done (b ∷ follow) n (suc j) (sym len) in
-      let same : done ++ (b ∷ take j follow) ≡ (done ++ b ∷ []) ++ take j follow = sym (append_assoc done (b ∷ []) (take j follow)) in
+      let text : take n (done ++ (b ∷ follow)) ≡ done ++ (b ∷ take j follow) =
+      take_front done (b ∷ follow) n (suc j) (sym len) in
+      let same : done ++ (b ∷ take j follow) ≡ (done ++ b ∷ []) ++ take j follow =
+      sym (append_assoc done (b ∷ []) (take j follow)) in
       can_no test 256 j (done ++ b ∷ []) (take j follow) none (length-take-le j follow enough)
-      (are_bytes (take j follow) (IsBytes-take j follow (IsBytes-tail b follow (IsBytes-after (done ++ (b ∷ follow)) done (b ∷ follow) refl fits))))
+      (are_bytes (take j follow) (IsBytes-take j follow
+      (IsBytes-tail b follow (IsBytes-after (done ++ (b ∷ follow)) done (b ∷ follow) refl fits))))
       (ap test (sym (text ∙ same)) ∙ passes))
 
-  stop_here : (done at : List ℕ) (j : ℕ) (fault : WFault) → length done + suc j ≡ n → IsBytes (done ++ at) → More test 256 (suc j) done → How (texts test n).reading done OtherByte at fault → Stop (texts test n) others (done ++ at) fault
+  stop_here : (done at : List ℕ) (j : ℕ) (fault : WFault) → length done + suc j ≡ n → IsBytes (done ++ at)
+      → More test 256 (suc j) done → How (texts test n).reading done OtherByte at fault
+      → Stop (texts test n) others (done ++ at) fault
   stop_here done at j fault len fits m how = next m.more m.len m.fit m.passes
     where
-      next : (more : List ℕ) → length more ≡ suc j → fit_bytes 256 more ≡ true → test (done ++ more) ≡ true → Stop (texts test n) others (done ++ at) fault
+      next : (more : List ℕ) → length more ≡ suc j → fit_bytes 256 more ≡ true → test (done ++ more) ≡ true
+          → Stop (texts test n) others (done ++ at) fault
       next [] l f p = absurd (omega arith)
       next (c ∷ more) l f p = record {
         front = others done;
@@ -180,21 +200,27 @@ module _ (test : List ℕ → Bool) (n : ℕ) where
         next = (OtherByte, c);
         rest = others more;
         begins = all-append OtherByte done (c ∷ more);
-        how = subst (λ (t : List ℕ). How (texts test n).reading t OtherByte at fault) (sym (bytes-all OtherByte done)) how;
+        how = subst (λ (t : List ℕ). How (texts test n).reading t OtherByte at fault) (sym (bytes-all OtherByte done))
+            how;
       }
 
-  walk : (done : List ℕ) (k : ℕ) (bs : List ℕ) (fault : WFault) → length done + k ≡ n → IsBytes (done ++ bs) → can test 256 k done ≡ true → (texts test n).reading (done ++ bs) ≡ Err fault → Stop (texts test n) others (done ++ bs) fault
+  walk : (done : List ℕ) (k : ℕ) (bs : List ℕ) (fault : WFault) → length done + k ≡ n → IsBytes (done ++ bs)
+      → can test 256 k done ≡ true → (texts test n).reading (done ++ bs) ≡ Err fault
+      → Stop (texts test n) others (done ++ bs) fault
   unfolding can
   walk done zero bs fault len fits e r = absurd (done_no done bs fault (omega arith) e r)
-  walk done (suc j) [] fault len fits e r = stop_here done [] j fault len fits (can_yes test 256 (suc j) done e) (text_malformed test n (done ++ []) fault r)
+  walk done (suc j) [] fault len fits e r =
+      stop_here done [] j fault len fits (can_yes test 256 (suc j) done e) (text_malformed test n (done ++ []) fault r)
   walk done (suc j) (b ∷ bs) fault len fits e r = elim (cases_Bool (can test 256 j (done ++ b ∷ []))) [
     | inl yes' ↦
         let same : (done ++ b ∷ []) ++ bs ≡ done ++ (b ∷ bs) = append_assoc done (b ∷ []) bs in
         stop_at (texts test n) others (done ++ (b ∷ bs)) ((done ++ b ∷ []) ++ bs) fault (sym same)
-        (walk (done ++ b ∷ []) j bs fault (omega (arith, length-append done (b ∷ []))) (subst IsBytes (sym same) fits) yes' (ap (texts test n).reading same ∙ r))
+        (walk (done ++ b ∷ []) j bs fault (omega (arith, length-append done (b ∷ []))) (subst IsBytes (sym same) fits)
+        yes' (ap (texts test n).reading same ∙ r))
     | inr no' ↦
         let is = text_malformed test n (done ++ (b ∷ bs)) fault r in
-        stop_here done (b ∷ bs) j fault len fits (can_yes test 256 (suc j) done e) (is, λ follow g. no_text done j b follow len g no' ∙ ap failing (sym is))
+        stop_here done (b ∷ bs) j fault len fits (can_yes test 256 (suc j) done e)
+        (is, λ follow g. no_text done j b follow len g no' ∙ ap failing (sym is))
   ]
 
 -- ---- texts behind the number of their bytes
@@ -232,7 +258,8 @@ module _ (test : List ℕ → Bool) (passes : (n : ℕ) → test (letters n) ≡
     | inr no' ↦ absurd (can_no test 256 n [] (letters n) no' (letters-length n) (letters-fit n) (passes n))
   ]
 
-  texts_stop : (n : ℕ) (bytes : List ℕ) (fault : WFault) → IsBytes bytes → (texts test n).reading bytes ≡ Err fault → Stop (texts test n) others bytes fault
+  texts_stop : (n : ℕ) (bytes : List ℕ) (fault : WFault) → IsBytes bytes → (texts test n).reading bytes ≡ Err fault
+      → Stop (texts test n) others bytes fault
   texts_stop n bytes fault fits e = walk test n [] n bytes fault (omega arith) fits (letters_can n) e
 
   abbrev sized_text : ℕ × List ℕ → Reading (List ℕ)
@@ -248,12 +275,15 @@ module _ (test : List ℕ → Bool) (passes : (n : ℕ) → test (letters n) ≡
   counted_of (Ok x) = bind_same ((texts test x.0).reading x.1)
   counted_of (Err f) = refl
 
-  text_cells : (n : ℕ) (t : List ℕ) → (texts test n).fits t ≡ true → plain (counted test) t ≡ plain unsigned n ++ others t
+  text_cells : (n : ℕ) (t : List ℕ) → (texts test n).fits t ≡ true
+      → plain (counted test) t ≡ plain unsigned n ++ others t
   text_cells n t fits =
       let f = and_parts (eqb (length t) n) (fit_bytes 256 t && test t) fits in
-      all-append OtherByte (unsigned.encoding (length t)) t ∙ ap (λ (k : ℕ). plain unsigned k ++ others t) (eqb-true (length t) n f.0)
+      all-append OtherByte (unsigned.encoding (length t)) t
+      ∙ ap (λ (k : ℕ). plain unsigned k ++ others t) (eqb-true (length t) n f.0)
 
-  text_counted : (n : ℕ) (t : List ℕ) → unsigned.fits n ≡ true → (texts test n).fits t ≡ true → (counted test).fits t ≡ true
+  text_counted : (n : ℕ) (t : List ℕ) → unsigned.fits n ≡ true → (texts test n).fits t ≡ true
+      → (counted test).fits t ≡ true
   text_counted n t h fits =
       let f = and_parts (eqb (length t) n) (fit_bytes 256 t && test t) fits in
       let g = and_parts (fit_bytes 256 t) (test t) f.1 in
@@ -261,12 +291,18 @@ module _ (test : List ℕ → Bool) (passes : (n : ℕ) → test (letters n) ≡
 
   pub counted_stops : Stopping (counted test) (plain (counted test))
   counted_stops = record {
-    takes = takes_from (counted test) (plain (counted test)) (that_law test (with_size bytes_left) (sized_law bytes_left bytes_left_law)) (λ t. bytes-all OtherByte ((counted test).encoding t));
+    takes = takes_from (counted test) (plain (counted test))
+        (that_law test (with_size bytes_left) (sized_law bytes_left bytes_left_law))
+        (λ t. bytes-all OtherByte ((counted test).encoding t));
     some = letters 0;
-    some_fits = and_from _ _ (and_from _ _ (letters-fit 0) (lt-ltb (length (letters 0)) (2 ^ 32) (omega (arith, letters-length 0)))) (passes 0);
+    some_fits = and_from _ _ (and_from _ _ (letters-fit 0)
+        (lt-ltb (length (letters 0)) (2 ^ 32) (omega (arith, letters-length 0)))) (passes 0);
     stops =
-        bound_stops unsigned (plain unsigned) unsigned_stops (texts test) (λ n. others) (counted test) (plain (counted test)) (λ n t. t) (λ n t h g. text_cells n t g) text_counted (λ bs g. counted_of (unsigned.reading bs)) letters
-        (λ n h. and_from _ _ (eq-eqb (length (letters n)) n (letters-length n)) (and_from _ _ (letters-fit n) (passes n))) (λ n h. texts_stop n);
+        bound_stops unsigned (plain unsigned) unsigned_stops (texts test) (λ n. others) (counted test)
+        (plain (counted test)) (λ n t. t) (λ n t h g. text_cells n t g) text_counted
+        (λ bs g. counted_of (unsigned.reading bs)) letters
+        (λ n h. and_from _ _ (eq-eqb (length (letters n)) n (letters-length n))
+        (and_from _ _ (letters-fit n) (passes n))) (λ n h. texts_stop n);
   }
 
 pub name_stops : Stopping name (plain name)
@@ -280,5 +316,6 @@ any_text (Err f) = refl
 
 pub bytes_stops : Stopping (with_size bytes_left) (plain (with_size bytes_left))
 bytes_stops =
-    seen (counted (λ t. true)) (plain (with_size bytes_left)) (counted_stops (λ t. true) (λ n. refl)) (with_size bytes_left) (plain (with_size bytes_left)) (λ t. t) (λ t h. refl) (λ t h. (and_parts _ _ h).0)
+    seen (counted (λ t. true)) (plain (with_size bytes_left)) (counted_stops (λ t. true) (λ n. refl))
+    (with_size bytes_left) (plain (with_size bytes_left)) (λ t. t) (λ t h. refl) (λ t h. (and_parts _ _ h).0)
     (λ bs. any_text ((with_size bytes_left).reading bs))

@@ -62,7 +62,12 @@ item_fits allow levels (inl i) = instr_fits i levels
 item_fits allow levels (inr e) = ends allow e
 
 abbrev pub item : (allow : Bool) (levels : ℕ) → Format Item
-item allow levels = record { encoding = λ x. bytes_of (item_cells x); reading = λ bytes. byte_at bytes >>= λ b. item_behind allow levels (ending_of b.0) b.0 b.1; fits = item_fits allow levels }
+item allow levels = record {
+  encoding = λ x. bytes_of (item_cells x);
+  reading = λ bytes. byte_at bytes >>=
+      λ b. item_behind allow levels (ending_of b.0) b.0 b.1;
+  fits = item_fits allow levels;
+}
 
 item_as : {A : Type 0} (make : A → Instr) (r : Reading A) → with_instr (read_as make r) ≡ read_as (λ x. inl (make x)) r
 item_as make (Ok x) = refl
@@ -102,7 +107,8 @@ abbrev zeros_cells : Unit {0} × Unit {0} → List Cell
 zeros_cells u = others (0x00 ∷ 0x00 ∷ [])
 
 zeros_stops : Stopping zeros (λ u. (OtherByte, 0x00) ∷ [] ++ (OtherByte, 0x00) ∷ [])
-zeros_stops = then_stops (only 0x00) (only 0x00) (λ u. (OtherByte, 0x00) ∷ []) (λ u. (OtherByte, 0x00) ∷ []) (only_stops 0x00) (only_stops 0x00)
+zeros_stops = then_stops (only 0x00) (only 0x00) (λ u. (OtherByte, 0x00) ∷ []) (λ u. (OtherByte, 0x00) ∷ [])
+    (only_stops 0x00) (only_stops 0x00)
 
 abbrev zero_next : Unit {0} × List ℕ → Result (List ℕ) WFault
 zero_next s = skip 0x00 s.1 >>= λ t. Ok t.1
@@ -113,21 +119,27 @@ zero_pair s = skip 0x00 s.1 >>= λ t. Ok ((s.0, t.0), t.1)
 abbrev with_rest : Instr → Result (List ℕ) WFault → Reading Item
 with_rest i r = with_instr (r >>= λ rest. Ok (i, rest))
 
-zeros_last : (i : Instr) (s : Unit {0}) (r : Reading (Unit {0})) → with_rest i (r >>= λ t. Ok t.1) ≡ read_as (λ (u : Unit {0} × Unit {0}). inl i) (r >>= λ t. Ok ((s, t.0), t.1))
+zeros_last : (i : Instr) (s : Unit {0}) (r : Reading (Unit {0}))
+    → with_rest i (r >>= λ t. Ok t.1) ≡ read_as (λ (u : Unit {0} × Unit {0}). inl i) (r >>= λ t. Ok ((s, t.0), t.1))
 zeros_last i s (Ok t) = refl
 zeros_last i s (Err f) = refl
 
-zeros_as : (i : Instr) (r : Reading (Unit {0})) → with_rest i (r >>= zero_next) ≡ read_as (λ (u : Unit {0} × Unit {0}). inl i) (r >>= zero_pair)
+zeros_as : (i : Instr) (r : Reading (Unit {0}))
+    → with_rest i (r >>= zero_next) ≡ read_as (λ (u : Unit {0} × Unit {0}). inl i) (r >>= zero_pair)
 zeros_as i (Ok s) = zeros_last i s.0 (skip 0x00 s.1)
 zeros_as i (Err f) = refl
 
 pub plain_vector : Stopping (vector unsigned) (plain (vector unsigned))
 plain_vector =
-    seen (vector unsigned) (vector_cells (plain unsigned)) (vector_stops unsigned (plain unsigned) unsigned_stops) (vector unsigned) (plain (vector unsigned)) (λ x. x) (λ x h. sym (plain_entries x)) (λ x h. h) (λ bs. bind_same ((vector unsigned).reading bs))
+    seen (vector unsigned) (vector_cells (plain unsigned)) (vector_stops unsigned (plain unsigned) unsigned_stops)
+    (vector unsigned) (plain (vector unsigned)) (λ x. x) (λ x h. sym (plain_entries x)) (λ x h. h)
+    (λ bs. bind_same ((vector unsigned).reading bs))
 
 behind_zero : Stopping (unsigned ◂ 0x00) (plain (unsigned ◂ 0x00))
 behind_zero =
-    seen (unsigned ◂ 0x00) (λ x. plain unsigned x ++ (OtherByte, 0x00) ∷ []) (behind_stops 0x00 unsigned (plain unsigned) unsigned_stops) (unsigned ◂ 0x00) (plain (unsigned ◂ 0x00)) (λ x. x) (λ x h. all-append OtherByte (unsigned.encoding x) (0x00 ∷ [])) (λ x h. h)
+    seen (unsigned ◂ 0x00) (λ x. plain unsigned x ++ (OtherByte, 0x00) ∷ [])
+    (behind_stops 0x00 unsigned (plain unsigned) unsigned_stops) (unsigned ◂ 0x00) (plain (unsigned ◂ 0x00))
+    (λ x. x) (λ x h. all-append OtherByte (unsigned.encoding x) (0x00 ∷ [])) (λ x h. h)
     (λ bs. bind_same ((unsigned ◂ 0x00).reading bs))
 
 module _ (allow : Bool) (levels : ℕ) where
@@ -197,19 +209,25 @@ module _ (allow : Bool) (levels : ℕ) where
   Here b = At this item_cells b
 
   -- an opcode with nothing behind it
-  alone : (k : ℕ) (i : Instr) → instr_cells i ≡ opcode k [] → instr_fits i levels ≡ true → ((bs : List ℕ) → this.reading (k ∷ bs) ≡ Ok (inl i, bs)) → Here k
-  alone k i c f reads = tag nothing (λ u. []) nothing_stops this item_cells Opcode k (λ u. inl i) (λ u h. c) (λ u h. f) reads
+  alone : (k : ℕ) (i : Instr) → instr_cells i ≡ opcode k [] → instr_fits i levels ≡ true
+      → ((bs : List ℕ) → this.reading (k ∷ bs) ≡ Ok (inl i, bs)) → Here k
+  alone k i c f reads = tag nothing (λ u. []) nothing_stops this item_cells Opcode k (λ u. inl i) (λ u h. c) (λ u h. f)
+      reads
 
   -- an opcode with a part behind it
-  with_part : {A : Type 0} (p : Format A) → Stopping p (plain p) → (k : ℕ) (make : A → Instr) → ((x : A) → instr_cells (make x) ≡ opcode k (p.encoding x)) → ((x : A) → instr_fits (make x) levels ≡ p.fits x)
+  with_part : {A : Type 0} (p : Format A) → Stopping p (plain p) → (k : ℕ) (make : A → Instr)
+      → ((x : A) → instr_cells (make x) ≡ opcode k (p.encoding x)) → ((x : A) → instr_fits (make x) levels ≡ p.fits x)
       → ((bs : List ℕ) → this.reading (k ∷ bs) ≡ with_instr (read_as make (p.reading bs))) → Here k
-  with_part p sp k make c f reads = tag p (plain p) sp this item_cells Opcode k (λ x. inl (make x)) (λ x h. c x) (λ x h. f x ∙ h) (λ bs. reads bs ∙ item_as make (p.reading bs))
+  with_part p sp k make c f reads = tag p (plain p) sp this item_cells Opcode k (λ x. inl (make x)) (λ x h. c x)
+      (λ x h. f x ∙ h) (λ bs. reads bs ∙ item_as make (p.reading bs))
 
   load_at : (l : load.Load) → Here (load_opcode l)
-  load_at l = tag zeros zeros_cells zeros_stops this item_cells Opcode (load_opcode l) (λ u. inl (Load l)) (λ u h. celled-Load l) (λ u h. fits-Load l levels) (λ bs. load_reads l bs ∙ zeros_as (Load l) (skip 0x00 bs))
+  load_at l = tag zeros zeros_cells zeros_stops this item_cells Opcode (load_opcode l) (λ u. inl (Load l))
+      (λ u h. celled-Load l) (λ u h. fits-Load l levels) (λ bs. load_reads l bs ∙ zeros_as (Load l) (skip 0x00 bs))
 
   store_at : (w : StoreWidth) → Here (store_opcode w)
-  store_at w = tag zeros zeros_cells zeros_stops this item_cells Opcode (store_opcode w) (λ u. inl (Store w)) (λ u h. celled-Store w) (λ u h. fits-Store w levels) (λ bs. store_reads w bs ∙ zeros_as (Store w) (skip 0x00 bs))
+  store_at w = tag zeros zeros_cells zeros_stops this item_cells Opcode (store_opcode w) (λ u. inl (Store w))
+      (λ u h. celled-Store w) (λ u h. fits-Store w levels) (λ bs. store_reads w bs ∙ zeros_as (Store w) (skip 0x00 bs))
 
   numeric_at : (n : numeric.Numeric) → Here (numeric_opcode n)
   numeric_at n = alone (numeric_opcode n) (Numeric n) (celled-Numeric n) (fits-Numeric n levels) (numeric_reads n)
@@ -238,13 +256,35 @@ module _ (allow : Bool) (levels : ℕ) where
 
   other_reads : (b : ℕ) → Other b → (bs : List ℕ) → this.reading (b ∷ bs) ≡ with_instr (memory_of b bs)
   unfolding plain_of variable_of
-  other_reads b o bs = rw (o.no_0B, o.no_05, o.no_02, o.no_03, o.no_04, o.no_00, o.no_0C, o.no_0D, o.no_0E, o.no_0F, o.no_10, o.no_11, o.no_1A, o.no_20, o.no_21, o.no_22, o.no_23, o.no_41, o.no_42) refl
+  other_reads b o bs = rw (
+    o.no_0B,
+    o.no_05,
+    o.no_02,
+    o.no_03,
+    o.no_04,
+    o.no_00,
+    o.no_0C,
+    o.no_0D,
+    o.no_0E,
+    o.no_0F,
+    o.no_10,
+    o.no_11,
+    o.no_1A,
+    o.no_20,
+    o.no_21,
+    o.no_22,
+    o.no_23,
+    o.no_41,
+    o.no_42,
+  ) refl
 
-  none_reads : (b : ℕ) (bs : List ℕ) → load_of b ≡ None → store_of b ≡ None → numeric_of b ≡ None → with_instr (memory_of b bs) ≡ Err OutsideProfile
+  none_reads : (b : ℕ) (bs : List ℕ) → load_of b ≡ None → store_of b ≡ None → numeric_of b ≡ None
+      → with_instr (memory_of b bs) ≡ Err OutsideProfile
   unfolding memory_of
   none_reads b bs l w n = rw (l, w, n) refl
 
-  numbers_at : (b : ℕ) → Other b → load_of b ≡ None → store_of b ≡ None → (n : Option numeric.Numeric) → numeric_of b ≡ n → Here b
+  numbers_at : (b : ℕ) → Other b → load_of b ≡ None → store_of b ≡ None → (n : Option numeric.Numeric)
+      → numeric_of b ≡ n → Here b
   numbers_at b o l w (Some n) e = at_same this item_cells b (numeric_opcode n) (numeric_is b n e) (numeric_at n)
   numbers_at b o l w None e = no_tag this item_cells Opcode start b (λ bs. other_reads b o bs ∙ none_reads b bs l w e)
 
@@ -273,7 +313,9 @@ module _ (allow : Bool) (levels : ℕ) where
 
   at_BrTable : Here 0x0E
   unfolding plain_of variable_of
-  at_BrTable = with_part (vector unsigned · unsigned) (two_plain (vector unsigned) unsigned plain_vector unsigned_stops) 0x0E table (λ p. celled-BrTable p.0 p.1) (λ p. fits-BrTable p.0 p.1 levels) (λ bs. ap with_instr (pair_as unsigned table ((vector unsigned).reading bs)))
+  at_BrTable = with_part (vector unsigned · unsigned) (two_plain (vector unsigned) unsigned plain_vector unsigned_stops)
+      0x0E table (λ p. celled-BrTable p.0 p.1) (λ p. fits-BrTable p.0 p.1 levels)
+      (λ bs. ap with_instr (pair_as unsigned table ((vector unsigned).reading bs)))
 
   at_Return : Here 0x0F
   unfolding plain_of variable_of
@@ -285,7 +327,8 @@ module _ (allow : Bool) (levels : ℕ) where
 
   at_CallIndirect : Here 0x11
   unfolding plain_of variable_of
-  at_CallIndirect = with_part (unsigned ◂ 0x00) behind_zero 0x11 CallIndirect celled-CallIndirect (λ x. fits-CallIndirect x levels) (λ bs. ap with_instr (behind_as 0x00 CallIndirect (unsigned.reading bs)))
+  at_CallIndirect = with_part (unsigned ◂ 0x00) behind_zero 0x11 CallIndirect celled-CallIndirect
+      (λ x. fits-CallIndirect x levels) (λ bs. ap with_instr (behind_as 0x00 CallIndirect (unsigned.reading bs)))
 
   at_Drop : Here 0x1A
   unfolding plain_of variable_of
@@ -293,30 +336,37 @@ module _ (allow : Bool) (levels : ℕ) where
 
   at_LocalGet : Here 0x20
   unfolding plain_of variable_of
-  at_LocalGet = with_part unsigned unsigned_stops 0x20 LocalGet celled-LocalGet (λ x. fits-LocalGet x levels) (λ bs. refl)
+  at_LocalGet = with_part unsigned unsigned_stops 0x20 LocalGet celled-LocalGet (λ x. fits-LocalGet x levels)
+      (λ bs. refl)
 
   at_LocalSet : Here 0x21
   unfolding plain_of variable_of
-  at_LocalSet = with_part unsigned unsigned_stops 0x21 LocalSet celled-LocalSet (λ x. fits-LocalSet x levels) (λ bs. refl)
+  at_LocalSet = with_part unsigned unsigned_stops 0x21 LocalSet celled-LocalSet (λ x. fits-LocalSet x levels)
+      (λ bs. refl)
 
   at_LocalTee : Here 0x22
   unfolding plain_of variable_of
-  at_LocalTee = with_part unsigned unsigned_stops 0x22 LocalTee celled-LocalTee (λ x. fits-LocalTee x levels) (λ bs. refl)
+  at_LocalTee = with_part unsigned unsigned_stops 0x22 LocalTee celled-LocalTee (λ x. fits-LocalTee x levels)
+      (λ bs. refl)
 
   at_GlobalGet : Here 0x23
   unfolding plain_of variable_of
-  at_GlobalGet = with_part unsigned unsigned_stops 0x23 GlobalGet celled-GlobalGet (λ x. fits-GlobalGet x levels) (λ bs. refl)
+  at_GlobalGet = with_part unsigned unsigned_stops 0x23 GlobalGet celled-GlobalGet (λ x. fits-GlobalGet x levels)
+      (λ bs. refl)
 
   at_I32Const : Here 0x41
   unfolding plain_of variable_of
-  at_I32Const = with_part signed32 signed32_stops 0x41 I32Const celled-I32Const (λ x. fits-I32Const x levels) (λ bs. refl)
+  at_I32Const = with_part signed32 signed32_stops 0x41 I32Const celled-I32Const (λ x. fits-I32Const x levels)
+      (λ bs. refl)
 
   at_I64Const : Here 0x42
   unfolding plain_of variable_of
-  at_I64Const = with_part signed64 signed64_stops 0x42 I64Const celled-I64Const (λ x. fits-I64Const x levels) (λ bs. refl)
+  at_I64Const = with_part signed64 signed64_stops 0x42 I64Const celled-I64Const (λ x. fits-I64Const x levels)
+      (λ bs. refl)
 
   at_End : Here 0x0B
-  at_End = tag nothing (λ u. []) nothing_stops this item_cells Opcode 0x0B (λ u. inr End) (λ u h. refl) (λ u h. refl) (λ bs. refl)
+  at_End = tag nothing (λ u. []) nothing_stops this item_cells Opcode 0x0B (λ u. inr End) (λ u h. refl) (λ u h. refl)
+      (λ bs. refl)
 
   -- where those are known that begin instructions with others inside, and what an else is
   module _ (at_else : Here 0x05) (at_block : Here 0x02) (at_loop : Here 0x03) (at_if : Here 0x04) where
@@ -356,27 +406,48 @@ module _ (allow : Bool) (levels : ℕ) where
                                                                       | inl e ↦ at_same this item_cells b 0x10 e at_Call
                                                                       | inr n10 ↦
                                                                           elim (tag_is b 0x11) [
-                                                                            | inl e ↦ at_same this item_cells b 0x11 e at_CallIndirect
+                                                                            | inl e ↦ at_same this item_cells b 0x11 e
+                                                                                at_CallIndirect
                                                                             | inr n11 ↦
                                                                                 elim (tag_is b 0x1A) [
-                                                                                  | inl e ↦ at_same this item_cells b 0x1A e at_Drop
+                                                                                  | inl e ↦ at_same this item_cells b
+                                                                                      0x1A e at_Drop
                                                                                   | inr n1A ↦
                                                                                       elim (tag_is b 0x20) [
-                                                                                        | inl e ↦ at_same this item_cells b 0x20 e at_LocalGet
+                                                                                        | inl e ↦ at_same this
+                                                                                            item_cells b 0x20 e
+                                                                                            at_LocalGet
                                                                                         | inr n20 ↦
                                                                                             elim (tag_is b 0x21) [
-                                                                                              | inl e ↦ at_same this item_cells b 0x21 e at_LocalSet
+                                                                                              | inl e ↦ at_same this
+                                                                                                  item_cells b 0x21 e
+                                                                                                  at_LocalSet
                                                                                               | inr n21 ↦
                                                                                                   elim (tag_is b 0x22) [
-                                                                                                    | inl e ↦ at_same this item_cells b 0x22 e at_LocalTee
+                                                                                                    | inl e ↦ at_same
+                                                                                                        this item_cells
+                                                                                                        b 0x22 e
+                                                                                                        at_LocalTee
                                                                                                     | inr n22 ↦
-                                                                                                        elim (tag_is b 0x23) [
-                                                                                                          | inl e ↦ at_same this item_cells b 0x23 e at_GlobalGet
+                                                                                                        elim (tag_is b
+                                                                                                        0x23) [
+                                                                                                          | inl e ↦
+                                                                                                              at_same
+                                                                                                              this
+                                                                                                              item_cells
+                                                                                                              b 0x23 e
+                                                                                                              at_GlobalGet
                                                                                                           | inr n23 ↦
-                                                                                                              elim (tag_is b 0x41) [
-                                                                                                                | inl e ↦ at_same this item_cells b 0x41 e at_I32Const
-                                                                                                                | inr n41 ↦
-                                                                                                                    elim (tag_is b 0x42) [
+                                                                                                              elim
+                                                                                                              (tag_is b
+                                                                                                              0x41) [
+                                                                                                                | inl
+                                                                                                                    e ↦
+                                                                                                                    at_same this item_cells b 0x41 e at_I32Const
+                                                                                                                | inr
+                                                                                                                    n41 ↦
+                                                                                                                    elim
+                                                                                                                    (tag_is b 0x42) [
                                                                                                                       | inl e ↦ at_same this item_cells b 0x42 e at_I64Const
                                                                                                                       | inr n42 ↦
                                                                                                                           memory_at b (record { no_0B = n0B; no_05 = n05; no_02 = n02; no_03 = n03; no_04 = n04; no_00 = n00; no_0C = n0C; no_0D = n0D; no_0E = n0E; no_0F = n0F; no_10 = n10; no_11 = n11; no_1A = n1A; no_20 = n20; no_21 = n21; no_22 = n22; no_23 = n23; no_41 = n41; no_42 = n42 }) (load_of b) refl

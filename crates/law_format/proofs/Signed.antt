@@ -17,7 +17,8 @@ abbrev joins : (q low high : ℕ) → List ℕ → Reading ℕ
 joins q low high bytes =
     cond (leb high q) (cond (ltb (low + 128 * high) 64) (Err Malformed) (Ok (low + 128 * high, bytes)))
     (cond (ltb high (255 * q + 255)) (Err Malformed)
-    (cond (ltb (256 * q + 191) (low + 128 * (high - (254 * q + 254)))) (Err Malformed) (Ok (low + 128 * (high - (254 * q + 254)), bytes))))
+    (cond (ltb (256 * q + 191) (low + 128 * (high - (254 * q + 254)))) (Err Malformed)
+    (Ok (low + 128 * (high - (254 * q + 254)), bytes))))
 
 part_is : (q : ℕ) → (256 * q + 255) / 128 ≡ 2 * q + 1
 part_is q = omega arith
@@ -47,7 +48,8 @@ joins_is q low high bytes = rw (less_128 q, less_256 q, less_64 q, whole_is q) r
 
 abbrev pub reached : (q reach but n : ℕ) → Bool
 reached q reach but n =
-    cond (ltb n reach) (not (eqb n but)) (cond (ltb n (256 * q + 256 - reach)) false (cond (ltb n (256 * q + 256)) (not (eqb n but)) false))
+    cond (ltb n reach) (not (eqb n but)) (cond (ltb n (256 * q + 256 - reach)) false
+    (cond (ltb n (256 * q + 256)) (not (eqb n but)) false))
 
 abbrev pub reaching : (q reach but : ℕ) → Reading ℕ → Reading ℕ
 reaching q reach but read = read >>= λ n. cond (reached q reach but n.0) (Ok n) (Err Malformed)
@@ -95,14 +97,22 @@ useless_low q low lt = rw (lt-ltb low 64 lt) refl
 useless_high : (q low : ℕ) → 64 ≤ low → useless q low ≡ 256 * q + 255
 useless_high q low le = rw (le-ltb low 64 le) refl
 
-module _ (q reach low h : ℕ) (but : ℕ) (is : IsBut q but) (bs : List ℕ) (small : low < 128) (room : reach ≤ q + 1) (some : 1 ≤ reach) (top : h ≤ 256 * q + 255) where
+module _ (q reach low h : ℕ) (but : ℕ) (is : IsBut q but) (bs : List ℕ) (small : low < 128) (room : reach ≤ q + 1)
+    (some : 1 ≤ reach) (top : h ≤ 256 * q + 255) where
   abbrev Same : Type 0
   Same = reaching q (128 * reach) but (joins q low h bs) ≡ put_low q low (reaching q reach (useless q low) (Ok (h, bs)))
 
   -- a group of zeros too many
   same_zero : low < 64 → h ≡ 0 → Same
   same_zero lt none =
-      rw (none, le-leb 0 q (omega arith), lt-ltb (low + 128 * 0) 64 (omega arith), useless_low q low lt, lt-ltb 0 reach (omega arith)) refl
+      rw (
+        none,
+        le-leb 0 q (omega arith),
+        lt-ltb (low + 128 * 0) 64 (omega arith),
+        useless_low q low lt,
+        lt-ltb 0 reach
+            (omega arith),
+      ) refl
 
   same_low : h ≤ q → 64 ≤ low + 128 * h → h < reach → eqb h (useless q low) ≡ false → Same
   same_low le more lt other =
@@ -130,7 +140,13 @@ module _ (q reach low h : ℕ) (but : ℕ) (is : IsBut q but) (bs : List ℕ) (s
 
   same_middle : q < h → h < 255 * q + 255 → Same
   same_middle gt lt =
-      rw (lt-leb h q gt, lt-ltb h (255 * q + 255) lt, le-ltb h reach (omega arith), lt-ltb h (256 * q + 256 - reach) (omega arith)) refl
+      rw (
+        lt-leb h q gt,
+        lt-ltb h (255 * q + 255) lt,
+        le-ltb h reach (omega arith),
+        lt-ltb h (256 * q + 256 - reach)
+            (omega arith),
+      ) refl
 
   -- a group of ones too many
   same_ones : 64 ≤ low → h ≡ 256 * q + 255 → Same
@@ -161,7 +177,8 @@ module _ (q reach low h : ℕ) (but : ℕ) (is : IsBut q but) (bs : List ℕ) (s
       )
       refl
 
-  same_high : 255 * q + 255 ≤ h → low + 128 * (h - (254 * q + 254)) ≤ 256 * q + 191 → 256 * q + 256 - reach ≤ h → eqb h (useless q low) ≡ false → Same
+  same_high : 255 * q + 255 ≤ h → low + 128 * (h - (254 * q + 254)) ≤ 256 * q + 191 → 256 * q + 256 - reach ≤ h
+      → eqb h (useless q low) ≡ false → Same
   same_high least le far other =
       rw (
         lt-leb h q (omega arith),
@@ -229,16 +246,27 @@ module _ (q reach low h : ℕ) (but : ℕ) (bs : List ℕ) (small : low < 128) (
     | inr le ↦
         elim (cases_lt (low + 128 * h) 64) [
           | inl few ↦ rw (le-leb h q le, lt-ltb (low + 128 * h) 64 few) refl
-          | inr more ↦ rw (le-leb h q le, le-ltb (low + 128 * h) 64 more) (out_of_reach (low + 128 * h) more (omega arith))
+          | inr more ↦ rw (le-leb h q le, le-ltb (low + 128 * h) 64 more)
+              (out_of_reach (low + 128 * h) more (omega arith))
         ]
     | inl gt ↦
         elim (cases_lt h (255 * q + 255)) [
           | inl lt ↦ rw (lt-leb h q gt, lt-ltb h (255 * q + 255) lt) refl
           | inr least ↦
               elim (cases_lt (256 * q + 191) (low + 128 * (h - (254 * q + 254)))) [
-                | inl over ↦ rw (lt-leb h q gt, le-ltb h (255 * q + 255) least, lt-ltb (256 * q + 191) (low + 128 * (h - (254 * q + 254))) over) refl
+                | inl over ↦ rw (
+                  lt-leb h q gt,
+                  le-ltb h (255 * q + 255) least,
+                  lt-ltb (256 * q + 191)
+                      (low + 128 * (h - (254 * q + 254))) over,
+                ) refl
                 | inr le ↦
-                    rw (lt-leb h q gt, le-ltb h (255 * q + 255) least, le-ltb (256 * q + 191) (low + 128 * (h - (254 * q + 254))) le)
+                    rw (
+                      lt-leb h q gt,
+                      le-ltb h (255 * q + 255) least,
+                      le-ltb (256 * q + 191)
+                          (low + 128 * (h - (254 * q + 254))) le,
+                    )
                     (out_of_reach (low + 128 * (h - (254 * q + 254))) (omega arith) le)
               ]
         ]
@@ -250,30 +278,39 @@ signed_one : (q most b : ℕ) (bs : List ℕ) → b < 64 → signed_groups_at (s
 unfolding signed_groups_at
 signed_one q most b bs lt = rw (lt-ltb b 64 lt) refl
 
-signed_minus : (q most b : ℕ) (bs : List ℕ) → 64 ≤ b → b < 128 → signed_groups_at (suc most) (256 * q + 255) (b ∷ bs) ≡ Ok (b + (256 * q + 128), bs)
+signed_minus : (q most b : ℕ) (bs : List ℕ) → 64 ≤ b → b < 128
+    → signed_groups_at (suc most) (256 * q + 255) (b ∷ bs) ≡ Ok (b + (256 * q + 128), bs)
 unfolding signed_groups_at
 signed_minus q most b bs le lt = rw (le-ltb b 64 le, lt-ltb b 128 lt, less_127 q) refl
 
-signed_more : (q most b : ℕ) (bs : List ℕ) → 128 ≤ b → signed_groups_at (suc most) (256 * q + 255) (b ∷ bs) ≡ (signed_groups_at most (256 * q + 255) bs >>= λ high. signed_joined (256 * q + 255) (b - 128) high.0 high.1)
+signed_more : (q most b : ℕ) (bs : List ℕ) → 128 ≤ b
+    → signed_groups_at (suc most) (256 * q + 255) (b ∷ bs)
+    ≡ (signed_groups_at most (256 * q + 255) bs >>= λ high. signed_joined (256 * q + 255) (b - 128) high.0 high.1)
 unfolding signed_groups_at
 signed_more q most b bs le = rw (le-ltb b 64 (omega arith), le-ltb b 128 le) refl
 
-at_most : (q most : ℕ) (bs : List ℕ) (n : ℕ) (rest : List ℕ) → IsBytes bs → signed_groups_at most (256 * q + 255) bs ≡ Ok (n, rest) → n ≤ 256 * q + 255
+at_most : (q most : ℕ) (bs : List ℕ) (n : ℕ) (rest : List ℕ) → IsBytes bs
+    → signed_groups_at most (256 * q + 255) bs ≡ Ok (n, rest) → n ≤ 256 * q + 255
 at_most q most bs n rest fits e = (signed_take q most most bs n rest (omega arith) fits e).1
 
 abbrev join_all : (q low : ℕ) → Reading ℕ → Reading ℕ
 join_all q low r = r >>= λ high. signed_joined (256 * q + 255) low high.0 high.1
 
-more_of : (q reach low but : ℕ) → IsBut q but → low < 128 → reach ≤ q + 1 → 1 ≤ reach → (r : Reading ℕ) → ((n : ℕ) (rest : List ℕ) → r ≡ Ok (n, rest) → n ≤ 256 * q + 255)
+more_of : (q reach low but : ℕ) → IsBut q but → low < 128 → reach ≤ q + 1 → 1 ≤ reach → (r : Reading ℕ)
+    → ((n : ℕ) (rest : List ℕ) → r ≡ Ok (n, rest) → n ≤ 256 * q + 255)
     → reaching q (128 * reach) but (join_all q low r) ≡ put_low q low (reaching q reach (useless q low) r)
-more_of q reach low but is small room some (Ok x) top = ap (reaching q (128 * reach) but) (joins_is q low x.0 x.1) ∙ same q reach low x.0 but is x.1 small room some (top x.0 x.1 refl)
+more_of q reach low but is small room some (Ok x) top = ap (reaching q (128 * reach) but) (joins_is q low x.0 x.1)
+    ∙ same q reach low x.0 but is x.1 small room some (top x.0 x.1 refl)
 more_of q reach low but is small room some (Err f) top = refl
 
-more_signed : (q most reach but b : ℕ) (bs : List ℕ) → IsBut q but → IsBytes (b ∷ bs) → 128 ≤ b → reach ≤ q + 1 → 1 ≤ reach
-    → reaching q (128 * reach) but (signed_groups_at (suc most) (256 * q + 255) (b ∷ bs)) ≡ put_low q (b - 128) (reaching q reach (useless q (b - 128)) (signed_groups_at most (256 * q + 255) bs))
+more_signed : (q most reach but b : ℕ) (bs : List ℕ) → IsBut q but → IsBytes (b ∷ bs) → 128 ≤ b → reach ≤ q + 1
+    → 1 ≤ reach
+    → reaching q (128 * reach) but (signed_groups_at (suc most) (256 * q + 255) (b ∷ bs))
+    ≡ put_low q (b - 128) (reaching q reach (useless q (b - 128)) (signed_groups_at most (256 * q + 255) bs))
 more_signed q most reach but b bs is fits large room some =
     ap (reaching q (128 * reach) but) (signed_more q most b bs large)
-    ∙ more_of q reach (b - 128) but is (omega (arith, fits 0)) room some (signed_groups_at most (256 * q + 255) bs) (λ n rest e. at_most q most bs n rest (IsBytes-tail b bs fits) e)
+    ∙ more_of q reach (b - 128) but is (omega (arith, fits 0)) room some (signed_groups_at most (256 * q + 255) bs)
+    (λ n rest e. at_most q most bs n rest (IsBytes-tail b bs fits) e)
 
 joins_malformed : (q low h : ℕ) (bs : List ℕ) (f : WFault) → joins q low h bs ≡ Err f → f ≡ Malformed
 joins_malformed q low h bs f e = elim (cases_Bool (leb h q)) [
@@ -293,11 +330,13 @@ joins_malformed q low h bs f e = elim (cases_Bool (leb h q)) [
       ]
 ]
 
-all_malformed : (q low : ℕ) (r : Reading ℕ) (f : WFault) → ((g : WFault) → r ≡ Err g → g ≡ Malformed) → join_all q low r ≡ Err f → f ≡ Malformed
+all_malformed : (q low : ℕ) (r : Reading ℕ) (f : WFault) → ((g : WFault) → r ≡ Err g → g ≡ Malformed)
+    → join_all q low r ≡ Err f → f ≡ Malformed
 all_malformed q low (Ok x) f h e = joins_malformed q low x.0 x.1 f (sym (joins_is q low x.0 x.1) ∙ e)
 all_malformed q low (Err g) f h e = sym (err_is g f e) ∙ h g refl
 
-signed_malformed : (q most : ℕ) (bytes : List ℕ) (f : WFault) → signed_groups_at most (256 * q + 255) bytes ≡ Err f → f ≡ Malformed
+signed_malformed : (q most : ℕ) (bytes : List ℕ) (f : WFault) → signed_groups_at most (256 * q + 255) bytes ≡ Err f
+    → f ≡ Malformed
 unfolding signed_groups_at
 signed_malformed q zero bytes f e = sym (err_is Malformed f e)
 signed_malformed q (suc most) [] f e = sym (err_is Malformed f e)
@@ -306,19 +345,23 @@ signed_malformed q (suc most) (b ∷ bytes) f e = elim (cases_lt b 64) [
   | inr le ↦
       elim (cases_lt b 128) [
         | inl lt ↦ absurd (absent (b + (256 * q + 128), bytes) f (sym (signed_minus q most b bytes le lt) ∙ e))
-        | inr large ↦ all_malformed q (b - 128) (signed_groups_at most (256 * q + 255) bytes) f (signed_malformed q most bytes) (sym (signed_more q most b bytes large) ∙ e)
+        | inr large ↦ all_malformed q (b - 128) (signed_groups_at most (256 * q + 255) bytes) f
+            (signed_malformed q most bytes) (sym (signed_more q most b bytes large) ∙ e)
       ]
 ]
 
-reaching_malformed : (q reach but : ℕ) (r : Reading ℕ) (f : WFault) → ((g : WFault) → r ≡ Err g → g ≡ Malformed) → reaching q reach but r ≡ Err f → f ≡ Malformed
+reaching_malformed : (q reach but : ℕ) (r : Reading ℕ) (f : WFault) → ((g : WFault) → r ≡ Err g → g ≡ Malformed)
+    → reaching q reach but r ≡ Err f → f ≡ Malformed
 reaching_malformed q reach but (Ok x) f h e = elim (cases_Bool (reached q reach but x.0)) [
   | inl yes' ↦ absurd (absent x f (rw yes' at e))
   | inr no' ↦ sym (err_is Malformed f (rw no' at e))
 ]
 reaching_malformed q reach but (Err g) f h e = sym (err_is g f e) ∙ h g refl
 
-none_of : (q reach low but : ℕ) → low < 128 → reach ≤ 64 → (r : Reading ℕ) → ((g : WFault) → r ≡ Err g → g ≡ Malformed) → reaching q reach but (join_all q low r) ≡ malformed
-none_of q reach low but small room (Ok x) h = ap (reaching q reach but) (joins_is q low x.0 x.1) ∙ none_left q reach low x.0 but x.1 small room
+none_of : (q reach low but : ℕ) → low < 128 → reach ≤ 64 → (r : Reading ℕ) → ((g : WFault) → r ≡ Err g → g ≡ Malformed)
+    → reaching q reach but (join_all q low r) ≡ malformed
+none_of q reach low but small room (Ok x) h = ap (reaching q reach but) (joins_is q low x.0 x.1)
+    ∙ none_left q reach low x.0 but x.1 small room
 none_of q reach low but small room (Err g) h = ap failing (h g refl)
 
 -- ---- where they stop
@@ -355,16 +398,36 @@ one k most q reach but (inl none) some room = record {
   byte = 127;
   is = top_cells k q;
 }
-one k most q reach but (inr large) some room = record { value = 0; fits = rw (lt-ltb 0 reach (omega arith), ne_eqb 0 but (omega arith)) refl; byte = 0; is = zero_cells k q }
+one k most q reach but (inr large) some room =
+    record {
+      value = 0;
+      fits = rw (lt-ltb 0 reach (omega arith), ne_eqb 0 but (omega arith)) refl;
+      byte = 0;
+      is =
+          zero_cells k q;
+    }
 
 module _ (k most q reach but : ℕ) (o : One k most q reach but) where
   abbrev this : Format ℕ
   this = signed_numbers (suc k) most q reach but
 
   missing : (fault : WFault) → fault ≡ Malformed → Stop this (cells (suc k) q) [] fault
-  missing fault is = record { front = []; at = []; parts = refl; value = o.value; fits = o.fits; next = (OtherByte, o.byte); rest = []; begins = o.is; how = is }
+  missing fault is = record {
+    front = [];
+    at = [];
+    parts = refl;
+    value = o.value;
+    fits = o.fits;
+    next =
+        (OtherByte, o.byte);
+    rest = [];
+    begins = o.is;
+    how = is;
+  }
 
-  decided : (b : ℕ) (bs : List ℕ) (fault : WFault) → fault ≡ Malformed → ((follow : List ℕ) → IsBytes (b ∷ follow) → this.reading (b ∷ follow) ≡ malformed) → Stop this (cells (suc k) q) (b ∷ bs) fault
+  decided : (b : ℕ) (bs : List ℕ) (fault : WFault) → fault ≡ Malformed
+      → ((follow : List ℕ) → IsBytes (b ∷ follow) → this.reading (b ∷ follow) ≡ malformed)
+      → Stop this (cells (suc k) q) (b ∷ bs) fault
   decided b bs fault is h = record {
     front = [];
     at = b ∷ bs;
@@ -377,7 +440,8 @@ module _ (k most q reach but : ℕ) (o : One k most q reach but) where
     how = (is, λ follow fits. h follow fits ∙ ap failing (sym is));
   }
 
-known_fails : (q reach but n : ℕ) (bs follow : List ℕ) (fault : WFault) → reaching q reach but (Ok (n, bs)) ≡ Err fault → reaching q reach but (Ok (n, follow)) ≡ malformed
+known_fails : (q reach but n : ℕ) (bs follow : List ℕ) (fault : WFault) → reaching q reach but (Ok (n, bs)) ≡ Err fault
+    → reaching q reach but (Ok (n, follow)) ≡ malformed
 known_fails q reach but n bs follow fault e = elim (cases_Bool (reached q reach but n)) [
   | inl yes' ↦ absurd (absent (n, bs) fault (rw yes' at e))
   | inr no' ↦ rw no' refl
@@ -409,11 +473,18 @@ reaches q reach but n e = elim (cases_lt n reach) [
             elim (cases_lt n (256 * q + 256)) [
               | inl lt ↦
                   record {
-                    other = unequal n but (not_true (eqb n but) (rw (le-ltb n reach ge, le-ltb n (256 * q + 256 - reach) far, lt-ltb n (256 * q + 256) lt) at e));
+                    other = unequal n but (not_true (eqb n but)
+                        (rw (le-ltb n reach ge, le-ltb n (256 * q + 256 - reach) far, lt-ltb n (256 * q + 256) lt) at
+                        e));
                     where_it_is = inr (far, lt);
                   }
               | inr over ↦
-                  let no' : false ≡ true = rw (le-ltb n reach ge, le-ltb n (256 * q + 256 - reach) far, le-ltb n (256 * q + 256) over) at e in
+                  let no' : false ≡ true = rw (
+                    le-ltb n reach ge,
+                    le-ltb n (256 * q + 256 - reach) far,
+                    le-ltb n
+                        (256 * q + 256) over,
+                  ) at e in
                   absurd cc
             ]
       ]
@@ -425,34 +496,43 @@ shifted_low top n le = rw (le-leb n (top / 2) le) refl
 shifted_high : (top n : ℕ) → top / 2 < n → shift_group top n ≡ n / 128 + (top - top / 128)
 shifted_high top n lt = rw (lt-leb n (top / 2) lt) refl
 
-groups_of : (k q n : ℕ) → 64 ≤ n → n ≤ 256 * q + 191 → signed_groups (suc k) (256 * q + 255) n ≡ (128 + n % 128) ∷ signed_groups k (256 * q + 255) (shift_group (256 * q + 255) n)
+groups_of : (k q n : ℕ) → 64 ≤ n → n ≤ 256 * q + 191
+    → signed_groups (suc k) (256 * q + 255) n ≡ (128 + n % 128)
+    ∷ signed_groups k (256 * q + 255) (shift_group (256 * q + 255) n)
 unfolding signed_groups
 groups_of k q n large low =
     let le : n ≤ (256 * q + 255) - 64 = omega arith in
     rw (le-ltb n 64 large, le-ltb ((256 * q + 255) - 64) n le) refl
 
-cons_groups : (k q b low h n : ℕ) → b ≡ 128 + low → n % 128 ≡ low → shift_group (256 * q + 255) n ≡ h → (128 + n % 128) ∷ signed_groups k (256 * q + 255) (shift_group (256 * q + 255) n) ≡ b ∷ signed_groups k (256 * q + 255) h
+cons_groups : (k q b low h n : ℕ) → b ≡ 128 + low → n % 128 ≡ low → shift_group (256 * q + 255) n ≡ h
+    → (128 + n % 128) ∷ signed_groups k (256 * q + 255) (shift_group (256 * q + 255) n) ≡ b
+    ∷ signed_groups k (256 * q + 255) h
 cons_groups k q b low h n first is same = rw (is, same, first) refl
 
-encoded_low : (k q b low h : ℕ) → b ≡ 128 + low → low < 128 → h ≤ q → 64 ≤ low + 128 * h → signed_groups (suc k) (256 * q + 255) (value_of q low h) ≡ b ∷ signed_groups k (256 * q + 255) h
+encoded_low : (k q b low h : ℕ) → b ≡ 128 + low → low < 128 → h ≤ q → 64 ≤ low + 128 * h
+    → signed_groups (suc k) (256 * q + 255) (value_of q low h) ≡ b ∷ signed_groups k (256 * q + 255) h
 encoded_low k q b low h first small le more =
     let n : ℕ = low + 128 * h in
     let half : low + 128 * h ≤ (256 * q + 255) / 2 = omega (arith, half_is q) in
-    rw (le-leb h q le) (groups_of k q n more (omega arith) ∙ cons_groups k q b low h n first (omega arith) (shifted_low (256 * q + 255) n half ∙ omega arith))
+    rw (le-leb h q le) (groups_of k q n more (omega arith)
+    ∙ cons_groups k q b low h n first (omega arith) (shifted_low (256 * q + 255) n half ∙ omega arith))
 
-encoded_high : (k q b low h : ℕ) → b ≡ 128 + low → low < 128 → 255 * q + 255 ≤ h → h ≤ 256 * q + 255 → low + 128 * (h - (254 * q + 254)) ≤ 256 * q + 191
+encoded_high : (k q b low h : ℕ) → b ≡ 128 + low → low < 128 → 255 * q + 255 ≤ h → h ≤ 256 * q + 255
+    → low + 128 * (h - (254 * q + 254)) ≤ 256 * q + 191
     → signed_groups (suc k) (256 * q + 255) (value_of q low h) ≡ b ∷ signed_groups k (256 * q + 255) h
 encoded_high k q b low h first small least top le =
     let n : ℕ = low + 128 * (h - (254 * q + 254)) in
     let half : (256 * q + 255) / 2 < low + 128 * (h - (254 * q + 254)) = omega (arith, half_is q) in
     let back : (low + 128 * (h - (254 * q + 254))) / 128 + (254 * q + 254) ≡ h = omega arith in
     rw (lt-leb h q (omega arith)) (
-    groups_of k q n (omega arith) le ∙ cons_groups k q b low h n first (omega arith) (shifted_high (256 * q + 255) n half ∙ ap (λ (c : ℕ). n / 128 + c) (less_128 q) ∙ back)
+    groups_of k q n (omega arith) le ∙ cons_groups k q b low h n first (omega arith)
+    (shifted_high (256 * q + 255) n half ∙ ap (λ (c : ℕ). n / 128 + c) (less_128 q) ∙ back)
     )
 
 module _ (k q reach but b low h : ℕ) (first : b ≡ 128 + low) (small : low < 128) (room : reach ≤ q + 1) where
   abbrev Encoded : Type 0
-  Encoded = (signed_groups (suc k) (256 * q + 255) (value_of q low h) ≡ b ∷ signed_groups k (256 * q + 255) h) × (reached q (128 * reach) but (value_of q low h) ≡ true)
+  Encoded = (signed_groups (suc k) (256 * q + 255) (value_of q low h) ≡ b ∷ signed_groups k (256 * q + 255) h)
+      × (reached q (128 * reach) but (value_of q low h) ≡ true)
 
   fits_low : IsBut q but → h < reach → 64 ≤ low + 128 * h → reached q (128 * reach) but (value_of q low h) ≡ true
   fits_low is lt more =
@@ -463,7 +543,8 @@ module _ (k q reach but b low h : ℕ) (first : b ≡ 128 + low) (small : low < 
       )
       refl
 
-  fits_high : IsBut q but → 256 * q + 256 - reach ≤ h → h < 256 * q + 256 → low + 128 * (h - (254 * q + 254)) ≤ 256 * q + 191 → reached q (128 * reach) but (value_of q low h) ≡ true
+  fits_high : IsBut q but → 256 * q + 256 - reach ≤ h → h < 256 * q + 256
+      → low + 128 * (h - (254 * q + 254)) ≤ 256 * q + 191 → reached q (128 * reach) but (value_of q low h) ≡ true
   fits_high is far top le =
       rw (
         lt-leb h q (omega arith),
@@ -530,37 +611,47 @@ IsBytes-cons b bs lt h (suc i) = h i
 
 module _ (q base : ℕ) (some : 1 ≤ base) (room : base ≤ 64) where
   abbrev Stops : (k j but : ℕ) (bytes : List ℕ) (fault : WFault) → Type 0
-  Stops k j but bytes fault = Stop (signed_numbers (suc k) (suc j) q (reach_of base j) but) (cells (suc k) q) bytes fault
+  Stops k j but bytes fault = Stop (signed_numbers (suc k) (suc j) q (reach_of base j) but) (cells (suc k) q) bytes
+      fault
 
   abbrev reading : (j but : ℕ) → List ℕ → Reading ℕ
   reading j but bytes = reaching q (reach_of base j) but (signed_groups_at (suc j) (256 * q + 255) bytes)
 
   is_malformed : (j but : ℕ) (bytes : List ℕ) (fault : WFault) → reading j but bytes ≡ Err fault → fault ≡ Malformed
-  is_malformed j but bytes fault e = reaching_malformed q (reach_of base j) but (signed_groups_at (suc j) (256 * q + 255) bytes) fault (signed_malformed q (suc j) bytes) e
+  is_malformed j but bytes fault e = reaching_malformed q (reach_of base j) but
+      (signed_groups_at (suc j) (256 * q + 255) bytes) fault (signed_malformed q (suc j) bytes) e
 
-  in_one : (k j but b : ℕ) (bs : List ℕ) (fault : WFault) → One k (suc j) q (reach_of base j) but → b < 128 → reading j but (b ∷ bs) ≡ Err fault → Stops k j but (b ∷ bs) fault
+  in_one : (k j but b : ℕ) (bs : List ℕ) (fault : WFault) → One k (suc j) q (reach_of base j) but → b < 128
+      → reading j but (b ∷ bs) ≡ Err fault → Stops k j but (b ∷ bs) fault
   in_one k j but b bs fault o lt e = elim (cases_lt b 64) [
     | inl less ↦
         decided k (suc j) q (reach_of base j) but o b bs fault (is_malformed j but (b ∷ bs) fault e)
         (λ follow g.
         ap (reaching q (reach_of base j) but) (signed_one q j b follow less)
-        ∙ known_fails q (reach_of base j) but b bs follow fault (sym (ap (reaching q (reach_of base j) but) (signed_one q j b bs less)) ∙ e))
+        ∙ known_fails q (reach_of base j) but b bs follow fault
+        (sym (ap (reaching q (reach_of base j) but) (signed_one q j b bs less)) ∙ e))
     | inr le ↦
         decided k (suc j) q (reach_of base j) but o b bs fault (is_malformed j but (b ∷ bs) fault e)
         (λ follow g.
         ap (reaching q (reach_of base j) but) (signed_minus q j b follow le lt)
-        ∙ known_fails q (reach_of base j) but (b + (256 * q + 128)) bs follow fault (sym (ap (reaching q (reach_of base j) but) (signed_minus q j b bs le lt)) ∙ e))
+        ∙ known_fails q (reach_of base j) but (b + (256 * q + 128)) bs follow fault
+        (sym (ap (reaching q (reach_of base j) but) (signed_minus q j b bs le lt)) ∙ e))
   ]
 
-  last_group : (k but b : ℕ) (bs : List ℕ) (fault : WFault) → One k 1 q (reach_of base 0) but → 128 ≤ b → reading 0 but (b ∷ bs) ≡ Err fault → Stops k 0 but (b ∷ bs) fault
+  last_group : (k but b : ℕ) (bs : List ℕ) (fault : WFault) → One k 1 q (reach_of base 0) but → 128 ≤ b
+      → reading 0 but (b ∷ bs) ≡ Err fault → Stops k 0 but (b ∷ bs) fault
   last_group k but b bs fault o large e =
       decided k 1 q (reach_of base 0) but o b bs fault (is_malformed 0 but (b ∷ bs) fault e)
       (λ follow g.
       ap (reaching q (reach_of base 0) but) (signed_more q 0 b follow large)
-      ∙ none_of q (reach_of base 0) (b - 128) but (omega (arith, g 0)) (omega arith) (signed_groups_at 0 (256 * q + 255) follow) (signed_malformed q 0 follow))
+      ∙ none_of q (reach_of base 0) (b - 128) but (omega (arith, g 0)) (omega arith)
+      (signed_groups_at 0 (256 * q + 255) follow) (signed_malformed q 0 follow))
 
-  pub signed_stop : (k j but : ℕ) (bytes : List ℕ) (fault : WFault) → j ≤ k → IsBut q but → reach_of base j ≤ 128 * (q + 1) → IsBytes bytes → reading j but bytes ≡ Err fault → Stops k j but bytes fault
-  signed_stop k j but [] fault le is far fits e = missing k (suc j) q (reach_of base j) but (one k (suc j) q (reach_of base j) but is (reach_some base j some) far) fault (is_malformed j but [] fault e)
+  pub signed_stop : (k j but : ℕ) (bytes : List ℕ) (fault : WFault) → j ≤ k → IsBut q but
+      → reach_of base j ≤ 128 * (q + 1) → IsBytes bytes → reading j but bytes ≡ Err fault → Stops k j but bytes fault
+  signed_stop k j but [] fault le is far fits e =
+      missing k (suc j) q (reach_of base j) but (one k (suc j) q (reach_of base j) but is (reach_some base j some) far)
+      fault (is_malformed j but [] fault e)
   signed_stop k zero but (b ∷ bs) fault le is far fits e =
       let o = one k 1 q (reach_of base 0) but is (reach_some base 0 some) far in
       elim (cases_lt b 128) [
@@ -576,13 +667,23 @@ module _ (q base : ℕ) (some : 1 ≤ base) (room : base ≤ 64) where
             let low : ℕ = b - 128 in
             let reach : ℕ = reach_of base j in
             let more : reach_of base j ≤ q + 1 = omega (arith, reach_step base j) in
-            let step : (t : List ℕ) → IsBytes (b ∷ t) → reading (suc j) but (b ∷ t) ≡ put_low q low (reading j (useless q low) t) =
-            λ t g. ap (λ (r : ℕ). reaching q r but (signed_groups_at (suc (suc j)) (256 * q + 255) (b ∷ t))) (reach_step base j) ∙ more_signed q (suc j) (reach_of base j) but b t is g large more (reach_some base j some) in
-            let inner : reading j (useless q low) bs ≡ Err fault = bind_err (reading j (useless q low) bs) (λ h. (value_of q low h.0, h.1)) fault (sym (step bs fits) ∙ e) in
-            let s = signed_stop k j (useless q low) bs fault (omega arith) (useless_is q low) (omega arith) (IsBytes-tail b bs fits) inner in
-            let made = λ (h : ℕ) (g : reached q (reach_of base j) (useless q low) h ≡ true). encoded (suc k) q (reach_of base j) but b low h (omega arith) (omega (arith, fits 0)) more is g in
-            into (signed_numbers (suc k) (suc j) q (reach_of base j) (useless q low)) (cells (suc k) q) (signed_numbers (suc (suc k)) (suc (suc j)) q (reach_of base (suc j)) but) (cells (suc (suc k)) q) ((OtherByte, b) ∷ []) (value_of q low) (λ h. [])
-            (λ h g. ap others (made h g).0 ∙ ap (λ (t : List Cell). (OtherByte, b) ∷ t) (sym (append-nil (cells (suc k) q h))))
+            let step : (t : List ℕ) → IsBytes (b ∷ t)
+            → reading (suc j) but (b ∷ t) ≡ put_low q low (reading j (useless q low) t) =
+            λ t g. ap (λ (r : ℕ). reaching q r but (signed_groups_at (suc (suc j)) (256 * q + 255) (b ∷ t)))
+            (reach_step base j) ∙ more_signed q (suc j) (reach_of base j) but b t is g large more
+            (reach_some base j some) in
+            let inner : reading j (useless q low) bs ≡ Err fault =
+            bind_err (reading j (useless q low) bs) (λ h. (value_of q low h.0, h.1)) fault (sym (step bs fits) ∙ e)
+            in
+            let s = signed_stop k j (useless q low) bs fault (omega arith) (useless_is q low) (omega arith)
+            (IsBytes-tail b bs fits) inner in
+            let made = λ (h : ℕ) (g : reached q (reach_of base j) (useless q low) h ≡ true). encoded (suc k) q
+            (reach_of base j) but b low h (omega arith) (omega (arith, fits 0)) more is g in
+            into (signed_numbers (suc k) (suc j) q (reach_of base j) (useless q low)) (cells (suc k) q)
+            (signed_numbers (suc (suc k)) (suc (suc j)) q (reach_of base (suc j)) but) (cells (suc (suc k)) q)
+            ((OtherByte, b) ∷ []) (value_of q low) (λ h. [])
+            (λ h g. ap others (made h g).0 ∙ ap (λ (t : List Cell). (OtherByte, b) ∷ t)
+            (sym (append-nil (cells (suc k) q h))))
             (λ h g. ap (λ (r : ℕ). reached q r but (value_of q low h)) (reach_step base j) ∙ (made h g).1)
             (λ t f g h. step t (IsBytes-cons b t (fits 0) g) ∙ ap (put_low q low) h)
             bs fault s

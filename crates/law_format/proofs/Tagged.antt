@@ -25,7 +25,8 @@ no_cells u = []
 
 pub nothing_stops : Stopping nothing (λ u. [])
 nothing_stops = record {
-  takes = λ bytes x rest fits e. front_at nothing no_cells bytes tt x bytes rest (read_is tt x bytes rest e) (record { parts = refl; rest_fits = fits; fits = refl; again = λ follow h. refl });
+  takes = λ bytes x rest fits e. front_at nothing no_cells bytes tt x bytes rest (read_is tt x bytes rest e)
+      (record { parts = refl; rest_fits = fits; fits = refl; again = λ follow h. refl });
   stops = λ bytes fault fits e. absurd (ok_no_err (tt, bytes) fault e);
   some = tt;
   some_fits = refl;
@@ -41,8 +42,10 @@ pub record Start {B : Type 0} (r : Format B) (cr : B → List Cell) (place : Pla
 
 -- what is read behind this byte, with it
 pub record At {B : Type 0} (r : Format B) (cr : B → List Cell) (b : ℕ) : Type 0 where
-  pub takes : (bs : List ℕ) (x : B) (rest : List ℕ) → IsBytes (b ∷ bs) → r.reading (b ∷ bs) ≡ Ok (x, rest) → Front r cr (b ∷ bs) x rest
-  pub stops : (bs : List ℕ) (fault : WFault) → IsBytes (b ∷ bs) → r.reading (b ∷ bs) ≡ Err fault → Stop r cr (b ∷ bs) fault
+  pub takes : (bs : List ℕ) (x : B) (rest : List ℕ) → IsBytes (b ∷ bs) → r.reading (b ∷ bs) ≡ Ok (x, rest)
+      → Front r cr (b ∷ bs) x rest
+  pub stops : (bs : List ℕ) (fault : WFault) → IsBytes (b ∷ bs) → r.reading (b ∷ bs) ≡ Err fault
+      → Stop r cr (b ∷ bs) fault
 
 pub at_same : {B : Type 0} (r : Format B) (cr : B → List Cell) (b k : ℕ) → b ≡ k → At r cr k → At r cr b
 at_same r cr b k e a = subst (λ (c : ℕ). At r cr c) (sym e) a
@@ -67,7 +70,8 @@ module _ {B : Type 0} (r : Format B) (cr : B → List Cell) (place : Place) wher
         };
   }
 
-  pub no_byte : Start r cr place → r.reading [] ≡ Err Malformed → (fault : WFault) → r.reading [] ≡ Err fault → Stop r cr [] fault
+  pub no_byte : Start r cr place → r.reading [] ≡ Err Malformed → (fault : WFault) → r.reading [] ≡ Err fault
+      → Stop r cr [] fault
   no_byte start missing fault e = record {
     front = [];
     at = [];
@@ -93,11 +97,13 @@ module _ {B : Type 0} (r : Format B) (cr : B → List Cell) (place : Place) wher
     tags = record { takes = tags_take; stops = tags_stop; some = start.value; some_fits = start.fits }
 
 -- a byte with a part behind it
-module _ {A B : Type 0} (p : Format A) (cp : A → List Cell) (sp : Stopping p cp) (r : Format B) (cr : B → List Cell) (place : Place) (k : ℕ) (make : A → B)
+module _ {A B : Type 0} (p : Format A) (cp : A → List Cell) (sp : Stopping p cp) (r : Format B) (cr : B → List Cell)
+    (place : Place) (k : ℕ) (make : A → B)
     (made : (x : A) → p.fits x ≡ true → cr (make x) ≡ (place, k) ∷ cp x)
     (fit : (x : A) → p.fits x ≡ true → r.fits (make x) ≡ true)
     (reads : (bs : List ℕ) → r.reading (k ∷ bs) ≡ read_as make (p.reading bs)) where
-  tag_takes : (bs : List ℕ) (z : B) (rest : List ℕ) → IsBytes (k ∷ bs) → r.reading (k ∷ bs) ≡ Ok (z, rest) → Front r cr (k ∷ bs) z rest
+  tag_takes : (bs : List ℕ) (z : B) (rest : List ℕ) → IsBytes (k ∷ bs) → r.reading (k ∷ bs) ≡ Ok (z, rest)
+      → Front r cr (k ∷ bs) z rest
   tag_takes bs z rest fits e =
       let a = bind_ok (p.reading bs) (λ x. Ok (make x.0, x.1)) (z, rest) (sym (reads bs) ∙ e) in
       let f = sp.takes bs a.0.0 a.0.1 (IsBytes-tail k bs fits) a.1 in
@@ -106,16 +112,28 @@ module _ {A B : Type 0} (p : Format A) (cp : A → List Cell) (sp : Stopping p c
         parts = ap (λ (t : List ℕ). k ∷ t) f.parts ∙ ap (λ (t : List ℕ). t ++ a.0.1) (sym same);
         rest_fits = f.rest_fits;
         fits = fit a.0.0 f.fits;
-        again = λ follow h. ap (λ (t : List ℕ). r.reading (t ++ follow)) same ∙ reads (bytes_of (cp a.0.0) ++ follow) ∙ ap (read_as make) (f.again follow h);
+        again = λ follow h. ap (λ (t : List ℕ). r.reading (t ++ follow)) same ∙ reads (bytes_of (cp a.0.0) ++ follow)
+            ∙ ap (read_as make) (f.again follow h);
       })
 
-  tag_stops : (bs : List ℕ) (fault : WFault) → IsBytes (k ∷ bs) → r.reading (k ∷ bs) ≡ Err fault → Stop r cr (k ∷ bs) fault
+  tag_stops : (bs : List ℕ) (fault : WFault) → IsBytes (k ∷ bs) → r.reading (k ∷ bs) ≡ Err fault
+      → Stop r cr (k ∷ bs) fault
   tag_stops bs fault fits e =
-      into p cp r cr ((place, k) ∷ []) make (λ x. []) (λ x h. made x h ∙ ap (λ (t : List Cell). (place, k) ∷ t) (sym (append-nil (cp x)))) fit (λ t f b h. reads t ∙ ap (read_as make) h) bs fault
-      (sp.stops bs fault (IsBytes-tail k bs fits) (bind_err (p.reading bs) (λ x. (make x.0, x.1)) fault (sym (reads bs) ∙ e)))
+      into p cp r cr ((place, k) ∷ []) make (λ x. [])
+      (λ x h. made x h ∙ ap (λ (t : List Cell). (place, k) ∷ t) (sym (append-nil (cp x)))) fit
+      (λ t f b h. reads t ∙ ap (read_as make) h) bs fault
+      (sp.stops bs fault (IsBytes-tail k bs fits)
+      (bind_err (p.reading bs) (λ x. (make x.0, x.1)) fault (sym (reads bs) ∙ e)))
 
   pub tag : At r cr k
   tag = record { takes = tag_takes; stops = tag_stops }
 
   pub tag_start : Start r cr place
-  tag_start = record { value = make sp.some; fits = fit sp.some sp.some_fits; byte = k; rest = cp sp.some; begins = made sp.some sp.some_fits }
+  tag_start = record {
+    value = make sp.some;
+    fits = fit sp.some sp.some_fits;
+    byte = k;
+    rest = cp sp.some;
+    begins =
+        made sp.some sp.some_fits;
+  }

@@ -15,22 +15,31 @@ use Rattle.law_format.proofs.Signed.{reached, reaching, signed_numbers, signed_s
 
 -- ---- numbers below 2 ^ 32
 
-unsigned_reads : (bs : List ℕ) (f : WFault) → IsBytes bs → (r : Reading ℕ) → groups_at 5 bs ≡ r → ranged 0 (2 ^ 32) r ≡ Err f → r ≡ Err f
+unsigned_reads : (bs : List ℕ) (f : WFault) → IsBytes bs → (r : Reading ℕ) → groups_at 5 bs ≡ r
+    → ranged 0 (2 ^ 32) r ≡ Err f → r ≡ Err f
 unsigned_reads bs f fits (Ok x) e h =
     let t = groups_take 5 10 bs x.0 x.1 (omega arith) fits e in
     absurd (ok_no_err x f (rw (le-leb 0 x.0 (omega arith), lt-ltb x.0 (2 ^ 32) t.1) at h))
 unsigned_reads bs f fits (Err g) e h = h
 
-unsigned_stop : (bytes : List ℕ) (fault : WFault) → IsBytes bytes → groups_at 5 bytes ≡ Err fault → Stop unsigned (plain unsigned) bytes fault
+unsigned_stop : (bytes : List ℕ) (fault : WFault) → IsBytes bytes → groups_at 5 bytes ≡ Err fault
+    → Stop unsigned (plain unsigned) bytes fault
 unsigned_stop bytes fault fits e =
-    into (numbers 10 5 0 (2 ^ 32)) (plain unsigned) unsigned (plain unsigned) [] (λ n. n) (λ n. []) (λ n h. sym (append-nil (plain unsigned n)))
+    into (numbers 10 5 0 (2 ^ 32)) (plain unsigned) unsigned (plain unsigned) [] (λ n. n) (λ n. [])
+    (λ n h. sym (append-nil (plain unsigned n)))
     (λ n h. (and_parts _ _ h).1)
     (λ bs f g h. unsigned_reads bs f g (groups_at 5 bs) refl h)
     bytes fault
     (numbers_stop 9 5 0 (2 ^ 32) bytes fault (omega arith) (omega arith) (omega arith) fits (ap (ranged 0 (2 ^ 32)) e))
 
 pub unsigned_stops : Stopping unsigned (plain unsigned)
-unsigned_stops = record { takes = takes_from unsigned (plain unsigned) unsigned_law (λ n. bytes-all OtherByte (unsigned.encoding n)); some = 0; some_fits = refl; stops = unsigned_stop }
+unsigned_stops = record {
+  takes = takes_from unsigned (plain unsigned) unsigned_law
+      (λ n. bytes-all OtherByte (unsigned.encoding n));
+  some = 0;
+  some_fits = refl;
+  stops = unsigned_stop;
+}
 
 -- ---- numbers of a range
 
@@ -55,7 +64,8 @@ module _ (least end : ℕ) (some : least < end) (room : end ≤ 2 ^ 32) where
 
   pub between_stops : Stopping (between least end) (plain unsigned)
   between_stops = record {
-    takes = takes_from (between least end) (plain unsigned) between_law (λ n. bytes-all OtherByte (unsigned.encoding n));
+    takes = takes_from (between least end) (plain unsigned) between_law
+        (λ n. bytes-all OtherByte (unsigned.encoding n));
     some = least;
     some_fits = and_from _ _ (le-leb least least (omega arith)) (lt-ltb least end some);
     stops = λ bytes fault fits e. numbers_stop 9 5 least end bytes fault (omega arith) some room fits e;
@@ -80,7 +90,8 @@ module _ (q base j most : ℕ) (far : base * 128 ^ j ≡ 128 * (q + 1)) where
         refl
   ]
 
-  signed_reads : (bs : List ℕ) (f : WFault) → IsBytes bs → (r : Reading ℕ) → signed_groups_at most (256 * q + 255) bs ≡ r → reaching q (base * 128 ^ j) (256 * q + 256) r ≡ Err f → r ≡ Err f
+  signed_reads : (bs : List ℕ) (f : WFault) → IsBytes bs → (r : Reading ℕ)
+      → signed_groups_at most (256 * q + 255) bs ≡ r → reaching q (base * 128 ^ j) (256 * q + 256) r ≡ Err f → r ≡ Err f
   signed_reads bs f fits (Ok x) e h =
       let t = signed_take q most most bs x.0 x.1 (omega arith) fits e in
       absurd (ok_no_err x f (rw (is_reached x.0 t.1) at h))
@@ -92,24 +103,42 @@ module _ (q base j most : ℕ) (far : base * 128 ^ j ≡ 128 * (q + 1)) where
     | inr lt ↦ lt.1
   ]
 
-signed32_stop : (bytes : List ℕ) (fault : WFault) → IsBytes bytes → signed32.reading bytes ≡ Err fault → Stop signed32 (plain signed32) bytes fault
+signed32_stop : (bytes : List ℕ) (fault : WFault) → IsBytes bytes → signed32.reading bytes ≡ Err fault
+    → Stop signed32 (plain signed32) bytes fault
 signed32_stop bytes fault fits e =
-    into (signed_numbers 5 5 (2 ^ 24 - 1) (8 * 128 ^ 4) (2 ^ 32)) (plain signed32) signed32 (plain signed32) [] (λ n. n) (λ n. []) (λ n h. sym (append-nil (plain signed32 n)))
+    into (signed_numbers 5 5 (2 ^ 24 - 1) (8 * 128 ^ 4) (2 ^ 32)) (plain signed32) signed32 (plain signed32) [] (λ n. n)
+    (λ n. []) (λ n h. sym (append-nil (plain signed32 n)))
     (λ n h. lt-ltb n (2 ^ 32) (signed_fits (2 ^ 24 - 1) 8 4 5 refl n h))
     (λ bs f g h. signed_reads (2 ^ 24 - 1) 8 4 5 refl bs f g (signed32.reading bs) refl h)
     bytes fault
-    (signed_stop (2 ^ 24 - 1) 8 (omega arith) (omega arith) 4 4 (2 ^ 32) bytes fault (omega arith) (inr (omega arith)) (omega arith) fits (ap (reaching (2 ^ 24 - 1) (8 * 128 ^ 4) (2 ^ 32)) e))
+    (signed_stop (2 ^ 24 - 1) 8 (omega arith) (omega arith) 4 4 (2 ^ 32) bytes fault (omega arith) (inr (omega arith))
+    (omega arith) fits (ap (reaching (2 ^ 24 - 1) (8 * 128 ^ 4) (2 ^ 32)) e))
 
 pub signed32_stops : Stopping signed32 (plain signed32)
-signed32_stops = record { takes = takes_from signed32 (plain signed32) signed32_law (λ n. bytes-all OtherByte (signed32.encoding n)); some = 0; some_fits = refl; stops = signed32_stop }
+signed32_stops = record {
+  takes = takes_from signed32 (plain signed32) signed32_law
+      (λ n. bytes-all OtherByte (signed32.encoding n));
+  some = 0;
+  some_fits = refl;
+  stops = signed32_stop;
+}
 
-signed64_stop : (bytes : List ℕ) (fault : WFault) → IsBytes bytes → signed64.reading bytes ≡ Err fault → Stop signed64 (plain signed64) bytes fault
+signed64_stop : (bytes : List ℕ) (fault : WFault) → IsBytes bytes → signed64.reading bytes ≡ Err fault
+    → Stop signed64 (plain signed64) bytes fault
 signed64_stop bytes fault fits e =
-    into (signed_numbers 10 10 (2 ^ 56 - 1) (1 * 128 ^ 9) (2 ^ 64)) (plain signed64) signed64 (plain signed64) [] (λ n. n) (λ n. []) (λ n h. sym (append-nil (plain signed64 n)))
+    into (signed_numbers 10 10 (2 ^ 56 - 1) (1 * 128 ^ 9) (2 ^ 64)) (plain signed64) signed64 (plain signed64) []
+    (λ n. n) (λ n. []) (λ n h. sym (append-nil (plain signed64 n)))
     (λ n h. lt-ltb n (2 ^ 64) (signed_fits (2 ^ 56 - 1) 1 9 10 refl n h))
     (λ bs f g h. signed_reads (2 ^ 56 - 1) 1 9 10 refl bs f g (signed64.reading bs) refl h)
     bytes fault
-    (signed_stop (2 ^ 56 - 1) 1 (omega arith) (omega arith) 9 9 (2 ^ 64) bytes fault (omega arith) (inr (omega arith)) (omega arith) fits (ap (reaching (2 ^ 56 - 1) (1 * 128 ^ 9) (2 ^ 64)) e))
+    (signed_stop (2 ^ 56 - 1) 1 (omega arith) (omega arith) 9 9 (2 ^ 64) bytes fault (omega arith) (inr (omega arith))
+    (omega arith) fits (ap (reaching (2 ^ 56 - 1) (1 * 128 ^ 9) (2 ^ 64)) e))
 
 pub signed64_stops : Stopping signed64 (plain signed64)
-signed64_stops = record { takes = takes_from signed64 (plain signed64) signed64_law (λ n. bytes-all OtherByte (signed64.encoding n)); some = 0; some_fits = refl; stops = signed64_stop }
+signed64_stops = record {
+  takes = takes_from signed64 (plain signed64) signed64_law
+      (λ n. bytes-all OtherByte (signed64.encoding n));
+  some = 0;
+  some_fits = refl;
+  stops = signed64_stop;
+}

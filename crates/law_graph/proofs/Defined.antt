@@ -19,16 +19,19 @@ use Rattle.law_graph.proofs.Given.{given_trees, given_among}
 use Rattle.law_graph.proofs.Fine.{are_fine}
 
 defines_own : (d : Module) → is_definition d ≡ true → defines d.name.name d ≡ true
-defines_own d is = ap (λ (b : Bool). b && same_name d.name.name d.name.name) is ∙ (bytes_decides d.name.name d.name.name).1 refl
+defines_own d is = ap (λ (b : Bool). b && same_name d.name.name d.name.name) is
+    ∙ (bytes_decides d.name.name d.name.name).1 refl
 
-some_of : (test : Module → Bool) (ms : List Module) (d : Module) → Among ms d → test d ≡ true → is_some (first_that test ms) ≡ true
+some_of : (test : Module → Bool) (ms : List Module) (d : Module) → Among ms d → test d ≡ true
+    → is_some (first_that test ms) ≡ true
 some_of test ms d a passes = by (is_some (first_that test ms)) refl
   where
     by : (b : Bool) → is_some (first_that test ms) ≡ b → b ≡ true
     by true e = refl
     by false e = absurd (false≢true (sym (none_that test ms d e a) ∙ passes))
 
-pub one_definition : (fs : List (List ℕ × Module)) (files : List ℕ) (jobs : List (List ℕ)) (starts : List ℕ) → IsGraph (number_files 0 fs) files jobs starts → OneDefinition (given_trees fs)
+pub one_definition : (fs : List (List ℕ × Module)) (files : List ℕ) (jobs : List (List ℕ)) (starts : List ℕ)
+    → IsGraph (number_files 0 fs) files jobs starts → OneDefinition (given_trees fs)
 one_definition fs files jobs starts g d among is =
     let ms : List Module = given_trees fs in
     let k = some_that (defines d.name.name) ms (some_of (defines d.name.name) ms d among (defines_own d is)) in

@@ -53,11 +53,13 @@ filter_none : {X : Type 0} (p : X → Bool) (xs : List X) (x : X) → filter p x
 filter_none p [] x e a = absurd (none_among x a)
 filter_none {X} p (y ∷ xs) x e a = step (λ h b. filter_none p xs x h b) (p y) refl e
   where
-    step : (filter p xs ≡ [] → Among xs x → p x ≡ false) → (b : Bool) → p y ≡ b → cond b (y ∷ filter p xs) (filter p xs) ≡ [] → p x ≡ false
+    step : (filter p xs ≡ [] → Among xs x → p x ≡ false) → (b : Bool) → p y ≡ b
+        → cond b (y ∷ filter p xs) (filter p xs) ≡ [] → p x ≡ false
     step later true g h = cc
     step later false g h = elim (among_cases y xs x a) [ inl s ↦ ap p (sym s) ∙ g | inr more ↦ later h more ]
 
-fine_one : (modules before : List Module) (given : ℕ) (m : Module) (cycle : List Breach) → least_of (breaches_of modules before given m ++ cycle) ≡ None → Fine modules before given m
+fine_one : (modules before : List Module) (given : ℕ) (m : Module) (cycle : List Breach)
+    → least_of (breaches_of modules before given m ++ cycle) ≡ None → Fine modules before given m
 fine_one modules before given m cycle e =
     let a = import_breaches modules m (imports_of m) in
     let b = breach_where (is_repeated before m) m.name.pos rule.SecondFile in
@@ -65,14 +67,17 @@ fine_one modules before given m cycle e =
     let d = breach_where (is_without_program modules before) first_place rule.ProgramCount in
     let f = breach_where (is_lone modules m) m.name.pos rule.LonelyModule in
     let g = breach_where (given == max_files) first_place rule.FileCount in
-    let p = parts_none (breaches_of modules before given m) cycle (none_least (breaches_of modules before given m ++ cycle) e) in
+    let p = parts_none (breaches_of modules before given m) cycle
+    (none_least (breaches_of modules before given m ++ cycle) e) in
     let q = parts_none (a ++ b ++ c ++ d ++ f) g p.0 in
     let r = parts_none (a ++ b ++ c ++ d) f q.0 in
     let s = parts_none (a ++ b ++ c) d r.0 in
     let t = parts_none (a ++ b) c s.0 in
     let u = parts_none a b t.0 in
     record {
-      imports = λ x i. filter_none (λ (y : Ident). is_bad_import modules m y.name) (imports_of m) x (map_none (λ (y : Ident). breach y.pos rule.MissingModule) (filter (λ (y : Ident). is_bad_import modules m y.name) (imports_of m)) u.0) i;
+      imports = λ x i. filter_none (λ (y : Ident). is_bad_import modules m y.name) (imports_of m) x
+          (map_none (λ (y : Ident). breach y.pos rule.MissingModule)
+          (filter (λ (y : Ident). is_bad_import modules m y.name) (imports_of m)) u.0) i;
       first = where_none (is_repeated before m) m.name.pos rule.SecondFile u.1;
       program = where_none (is_without_program modules before) first_place rule.ProgramCount s.1;
       whole = where_none (is_lone modules m) m.name.pos rule.LonelyModule r.1;
@@ -82,27 +87,37 @@ fine_one modules before given m cycle e =
 rest_none : (xs ys : List Reported) → xs ++ ys ≡ [] → ys ≡ []
 rest_none xs ys e = (parts_none xs ys e).1
 
-fine_from : (modules : List Module) (cycle : Option (ℕ × Pos)) (before : List Module) (fs : List File) → refused_from modules cycle before fs ≡ [] → (k : ℕ) (f : File) → slice_get fs k ≡ Some f → Fine modules (before ++ take k (trees fs)) f.given f.tree
+fine_from : (modules : List Module) (cycle : Option (ℕ × Pos)) (before : List Module) (fs : List File)
+    → refused_from modules cycle before fs ≡ [] → (k : ℕ) (f : File) → slice_get fs k ≡ Some f
+    → Fine modules (before ++ take k (trees fs)) f.given f.tree
 fine_from modules cycle before [] e k f at = absurd (none-some f at)
 fine_from modules cycle before (g ∷ fs) e zero f at =
     let o = least_of (breaches_of modules before g.given g.tree ++ cycle_breaches cycle (length before)) in
-    let h : Fine modules before g.given g.tree = fine_one modules before g.given g.tree (cycle_breaches cycle (length before)) (nothing_reported g.name o (refused_from modules cycle (before ++ g.tree ∷ []) fs) e) in
-    subst (λ (x : File). Fine modules (before ++ []) x.given x.tree) (same_Some g f at) (subst (λ (xs : List Module). Fine modules xs g.given g.tree) (sym (append-nil before)) h)
+    let h : Fine modules before g.given g.tree =
+    fine_one modules before g.given g.tree (cycle_breaches cycle (length before))
+    (nothing_reported g.name o (refused_from modules cycle (before ++ g.tree ∷ []) fs) e) in
+    subst (λ (x : File). Fine modules (before ++ []) x.given x.tree) (same_Some g f at)
+    (subst (λ (xs : List Module). Fine modules xs g.given g.tree) (sym (append-nil before)) h)
 fine_from modules cycle before (g ∷ fs) e (suc k) f at =
     let o = least_of (breaches_of modules before g.given g.tree ++ cycle_breaches cycle (length before)) in
-    let h = fine_from modules cycle (before ++ g.tree ∷ []) fs (rest_none (reported_at g.name o) (refused_from modules cycle (before ++ g.tree ∷ []) fs) e) k f at in
-    subst (λ (xs : List Module). Fine modules xs f.given f.tree) (append_assoc before (g.tree ∷ []) (take k (trees fs))) h
+    let h = fine_from modules cycle (before ++ g.tree ∷ []) fs
+    (rest_none (reported_at g.name o) (refused_from modules cycle (before ++ g.tree ∷ []) fs) e) k f at in
+    subst (λ (xs : List Module). Fine modules xs f.given f.tree) (append_assoc before (g.tree ∷ []) (take k (trees fs)))
+    h
 
-fine_of : (fs : List File) (cycle : Option (ℕ × Pos)) → refused_of fs cycle ≡ [] → (k : ℕ) (f : File) → slice_get fs k ≡ Some f → Fine (trees fs) (take k (trees fs)) f.given f.tree
+fine_of : (fs : List File) (cycle : Option (ℕ × Pos)) → refused_of fs cycle ≡ [] → (k : ℕ) (f : File)
+    → slice_get fs k ≡ Some f → Fine (trees fs) (take k (trees fs)) f.given f.tree
 fine_of [] cycle e k f at = absurd (none-some f at)
 fine_of (g ∷ fs) cycle e k f at = fine_from (trees (g ∷ fs)) cycle [] (g ∷ fs) e k f at
 
-pub fine_file : (fs : List File) → IsReported fs [] → (k : ℕ) (f : File) → slice_get fs k ≡ Some f → Fine (trees fs) (take k (trees fs)) f.given f.tree
+pub fine_file : (fs : List File) → IsReported fs [] → (k : ℕ) (f : File) → slice_get fs k ≡ Some f
+    → Fine (trees fs) (take k (trees fs)) f.given f.tree
 fine_file fs h k f at = fine_of fs h.0 (sym h.2) k f at
 
 -- ---- the program module
 
-some_program : (modules : List Module) → is_without_program modules [] ≡ false → (i : ℕ) × (first_that is_program modules ≡ Some i)
+some_program : (modules : List Module) → is_without_program modules [] ≡ false → (i : ℕ)
+    × (first_that is_program modules ≡ Some i)
 some_program modules e = some_that is_program modules (not_false (is_some (first_that is_program modules)) e)
   where
     not_false : (b : Bool) → (true && not b) ≡ false → b ≡ true
@@ -117,18 +132,24 @@ program_of (f ∷ fs) h = some_program (trees (f ∷ fs)) (fine_file (f ∷ fs) 
 -- ---- the modules of such files
 
 pub record AreFine (modules : List Module) : Type 0 where
-  pub imports : (m : Module) (x : Ident) → Among modules m → Among (imports_of m) x → (is_console x.name ≡ true) ⊎ ((t : ℕ) × (definition_of modules x.name ≡ Some t))
-  pub apart : (j k : ℕ) (m n : Module) → slice_get modules j ≡ Some m → slice_get modules k ≡ Some n → is_definition m ≡ is_definition n → m.name.name ≡ n.name.name → j ≡ k
-  pub whole : (m : Module) → Among modules m → is_definition m ≡ true → (i : ℕ) × (first_that (implements m.name.name) modules ≡ Some i)
+  pub imports : (m : Module) (x : Ident) → Among modules m → Among (imports_of m) x → (is_console x.name ≡ true)
+      ⊎ ((t : ℕ) × (definition_of modules x.name ≡ Some t))
+  pub apart : (j k : ℕ) (m n : Module) → slice_get modules j ≡ Some m → slice_get modules k ≡ Some n
+      → is_definition m ≡ is_definition n → m.name.name ≡ n.name.name → j ≡ k
+  pub whole : (m : Module) → Among modules m → is_definition m ≡ true → (i : ℕ)
+      × (first_that (implements m.name.name) modules ≡ Some i)
 
 -- the file of a module
-pub tree_at : (fs : List File) (k : ℕ) (m : Module) → slice_get (trees fs) k ≡ Some m → (f : File) × (slice_get fs k ≡ Some f) × (f.tree ≡ m)
+pub tree_at : (fs : List File) (k : ℕ) (m : Module) → slice_get (trees fs) k ≡ Some m → (f : File)
+    × (slice_get fs k ≡ Some f) × (f.tree ≡ m)
 tree_at [] k m e = absurd (none-some m e)
 tree_at (f ∷ fs) zero m e = (f, refl, same_Some f.tree m e)
 tree_at (f ∷ fs) (suc k) m e = tree_at fs k m e
 
-fine_at : (fs : List File) → IsReported fs [] → (k : ℕ) (m : Module) → slice_get (trees fs) k ≡ Some m → (given : ℕ) × Fine (trees fs) (take k (trees fs)) given m
-fine_at fs h k m e = let t = tree_at fs k m e in (t.0.given, subst (λ (x : Module). Fine (trees fs) (take k (trees fs)) t.0.given x) t.2 (fine_file fs h k t.0 t.1))
+fine_at : (fs : List File) → IsReported fs [] → (k : ℕ) (m : Module) → slice_get (trees fs) k ≡ Some m → (given : ℕ)
+    × Fine (trees fs) (take k (trees fs)) given m
+fine_at fs h k m e = let t = tree_at fs k m e in
+    (t.0.given, subst (λ (x : Module). Fine (trees fs) (take k (trees fs)) t.0.given x) t.2 (fine_file fs h k t.0 t.1))
 
 good_import : (c d : Bool) (o : Option ℕ) → ((not c && is_none o) || d) ≡ false → (c ≡ true) ⊎ ((t : ℕ) × (o ≡ Some t))
 good_import true d o e = inl refl
@@ -142,11 +163,14 @@ one_part true false s e g = absurd (false≢true (sym e))
 one_part false true s e g = absurd (false≢true e)
 one_part b c false e g = absurd (false≢true g)
 
-second : (before : List Module) (m n : Module) → is_repeated before n ≡ false → Among before m → is_definition m ≡ is_definition n → m.name.name ≡ n.name.name → ⊥
+second : (before : List Module) (m n : Module) → is_repeated before n ≡ false → Among before m
+    → is_definition m ≡ is_definition n → m.name.name ≡ n.name.name → ⊥
 second before m n e a d s =
-    let none : are_one_part n m ≡ false = none_that (are_one_part n) before m (or_parts (is_second before n) (is_built_in n.name.name) e).0 a in
+    let none : are_one_part n m ≡ false = none_that (are_one_part n) before m
+    (or_parts (is_second before n) (is_built_in n.name.name) e).0 a in
     let same : same_name n.name.name m.name.name ≡ true = (bytes_decides n.name.name m.name.name).1 (sym s) in
-    false≢true (sym none ∙ one_part (is_definition n) (is_definition m) (same_name n.name.name m.name.name) (sym d) same)
+    false≢true (sym none ∙ one_part (is_definition n) (is_definition m) (same_name n.name.name m.name.name) (sym d)
+    same)
 
 not_lone : (i d a b : Bool) → ((i && not a) || (d && not b)) ≡ false → d ≡ true → b ≡ true
 not_lone i d a true e g = refl
@@ -157,13 +181,18 @@ not_lone i false a false e g = g
 
 pub are_fine : (fs : List File) → IsReported fs [] → AreFine (trees fs)
 are_fine fs h = record {
-  imports = λ m x a i. good_import (is_console x.name) (not (is_definition m) && same_name x.name m.name.name) (definition_of (trees fs) x.name) ((fine_at fs h a.0 m a.1).1.imports x i);
+  imports = λ m x a i. good_import (is_console x.name) (not (is_definition m) && same_name x.name m.name.name)
+      (definition_of (trees fs) x.name) ((fine_at fs h a.0 m a.1).1.imports x i);
   apart = λ j k m n e g d s. elim (cases_order j k) [
     | inl same ↦ same
     | inr other ↦ elim other [
-      | inl l ↦ absurd (second (take k (trees fs)) m n (fine_at fs h k n g).1.first (among_taken (trees fs) j k m e l) d s)
-      | inr l ↦ absurd (second (take j (trees fs)) n m (fine_at fs h j m e).1.first (among_taken (trees fs) k j n g l) (sym d) (sym s))
+      | inl l ↦ absurd (second (take k (trees fs)) m n (fine_at fs h k n g).1.first (among_taken (trees fs) j k m e l) d
+          s)
+      | inr l ↦ absurd (second (take j (trees fs)) n m (fine_at fs h j m e).1.first (among_taken (trees fs) k j n g l)
+          (sym d) (sym s))
     ]
   ];
-  whole = λ m a d. some_that (implements m.name.name) (trees fs) (not_lone (is_implementation m) (is_definition m) (is_some (first_that (defines m.name.name) (trees fs))) (is_some (first_that (implements m.name.name) (trees fs))) (fine_at fs h a.0 m a.1).1.whole d);
+  whole = λ m a d. some_that (implements m.name.name) (trees fs)
+      (not_lone (is_implementation m) (is_definition m) (is_some (first_that (defines m.name.name) (trees fs)))
+      (is_some (first_that (implements m.name.name) (trees fs))) (fine_at fs h a.0 m a.1).1.whole d);
 }

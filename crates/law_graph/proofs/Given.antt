@@ -19,7 +19,8 @@ use Rattle.law_graph.proofs.Fine.{fine_file, tree_at}
 abbrev pub given_trees : List (List ℕ × Module) → List Module
 given_trees fs = map (λ (f : List ℕ × Module). f.1) fs
 
-numbered_at : (n : ℕ) (fs : List (List ℕ × Module)) (k : ℕ) (f : File) → slice_get (number_files n fs) k ≡ Some f → (f.given ≡ n + k) × (slice_get (given_trees fs) k ≡ Some f.tree)
+numbered_at : (n : ℕ) (fs : List (List ℕ × Module)) (k : ℕ) (f : File) → slice_get (number_files n fs) k ≡ Some f
+    → (f.given ≡ n + k) × (slice_get (given_trees fs) k ≡ Some f.tree)
 numbered_at n [] k f e = absurd (none-some f e)
 numbered_at n (p ∷ fs) zero f e =
     let s = same_Some (record { name = p.0; tree = p.1; given = n }) f e in
@@ -39,24 +40,32 @@ module _ (fs : List (List ℕ × Module)) (ordered : List File) (o : AreInOrder 
   -- the file in order has the place that its number says
   file_given : (k : ℕ) (f : File) → slice_get ordered k ≡ Some f → slice_get (given_trees fs) f.given ≡ Some f.tree
   file_given k f e =
-      let a = among-permutation ordered (number_files 0 fs) f (IsPermutation-sym (number_files 0 fs) ordered o.same) (k, e) in
+      let a = among-permutation ordered (number_files 0 fs) f (IsPermutation-sym (number_files 0 fs) ordered o.same)
+      (k, e) in
       let r = numbered_at 0 fs a.0 f a.1 in
       let q : f.given ≡ a.0 = omega (arith, r.0) in
       ap (slice_get (given_trees fs)) q ∙ r.1
 
-  pub tree_given : (k : ℕ) (m : Module) → slice_get (trees ordered) k ≡ Some m → slice_get (given_trees fs) (given_of ordered k) ≡ Some m
+  pub tree_given : (k : ℕ) (m : Module) → slice_get (trees ordered) k ≡ Some m
+      → slice_get (given_trees fs) (given_of ordered k) ≡ Some m
   tree_given k m e =
       let t = tree_at ordered k m e in
-      let g : slice_get (map (λ (f : File). f.given) ordered) k ≡ Some t.0.given = slice_get-map (λ (f : File). f.given) ordered k ∙ ap (λ (x : Option File). option_map (λ (f : File). f.given) x) t.1 in
-      let q : given_of ordered k ≡ t.0.given = get_or_from_slice_get (map (λ (f : File). f.given) ordered) k t.0.given 0 g in
+      let g : slice_get (map (λ (f : File). f.given) ordered) k ≡ Some t.0.given =
+      slice_get-map (λ (f : File). f.given) ordered k
+      ∙ ap (λ (x : Option File). option_map (λ (f : File). f.given) x) t.1 in
+      let q : given_of ordered k ≡ t.0.given =
+      get_or_from_slice_get (map (λ (f : File). f.given) ordered) k t.0.given 0 g in
       ap (slice_get (given_trees fs)) q ∙ file_given k t.0 t.1 ∙ ap Some t.2
 
   -- a module as it was given is among those in order
   pub given_among : (m : Module) → Among (given_trees fs) m → Among (trees ordered) m
-  given_among m a = among-permutation (given_trees fs) (trees ordered) m (subst (λ (ms : List Module). IsPermutation ms (trees ordered)) (numbered_trees 0 fs) (IsPermutation-map (λ (f : File). f.tree) (number_files 0 fs) ordered o.same)) a
+  given_among m a = among-permutation (given_trees fs) (trees ordered) m
+      (subst (λ (ms : List Module). IsPermutation ms (trees ordered)) (numbered_trees 0 fs)
+      (IsPermutation-map (λ (f : File). f.tree) (number_files 0 fs) ordered o.same)) a
 
   as_many : length (trees ordered) ≡ length fs
-  as_many = length-map ordered (λ (f : File). f.tree) ∙ length_permutation (number_files 0 fs) ordered o.same ∙ numbered_length 0 fs
+  as_many = length-map ordered (λ (f : File). f.tree) ∙ length_permutation (number_files 0 fs) ordered o.same
+      ∙ numbered_length 0 fs
 
   -- there are no more files than are let
   pub few_files : IsReported ordered [] → length (trees ordered) ≤ max_files
@@ -75,11 +84,17 @@ module _ (fs : List (List ℕ × Module)) (ordered : List File) (o : AreInOrder 
           false≢true (sym (fine_file ordered fine a.0 p.0 a.1).counted ∙ eq-eqb p.0.given 1024 q)
 
   -- the modules at the places of these numbers
-  pub places_given : (ks : List ℕ) → ((k : ℕ) → Among ks k → (m : Module) × (slice_get (trees ordered) k ≡ Some m)) → at_places (given_trees fs) (map (given_of ordered) ks) ≡ filter_map (slice_get (trees ordered)) ks
+  pub places_given : (ks : List ℕ) → ((k : ℕ) → Among ks k → (m : Module) × (slice_get (trees ordered) k ≡ Some m))
+      → at_places (given_trees fs) (map (given_of ordered) ks) ≡ filter_map (slice_get (trees ordered)) ks
   places_given [] h = refl
   places_given (k ∷ ks) h =
       let m = h k (0, refl) in
-      ap₂ (λ (x : Option Module) (xs : List Module). cons_option x xs) (tree_given k m.0 m.1 ∙ sym m.1) (places_given ks (λ j a. h j (later_among k ks j a)))
+      ap₂ (λ (x : Option Module) (xs : List Module). cons_option x xs) (tree_given k m.0 m.1 ∙ sym m.1)
+      (places_given ks (λ j a. h j (later_among k ks j a)))
 
-  pub places_within : (ks : List ℕ) → ((k : ℕ) → Among ks k → (m : Module) × (slice_get (trees ordered) k ≡ Some m)) → All (λ s. s < length (given_trees fs)) (map (given_of ordered) ks)
-  places_within ks h = all_among (λ s. s < length (given_trees fs)) (map (given_of ordered) ks) (λ s a. let r = map_among (given_of ordered) ks s a in let m = h r.0 r.1 in subst (λ (x : ℕ). x < length (given_trees fs)) r.2 (slice_get_within (given_trees fs) (given_of ordered r.0) m.0 (tree_given r.0 m.0 m.1)))
+  pub places_within : (ks : List ℕ) → ((k : ℕ) → Among ks k → (m : Module) × (slice_get (trees ordered) k ≡ Some m))
+      → All (λ s. s < length (given_trees fs)) (map (given_of ordered) ks)
+  places_within ks h = all_among (λ s. s < length (given_trees fs)) (map (given_of ordered) ks)
+      (λ s a. let r = map_among (given_of ordered) ks s a in let m = h r.0 r.1 in
+      subst (λ (x : ℕ). x < length (given_trees fs)) r.2
+      (slice_get_within (given_trees fs) (given_of ordered r.0) m.0 (tree_given r.0 m.0 m.1)))

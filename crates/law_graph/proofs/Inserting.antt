@@ -26,16 +26,21 @@ not_so false e = refl
 module _ {X : Type 0} (before : X → X → Bool) (o : IsStrictWeakOrder before) where
   -- ---- the order
 
-  sorted_cons : (x : X) (xs : List X) → ((d : X) → 0 < length xs → before (get_or xs 0 d) x ≡ false) → IsSortedBy before xs → IsSortedBy before (x ∷ xs)
+  sorted_cons : (x : X) (xs : List X) → ((d : X) → 0 < length xs → before (get_or xs 0 d) x ≡ false)
+      → IsSortedBy before xs → IsSortedBy before (x ∷ xs)
   sorted_cons x xs first up zero d l h = first d (omega arith)
   sorted_cons x xs first up (suc k) d l h =
       let e : suc (k + 1) ≡ suc k + 1 = omega arith in
       subst (λ (n : ℕ). before (get_or (x ∷ xs) n d) (get_or xs k d) ≡ false) e (up k d (omega arith) (omega arith))
 
   rest_sorted : (x : X) (xs : List X) → IsSortedBy before (x ∷ xs) → IsSortedBy before xs
-  rest_sorted x xs up k d l h = let e : suc k + 1 ≡ suc (k + 1) = omega arith in subst (λ (n : ℕ). before (get_or (x ∷ xs) n d) (get_or xs k d) ≡ false) e (up (suc k) d (omega arith) (omega arith))
+  rest_sorted x xs up k d l h = let e : suc k + 1 ≡ suc (k + 1) = omega arith in
+      subst (λ (n : ℕ). before (get_or (x ∷ xs) n d) (get_or xs k d) ≡ false) e
+      (up (suc k) d (omega arith) (omega arith))
 
-  put_first : (x y : X) (ys : List X) → before x y ≡ false → ((d : X) → 0 < length ys → before (get_or ys 0 d) y ≡ false) → (d : X) → before (get_or (put before x ys) 0 d) y ≡ false
+  put_first : (x y : X) (ys : List X) → before x y ≡ false
+      → ((d : X) → 0 < length ys → before (get_or ys 0 d) y ≡ false) → (d : X)
+      → before (get_or (put before x ys) 0 d) y ≡ false
   put_first x y [] e first d = e
   put_first x y (z ∷ zs) e first d = by (before z x)
     where
@@ -47,8 +52,10 @@ module _ {X : Type 0} (before : X → X → Bool) (o : IsStrictWeakOrder before)
   put_sorted x [] up = λ k d l h. absurd (omega arith)
   put_sorted x (y ∷ ys) up = by (put_sorted x ys (rest_sorted y ys up)) (before y x) refl
     where
-      by : IsSortedBy before (put before x ys) → (b : Bool) → before y x ≡ b → IsSortedBy before (cond b (y ∷ put before x ys) (x ∷ y ∷ ys))
-      by more true e = sorted_cons y (put before x ys) (λ d l. put_first x y ys (o.one_way y x e) (λ c m. up 0 c (omega arith) (omega arith)) d) more
+      by : IsSortedBy before (put before x ys) → (b : Bool) → before y x ≡ b
+          → IsSortedBy before (cond b (y ∷ put before x ys) (x ∷ y ∷ ys))
+      by more true e = sorted_cons y (put before x ys)
+          (λ d l. put_first x y ys (o.one_way y x e) (λ c m. up 0 c (omega arith) (omega arith)) d) more
       by more false e = sorted_cons x (y ∷ ys) (λ d l. e) up
 
   -- ---- the same elements
@@ -57,8 +64,11 @@ module _ {X : Type 0} (before : X → X → Bool) (o : IsStrictWeakOrder before)
   put_same x [] = IsPermutation-refl (x ∷ [])
   put_same x (y ∷ ys) = by (put_same x ys) (before y x)
     where
-      by : IsPermutation (x ∷ ys) (put before x ys) → (b : Bool) → IsPermutation (x ∷ y ∷ ys) (cond b (y ∷ put before x ys) (x ∷ y ∷ ys))
-      by more true = IsPermutation-trans (x ∷ y ∷ ys) (y ∷ x ∷ ys) (y ∷ put before x ys) (IsPermutation-sym (y ∷ x ∷ ys) (x ∷ y ∷ ys) (IsPermutation-middle (y ∷ []) x ys)) (IsPermutation-cons y (x ∷ ys) (put before x ys) more)
+      by : IsPermutation (x ∷ ys) (put before x ys) → (b : Bool)
+          → IsPermutation (x ∷ y ∷ ys) (cond b (y ∷ put before x ys) (x ∷ y ∷ ys))
+      by more true = IsPermutation-trans (x ∷ y ∷ ys) (y ∷ x ∷ ys) (y ∷ put before x ys)
+          (IsPermutation-sym (y ∷ x ∷ ys) (x ∷ y ∷ ys) (IsPermutation-middle (y ∷ []) x ys))
+          (IsPermutation-cons y (x ∷ ys) (put before x ys) more)
       by more false = IsPermutation-refl (x ∷ y ∷ ys)
 
   -- ---- those that tie
@@ -73,29 +83,41 @@ module _ {X : Type 0} (before : X → X → Bool) (o : IsStrictWeakOrder before)
   put_stable x [] z = refl
   put_stable x (y ∷ ys) z = by (put_stable x ys z) (before y x) refl
     where
-      swap : (b c : Bool) (rest : List X) → (b ≡ true → c ≡ true → ⊥) → cond c (y ∷ cond b (x ∷ rest) rest) (cond b (x ∷ rest) rest) ≡ cond b (x ∷ cond c (y ∷ rest) rest) (cond c (y ∷ rest) rest)
+      swap : (b c : Bool) (rest : List X) → (b ≡ true → c ≡ true → ⊥)
+          → cond c (y ∷ cond b (x ∷ rest) rest) (cond b (x ∷ rest) rest)
+          ≡ cond b (x ∷ cond c (y ∷ rest) rest) (cond c (y ∷ rest) rest)
       swap true true rest h = absurd (h refl refl)
       swap true false rest h = refl
       swap false true rest h = refl
       swap false false rest h = refl
 
-      by : filter (ties before z) (put before x ys) ≡ filter (ties before z) (x ∷ ys) → (b : Bool) → before y x ≡ b → filter (ties before z) (cond b (y ∷ put before x ys) (x ∷ y ∷ ys)) ≡ filter (ties before z) (x ∷ y ∷ ys)
-      by more true e = ap (λ (zs : List X). cond (ties before z y) (y ∷ zs) zs) more ∙ swap (ties before z x) (ties before z y) (filter (ties before z) ys) (never_tie x y z e)
+      by : filter (ties before z) (put before x ys) ≡ filter (ties before z) (x ∷ ys) → (b : Bool) → before y x ≡ b
+          → filter (ties before z) (cond b (y ∷ put before x ys) (x ∷ y ∷ ys)) ≡ filter (ties before z) (x ∷ y ∷ ys)
+      by more true e = ap (λ (zs : List X). cond (ties before z y) (y ∷ zs) zs) more
+          ∙ swap (ties before z x) (ties before z y) (filter (ties before z) ys) (never_tie x y z e)
       by more false e = refl
 
   -- ---- the whole
 
   pub sort : (xs : List X) → Sort before xs
-  sort [] = record { all = []; same = IsPermutation-refl []; sorted = λ k d l h. absurd (omega arith); stable = λ z. refl }
+  sort [] = record {
+    all = [];
+    same = IsPermutation-refl [];
+    sorted = λ k d l h. absurd (omega arith);
+    stable =
+        λ z. refl;
+  }
   sort (x ∷ xs) =
       let s = sort xs in
       record {
         all = put before x s.all;
-        same = IsPermutation-trans (x ∷ xs) (x ∷ s.all) (put before x s.all) (IsPermutation-cons x xs s.all s.same) (put_same x s.all);
+        same = IsPermutation-trans (x ∷ xs) (x ∷ s.all) (put before x s.all) (IsPermutation-cons x xs s.all s.same)
+            (put_same x s.all);
         sorted = put_sorted x s.all s.sorted;
         stable = λ z. put_stable x s.all z ∙ ap (λ (zs : List X). cond (ties before z x) (x ∷ zs) zs) (s.stable z);
       }
 
 -- All files have an order.
 pub order_files : (given : List File) → (ordered : List File) × AreInOrder given ordered
-order_files given = let s = sort is_before (by_key (λ (f : File). f.name)) given in (s.all, record { same = s.same; sorted = s.sorted; stable = s.stable })
+order_files given = let s = sort is_before (by_key (λ (f : File). f.name)) given in
+    (s.all, record { same = s.same; sorted = s.sorted; stable = s.stable })

@@ -10,7 +10,8 @@ module _ (links : List (List ℕ)) (definitions : List Bool) (many : length defi
   abbrev NoneReady : (ℕ → Bool) → ℕ → Type 0
   NoneReady done n = (k : ℕ) → k < n → is_ready links definitions done k ≡ false
 
-  none_more : (done : ℕ → Bool) (n : ℕ) → NoneReady done n → is_ready links definitions done n ≡ false → NoneReady done (suc n)
+  none_more : (done : ℕ → Bool) (n : ℕ) → NoneReady done n → is_ready links definitions done n ≡ false
+      → NoneReady done (suc n)
   none_more done n none e k l = elim (cases_eq k n) [
     | inl s ↦ ap (is_ready links definitions done) s ∙ e
     | inr ne ↦ elim (cases_lt k n) [ inl m ↦ none k m | inr g ↦ absurd (ne (omega arith)) ]
@@ -30,15 +31,27 @@ module _ (links : List (List ℕ)) (definitions : List Bool) (many : length defi
   abbrev Numbering : Type 0
   Numbering = (order : List ℕ) × IsNumbering links definitions order
 
-  number_rest : (most : ℕ) (flags : List Bool) (order : List ℕ) → Numbers links definitions flags order → weight [] flags ≤ most → Numbering
+  number_rest : (most : ℕ) (flags : List Bool) (order : List ℕ) → Numbers links definitions flags order
+      → weight [] flags ≤ most → Numbering
   number_rest zero flags order h l = elim (next_below (flag flags) (length links)) [
     | inl r ↦ absurd (let w = numbers_less links definitions flags flags order r.0 refl h r.1 r.2 in omega (arith, w))
-    | inr none ↦ (order, numbers_all links definitions flags order h (none_ready links definitions (flag flags) (length links) many none))
+    | inr none ↦ (
+      order,
+      numbers_all links definitions flags order h
+          (none_ready links definitions (flag flags) (length links) many none),
+    )
   ]
   number_rest (suc most) flags order h l = elim (next_below (flag flags) (length links)) [
-    | inl r ↦ (let w = numbers_less links definitions flags flags order r.0 refl h r.1 r.2 in number_rest most (set flags r.0 true) _ (numbers_more links definitions flags order r.0 h r.1 r.2) (omega (arith, w)))
-    | inr none ↦ (order, numbers_all links definitions flags order h (none_ready links definitions (flag flags) (length links) many none))
+    | inl r ↦ (let w = numbers_less links definitions flags flags order r.0 refl h r.1 r.2 in
+        number_rest most (set flags r.0 true) _ (numbers_more links definitions flags order r.0 h r.1 r.2)
+        (omega (arith, w)))
+    | inr none ↦ (
+      order,
+      numbers_all links definitions flags order h
+          (none_ready links definitions (flag flags) (length links) many none),
+    )
   ]
 
   pub number_all : (order : List ℕ) × IsNumbering links definitions order
-  number_all = number_rest (weight [] (replicate (length links) false)) (replicate (length links) false) [] (numbers_none links definitions (length links) refl) (omega arith)
+  number_all = number_rest (weight [] (replicate (length links) false)) (replicate (length links) false) []
+      (numbers_none links definitions (length links) refl) (omega arith)

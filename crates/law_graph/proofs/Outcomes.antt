@@ -34,21 +34,27 @@ job_order modules =
 abbrev job : List Module → List ℕ → ℕ → List ℕ
 job modules order node = unless (λ k. false) (numbers_of order (targets (needs modules) node))
 
-are_jobs : (modules : List Module) (order nodes : List ℕ) → AllZip (IsJob modules order) nodes (map (job modules order) nodes)
+are_jobs : (modules : List Module) (order nodes : List ℕ)
+    → AllZip (IsJob modules order) nodes (map (job modules order) nodes)
 are_jobs modules order [] = tt
 are_jobs modules order (n ∷ ns) = (refl, are_jobs modules order ns)
 
 module _ (ordered : List File) where
   all_jobs : (files : List ℕ) × (jobs : List (List ℕ)) × IsJobs ordered files jobs
   all_jobs =
-      let o = job_order (trees ordered) in
-      (map (given_of ordered) o.0, map (job (trees ordered) o.0) o.0, record { order = o.0; is_order = o.1; compiled = refl; needs = are_jobs (trees ordered) o.0 o.0 })
+      let o = job_order (trees ordered) in (
+        map (given_of ordered) o.0,
+        map (job (trees ordered) o.0) o.0,
+        record { order = o.0; is_order = o.1; compiled = refl; needs = are_jobs (trees ordered) o.0 o.0 },
+      )
 
   all_starts : IsReported ordered [] → (starts : List ℕ) × IsStarts ordered starts
   all_starts fine =
       let p = program_of ordered fine in
-      let w = start_order (walks (trees ordered)) p.0 in
-      (map (given_of ordered) (bodies_of (trees ordered) w.0), record { program = p.0; is_program = p.1; walk = w.0; is_walk = w.1; started = refl })
+      let w = start_order (walks (trees ordered)) p.0 in (
+        map (given_of ordered) (bodies_of (trees ordered) w.0),
+        record { program = p.0; is_program = p.1; walk = w.0; is_walk = w.1; started = refl },
+      )
 
   graph : (given : List File) → AreInOrder given ordered → IsReported ordered [] → HaveGraph given
   graph given o fine =
@@ -59,7 +65,9 @@ module _ (ordered : List File) where
         jobs = j.1;
         starts = s.0;
         is_graph = (ordered, o, record { fine = fine; is_jobs = j.2; is_starts = s.1 });
-        each = compiles_given given ordered ordered j.0 o refl (compiles_each ordered j.0 j.1 fine (cycle_order (links (trees ordered)) (links_are_nodes (trees ordered))) j.2);
+        each = compiles_given given ordered ordered j.0 o refl
+            (compiles_each ordered j.0 j.1 fine (cycle_order (links (trees ordered)) (links_are_nodes (trees ordered)))
+            j.2);
       }
 
 -- ---- the whole
@@ -70,6 +78,15 @@ graph_or_refused given =
     let c = cycles (trees o.0) in
     by o.0 o.1 c.0 c.1 (refused_of o.0 c.0) refl
   where
-    by : (ordered : List File) → AreInOrder given ordered → (cycle : Option (ℕ × Pos)) → AreCycles (trees ordered) cycle → (all : List Reported) → all ≡ refused_of ordered cycle → HaveGraph given ⊎ AreRefused given
+    by : (ordered : List File) → AreInOrder given ordered → (cycle : Option (ℕ × Pos)) → AreCycles (trees ordered) cycle
+        → (all : List Reported) → all ≡ refused_of ordered cycle → HaveGraph given ⊎ AreRefused given
     by ordered o cycle are [] e = inl (graph ordered given o (cycle, are, e))
-    by ordered o cycle are (r ∷ rs) e = inr (record { ordered = ordered; in_order = o; all = r ∷ rs; reported = (cycle, are, e); some = λ none. let n : r ∷ rs ≡ [] = none in absurd cc })
+    by ordered o cycle are (r ∷ rs) e = inr
+        (record {
+          ordered = ordered;
+          in_order = o;
+          all = r ∷ rs;
+          reported = (cycle, are, e);
+          some =
+              λ none. let n : r ∷ rs ≡ [] = none in absurd cc;
+        })

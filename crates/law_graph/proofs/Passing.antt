@@ -10,23 +10,31 @@ use Rattle.m2_graph.proofs.Cycles.{passes}
 use Rattle.law_graph.proofs.Lists.{Among, none_among, later_among, among_cases}
 
 -- the element that was found
-pub found_at : {X : Type 0} (test : X → Bool) (xs : List X) (i : ℕ) → first_that test xs ≡ Some i → (x : X) × (slice_get xs i ≡ Some x) × (test x ≡ true)
+pub found_at : {X : Type 0} (test : X → Bool) (xs : List X) (i : ℕ) → first_that test xs ≡ Some i → (x : X)
+    × (slice_get xs i ≡ Some x) × (test x ≡ true)
 found_at test [] i e = absurd (none-some i e)
-found_at test (x ∷ xs) i e = (get_or (x ∷ xs) i x, slice_get-get_or (x ∷ xs) i x (first_within test (x ∷ xs) i e), passes test (x ∷ xs) i x e)
+found_at test (x ∷ xs) i e = (
+  get_or (x ∷ xs) i x,
+  slice_get-get_or (x ∷ xs) i x (first_within test (x ∷ xs) i e),
+  passes test (x ∷ xs) i x e,
+)
 
 some_from : (o : Option ℕ) → is_some o ≡ true → (i : ℕ) × (o ≡ Some i)
 some_from None e = absurd (false≢true e)
 some_from (Some i) e = (i, refl)
 
-pub some_that : {X : Type 0} (test : X → Bool) (xs : List X) → is_some (first_that test xs) ≡ true → (i : ℕ) × (first_that test xs ≡ Some i)
+pub some_that : {X : Type 0} (test : X → Bool) (xs : List X) → is_some (first_that test xs) ≡ true → (i : ℕ)
+    × (first_that test xs ≡ Some i)
 some_that test xs e = some_from (first_that test xs) e
 
-none_case : (b : Bool) (o : Option ℕ) → is_some (cond b (Some 0) (option_map suc o)) ≡ false → (b ≡ false) × (is_some o ≡ false)
+none_case : (b : Bool) (o : Option ℕ) → is_some (cond b (Some 0) (option_map suc o)) ≡ false → (b ≡ false)
+    × (is_some o ≡ false)
 none_case true o e = absurd (false≢true (sym e))
 none_case false None e = (refl, refl)
 none_case false (Some i) e = absurd (false≢true (sym e))
 
-pub none_that : {X : Type 0} (test : X → Bool) (xs : List X) (x : X) → is_some (first_that test xs) ≡ false → Among xs x → test x ≡ false
+pub none_that : {X : Type 0} (test : X → Bool) (xs : List X) (x : X) → is_some (first_that test xs) ≡ false → Among xs x
+    → test x ≡ false
 none_that test [] x e a = absurd (none_among x a)
 none_that test (y ∷ xs) x e a =
     let both = none_case (test y) (first_that test xs) e in

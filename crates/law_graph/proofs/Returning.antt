@@ -35,7 +35,8 @@ first_or_none : (pairs : List (List ℕ)) (n : ℕ) → FirstOnCycle pairs ⊎ N
 first_or_none pairs zero = inr (λ k l c. omega arith)
 first_or_none pairs (suc n) = elim (first_or_none pairs n) [
   | inl f ↦ inl f
-  | inr none ↦ elim (leads_or_not pairs n n) [ inl l ↦ inl (record { node = n; on_cycle = l; first = none }) | inr never ↦ inr (none_more pairs n none never) ]
+  | inr none ↦ elim (leads_or_not pairs n n)
+      [ inl l ↦ inl (record { node = n; on_cycle = l; first = none }) | inr never ↦ inr (none_more pairs n none never) ]
 ]
 
 -- ---- the first import that leads back
@@ -52,7 +53,8 @@ module _ (modules : List Module) (node : ℕ) where
         | inl s ↦ inl (to, e, inl s)
         | inr ne ↦ elim (leads_or_not (links modules) to node) [
           | inl l ↦ inl (to, e, inr l)
-          | inr never ↦ inr (λ b. let q : b.0 ≡ to = same_Some b.0 to (sym b.1 ∙ e) in elim b.2 [ inl s ↦ ne (sym q ∙ s) | inr l ↦ never (subst (λ (k : ℕ). Leads (links modules) k node) q l) ])
+          | inr never ↦ inr (λ b. let q : b.0 ≡ to = same_Some b.0 to (sym b.1 ∙ e) in
+              elim b.2 [ inl s ↦ ne (sym q ∙ s) | inr l ↦ never (subst (λ (k : ℕ). Leads (links modules) k node) q l) ])
         ]
       ]
 
@@ -60,7 +62,8 @@ module _ (modules : List Module) (node : ℕ) where
       by None e = inr (λ b. none-some b.0 (sym e ∙ b.1))
       by (Some to) e = from to e
 
-  back_behind : (x : Ident) (xs : List Ident) (pos : Pos) → (Back x → ⊥) → IsBack modules node xs pos → IsBack modules node (x ∷ xs) pos
+  back_behind : (x : Ident) (xs : List Ident) (pos : Pos) → (Back x → ⊥) → IsBack modules node xs pos
+      → IsBack modules node (x ∷ xs) pos
   back_behind x xs pos never b = record {
     before = x ∷ b.before;
     back = b.back;
@@ -86,23 +89,33 @@ module _ (modules : List Module) (node : ℕ) where
   first_back [] = inr (λ k d l. absurd (omega arith))
   first_back (x ∷ xs) = elim (back_or_not x) [
     | inl b ↦ inl (x.pos, back_first x xs b)
-    | inr never ↦ elim (first_back xs) [ inl r ↦ inl (r.0, back_behind x xs r.0 never r.1) | inr none ↦ inr (All-cons (λ y. Back y → ⊥) x xs never none) ]
+    | inr never ↦ elim (first_back xs) [
+      | inl r ↦ inl (r.0, back_behind x xs r.0 never r.1)
+      | inr none ↦ inr
+          (All-cons (λ y. Back y → ⊥) x xs never none)
+    ]
   ]
 
   links_at : (m : Module) → slice_get modules node ≡ Some m → targets (links modules) node ≡ links_of modules m
-  links_at m e = get_or_from_slice_get (links modules) node (links_of modules m) [] (slice_get-map (links_of modules) modules node ∙ ap (λ (o : Option Module). option_map (links_of modules) o) e)
+  links_at m e = get_or_from_slice_get (links modules) node (links_of modules m) []
+      (slice_get-map (links_of modules) modules node ∙ ap (λ (o : Option Module). option_map (links_of modules) o) e)
 
   -- a module on a cycle has an import that leads back to it
-  some_back : (m : Module) → slice_get modules node ≡ Some m → Leads (links modules) node node → All (λ x. Back x → ⊥) (imports_of m) → ⊥
+  some_back : (m : Module) → slice_get modules node ≡ Some m → Leads (links modules) node node
+      → All (λ x. Back x → ⊥) (imports_of m) → ⊥
   some_back m e l none =
       let s = first_step (links modules) node node l in
-      let a = filtered_among (λ (i : Ident). definition_of modules i.name) (imports_of m) s.0 (has_among (links_of modules m) s.0 (ap (λ (ts : List ℕ). has ts s.0) (sym (links_at m e)) ∙ s.1)) in
+      let a = filtered_among (λ (i : Ident). definition_of modules i.name) (imports_of m) s.0
+      (has_among (links_of modules m) s.0 (ap (λ (ts : List ℕ). has ts s.0) (sym (links_at m e)) ∙ s.1)) in
       among_all a.0 a.1 none (s.0, a.2, s.2)
     where
-      among_all : (x : Ident) → ((k : ℕ) × (slice_get (imports_of m) k ≡ Some x)) → All (λ y. Back y → ⊥) (imports_of m) → Back x → ⊥
-      among_all x k h b = h k.0 x (slice_get_within (imports_of m) k.0 x k.1) (subst Back (sym (get_or_from_slice_get (imports_of m) k.0 x x k.1)) b)
+      among_all : (x : Ident) → ((k : ℕ) × (slice_get (imports_of m) k ≡ Some x)) → All (λ y. Back y → ⊥) (imports_of m)
+          → Back x → ⊥
+      among_all x k h b = h k.0 x (slice_get_within (imports_of m) k.0 x k.1)
+          (subst Back (sym (get_or_from_slice_get (imports_of m) k.0 x x k.1)) b)
 
-  report : (m : Module) → slice_get modules node ≡ Some m → Leads (links modules) node node → NoneBelow (links modules) node → (pos : Pos) × IsReportedCycle modules node pos
+  report : (m : Module) → slice_get modules node ≡ Some m → Leads (links modules) node node
+      → NoneBelow (links modules) node → (pos : Pos) × IsReportedCycle modules node pos
   report m e l first = elim (first_back (imports_of m)) [
     | inl r ↦ (r.0, record { on_cycle = l; first = first; tree = m; is_tree = e; back = r.1 })
     | inr none ↦ absurd (some_back m e l none)
@@ -110,7 +123,8 @@ module _ (modules : List Module) (node : ℕ) where
 
 -- Of all modules something is reported of cycles, or there is none.
 pub cycles : (modules : List Module) → (cycle : Option (ℕ × Pos)) × AreCycles modules cycle
-cycles modules = elim (first_or_none (links modules) (length (links modules))) [ inl f ↦ some f | inr none ↦ (None, λ node l. none node (leads_from (links modules) node node l) l) ]
+cycles modules = elim (first_or_none (links modules) (length (links modules)))
+    [ inl f ↦ some f | inr none ↦ (None, λ node l. none node (leads_from (links modules) node node l) l) ]
   where
     some : FirstOnCycle (links modules) → (cycle : Option (ℕ × Pos)) × AreCycles modules cycle
     some f =

@@ -25,7 +25,8 @@ kept : {X : Type 0} (p : X → Bool) (xs rest : List X) (x : X) → filter p xs 
 kept p [] rest x e = absurd (never_empty x rest e)
 kept {X} p (y ∷ ys) rest x e = step (λ h. kept p ys rest x h) (p y) e
   where
-    step : (filter p ys ≡ x ∷ rest → Contains ys x) → (b : Bool) → cond b (y ∷ filter p ys) (filter p ys) ≡ x ∷ rest → Contains (y ∷ ys) x
+    step : (filter p ys ≡ x ∷ rest → Contains ys x) → (b : Bool) → cond b (y ∷ filter p ys) (filter p ys) ≡ x ∷ rest
+        → Contains (y ∷ ys) x
     step later true h = (0, omega arith, same_first y x (filter p ys) rest h)
     step later false h = let r = later h in (suc r.0, omega (arith, r.1), r.2)
 
@@ -43,38 +44,56 @@ module _ {X : Type 0} (before : X → X → Bool) (o : IsStrictWeakOrder before)
   ties_itself : (x : X) → ties before x x ≡ true
   ties_itself x = not_both (before x x) (before x x) (never_before_itself x) (never_before_itself x)
 
-  keeps_first : (x y : X) (ys : List X) → ties before x y ≡ true → filter (ties before x) (y ∷ ys) ≡ y ∷ filter (ties before x) ys
+  keeps_first : (x y : X) (ys : List X) → ties before x y ≡ true
+      → filter (ties before x) (y ∷ ys) ≡ y ∷ filter (ties before x) ys
   keeps_first x y ys t = ap (λ (b : Bool). cond b (y ∷ filter (ties before x) ys) (filter (ties before x) ys)) t
 
   rest_sorted : (x : X) (xs : List X) → IsSortedBy before (x ∷ xs) → IsSortedBy before xs
-  rest_sorted x xs up = λ k d l h. let e : suc k + 1 ≡ suc (k + 1) = omega arith in subst (λ (n : ℕ). before (get_or (x ∷ xs) n d) (get_or xs k d) ≡ false) e (up (suc k) d (omega arith) (omega (arith, h)))
+  rest_sorted x xs up = λ k d l h. let e : suc k + 1 ≡ suc (k + 1) = omega arith in
+      subst (λ (n : ℕ). before (get_or (x ∷ xs) n d) (get_or xs k d) ≡ false) e
+      (up (suc k) d (omega arith) (omega (arith, h)))
 
   first_least : (y z : X) (ys : List X) → IsSortedBy before (y ∷ ys) → Contains (y ∷ ys) z → before z y ≡ false
-  first_least y z ys up c = ap (λ (w : X). before w y) (sym c.2) ∙ sorted_far before o (y ∷ ys) up 0 c.0 z (omega arith) c.1
+  first_least y z ys up c = ap (λ (w : X). before w y) (sym c.2)
+      ∙ sorted_far before o (y ∷ ys) up 0 c.0 z (omega arith) c.1
 
   -- what stands first in the one list is not after what stands first in the other
-  first_before : (x y : X) (xs ys : List X) → IsSortedBy before (y ∷ ys) → filter (ties before x) (x ∷ xs) ≡ filter (ties before x) (y ∷ ys) → before x y ≡ false
-  first_before x y xs ys up e = first_least y x ys up (kept (ties before x) (y ∷ ys) (filter (ties before x) xs) x (sym e ∙ keeps_first x x xs (ties_itself x)))
+  first_before : (x y : X) (xs ys : List X) → IsSortedBy before (y ∷ ys)
+      → filter (ties before x) (x ∷ xs) ≡ filter (ties before x) (y ∷ ys) → before x y ≡ false
+  first_before x y xs ys up e = first_least y x ys up
+      (kept (ties before x) (y ∷ ys) (filter (ties before x) xs) x (sym e ∙ keeps_first x x xs (ties_itself x)))
 
-  first_same : (x y : X) (xs ys : List X) → IsSortedBy before (x ∷ xs) → IsSortedBy before (y ∷ ys) → ((z : X) → filter (ties before z) (x ∷ xs) ≡ filter (ties before z) (y ∷ ys)) → x ≡ y
+  first_same : (x y : X) (xs ys : List X) → IsSortedBy before (x ∷ xs) → IsSortedBy before (y ∷ ys)
+      → ((z : X) → filter (ties before z) (x ∷ xs) ≡ filter (ties before z) (y ∷ ys)) → x ≡ y
   first_same x y xs ys up up' same =
-      let t = not_both (before x y) (before y x) (first_before x y xs ys up' (same x)) (first_before y x ys xs up (sym (same y))) in
-      same_first x y (filter (ties before x) xs) (filter (ties before x) ys) (sym (keeps_first x x xs (ties_itself x)) ∙ same x ∙ keeps_first x y ys t)
+      let t = not_both (before x y) (before y x) (first_before x y xs ys up' (same x))
+      (first_before y x ys xs up (sym (same y))) in
+      same_first x y (filter (ties before x) xs) (filter (ties before x) ys)
+      (sym (keeps_first x x xs (ties_itself x)) ∙ same x ∙ keeps_first x y ys t)
 
-  rest_same : (x y : X) (xs ys : List X) → x ≡ y → ((z : X) → filter (ties before z) (x ∷ xs) ≡ filter (ties before z) (y ∷ ys)) → (z : X) → filter (ties before z) xs ≡ filter (ties before z) ys
-  rest_same x y xs ys e same z = same_kept (ties before z x) x y (filter (ties before z) xs) (filter (ties before z) ys) (same z ∙ ap (λ (w : X). cond (ties before z w) (y ∷ filter (ties before z) ys) (filter (ties before z) ys)) (sym e))
+  rest_same : (x y : X) (xs ys : List X) → x ≡ y
+      → ((z : X) → filter (ties before z) (x ∷ xs) ≡ filter (ties before z) (y ∷ ys)) → (z : X)
+      → filter (ties before z) xs ≡ filter (ties before z) ys
+  rest_same x y xs ys e same z = same_kept (ties before z x) x y (filter (ties before z) xs) (filter (ties before z) ys)
+      (same z ∙ ap (λ (w : X). cond (ties before z w) (y ∷ filter (ties before z) ys) (filter (ties before z) ys))
+      (sym e))
 
   -- Two lists in order are one where those that tie stand in the same order in both.
-  pub one_sorted : (xs ys : List X) → IsSortedBy before xs → IsSortedBy before ys → ((z : X) → filter (ties before z) xs ≡ filter (ties before z) ys) → xs ≡ ys
+  pub one_sorted : (xs ys : List X) → IsSortedBy before xs → IsSortedBy before ys
+      → ((z : X) → filter (ties before z) xs ≡ filter (ties before z) ys) → xs ≡ ys
   one_sorted [] [] up up' same = refl
-  one_sorted [] (y ∷ ys) up up' same = absurd (never_empty y (filter (ties before y) ys) (same y ∙ keeps_first y y ys (ties_itself y)))
-  one_sorted (x ∷ xs) [] up up' same = absurd (never_empty x (filter (ties before x) xs) (sym (same x) ∙ keeps_first x x xs (ties_itself x)))
+  one_sorted [] (y ∷ ys) up up' same = absurd
+      (never_empty y (filter (ties before y) ys) (same y ∙ keeps_first y y ys (ties_itself y)))
+  one_sorted (x ∷ xs) [] up up' same = absurd
+      (never_empty x (filter (ties before x) xs) (sym (same x) ∙ keeps_first x x xs (ties_itself x)))
   one_sorted (x ∷ xs) (y ∷ ys) up up' same =
       let e = first_same x y xs ys up up' same in
-      ap₂ (λ (z : X) (zs : List X). z ∷ zs) e (one_sorted xs ys (rest_sorted x xs up) (rest_sorted y ys up') (rest_same x y xs ys e same))
+      ap₂ (λ (z : X) (zs : List X). z ∷ zs) e
+      (one_sorted xs ys (rest_sorted x xs up) (rest_sorted y ys up') (rest_same x y xs ys e same))
 
   -- What a stable sort makes of a list is determined.
-  pub one_stable_sort : (given xs ys : List X) → IsSortedBy before xs → IsStableBy before given xs → IsSortedBy before ys → IsStableBy before given ys → xs ≡ ys
+  pub one_stable_sort : (given xs ys : List X) → IsSortedBy before xs → IsStableBy before given xs
+      → IsSortedBy before ys → IsStableBy before given ys → xs ≡ ys
   one_stable_sort given xs ys up stable up' stable' = one_sorted xs ys up up' (λ z. stable z ∙ sym (stable' z))
 
 -- The order of keys that are lists of numbers is such an order.

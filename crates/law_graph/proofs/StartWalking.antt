@@ -36,18 +36,21 @@ has_last : (xs : List ℕ) (x k : ℕ) → x ≡ k → has (xs ++ x ∷ []) k �
 has_last xs x k e = has_right xs (x ∷ []) k (or_left (x == k) false (eq-eqb x k e))
 
 has_pushed : (xs : List ℕ) (x k : ℕ) → has (xs ++ x ∷ []) k ≡ true → (has xs k ≡ true) ⊎ (x ≡ k)
-has_pushed xs x k h = elim (has_either xs (x ∷ []) k h) [ inl l ↦ inl l | inr r ↦ inr (one (or_cases (x == k) false r)) ]
+has_pushed xs x k h = elim (has_either xs (x ∷ []) k h)
+    [ inl l ↦ inl l | inr r ↦ inr (one (or_cases (x == k) false r)) ]
   where
     one : (x == k ≡ true) ⊎ (false ≡ true) → x ≡ k
     one (inl s) = eqb-true x k s
     one (inr q) = absurd (false≢true q)
 
 no_times : (xs : List ℕ) (k : ℕ) → (has xs k ≡ true → ⊥) → times xs k ≡ 0
-no_times xs k h = elim (cases_lt 0 (times xs k)) [ inl l ↦ absurd (h (has_times xs k (omega arith))) | inr g ↦ omega arith ]
+no_times xs k h = elim (cases_lt 0 (times xs k))
+    [ inl l ↦ absurd (h (has_times xs k (omega arith))) | inr g ↦ omega arith ]
 
 -- ---- the steps
 
-closes_again : (imports : List (List ℕ)) (node : ℕ) (entered : List ℕ) → has entered node ≡ true → Closes imports (One node) entered [] entered
+closes_again : (imports : List (List ℕ)) (node : ℕ) (entered : List ℕ) → has entered node ≡ true
+    → Closes imports (One node) entered [] entered
 closes_again imports node entered h = record {
   kept = λ k e. e;
   new = λ k e. inl e;
@@ -75,19 +78,30 @@ once_pushed : (t s : ℕ) (b : Bool) → s ≡ t + (cond b 1 0 + 0) → t ≤ 1 
 once_pushed t s true e l h = let z = h refl in omega (arith, z, e)
 once_pushed t s false e l h = omega (arith, e)
 
-closes_enters : (imports : List (List ℕ)) (node : ℕ) (entered started later : List ℕ) → has entered node ≡ false → Closes imports (Each (targets imports node)) (node ∷ entered) started later → Closes imports (One node) entered (started ++ node ∷ []) later
+closes_enters : (imports : List (List ℕ)) (node : ℕ) (entered started later : List ℕ) → has entered node ≡ false
+    → Closes imports (Each (targets imports node)) (node ∷ entered) started later
+    → Closes imports (One node) entered (started ++ node ∷ []) later
 closes_enters imports node entered started later not_so c = record {
   kept = λ k h. c.kept k (or_right (node == k) (has entered k) h);
   new = λ k h. elim (c.new k h) [
-    | inl e ↦ elim (or_cases (node == k) (has entered k) e) [ inl s ↦ inr (has_last started node k (eqb-true node k s)) | inr old ↦ inl old ]
+    | inl e ↦ elim (or_cases (node == k) (has entered k) e)
+        [ inl s ↦ inr (has_last started node k (eqb-true node k s)) | inr old ↦ inl old ]
     | inr s ↦ inr (has_left started (node ∷ []) k s)
   ];
   into = λ k h. elim (has_pushed started node k h) [ inl s ↦ c.into k s | inr e ↦ here k e ];
-  fresh = λ k h g. elim (has_pushed started node k h) [ inl s ↦ c.fresh k s (or_right (node == k) (has entered k) g) | inr e ↦ false≢true (sym not_so ∙ ap (has entered) e ∙ g) ];
-  once = λ k. once_pushed (times started k) (times (started ++ node ∷ []) k) (node == k) (times-append started (node ∷ []) k) (c.once k) (λ s. no_times started k (λ h. c.fresh k h (or_left (node == k) (has entered k) s)));
-  closed = λ k to h t. elim (has_pushed started node k h) [ inl s ↦ c.closed k to s t | inr e ↦ c.reaches to (ap (λ (j : ℕ). has (targets imports j) to) e ∙ t) ];
+  fresh = λ k h g. elim (has_pushed started node k h) [
+    | inl s ↦ c.fresh k s (or_right (node == k) (has entered k) g)
+    | inr e ↦ false≢true
+        (sym not_so ∙ ap (has entered) e ∙ g)
+  ];
+  once = λ k. once_pushed (times started k) (times (started ++ node ∷ []) k) (node == k)
+      (times-append started (node ∷ []) k) (c.once k)
+      (λ s. no_times started k (λ h. c.fresh k h (or_left (node == k) (has entered k) s)));
+  closed = λ k to h t. elim (has_pushed started node k h)
+      [ inl s ↦ c.closed k to s t | inr e ↦ c.reaches to (ap (λ (j : ℕ). has (targets imports j) to) e ∙ t) ];
   reaches = here;
-  origin = λ k h. elim (has_pushed started node k h) [ inl s ↦ elim (c.origin k s) [ inl t ↦ inr (node, t) | inr q ↦ inr q ] | inr e ↦ inl e ];
+  origin = λ k h. elim (has_pushed started node k h)
+      [ inl s ↦ elim (c.origin k s) [ inl t ↦ inr (node, t) | inr q ↦ inr q ] | inr e ↦ inl e ];
 }
   where
     here : (k : ℕ) → node ≡ k → has later k ≡ true
@@ -99,7 +113,9 @@ once_both t s u e l m h = elim (cases_lt 0 t) [
   | inr none ↦ omega arith
 ]
 
-closes_then : (imports : List (List ℕ)) (node : ℕ) (nodes entered first between rest later : List ℕ) → Closes imports (One node) entered first between → Closes imports (Each nodes) between rest later → Closes imports (Each (node ∷ nodes)) entered (first ++ rest) later
+closes_then : (imports : List (List ℕ)) (node : ℕ) (nodes entered first between rest later : List ℕ)
+    → Closes imports (One node) entered first between → Closes imports (Each nodes) between rest later
+    → Closes imports (Each (node ∷ nodes)) entered (first ++ rest) later
 closes_then imports node nodes entered first between rest later c d = record {
   kept = λ k h. d.kept k (c.kept k h);
   new = λ k h. elim (d.new k h) [
@@ -108,9 +124,12 @@ closes_then imports node nodes entered first between rest later c d = record {
   ];
   into = λ k h. elim (has_either first rest k h) [ inl s ↦ d.kept k (c.into k s) | inr s ↦ d.into k s ];
   fresh = λ k h g. elim (has_either first rest k h) [ inl s ↦ c.fresh k s g | inr s ↦ d.fresh k s (c.kept k g) ];
-  once = λ k. once_both (times first k) (times rest k) (times (first ++ rest) k) (times-append first rest k) (c.once k) (d.once k) (λ l m. d.fresh k (has_times rest k m) (c.into k (has_times first k l)));
-  closed = λ k to h t. elim (has_either first rest k h) [ inl s ↦ d.kept to (c.closed k to s t) | inr s ↦ d.closed k to s t ];
-  reaches = λ k h. elim (or_cases (node == k) (has nodes k) h) [ inl s ↦ d.kept k (c.reaches k (eqb-true node k s)) | inr more ↦ d.reaches k more ];
+  once = λ k. once_both (times first k) (times rest k) (times (first ++ rest) k) (times-append first rest k) (c.once k)
+      (d.once k) (λ l m. d.fresh k (has_times rest k m) (c.into k (has_times first k l)));
+  closed = λ k to h t. elim (has_either first rest k h)
+      [ inl s ↦ d.kept to (c.closed k to s t) | inr s ↦ d.closed k to s t ];
+  reaches = λ k h. elim (or_cases (node == k) (has nodes k) h)
+      [ inl s ↦ d.kept k (c.reaches k (eqb-true node k s)) | inr more ↦ d.reaches k more ];
   origin = λ k h. elim (has_either first rest k h) [
     | inl s ↦ elim (c.origin k s) [ inl e ↦ inl (or_left (node == k) (has nodes k) (eq-eqb node k e)) | inr q ↦ inr q ]
     | inr s ↦ elim (d.origin k s) [ inl e ↦ inl (or_right (node == k) (has nodes k) e) | inr q ↦ inr q ]
@@ -119,6 +138,10 @@ closes_then imports node nodes entered first between rest later c d = record {
 
 pub closes : (imports : List (List ℕ)) (w : Walked) (e s l : List ℕ) → Walks imports w e s l → Closes imports w e s l
 closes imports w e s l (Again node entered h) = closes_again imports node entered h
-closes imports w e s l (Enters node entered started later h walk) = closes_enters imports node entered started later h (closes imports (Each (targets imports node)) (node ∷ entered) started later walk)
+closes imports w e s l (Enters node entered started later h walk) =
+    closes_enters imports node entered started later h
+    (closes imports (Each (targets imports node)) (node ∷ entered) started later walk)
 closes imports w e s l (Nothing entered) = closes_nothing imports entered
-closes imports w e s l (Then node nodes entered first between rest later one more) = closes_then imports node nodes entered first between rest later (closes imports (One node) entered first between one) (closes imports (Each nodes) between rest later more)
+closes imports w e s l (Then node nodes entered first between rest later one more) =
+    closes_then imports node nodes entered first between rest later
+    (closes imports (One node) entered first between one) (closes imports (Each nodes) between rest later more)

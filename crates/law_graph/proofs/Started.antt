@@ -21,7 +21,8 @@ use Rattle.law_graph.proofs.Given.{given_trees, given_among, places_given, place
 use Rattle.law_graph.proofs.Starting.{start, body_at}
 use Rattle.law_graph.proofs.Reached as reached
 
-module _ (fs : List (List ℕ × Module)) (ordered : List File) (o : AreInOrder (number_files 0 fs) ordered) (files : List ℕ) (jobs : List (List ℕ)) (starts : List ℕ) (g : IsGraphOf ordered files jobs starts) where
+module _ (fs : List (List ℕ × Module)) (ordered : List File) (o : AreInOrder (number_files 0 fs) ordered)
+    (files : List ℕ) (jobs : List (List ℕ)) (starts : List ℕ) (g : IsGraphOf ordered files jobs starts) where
   abbrev modules : List Module
   modules = trees ordered
 
@@ -35,11 +36,13 @@ module _ (fs : List (List ℕ × Module)) (ordered : List File) (o : AreInOrder 
   bodies = bodies_of modules walk
 
   body_there : (k : ℕ) → Among bodies k → (m : Module) × (slice_get modules k ≡ Some m)
-  body_there k a = let f = filtered_among (λ (n : ℕ). body_of modules n (slice_get modules n)) walk k a in body_at modules f.0 k f.2
+  body_there k a = let f = filtered_among (λ (n : ℕ). body_of modules n (slice_get modules n)) walk k a in
+      body_at modules f.0 k f.2
 
   -- the modules that start
   started_are : at_places (given_trees fs) starts ≡ filter_map (start modules) walk
-  started_are = ap (at_places (given_trees fs)) g.is_starts.started ∙ places_given fs ordered o bodies body_there ∙ filtered_twice (λ (n : ℕ). body_of modules n (slice_get modules n)) (slice_get modules) walk
+  started_are = ap (at_places (given_trees fs)) g.is_starts.started ∙ places_given fs ordered o bodies body_there
+      ∙ filtered_twice (λ (n : ℕ). body_of modules n (slice_get modules n)) (slice_get modules) walk
 
   abbrev those : List Module
   those = filter_map (start modules) walk
@@ -47,49 +50,74 @@ module _ (fs : List (List ℕ × Module)) (ordered : List File) (o : AreInOrder 
   -- ---- each part
 
   within : All (λ s. s < length (given_trees fs)) starts
-  within = subst (λ (xs : List ℕ). All (λ s. s < length (given_trees fs)) xs) (sym g.is_starts.started) (places_within fs ordered o bodies body_there)
+  within = subst (λ (xs : List ℕ). All (λ s. s < length (given_trees fs)) xs) (sym g.is_starts.started)
+      (places_within fs ordered o bodies body_there)
 
   are_bodies : All (λ m. is_definition m ≡ false) (at_places (given_trees fs) starts)
-  are_bodies = subst (λ (ms : List Module). All (λ m. is_definition m ≡ false) ms) (sym started_are) (reached.reached_bodies modules fine g.is_starts.program g.is_starts.is_program walk g.is_starts.is_walk.0 g.is_starts.is_walk.1)
+  are_bodies = subst (λ (ms : List Module). All (λ m. is_definition m ≡ false) ms) (sym started_are)
+      (reached.reached_bodies modules fine g.is_starts.program g.is_starts.is_program walk g.is_starts.is_walk.0
+      g.is_starts.is_walk.1)
 
   distinct : AreApart (names_of (at_places (given_trees fs) starts))
-  distinct = subst (λ (ms : List Module). AreApart (names_of ms)) (sym started_are) (reached.reached_apart modules fine g.is_starts.program g.is_starts.is_program walk g.is_starts.is_walk.0 g.is_starts.is_walk.1)
+  distinct = subst (λ (ms : List Module). AreApart (names_of ms)) (sym started_are)
+      (reached.reached_apart modules fine g.is_starts.program g.is_starts.is_program walk g.is_starts.is_walk.0
+      g.is_starts.is_walk.1)
 
   few : length starts ≤ max_files
   few =
-      let a : length starts ≡ length bodies = ap (λ (xs : List ℕ). length xs) g.is_starts.started ∙ length-map bodies (given_of ordered) in
+      let a : length starts ≡ length bodies = ap (λ (xs : List ℕ). length xs) g.is_starts.started
+      ∙ length-map bodies (given_of ordered) in
       let b : length bodies ≤ length walk = filtered_length (λ (n : ℕ). body_of modules n (slice_get modules n)) walk in
-      let c = few_below (length modules) walk (reached.reached_once modules fine g.is_starts.program g.is_starts.is_program walk g.is_starts.is_walk.0 g.is_starts.is_walk.1) (reached.reached_within modules fine g.is_starts.program g.is_starts.is_program walk g.is_starts.is_walk.0 g.is_starts.is_walk.1) in
+      let c = few_below (length modules) walk
+      (reached.reached_once modules fine g.is_starts.program g.is_starts.is_program walk g.is_starts.is_walk.0
+      g.is_starts.is_walk.1) (reached.reached_within modules fine g.is_starts.program g.is_starts.is_program walk
+      g.is_starts.is_walk.0 g.is_starts.is_walk.1) in
       let d = few_files fs ordered o g.fine in
       omega (arith, a, b, c, d)
 
   -- what the definition of a body imports
-  from_definition : (n : ℕ) (b : Module) (x : Ident) → has walk n ≡ true → start modules n ≡ Some b → Among (definition_imported (given_trees fs) (definition_of (given_trees fs) b.name.name)) x → (is_console x.name ≡ true) ⊎ (is_named those x.name ≡ true)
+  from_definition : (n : ℕ) (b : Module) (x : Ident) → has walk n ≡ true → start modules n ≡ Some b
+      → Among (definition_imported (given_trees fs) (definition_of (given_trees fs) b.name.name)) x
+      → (is_console x.name ≡ true) ⊎ (is_named those x.name ≡ true)
   from_definition n b x h e a = step (definition_of (given_trees fs) b.name.name) refl a
     where
-      step : (p : Option ℕ) → definition_of (given_trees fs) b.name.name ≡ p → Among (definition_imported (given_trees fs) p) x → (is_console x.name ≡ true) ⊎ (is_named those x.name ≡ true)
+      step : (p : Option ℕ) → definition_of (given_trees fs) b.name.name ≡ p
+          → Among (definition_imported (given_trees fs) p) x → (is_console x.name ≡ true)
+          ⊎ (is_named those x.name ≡ true)
       step None q i = absurd (none_among x i)
       step (Some j) q i =
           let f = found_at (defines b.name.name) (given_trees fs) j q in
           let both = and_parts (is_definition f.0) (same_name b.name.name f.0.name.name) f.2 in
-          reached.definition_reached modules fine g.is_starts.program g.is_starts.is_program walk g.is_starts.is_walk.0 g.is_starts.is_walk.1 n b f.0 x h e (given_among fs ordered o f.0 (j, f.1)) both.0 ((bytes_decides b.name.name f.0.name.name).0 both.1) (subst (λ (m : Option Module). Among (imported_by m) x) f.1 i)
+          reached.definition_reached modules fine g.is_starts.program g.is_starts.is_program walk g.is_starts.is_walk.0
+          g.is_starts.is_walk.1 n b f.0 x h e (given_among fs ordered o f.0 (j, f.1)) both.0
+          ((bytes_decides b.name.name f.0.name.name).0 both.1)
+          (subst (λ (m : Option Module). Among (imported_by m) x) f.1 i)
 
-  each_import : (n : ℕ) (b : Module) (x : Ident) → has walk n ≡ true → start modules n ≡ Some b → Among (all_imported (given_trees fs) b) x → (is_console x.name ≡ true) ⊎ (is_named those x.name ≡ true)
-  each_import n b x h e a = elim (among_append_cases (definition_imported (given_trees fs) (definition_of (given_trees fs) b.name.name)) (imports_of b) x a) [
-    | inl d ↦ from_definition n b x h e d
-    | inr i ↦ reached.body_reached modules fine g.is_starts.program g.is_starts.is_program walk g.is_starts.is_walk.0 g.is_starts.is_walk.1 n b x h e i
-  ]
+  each_import : (n : ℕ) (b : Module) (x : Ident) → has walk n ≡ true → start modules n ≡ Some b
+      → Among (all_imported (given_trees fs) b) x → (is_console x.name ≡ true) ⊎ (is_named those x.name ≡ true)
+  each_import n b x h e a = elim (among_append_cases
+      (definition_imported (given_trees fs) (definition_of (given_trees fs) b.name.name)) (imports_of b) x a) [
+        | inl d ↦ from_definition n b x h e d
+        | inr i ↦ reached.body_reached modules fine g.is_starts.program g.is_starts.is_program walk
+            g.is_starts.is_walk.0
+            g.is_starts.is_walk.1 n b x h e i
+      ]
 
   abbrev IsClosed : List Module → Type 0
-  IsClosed ms = All (λ m. All (λ x. (is_console x.name ≡ true) ⊎ (is_named ms x.name ≡ true)) (all_imported (given_trees fs) m)) ms
+  IsClosed ms = All (λ m. All (λ x. (is_console x.name ≡ true) ⊎ (is_named ms x.name ≡ true))
+      (all_imported (given_trees fs) m)) ms
 
   closed : IsClosed (at_places (given_trees fs) starts)
   closed = subst (λ (ms : List Module). IsClosed ms) (sym started_are)
-      (all_among (λ (m : Module). All (λ x. (is_console x.name ≡ true) ⊎ (is_named those x.name ≡ true)) (all_imported (given_trees fs) m)) those
-      (λ b a. let f = filtered_among (start modules) walk b a in all_among (λ (x : Ident). (is_console x.name ≡ true) ⊎ (is_named those x.name ≡ true)) (all_imported (given_trees fs) b) (λ x i. each_import f.0 b x (among_has walk f.0 f.1) f.2 i)))
+      (all_among (λ (m : Module). All (λ x. (is_console x.name ≡ true) ⊎ (is_named those x.name ≡ true))
+      (all_imported (given_trees fs) m)) those
+      (λ b a. let f = filtered_among (start modules) walk b a in
+      all_among (λ (x : Ident). (is_console x.name ≡ true) ⊎ (is_named those x.name ≡ true))
+      (all_imported (given_trees fs) b) (λ x i. each_import f.0 b x (among_has walk f.0 f.1) f.2 i)))
 
   started : AreStarted (given_trees fs) starts
   started = record { within = within; bodies = are_bodies; distinct = distinct; closed = closed; few = few }
 
-pub are_started : (fs : List (List ℕ × Module)) (files : List ℕ) (jobs : List (List ℕ)) (starts : List ℕ) → IsGraph (number_files 0 fs) files jobs starts → AreStarted (map (λ (f : List ℕ × Module). f.1) fs) starts
+pub are_started : (fs : List (List ℕ × Module)) (files : List ℕ) (jobs : List (List ℕ)) (starts : List ℕ)
+    → IsGraph (number_files 0 fs) files jobs starts → AreStarted (map (λ (f : List ℕ × Module). f.1) fs) starts
 are_started fs files jobs starts h = started fs h.0 h.1 files jobs starts h.2

@@ -9,7 +9,8 @@ use Rattle.graph_walk.proofs.Turning.{gathers_none, gathers_more, gathers_all, T
 use Rattle.law_graph.proofs.Entering.{start_order}
 
 -- pairs to a node are added to rows
-gather : (to : ℕ) (rows : List (List ℕ)) (xs : List ℕ) → ((i : ℕ) → i < length xs → get_or xs i 0 < length rows) → (n : ℕ) → n ≤ length xs → (rows' : List (List ℕ)) × Gathers (take n xs) to rows rows'
+gather : (to : ℕ) (rows : List (List ℕ)) (xs : List ℕ) → ((i : ℕ) → i < length xs → get_or xs i 0 < length rows)
+    → (n : ℕ) → n ≤ length xs → (rows' : List (List ℕ)) × Gathers (take n xs) to rows rows'
 gather to rows xs within zero l = (rows, gathers_none to rows)
 gather to rows xs within (suc n) l =
     let r = gather to rows xs within n (omega arith) in
@@ -26,9 +27,13 @@ module _ (links : List (List ℕ)) (nodes : AreNodes links) where
   turn (suc n) l =
       let r = turn n (omega arith) in
       let xs = targets links n in
-      let g = gather n r.0 xs (λ i m. let w = pair_within links n (get_or xs i 0) nodes (has_index xs i 0 m) in omega (arith, w, r.1.same)) (length xs) (omega arith) in
-      let e : n + 1 ≡ suc n = omega arith in
-      (g.0, subst (λ (m : ℕ). Turns links m g.0) e (turns_more links r.0 g.0 n xs refl r.1 (gathers_all xs (length xs) n r.0 g.0 (omega arith) g.1)))
+      let g = gather n r.0 xs (λ i m. let w = pair_within links n (get_or xs i 0) nodes (has_index xs i 0 m) in
+      omega (arith, w, r.1.same)) (length xs) (omega arith) in
+      let e : n + 1 ≡ suc n = omega arith in (
+        g.0,
+        subst (λ (m : ℕ). Turns links m g.0) e
+            (turns_more links r.0 g.0 n xs refl r.1 (gathers_all xs (length xs) n r.0 g.0 (omega arith) g.1)),
+      )
 
 all_below : (n : ℕ) → (all : List ℕ) × ((k : ℕ) → times all k ≡ cond (nat_lt k n) 1 0)
 all_below zero = ([], λ k. ap (λ b. cond b 1 0) (sym (le-ltb k 0 (omega arith))))

@@ -25,13 +25,17 @@ bodies_called modules fx n calls m top type (b ∷ bs) are st s =
     let is : IsThere modules fx m type b = are.0 in
     let rest = bodies_code top type bs in
     let did : ℕ → Effect = λ k. back k st.locals s (calls b.own b.function b.typed (I32 top ∷ []) st.bytes st.out) in
-    table_called modules fx n calls m top b.global b.slot type b.own b.function b.typed st (is.slot st.bytes) (is.callee st.bytes) is.typed is.agrees is.is_body s rest
+    table_called modules fx n calls m top b.global b.slot type b.own b.function b.typed st (is.slot st.bytes)
+    (is.callee st.bytes) is.typed is.agrees is.is_body s rest
     ∙ ap (λ (t : FuncType). then_run (did (length t.results)) (effect modules fx n calls m rest)) is.is_body
-    ∙ then_same (did 0) (effect modules fx n calls m rest) (bodies_do calls top bs) (λ st' s'. bodies_called modules fx n calls m top type bs are.1 st' s')
+    ∙ then_same (did 0) (effect modules fx n calls m rest) (bodies_do calls top bs)
+    (λ st' s'. bodies_called modules fx n calls m top type bs are.1 st' s')
 
 pub program_runs : ProgramRuns
 unfolding calling
 program_runs modules fx extra n m f index top type bs are bytes =
-    subst (λ (e : Effect). RunLeads modules n 0 (Going (store_of fx bytes) (enter_function m (run_typed index top type bs) []) []) e)
-    (bodies_called modules fx (n + extra m f) (calling modules fx extra n n) m top type bs are (record { locals = []; bytes = bytes; out = [] }) [])
+    subst (λ (e : Effect). RunLeads modules n 0
+    (Going (store_of fx bytes) (enter_function m (run_typed index top type bs) []) []) e)
+    (bodies_called modules fx (n + extra m f) (calling modules fx extra n n) m top type bs are
+    (record { locals = []; bytes = bytes; out = [] }) [])
     (runs modules fx extra n m f (run_typed index top type bs) bytes)

@@ -67,26 +67,39 @@ module _ (modules : List WModule) (fx : Fixed) (n : ℕ) (calls : Calling) (m : 
   abbrev does : List Instr → Does
   does = runs modules fx n calls m
 
-  op_runs : (rest : List Instr) (st : State) (o : Operation) (x y r : ℕ) (s : List Value) → operation_result o x y ≡ Some r → does (instr.Numeric (numeric.I64Operation o) ∷ rest) st (s ▹ I64 x ▹ I64 y) ≡ does rest st (s ▹ I64 r)
+  op_runs : (rest : List Instr) (st : State) (o : Operation) (x y r : ℕ) (s : List Value)
+      → operation_result o x y ≡ Some r → does (instr.Numeric (numeric.I64Operation o) ∷ rest) st (s ▹ I64 x ▹ I64 y)
+      ≡ does rest st (s ▹ I64 r)
   op_runs rest st o x y r s e =
-      number_runs modules fx n calls m rest st (numeric.I64Operation o) (s ▹ I64 x ▹ I64 y) s (I64 r) (two_64 s x y (λ a b. option_map I64 (operation_result o a b)) ∙ ap (λ q. option_map (λ v. (s, v)) (option_map I64 q)) e)
+      number_runs modules fx n calls m rest st (numeric.I64Operation o) (s ▹ I64 x ▹ I64 y) s (I64 r)
+      (two_64 s x y (λ a b. option_map I64 (operation_result o a b))
+      ∙ ap (λ q. option_map (λ v. (s, v)) (option_map I64 q)) e)
 
   -- 1 if the number on top is below 0
-  below_runs : (rest : List Instr) (st : State) (r : ℕ) (s : List Value) → does (instr.I64Const 0 ∷ instr.Numeric (numeric.I64Relation LtS) ∷ instr.Numeric numeric.I64ExtendI32U ∷ rest) st (s ▹ I64 r) ≡ does rest st (s ▹ I64 (is_below_zero r))
+  below_runs : (rest : List Instr) (st : State) (r : ℕ) (s : List Value)
+      → does (instr.I64Const 0 ∷ instr.Numeric (numeric.I64Relation LtS) ∷ instr.Numeric numeric.I64ExtendI32U ∷ rest)
+      st (s ▹ I64 r) ≡ does rest st (s ▹ I64 (is_below_zero r))
   below_runs rest st r s =
-      i64_runs modules fx n calls m (instr.Numeric (numeric.I64Relation LtS) ∷ instr.Numeric numeric.I64ExtendI32U ∷ rest) st 0 (s ▹ I64 r)
-      ∙ number_runs modules fx n calls m (instr.Numeric numeric.I64ExtendI32U ∷ rest) st (numeric.I64Relation LtS) (s ▹ I64 r ▹ I64 0) s (I32 (is_below_zero r)) (two_64 s r 0 (λ a b. Some (I32 (truth (compares w64 LtS a b)))))
-      ∙ number_runs modules fx n calls m rest st numeric.I64ExtendI32U (s ▹ I32 (is_below_zero r)) s (I64 (is_below_zero r)) (one_32 s (is_below_zero r) I64)
+      i64_runs modules fx n calls m (instr.Numeric (numeric.I64Relation LtS) ∷ instr.Numeric numeric.I64ExtendI32U
+      ∷ rest) st 0 (s ▹ I64 r)
+      ∙ number_runs modules fx n calls m (instr.Numeric numeric.I64ExtendI32U ∷ rest) st (numeric.I64Relation LtS)
+      (s ▹ I64 r ▹ I64 0) s (I32 (is_below_zero r))
+      (two_64 s r 0 (λ a b. Some (I32 (truth (compares w64 LtS a b)))))
+      ∙ number_runs modules fx n calls m rest st numeric.I64ExtendI32U (s ▹ I32 (is_below_zero r)) s
+      (I64 (is_below_zero r)) (one_32 s (is_below_zero r) I64)
 
   div_runs : (x y : ℕ) (bytes out : List ℕ) → is_less w64 y 1 ≡ false
-      → does div_rest (record { locals = I64 x ∷ I64 y ∷ []; bytes = bytes; out = out }) [] ≡ FellThrough (record { locals = I64 x ∷ I64 y ∷ []; bytes = bytes; out = out }) (I64 (divided_down x y) ∷ [])
+      → does div_rest (record { locals = I64 x ∷ I64 y ∷ []; bytes = bytes; out = out }) []
+      ≡ FellThrough (record { locals = I64 x ∷ I64 y ∷ []; bytes = bytes; out = out }) (I64 (divided_down x y) ∷ [])
   div_runs x y bytes out h =
       let st : State = record { locals = I64 x ∷ I64 y ∷ []; bytes = bytes; out = out } in
-      let r5 : List Instr = instr.I64Const 0 ∷ instr.Numeric (numeric.I64Relation LtS) ∷ instr.Numeric numeric.I64ExtendI32U ∷ instr.Numeric (numeric.I64Operation Sub) ∷ [] in
+      let r5 : List Instr = instr.I64Const 0 ∷ instr.Numeric (numeric.I64Relation LtS)
+      ∷ instr.Numeric numeric.I64ExtendI32U ∷ instr.Numeric (numeric.I64Operation Sub) ∷ [] in
       let r4 : List Instr = instr.Numeric (numeric.I64Operation RemS) ∷ r5 in
       let r2 : List Instr = instr.LocalGet 0 ∷ instr.LocalGet 1 ∷ r4 in
       let q = [] ▹ I64 (quotient x y) in
-      get_runs modules fx n calls m (instr.LocalGet 1 ∷ instr.Numeric (numeric.I64Operation DivS) ∷ r2) st 0 (I64 x) [] refl
+      get_runs modules fx n calls m (instr.LocalGet 1 ∷ instr.Numeric (numeric.I64Operation DivS) ∷ r2) st 0 (I64 x) []
+      refl
       ∙ get_runs modules fx n calls m (instr.Numeric (numeric.I64Operation DivS) ∷ r2) st 1 (I64 y) ([] ▹ I64 x) refl
       ∙ op_runs r2 st DivS x y (quotient x y) [] (divides x y h)
       ∙ get_runs modules fx n calls m (instr.LocalGet 1 ∷ r4) st 0 (I64 x) q refl
@@ -96,16 +109,20 @@ module _ (modules : List WModule) (fx : Fixed) (n : ℕ) (calls : Calling) (m : 
       ∙ op_runs [] st Sub (quotient x y) (is_below_zero (remainder x y)) (divided_down x y) [] refl
 
   mod_runs : (x y : ℕ) (bytes out : List ℕ) → is_less w64 y 1 ≡ false
-      → does mod_rest (record { locals = I64 x ∷ I64 y ∷ I64 0 ∷ []; bytes = bytes; out = out }) [] ≡ FellThrough (record { locals = I64 x ∷ I64 y ∷ I64 (remainder x y) ∷ []; bytes = bytes; out = out }) (I64 (modulo x y) ∷ [])
+      → does mod_rest (record { locals = I64 x ∷ I64 y ∷ I64 0 ∷ []; bytes = bytes; out = out }) []
+      ≡ FellThrough (record { locals = I64 x ∷ I64 y ∷ I64 (remainder x y) ∷ []; bytes = bytes; out = out })
+      (I64 (modulo x y) ∷ [])
   mod_runs x y bytes out h =
       let st : State = record { locals = I64 x ∷ I64 y ∷ I64 0 ∷ []; bytes = bytes; out = out } in
       let kept : State = record { locals = I64 x ∷ I64 y ∷ I64 (remainder x y) ∷ []; bytes = bytes; out = out } in
       let r6 : List Instr = instr.Numeric (numeric.I64Operation Mul) ∷ instr.Numeric (numeric.I64Operation Add) ∷ [] in
-      let r4 : List Instr = instr.I64Const 0 ∷ instr.Numeric (numeric.I64Relation LtS) ∷ instr.Numeric numeric.I64ExtendI32U ∷ instr.LocalGet 1 ∷ r6 in
+      let r4 : List Instr = instr.I64Const 0 ∷ instr.Numeric (numeric.I64Relation LtS)
+      ∷ instr.Numeric numeric.I64ExtendI32U ∷ instr.LocalGet 1 ∷ r6 in
       let r2 : List Instr = instr.LocalTee 2 ∷ instr.LocalGet 2 ∷ r4 in
       let r = [] ▹ I64 (remainder x y) in
       let b = is_below_zero (remainder x y) in
-      get_runs modules fx n calls m (instr.LocalGet 1 ∷ instr.Numeric (numeric.I64Operation RemS) ∷ r2) st 0 (I64 x) [] refl
+      get_runs modules fx n calls m (instr.LocalGet 1 ∷ instr.Numeric (numeric.I64Operation RemS) ∷ r2) st 0 (I64 x) []
+      refl
       ∙ get_runs modules fx n calls m (instr.Numeric (numeric.I64Operation RemS) ∷ r2) st 1 (I64 y) ([] ▹ I64 x) refl
       ∙ op_runs r2 st RemS x y (remainder x y) [] (leaves x y h)
       ∙ tee_runs modules fx n calls m (instr.LocalGet 2 ∷ r4) st 2 (I64 (remainder x y)) [] (omega arith)
@@ -117,24 +134,32 @@ module _ (modules : List WModule) (fx : Fixed) (n : ℕ) (calls : Calling) (m : 
 
 -- the divisor is checked
 module _ (modules : List WModule) (fx : Fixed) (extra : (k f : ℕ) → ℕ) (n d loops own c check_index : ℕ) (st : State)
-    (at_4 : callee_at (store_of fx st.bytes) own 4 ≡ Some (Own own c)) (is : own_function modules own c ≡ Some (check_typed check_index)) (stops : callee_at (store_of fx st.bytes) own 1 ≡ Some Stop) where
+    (at_4 : callee_at (store_of fx st.bytes) own 4 ≡ Some (Own own c))
+    (is : own_function modules own c ≡ Some (check_typed check_index))
+    (stops : callee_at (store_of fx st.bytes) own 1 ≡ Some Stop) where
   abbrev body : List Instr → Does
   body = effect modules fx loops (calling modules fx extra n (suc d)) own
 
-  checked_runs : (y : ℕ) (rest : List Instr) (to : Effect) → slice_get st.locals 1 ≡ Some (I64 y) → 1 < length st.locals → (is_less w64 y 1 ≡ false → body rest (record st { locals = slice_set st.locals 1 (I64 y) }) [] ≡ to)
+  checked_runs : (y : ℕ) (rest : List Instr) (to : Effect) → slice_get st.locals 1 ≡ Some (I64 y) → 1 < length st.locals
+      → (is_less w64 y 1 ≡ false → body rest (record st { locals = slice_set st.locals 1 (I64 y) }) [] ≡ to)
       → body (divisor_checked rest) st [] ≡ chosen (is_less w64 y 1) (is_less w64 4294967295 y) (Ended 4 st.out) to
   checked_runs y rest to e long h =
       let calls = calling modules fx extra n (suc d) in
       let r4 : List Instr = instr.Call 4 ∷ instr.LocalSet 1 ∷ rest in
-      get_runs modules fx loops calls own (instr.I64Const 1 ∷ instr.I64Const 4294967295 ∷ instr.I64Const 4 ∷ r4) st 1 (I64 y) [] e
+      get_runs modules fx loops calls own (instr.I64Const 1 ∷ instr.I64Const 4294967295 ∷ instr.I64Const 4 ∷ r4) st 1
+      (I64 y) [] e
       ∙ i64_runs modules fx loops calls own (instr.I64Const 4294967295 ∷ instr.I64Const 4 ∷ r4) st 1 ([] ▹ I64 y)
       ∙ i64_runs modules fx loops calls own (instr.I64Const 4 ∷ r4) st 4294967295 ([] ▹ I64 y ▹ I64 1)
       ∙ i64_runs modules fx loops calls own r4 st 4 ([] ▹ I64 y ▹ I64 1 ▹ I64 4294967295)
-      ∙ check_called modules fx extra n d loops own 4 own c check_index st at_4 is stops y 1 4294967295 4 [] (instr.LocalSet 1 ∷ rest)
-      ∙ ap (chosen (is_less w64 y 1) (is_less w64 4294967295 y) (Ended 4 st.out)) (set_runs modules fx loops calls own rest st 1 (I64 y) [] long)
+      ∙ check_called modules fx extra n d loops own 4 own c check_index st at_4 is stops y 1 4294967295 4 []
+      (instr.LocalSet 1 ∷ rest)
+      ∙ ap (chosen (is_less w64 y 1) (is_less w64 4294967295 y) (Ended 4 st.out))
+      (set_runs modules fx loops calls own rest st 1 (I64 y) [] long)
       ∙ decided (is_less w64 y 1) (is_less w64 4294967295 y) h
     where
-      decided : (a b : Bool) → (a ≡ false → body rest (record st { locals = slice_set st.locals 1 (I64 y) }) [] ≡ to) → chosen a b (Ended 4 st.out) (body rest (record st { locals = slice_set st.locals 1 (I64 y) }) []) ≡ chosen a b (Ended 4 st.out) to
+      decided : (a b : Bool) → (a ≡ false → body rest (record st { locals = slice_set st.locals 1 (I64 y) }) [] ≡ to)
+          → chosen a b (Ended 4 st.out) (body rest (record st { locals = slice_set st.locals 1 (I64 y) }) [])
+          ≡ chosen a b (Ended 4 st.out) to
       decided true b h = refl
       decided false true h = refl
       decided false false h = h refl
@@ -143,10 +168,14 @@ pub div_called : DivCalled
 div_called modules fx extra n d loops m g own f index c check_index st at_g e at_4 is stops x y s rest =
     let calls = calling modules fx extra n (suc (suc d)) in
     let inner : State = record { locals = I64 x ∷ I64 y ∷ []; bytes = st.bytes; out = st.out } in
-    let did = checked_runs modules fx extra n d (n + extra own f) own c check_index inner at_4 is stops y div_rest (FellThrough inner (I64 (divided_down x y) ∷ [])) refl (omega arith) (div_runs modules fx (n + extra own f) (calling modules fx extra n (suc d)) own x y st.bytes st.out) in
-    helper_called modules fx extra n (suc d) loops m g own f index st at_g (types.I64 ∷ types.I64 ∷ []) (types.I64 ∷ []) (divisor_checked div_rest) s (I64 x ∷ I64 y ∷ []) rest e refl
+    let did = checked_runs modules fx extra n d (n + extra own f) own c check_index inner at_4 is stops y div_rest
+    (FellThrough inner (I64 (divided_down x y) ∷ [])) refl (omega arith)
+    (div_runs modules fx (n + extra own f) (calling modules fx extra n (suc d)) own x y st.bytes st.out) in
+    helper_called modules fx extra n (suc d) loops m g own f index st at_g (types.I64 ∷ types.I64 ∷ []) (types.I64 ∷ [])
+    (divisor_checked div_rest) s (I64 x ∷ I64 y ∷ []) rest e refl
     ∙ ap (λ q. then_run (back 1 st.locals s q) (effect modules fx loops calls m rest)) did
-    ∙ check_back (is_less w64 y 1) (is_less w64 4294967295 y) 4 st (I64 x ∷ I64 y ∷ []) s (I64 (divided_down x y)) (effect modules fx loops calls m rest)
+    ∙ check_back (is_less w64 y 1) (is_less w64 4294967295 y) 4 st (I64 x ∷ I64 y ∷ []) s (I64 (divided_down x y))
+    (effect modules fx loops calls m rest)
 
 pub mod_called : ModCalled
 unfolding calling
@@ -154,7 +183,11 @@ mod_called modules fx extra n d loops m g own f index c check_index st at_g e at
     let calls = calling modules fx extra n (suc (suc d)) in
     let inner : State = record { locals = I64 x ∷ I64 y ∷ I64 0 ∷ []; bytes = st.bytes; out = st.out } in
     let after : State = record { locals = I64 x ∷ I64 y ∷ I64 (remainder x y) ∷ []; bytes = st.bytes; out = st.out } in
-    let did = checked_runs modules fx extra n d (n + extra own f) own c check_index inner at_4 is stops y mod_rest (FellThrough after (I64 (modulo x y) ∷ [])) refl (omega arith) (mod_runs modules fx (n + extra own f) (calling modules fx extra n (suc d)) own x y st.bytes st.out) in
-    own_runs modules fx loops calls m rest st g own f (mod_typed index) (s ++ I64 x ∷ I64 y ∷ []) s (I64 x ∷ I64 y ∷ []) at_g e (split_end_at s (I64 x ∷ I64 y ∷ []) 2 refl)
+    let did = checked_runs modules fx extra n d (n + extra own f) own c check_index inner at_4 is stops y mod_rest
+    (FellThrough after (I64 (modulo x y) ∷ [])) refl (omega arith)
+    (mod_runs modules fx (n + extra own f) (calling modules fx extra n (suc d)) own x y st.bytes st.out) in
+    own_runs modules fx loops calls m rest st g own f (mod_typed index) (s ++ I64 x ∷ I64 y ∷ []) s (I64 x ∷ I64 y ∷ [])
+    at_g e (split_end_at s (I64 x ∷ I64 y ∷ []) 2 refl)
     ∙ ap (λ q. then_run (back 1 st.locals s q) (effect modules fx loops calls m rest)) did
-    ∙ check_back (is_less w64 y 1) (is_less w64 4294967295 y) 4 st (I64 x ∷ I64 y ∷ I64 (remainder x y) ∷ []) s (I64 (modulo x y)) (effect modules fx loops calls m rest)
+    ∙ check_back (is_less w64 y 1) (is_less w64 4294967295 y) 4 st (I64 x ∷ I64 y ∷ I64 (remainder x y) ∷ []) s
+    (I64 (modulo x y)) (effect modules fx loops calls m rest)

@@ -25,7 +25,14 @@ at_two : (bytes : List ℕ) → callee_at (store_of fx bytes) 0 2 ≡ Some (Own 
 at_two bytes = refl
 
 -- a store with one memory
-one_memory : (st : Store) (bytes : List ℕ) (max : Option ℕ) → store_of (record { functions = st.functions; tables = st.tables; globals = st.globals; instances = st.instances; max = max }) bytes ≡ record st { memories = record { bytes = bytes; max = max } ∷ [] }
+one_memory : (st : Store) (bytes : List ℕ) (max : Option ℕ)
+    → store_of (record {
+      functions = st.functions;
+      tables = st.tables;
+      globals = st.globals;
+      instances = st.instances;
+      max = max;
+    }) bytes ≡ record st { memories = record { bytes = bytes; max = max } ∷ [] }
 one_memory st bytes max = refl
 
 abbrev tree : WModule

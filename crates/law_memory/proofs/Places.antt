@@ -49,7 +49,8 @@ unfolding component offset
 offset_append t s [] q e = ap (λ u. offset u q) (same_Some t s e) ∙ omega arith
 offset_append (Cell c) s (i ∷ p) q e = absurd (none-some s e)
 offset_append (Hidden n) s (i ∷ p) q e = absurd (none-some s e)
-offset_append (Array n t) s (i ∷ p) q e = let h = offset_append t s p q (when (nat_lt i n) (component t p) s e).1 in omega arith
+offset_append (Array n t) s (i ∷ p) q e = let h = offset_append t s p q (when (nat_lt i n) (component t p) s e).1 in
+    omega arith
 offset_append Nothing s (i ∷ p) q e = absurd (none-some s e)
 offset_append (Field t u) s (zero ∷ p) q e = offset_append t s p q e
 offset_append (Field t u) s (suc i ∷ p) q e = let h = offset_append u s (i ∷ p) q e in omega arith
@@ -96,7 +97,8 @@ tails i p q h = record {
 }
 
 -- such components lie one before the other
-pub apart : (t s u : Ty) (p q : Location) → component t p ≡ Some s → component t q ≡ Some u → AreApart p q → (offset t p + size s ≤ offset t q) ⊎ (offset t q + size u ≤ offset t p)
+pub apart : (t s u : Ty) (p q : Location) → component t p ≡ Some s → component t q ≡ Some u → AreApart p q
+    → (offset t p + size s ≤ offset t q) ⊎ (offset t q + size u ≤ offset t p)
 unfolding component offset size behind
 apart t s u [] q e f h = absurd (none-some q (sym h.right))
 apart t s u (i ∷ p) [] e f h = absurd (none-some (i ∷ p) (sym h.left))
@@ -147,21 +149,25 @@ deeper Nothing s (i ∷ p) e = absurd (none-some s e)
 deeper (Field t u) s (zero ∷ p) e = let h = deeper t s p e in omega arith
 deeper (Field t u) s (suc i ∷ p) e = let h = deeper u s (i ∷ p) e in omega arith
 
-not_inside : (t s : Ty) (i : ℕ) (p q r : Location) → component t p ≡ Some s → component t q ≡ Some s → behind p q ≡ Some (i ∷ r) → ⊥
+not_inside : (t s : Ty) (i : ℕ) (p q r : Location) → component t p ≡ Some s → component t q ≡ Some s
+    → behind p q ≡ Some (i ∷ r) → ⊥
 unfolding steps
 not_inside t s i p q r e f b =
-    let g : component s (i ∷ r) ≡ Some s = sym (component_append t s p (i ∷ r) e) ∙ ap (component t) (sym (behind_is p q (i ∷ r) b)) ∙ f in
+    let g : component s (i ∷ r) ≡ Some s = sym (component_append t s p (i ∷ r) e)
+    ∙ ap (component t) (sym (behind_is p q (i ∷ r) b)) ∙ f in
     let d = deeper s s (i ∷ r) g in
     omega arith
 
 -- they begin at one place, or lie apart
-pub same_or_apart : (t s : Ty) (p q : Location) → component t p ≡ Some s → component t q ≡ Some s → (offset t p ≡ offset t q) ⊎ ((offset t p + size s ≤ offset t q) ⊎ (offset t q + size s ≤ offset t p))
+pub same_or_apart : (t s : Ty) (p q : Location) → component t p ≡ Some s → component t q ≡ Some s
+    → (offset t p ≡ offset t q) ⊎ ((offset t p + size s ≤ offset t q) ⊎ (offset t q + size s ≤ offset t p))
 same_or_apart t s p q e f = cases (behind p q) (behind q p) refl refl
   where
     same : (p q : Location) → behind p q ≡ Some [] → offset t p ≡ offset t q
     same p q b = ap (offset t) (sym (behind_is p q [] b ∙ append-nil p))
 
-    cases : (a b : Option Location) → behind p q ≡ a → behind q p ≡ b → (offset t p ≡ offset t q) ⊎ ((offset t p + size s ≤ offset t q) ⊎ (offset t q + size s ≤ offset t p))
+    cases : (a b : Option Location) → behind p q ≡ a → behind q p ≡ b → (offset t p ≡ offset t q)
+        ⊎ ((offset t p + size s ≤ offset t q) ⊎ (offset t q + size s ≤ offset t p))
     cases (Some []) b h k = inl (same p q h)
     cases (Some (i ∷ r)) b h k = absurd (not_inside t s i p q r e f h)
     cases None (Some []) h k = inl (sym (same q p k))

@@ -44,11 +44,13 @@ N = I64 ∷ []
 
 -- ---- choices
 
-pub if_leads : {c : Context} {xs ys : List Instr} {s t : Stack} (q : Bool) → Leads c xs s t → Leads c ys s t → Leads c (if q then xs else ys) s t
+pub if_leads : {c : Context} {xs ys : List Instr} {s t : Stack} (q : Bool) → Leads c xs s t → Leads c ys s t
+    → Leads c (if q then xs else ys) s t
 if_leads true h k = h
 if_leads false h k = k
 
-pub unless_leads : {c : Context} {code : List Instr} {s : Stack} (n : ℤ) → Leads c code s s → Leads c (unless_nought n code) s s
+pub unless_leads : {c : Context} {code : List Instr} {s : Stack} (n : ℤ) → Leads c code s s
+    → Leads c (unless_nought n code) s s
 unless_leads {s = s} n h = if_leads (is_nought n) (done s) h
 
 -- ---- modules that are known have globals
@@ -57,7 +59,8 @@ bounded : (n m : ℕ) (q : Bool) → nat_lt n m ≡ q → 0 < m → unwrap_or (c
 bounded n m true e some = ltb-true n m e
 bounded n m false e some = some
 
-place_below : (home : ℕ) (is : List Imported) → list_any (λ i. i.number == home) is ≡ true → unwrap_or (position (λ i. i.number == home) is) 0 < length is
+place_below : (home : ℕ) (is : List Imported) → list_any (λ i. i.number == home) is ≡ true
+    → unwrap_or (position (λ i. i.number == home) is) 0 < length is
 place_below home [] h = absurd cc
 place_below home (i ∷ is) h = bounded _ (length (i ∷ is)) _ refl (omega arith)
 
@@ -75,7 +78,9 @@ module _ (b : Body) (h : Holds b) (ls : List Stack) where
   -- ---- checks
 
   pub checked_leads : (low high : ℤ) (k : ℕ) → Leads here (check_code low high k) N N
-  checked_leads low high k = long _ (I64 ∷ []) (long _ (I64 ∷ I64 ∷ []) (long k (I64 ∷ I64 ∷ I64 ∷ []) (invoke check (type_from (I64 ∷ I64 ∷ I64 ∷ I64 ∷ []) (I64 ∷ [])) [] h.check (done N))))
+  checked_leads low high k = long _ (I64 ∷ [])
+      (long _ (I64 ∷ I64 ∷ []) (long k (I64 ∷ I64 ∷ I64 ∷ [])
+      (invoke check (type_from (I64 ∷ I64 ∷ I64 ∷ I64 ∷ []) (I64 ∷ [])) [] h.check (done N))))
 
   pub range_leads : (o : Option Range) (k : ℕ) → Leads here (in_range o k) N N
   range_leads None k = done N
@@ -84,11 +89,13 @@ module _ (b : Body) (h : Holds b) (ls : List Stack) where
   pub type_leads : (types : Types) (t : TypeNo) (k : ℕ) → Leads here (in_type types t k) N N
   type_leads types t k = range_leads (scalar_at types t) k
 
-  pub taken_leads : (types : Types) (t : TypeNo) (constant : Bool) (of : TypeNo) → Leads here (check_taken types t constant of) N N
+  pub taken_leads : (types : Types) (t : TypeNo) (constant : Bool) (of : TypeNo)
+      → Leads here (check_taken types t constant of) N N
   taken_leads types t constant of = if_leads (is_free types t constant of) (done N) (type_leads types t 1)
 
   pub changed_leads : (types : Types) (t : TypeNo) → Leads here (check_changed types t) N N
-  changed_leads types t = then_leads (type_leads types (base_of types t) 2) (if_leads (is_subrange types t) (type_leads types t 1) (done N))
+  changed_leads types t = then_leads (type_leads types (base_of types t) 2)
+      (if_leads (is_subrange types t) (type_leads types t 1) (done N))
 
   pub fault_leads : (k : ℕ) (after : Stack) → Leads here (fault k) [] after
   fault_leads k after = long k [] (invoke stop (type_from (I64 ∷ []) []) [] h.stop (stuck [] after (done after)))
@@ -96,10 +103,12 @@ module _ (b : Body) (h : Holds b) (ls : List Stack) where
   -- ---- cells
 
   pub load_leads : (k : Scalar) → Leads here (load_scalar k) S N
-  load_leads k = load (load_of k) [] h.memory (unless_leads (lower k) (long _ N (calc (numeric.I64Operation Add) [] (done N))))
+  load_leads k = load (load_of k) [] h.memory
+      (unless_leads (lower k) (long _ N (calc (numeric.I64Operation Add) [] (done N))))
 
   pub store_leads : (k : Scalar) → Leads here (store_scalar k) (I32 ∷ I64 ∷ []) []
-  store_leads k = then_leads (above S (unless_leads (lower k) (long _ N (calc (numeric.I64Operation Sub) [] (done N))))) (store _ [] h.memory (done []))
+  store_leads k = then_leads (above S (unless_leads (lower k) (long _ N (calc (numeric.I64Operation Sub) [] (done N)))))
+      (store _ [] h.memory (done []))
 
   loaded_cell : (t : Ty) → is_cell t ≡ true → Leads here (load_tree t) S N
   loaded_cell (Cell k) e = load_leads k
@@ -118,7 +127,8 @@ module _ (b : Body) (h : Holds b) (ls : List Stack) where
   pub loaded_leads : (types : Types) (t : TypeNo) → IsScalar types t → Leads here (load_code types t) S N
   loaded_leads types t e = loaded_cell (tree types t) (cell_of types t e)
 
-  pub stored_leads : (types : Types) (t : TypeNo) → IsScalar types t → Leads here (store_code types t) (I32 ∷ I64 ∷ []) []
+  pub stored_leads : (types : Types) (t : TypeNo) → IsScalar types t
+      → Leads here (store_code types t) (I32 ∷ I64 ∷ []) []
   stored_leads types t e = stored_cell (tree types t) (cell_of types t e)
 
   -- ---- places
@@ -149,31 +159,37 @@ module _ (b : Body) (h : Holds b) (ls : List Stack) where
   high_leads s x = then_leads (slot_leads s x (1 ∷ [])) (load_leads word)
 
   scaled_leads : (n : ℕ) → Leads here (scale_index n) (I32 ∷ I64 ∷ []) S
-  scaled_leads n = long n (I32 ∷ I64 ∷ []) (calc (numeric.I64Operation Mul) S (calc numeric.I32WrapI64 S (calc numeric.I32Add [] (done S))))
+  scaled_leads n = long n (I32 ∷ I64 ∷ [])
+      (calc (numeric.I64Operation Mul) S (calc numeric.I32WrapI64 S (calc numeric.I32Add [] (done S))))
 
   lower_leads : (o : Option Range) → Leads here (from_lower o) N N
   lower_leads None = done N
   lower_leads (Some r) = unless_leads r.low (long _ N (calc (numeric.I64Operation Sub) [] (done N)))
 
   pub element_leads : (types : Types) (t : TypeNo) → Leads here (element_code types t) (I32 ∷ I64 ∷ []) S
-  element_leads types t = then_leads (above S (range_leads (index_of types t) 3)) (then_leads (above S (lower_leads (index_of types t))) (scaled_leads (size (element_tree (tree types t)))))
+  element_leads types t = then_leads (above S (range_leads (index_of types t) 3))
+      (then_leads (above S (lower_leads (index_of types t))) (scaled_leads (size (element_tree (tree types t)))))
 
-  pub open_element_leads : (s : Setting) (x : Slot) (t : TypeNo) → Leads here (open_element_code s x t) (I32 ∷ I64 ∷ []) S
+  pub open_element_leads : (s : Setting) (x : Slot) (t : TypeNo)
+      → Leads here (open_element_code s x t) (I32 ∷ I64 ∷ []) S
   open_element_leads s x t =
       long 0 (I32 ∷ I64 ∷ []) (then_leads (above (I32 ∷ I64 ∷ I64 ∷ []) (high_leads s x))
-      (long 3 (I32 ∷ I64 ∷ I64 ∷ I64 ∷ []) (invoke check (type_from (I64 ∷ I64 ∷ I64 ∷ I64 ∷ []) (I64 ∷ [])) S h.check (scaled_leads (size (tree s.home.types t))))))
+      (long 3 (I32 ∷ I64 ∷ I64 ∷ I64 ∷ []) (invoke check (type_from (I64 ∷ I64 ∷ I64 ∷ I64 ∷ []) (I64 ∷ [])) S h.check
+      (scaled_leads (size (tree s.home.types t))))))
 
   pub text_leads : (n : ℕ) → Leads here (text_code n) [] S
   text_leads n = glob 2 [] (h.global 2 (omega arith)) (raised_leads n)
 
   -- ---- operators
 
-  pub arithmetic_leads : (types : Types) (o : Arithmetic) (t : TypeNo) → Leads here (arithmetic_code types o t) (I64 ∷ I64 ∷ []) N
+  pub arithmetic_leads : (types : Types) (o : Arithmetic) (t : TypeNo)
+      → Leads here (arithmetic_code types o t) (I64 ∷ I64 ∷ []) N
   arithmetic_leads types op.Add t = calc (numeric.I64Operation Add) [] (type_leads types t 2)
   arithmetic_leads types op.Subtract t = calc (numeric.I64Operation Sub) [] (type_leads types t 2)
   arithmetic_leads types op.Multiply t = calc (numeric.I64Operation Mul) [] (type_leads types t 2)
   arithmetic_leads types op.Divide t = invoke quotient (type_from (I64 ∷ I64 ∷ []) (I64 ∷ [])) [] h.quotient (done N)
-  arithmetic_leads types op.Remainder t = invoke remainder (type_from (I64 ∷ I64 ∷ []) (I64 ∷ [])) [] h.remainder (done N)
+  arithmetic_leads types op.Remainder t =
+      invoke remainder (type_from (I64 ∷ I64 ∷ []) (I64 ∷ [])) [] h.remainder (done N)
 
   pub complement_leads : Leads here complement N N
   complement_leads = long 4294967295 N (calc (numeric.I64Operation Xor) [] (done N))
@@ -192,10 +208,12 @@ module _ (b : Body) (h : Holds b) (ls : List Stack) where
 
   -- ---- other modules
 
-  own_or : (m : TypedModule) (home a k : ℕ) (q : Bool) → is_own m home ≡ q → is_known m home ≡ true → a < 4 → k ≤ 5 → m ≡ b.home → slice_get b.base.globals (if q then a else k + 2 * import_place m home) ≡ Some I32
+  own_or : (m : TypedModule) (home a k : ℕ) (q : Bool) → is_own m home ≡ q → is_known m home ≡ true → a < 4 → k ≤ 5
+      → m ≡ b.home → slice_get b.base.globals (if q then a else k + 2 * import_place m home) ≡ Some I32
   own_or m home a k true e known lt le same = h.global a (omega (arith, lt))
   own_or m home a k false e known lt le same =
-      let i = place_below home m.imports (or_right (is_own m home) (list_any (λ i. i.number == home) m.imports) known e) in
+      let i = place_below home m.imports (or_right (is_own m home) (list_any (λ i. i.number == home) m.imports) known e)
+      in
       let j : length m.imports ≡ length b.home.imports = ap (λ (n : TypedModule). length n.imports) same in
       h.global (k + 2 * import_place m home) (omega (arith, i, j, le))
 
@@ -209,4 +227,5 @@ module _ (b : Body) (h : Holds b) (ls : List Stack) where
   global_leads v known = glob (base_global b.home v.home) [] (base_there v.home known) (raised_leads _)
 
   pub procedure_leads : (f : Procedure) → IsKnown b.home f.home → Leads here (procedure_code b.home f) [] N
-  procedure_leads f known = glob (slots_global b.home f.home) [] (slots_there f.home known) (calc numeric.I64ExtendI32U [] (long _ N (calc (numeric.I64Operation Add) [] (done N))))
+  procedure_leads f known = glob (slots_global b.home f.home) [] (slots_there f.home known)
+      (calc numeric.I64ExtendI32U [] (long _ N (calc (numeric.I64Operation Add) [] (done N))))

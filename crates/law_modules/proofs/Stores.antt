@@ -29,31 +29,44 @@ text_length (t ∷ ts) = length-append t (all_characters ts) ∙ ap (λ (n : ℕ
 
 -- ---- one more module
 
-pub owns_more : (m : ℕ) (bs : Program) (b : TypedModule) → owns m (bs ++ b ∷ []) ≡ owns m bs ++ own_from (m + length bs) 0 (count b)
-owns_more m [] b = let e : m ≡ m + 0 = omega arith in append-nil (own_from m 0 (count b)) ∙ ap (λ (n : ℕ). own_from n 0 (count b)) e
+pub owns_more : (m : ℕ) (bs : Program) (b : TypedModule)
+    → owns m (bs ++ b ∷ []) ≡ owns m bs ++ own_from (m + length bs) 0 (count b)
+owns_more m [] b = let e : m ≡ m + 0 = omega arith in
+    append-nil (own_from m 0 (count b)) ∙ ap (λ (n : ℕ). own_from n 0 (count b)) e
 owns_more m (x ∷ bs) b =
     let e : m + 1 + length bs ≡ m + suc (length bs) = omega arith in
-    ap (λ (r : List Callee). own_from m 0 (count x) ++ r) (owns_more (m + 1) bs b ∙ ap (λ (n : ℕ). owns (m + 1) bs ++ own_from n 0 (count b)) e)
+    ap (λ (r : List Callee). own_from m 0 (count x) ++ r)
+    (owns_more (m + 1) bs b ∙ ap (λ (n : ℕ). owns (m + 1) bs ++ own_from n 0 (count b)) e)
     ∙ sym (append_assoc (own_from m 0 (count x)) (owns (m + 1) bs) (own_from (m + suc (length bs)) 0 (count b)))
 
-pub filled_more : (a : ℕ) (bs : Program) (b : TypedModule) → table_slots a (bs ++ b ∷ []) ≡ table_slots a bs ++ somes_from (a + counts bs + 5) (slots b)
-filled_more a [] b = let e : a + 5 ≡ a + 0 + 5 = omega arith in append-nil (somes_from (a + 5) (slots b)) ∙ ap (λ (n : ℕ). somes_from n (slots b)) e
+pub filled_more : (a : ℕ) (bs : Program) (b : TypedModule)
+    → table_slots a (bs ++ b ∷ []) ≡ table_slots a bs ++ somes_from (a + counts bs + 5) (slots b)
+filled_more a [] b = let e : a + 5 ≡ a + 0 + 5 = omega arith in
+    append-nil (somes_from (a + 5) (slots b)) ∙ ap (λ (n : ℕ). somes_from n (slots b)) e
 filled_more a (x ∷ bs) b =
     let e : a + count x + counts bs + 5 ≡ a + (count x + counts bs) + 5 = omega arith in
-    ap (λ (r : List (Option ℕ)). somes_from (a + 5) (slots x) ++ r) (filled_more (a + count x) bs b ∙ ap (λ (n : ℕ). table_slots (a + count x) bs ++ somes_from n (slots b)) e)
-    ∙ sym (append_assoc (somes_from (a + 5) (slots x)) (table_slots (a + count x) bs) (somes_from (a + (count x + counts bs) + 5) (slots b)))
+    ap (λ (r : List (Option ℕ)). somes_from (a + 5) (slots x) ++ r)
+    (filled_more (a + count x) bs b ∙ ap (λ (n : ℕ). table_slots (a + count x) bs ++ somes_from n (slots b)) e)
+    ∙ sym (append_assoc (somes_from (a + 5) (slots x)) (table_slots (a + count x) bs)
+    (somes_from (a + (count x + counts bs) + 5) (slots b)))
 
-pub instances_more : (p : Program) (a : ℕ) (bs : Program) (b : TypedModule) → instances p a (bs ++ b ∷ []) ≡ instances p a bs ++ module_instance p (a + counts bs) b ∷ []
+pub instances_more : (p : Program) (a : ℕ) (bs : Program) (b : TypedModule)
+    → instances p a (bs ++ b ∷ []) ≡ instances p a bs ++ module_instance p (a + counts bs) b ∷ []
 instances_more p a [] b = let e : a ≡ a + 0 = omega arith in ap (λ (n : ℕ). module_instance p n b ∷ []) e
 instances_more p a (x ∷ bs) b =
     let e : a + count x + counts bs ≡ a + (count x + counts bs) = omega arith in
-    ap (λ (r : List Instance). module_instance p a x ∷ r) (instances_more p (a + count x) bs b ∙ ap (λ (n : ℕ). instances p (a + count x) bs ++ module_instance p n b ∷ []) e)
+    ap (λ (r : List Instance). module_instance p a x ∷ r)
+    (instances_more p (a + count x) bs b ∙ ap
+    (λ (n : ℕ). instances p (a + count x) bs ++ module_instance p n b ∷ []) e)
 
-pub image_more : (bs : Program) (b : TypedModule) → image (bs ++ b ∷ []) ≡ image bs ++ (replicate (variables b) 0 ++ text b)
+pub image_more : (bs : Program) (b : TypedModule)
+    → image (bs ++ b ∷ []) ≡ image bs ++ (replicate (variables b) 0 ++ text b)
 image_more [] b = ap (λ (r : List ℕ). replicate (variables b) 0 ++ r) (append-nil (text b))
 image_more (x ∷ bs) b =
     let v : List ℕ = replicate (variables x) 0 in let last : List ℕ = replicate (variables b) 0 ++ text b in
-    ap (λ (r : List ℕ). v ++ (text x ++ r)) (image_more bs b) ∙ ap (λ (r : List ℕ). v ++ r) (sym (append_assoc (text x) (image bs) last)) ∙ sym (append_assoc v (text x ++ image bs) last)
+    ap (λ (r : List ℕ). v ++ (text x ++ r)) (image_more bs b)
+    ∙ ap (λ (r : List ℕ). v ++ r) (sym (append_assoc (text x) (image bs) last))
+    ∙ sym (append_assoc v (text x ++ image bs) last)
 
 pub slots_more : (bs : Program) (b : TypedModule) → slots_in (bs ++ b ∷ []) ≡ slots_in bs + slots b
 slots_more [] b = omega arith
@@ -67,7 +80,8 @@ owned_length m f (suc n) = ap suc (owned_length m (suc f) n)
 
 pub owns_length : (m : ℕ) (bs : Program) → length (owns m bs) ≡ counts bs
 owns_length m [] = refl
-owns_length m (b ∷ bs) = let i = length-append (own_from m 0 (count b)) (owns (m + 1) bs) in let j = owned_length m 0 (count b) in let k = owns_length (m + 1) bs in omega (arith, i, j, k)
+owns_length m (b ∷ bs) = let i = length-append (own_from m 0 (count b)) (owns (m + 1) bs) in
+    let j = owned_length m 0 (count b) in let k = owns_length (m + 1) bs in omega (arith, i, j, k)
 
 pub somes_length : (a n : ℕ) → length (somes_from a n) ≡ n
 somes_length a zero = refl
@@ -75,13 +89,16 @@ somes_length a (suc n) = ap suc (somes_length (suc a) n)
 
 pub filled_length : (a : ℕ) (bs : Program) → length (table_slots a bs) ≡ slots_in bs
 filled_length a [] = refl
-filled_length a (b ∷ bs) = let i = length-append (somes_from (a + 5) (slots b)) (table_slots (a + count b) bs) in let j = somes_length (a + 5) (slots b) in let k = filled_length (a + count b) bs in omega (arith, i, j, k)
+filled_length a (b ∷ bs) = let i = length-append (somes_from (a + 5) (slots b)) (table_slots (a + count b) bs) in
+    let j = somes_length (a + 5) (slots b) in let k = filled_length (a + count b) bs in omega (arith, i, j, k)
 
 pub image_length : (bs : Program) → length (image bs) ≡ bytes_in bs
 image_length [] = refl
 image_length (b ∷ bs) =
-    let i = length-append (replicate (variables b) 0) (text b ++ image bs) in let j = length-append (text b) (image bs) in let k = image_length bs in
-    let v : length (replicate {A = ℕ} (variables b) 0) ≡ variables b = length-replicate (variables b) 0 in let t = text_length (module_texts b) in
+    let i = length-append (replicate (variables b) 0) (text b ++ image bs) in
+    let j = length-append (text b) (image bs) in let k = image_length bs in
+    let v : length (replicate {A = ℕ} (variables b) 0) ≡ variables b = length-replicate (variables b) 0 in
+    let t = text_length (module_texts b) in
     omega (arith, i, j, k, v, t)
 
 -- ---- what stands where
@@ -99,29 +116,39 @@ global_place zero p lt = refl
 global_place (suc k) p lt = place_is 1 k p (omega (arith, lt)) ∙ ap Some (omega arith)
 
 -- each of them is of 32 bits
-value_is : (place slot k : ℕ) (p : Program) → k < 3 * length p → (n : ℕ) × (slice_get (values place slot p) k ≡ Some (I32 n))
+value_is : (place slot k : ℕ) (p : Program) → k < 3 * length p → (n : ℕ)
+    × (slice_get (values place slot p) k ≡ Some (I32 n))
 value_is place slot k [] lt = absurd (omega (arith, lt))
 value_is place slot zero (b ∷ bs) lt = (place, refl)
 value_is place slot (suc zero) (b ∷ bs) lt = (place + variables b, refl)
 value_is place slot (suc (suc zero)) (b ∷ bs) lt = (slot, refl)
-value_is place slot (suc (suc (suc k))) (b ∷ bs) lt = value_is (place + variables b + characters (module_texts b)) (slot + slots b) k bs (omega (arith, lt))
+value_is place slot (suc (suc (suc k))) (b ∷ bs) lt =
+    value_is (place + variables b + characters (module_texts b)) (slot + slots b) k bs (omega (arith, lt))
 
-pub link_value : (k : ℕ) (p : Program) (pages : ℕ) → k < 1 + 3 * length p → (n : ℕ) × (slice_get (link_values p pages) k ≡ Some (I32 n))
+pub link_value : (k : ℕ) (p : Program) (pages : ℕ) → k < 1 + 3 * length p → (n : ℕ)
+    × (slice_get (link_values p pages) k ≡ Some (I32 n))
 link_value zero p pages lt = (65536 * pages, refl)
 link_value (suc k) p pages lt = value_is 0 1 k p (omega (arith, lt))
 
 -- the first slot of a module, and the place of its texts
-pub slot_is : (place slot : ℕ) (before rest : Program) (b : TypedModule) → slice_get (values place slot (before ++ b ∷ rest)) (2 + 3 * length before) ≡ Some (I32 (slot + slots_in before))
+pub slot_is : (place slot : ℕ) (before rest : Program) (b : TypedModule)
+    → slice_get (values place slot (before ++ b ∷ rest)) (2 + 3 * length before) ≡ Some (I32 (slot + slots_in before))
 slot_is place slot [] rest b = ap (λ (n : ℕ). Some (I32 n)) (omega arith)
 slot_is place slot (x ∷ before) rest b =
     let index : 2 + 3 * length (x ∷ before) ≡ suc (suc (suc (2 + 3 * length before))) = omega arith in
-    ap (slice_get (values place slot (x ∷ before ++ b ∷ rest))) index ∙ slot_is (place + variables x + characters (module_texts x)) (slot + slots x) before rest b ∙ ap (λ (n : ℕ). Some (I32 n)) (omega arith)
+    ap (slice_get (values place slot (x ∷ before ++ b ∷ rest))) index
+    ∙ slot_is (place + variables x + characters (module_texts x)) (slot + slots x) before rest b
+    ∙ ap (λ (n : ℕ). Some (I32 n)) (omega arith)
 
-pub text_is : (place slot : ℕ) (before rest : Program) (b : TypedModule) → slice_get (values place slot (before ++ b ∷ rest)) (1 + 3 * length before) ≡ Some (I32 (place + bytes_in before + variables b))
+pub text_is : (place slot : ℕ) (before rest : Program) (b : TypedModule)
+    → slice_get (values place slot (before ++ b ∷ rest)) (1 + 3 * length before)
+    ≡ Some (I32 (place + bytes_in before + variables b))
 text_is place slot [] rest b = ap (λ (n : ℕ). Some (I32 n)) (omega arith)
 text_is place slot (x ∷ before) rest b =
     let index : 1 + 3 * length (x ∷ before) ≡ suc (suc (suc (1 + 3 * length before))) = omega arith in
-    ap (slice_get (values place slot (x ∷ before ++ b ∷ rest))) index ∙ text_is (place + variables x + characters (module_texts x)) (slot + slots x) before rest b ∙ ap (λ (n : ℕ). Some (I32 n)) (omega arith)
+    ap (slice_get (values place slot (x ∷ before ++ b ∷ rest))) index
+    ∙ text_is (place + variables x + characters (module_texts x)) (slot + slots x) before rest b
+    ∙ ap (λ (n : ℕ). Some (I32 n)) (omega arith)
 
 -- ---- names
 
@@ -129,24 +156,31 @@ pub place_within : (name : List ℕ) (xs : List (List ℕ)) → IsAmong xs name 
 place_within name [] e = absurd cc
 place_within name (x ∷ xs) e = by (bytes_eq x name) refl (λ h. place_within name xs h)
   where
-    by : (b : Bool) → bytes_eq x name ≡ b → (IsAmong xs name → place_of name xs < length xs) → place_of name (x ∷ xs) < length (x ∷ xs)
+    by : (b : Bool) → bytes_eq x name ≡ b → (IsAmong xs name → place_of name xs < length xs)
+        → place_of name (x ∷ xs) < length (x ∷ xs)
     by true is onward = rw is (omega arith)
-    by false is onward = let lt : place_of name xs < length xs = onward (sym (rw is refl) ∙ e) in rw is (omega (arith, lt))
+    by false is onward = let lt : place_of name xs < length xs = onward (sym (rw is refl) ∙ e) in
+        rw is (omega (arith, lt))
 
 -- the exports of a module are found under its names
 record AreFound (name : List ℕ) (g : ℕ) (p : Program) (others : List Export) : Type 0 where
-  base : export_named (base_name name) (exports_from g (map part_of p) ++ others) ≡ Some (exported.Global (g + 3 * place_of name (names p)))
-  text : export_named (text_name name) (exports_from g (map part_of p) ++ others) ≡ Some (exported.Global (g + 1 + 3 * place_of name (names p)))
-  tab : export_named (tab_name name) (exports_from g (map part_of p) ++ others) ≡ Some (exported.Global (g + 2 + 3 * place_of name (names p)))
+  base : export_named (base_name name) (exports_from g (map part_of p) ++ others)
+      ≡ Some (exported.Global (g + 3 * place_of name (names p)))
+  text : export_named (text_name name) (exports_from g (map part_of p) ++ others)
+      ≡ Some (exported.Global (g + 1 + 3 * place_of name (names p)))
+  tab : export_named (tab_name name) (exports_from g (map part_of p) ++ others)
+      ≡ Some (exported.Global (g + 2 + 3 * place_of name (names p)))
 
 abbrev global_of : ℕ → Option ExportKind
 global_of n = Some (exported.Global n)
 
-are_found : (name : List ℕ) (g : ℕ) (p : Program) (others : List Export) → IsAmong (names p) name → AreFound name g p others
+are_found : (name : List ℕ) (g : ℕ) (p : Program) (others : List Export) → IsAmong (names p) name
+    → AreFound name g p others
 are_found name g [] others e = absurd cc
 are_found name g (b ∷ bs) others e = by (bytes_eq b.name name) refl (λ h. are_found name (g + 3) bs others h)
   where
-    by : (t : Bool) → bytes_eq b.name name ≡ t → (IsAmong (names bs) name → AreFound name (g + 3) bs others) → AreFound name g (b ∷ bs) others
+    by : (t : Bool) → bytes_eq b.name name ≡ t → (IsAmong (names bs) name → AreFound name (g + 3) bs others)
+        → AreFound name g (b ∷ bs) others
     by true is onward = record {
       base = rw is (ap global_of (omega arith));
       text = rw is (ap global_of (omega arith));
@@ -164,7 +198,8 @@ run_export = exported_as (codes "run") (exported.Function 0)
 
 abbrev pub link_exports : Program → List Export
 link_exports p =
-    exported_as (codes "memory") (exported.Memory 0) ∷ exported_as (codes "table") (exported.Table 0) ∷ exported_as (codes "limit") (exported.Global 0)
+    exported_as (codes "memory") (exported.Memory 0) ∷ exported_as (codes "table") (exported.Table 0)
+    ∷ exported_as (codes "limit") (exported.Global 0)
     ∷ (exports_from 1 (map part_of p) ++ run_export ∷ [])
 
 module _ (p : Program) (name : List ℕ) (e : IsAmong (names p) name) where

@@ -10,7 +10,8 @@ use Rattle.law_nothing_missing.specs.Statements.{step_layer, arm_layer, does}
 
 module _ (lacking : ℕ) (p : Modules) (ask : Asks) (world : World) (n : ℕ) (function : Bool) where
   unfoldable pub arm_does : TypedArm → Arm
-  arm_does = fold-TypedArm Does Arm (step_layer lacking p ask world n function) (arm_layer lacking p ask world n function)
+  arm_does = fold-TypedArm Does Arm (step_layer lacking p ask world n function)
+      (arm_layer lacking p ask world n function)
 
   abbrev pub step_meant : TypedStmt-F TypedStmt TypedArm → TypedStmt-F Does Arm
   step_meant x = map-TypedStmt TypedStmt TypedArm Does Arm (does lacking p ask world n function) arm_does x
@@ -18,10 +19,16 @@ module _ (lacking : ℕ) (p : Modules) (ask : Asks) (world : World) (n : ℕ) (f
   abbrev pub arm_meant : TypedArm-F TypedStmt TypedArm → TypedArm-F Does Arm
   arm_meant x = map-TypedArm TypedStmt TypedArm Does Arm (does lacking p ask world n function) arm_does x
 
-  pub step_means : (e : TypedStmt) (x : TypedStmt-F TypedStmt TypedArm) → out-TypedStmt e ≡ x → does lacking p ask world n function e ≡ step_layer lacking p ask world n function (step_meant x)
+  pub step_means : (e : TypedStmt) (x : TypedStmt-F TypedStmt TypedArm) → out-TypedStmt e ≡ x
+      → does lacking p ask world n function e ≡ step_layer lacking p ask world n function (step_meant x)
   unfolding does arm_does
-  step_means e x h = fold_out-TypedStmt Does Arm (step_layer lacking p ask world n function) (arm_layer lacking p ask world n function) e ∙ ap (λ (y : TypedStmt-F TypedStmt TypedArm). step_layer lacking p ask world n function (step_meant y)) h
+  step_means e x h = fold_out-TypedStmt Does Arm (step_layer lacking p ask world n function)
+      (arm_layer lacking p ask world n function) e
+      ∙ ap (λ (y : TypedStmt-F TypedStmt TypedArm). step_layer lacking p ask world n function (step_meant y)) h
 
-  pub arm_means : (e : TypedArm) (x : TypedArm-F TypedStmt TypedArm) → out-TypedArm e ≡ x → arm_does e ≡ arm_layer lacking p ask world n function (arm_meant x)
+  pub arm_means : (e : TypedArm) (x : TypedArm-F TypedStmt TypedArm) → out-TypedArm e ≡ x
+      → arm_does e ≡ arm_layer lacking p ask world n function (arm_meant x)
   unfolding does arm_does
-  arm_means e x h = fold_out-TypedArm Does Arm (step_layer lacking p ask world n function) (arm_layer lacking p ask world n function) e ∙ ap (λ (y : TypedArm-F TypedStmt TypedArm). arm_layer lacking p ask world n function (arm_meant y)) h
+  arm_means e x h = fold_out-TypedArm Does Arm (step_layer lacking p ask world n function)
+      (arm_layer lacking p ask world n function) e
+      ∙ ap (λ (y : TypedArm-F TypedStmt TypedArm). arm_layer lacking p ask world n function (arm_meant y)) h

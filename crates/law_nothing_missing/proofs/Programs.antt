@@ -59,7 +59,8 @@ record SameRun (y z : Outcome) : Type 0 where
 
 -- ---- lists
 
-any_place : {A : Type 0} (f : A → Bool) (xs : List A) (k : ℕ) (x : A) → slice_get xs k ≡ Some x → f x ≡ true → list_any f xs ≡ true
+any_place : {A : Type 0} (f : A → Bool) (xs : List A) (k : ℕ) (x : A) → slice_get xs k ≡ Some x → f x ≡ true
+    → list_any f xs ≡ true
 any_place f [] k x h e = absurd (none_some x h)
 any_place f (y ∷ ys) zero x h e = let same : y ≡ x = cc h in ap (λ (b : Bool). b || list_any f ys) (ap f same ∙ e)
 any_place f (y ∷ ys) (suc k) x h e = either (f y) (list_any f ys) (any_place f ys k x h e)
@@ -81,7 +82,8 @@ no_kinds m (suc k) = no_kinds m k
 -- ---- the first store
 
 -- a procedure variable is empty
-fresh_empty : (world : World) (t : Ty) (l : Location) (h : Heading) → type_at (world ++ t ∷ []) l ≡ Some (Cell (Callable h)) → fresh (row world) l ≡ pos 0
+fresh_empty : (world : World) (t : Ty) (l : Location) (h : Heading)
+    → type_at (world ++ t ∷ []) l ≡ Some (Cell (Callable h)) → fresh (row world) l ≡ pos 0
 unfolding fresh component
 fresh_empty world t [] h e = absurd (none_some (Cell (Callable h)) e)
 fresh_empty [] t (i ∷ r) h e = refl
@@ -89,7 +91,10 @@ fresh_empty (u ∷ world) t (zero ∷ r) h e = ap first_in e
 fresh_empty (u ∷ world) t (suc i ∷ r) h e = fresh_empty world t (i ∷ r) h e
 
 first_fine : (p : Modules) → IsFine p (first_world p) (first_state p).store
-first_fine p = record { each = λ l h e. subst (λ (v : ℤ). IsProcedureValue p h v) (sym (fresh_empty (map module_row p) (frame_of []) l h e)) Empty }
+first_fine p = record {
+  each = λ l h e. subst (λ (v : ℤ). IsProcedureValue p h v)
+      (sym (fresh_empty (map module_row p) (frame_of []) l h e)) Empty;
+}
 
 -- ---- what the trees of a module may name
 
@@ -102,37 +107,52 @@ module _ (p : Program) (pages : ℕ) (modules : AreModules p) where
 
   module _ (place : ℕ) (m : TypedModule) (at : slice_get p place ≡ Some m) where
     known_module : (home : ℕ) (b : Bool) → is_own m home ≡ b → IsKnown m home → is_module p home ≡ true
-    known_module home true e k = any_place (λ m. m.types.home == home) p place m at (eq-eqb m.types.home home (sym (eqb-true home m.types.home e)))
+    known_module home true e k = any_place (λ m. m.types.home == home) p place m at
+        (eq-eqb m.types.home home (sym (eqb-true home m.types.home e)))
     known_module home false e k =
         let i = import_of m home e k in
-        let t = each_at (KnowsImport p m) m.imports (import_place m home) i.import i.there (modules place m at).coherent.imports in
-        any_place (λ m. m.types.home == home) p (module_place p i.import.number) t.home t.there (eq-eqb t.home.types.home home (t.number ∙ i.number))
+        let t = each_at (KnowsImport p m) m.imports (import_place m home) i.import i.there
+        (modules place m at).coherent.imports in
+        any_place (λ m. m.types.home == home) p (module_place p i.import.number) t.home t.there
+        (eq-eqb t.home.types.home home (t.number ∙ i.number))
 
     -- a variable is there, where the row of its module has it
-    row_there : (home : ℕ) (found : TypedModule) (j : ℕ) (t : Ty) (world : World) → HasBase p world → slice_get p (module_place p home) ≡ Some found → component (module_row found) (j ∷ []) ≡ Some t
+    row_there : (home : ℕ) (found : TypedModule) (j : ℕ) (t : Ty) (world : World) → HasBase p world
+        → slice_get p (module_place p home) ≡ Some found → component (module_row found) (j ∷ []) ≡ Some t
         → type_at world (module_place p home ∷ j ∷ []) ≡ Some t
     row_there home found j t world has is e =
         ap (λ (w : World). type_at w (module_place p home ∷ j ∷ [])) has.is
-        ∙ there_more (map module_row p) has.more (module_place p home ∷ j ∷ []) t (ap (λ (o : Option Ty). component_in o (j ∷ [])) (mapped_at module_row p (module_place p home) found is) ∙ e)
+        ∙ there_more (map module_row p) has.more (module_place p home ∷ j ∷ []) t
+        (ap (λ (o : Option Ty). component_in o (j ∷ [])) (mapped_at module_row p (module_place p home) found is)
+        ∙ e)
 
-    variable_there : (kinds : List Kinds) (world : World) → HasBase p world → (v : Variable) (t : Ty) → IsVariable (context p base texts place m kinds) v t → (b : Bool) → is_own m v.home ≡ b
+    variable_there : (kinds : List Kinds) (world : World) → HasBase p world → (v : Variable) (t : Ty)
+        → IsVariable (context p base texts place m kinds) v t → (b : Bool) → is_own m v.home ≡ b
         → type_at world (module_place p v.home ∷ v.number ∷ []) ≡ Some t
     variable_there kinds world has v t is true e =
-        row_there v.home m v.number t world has (ap (λ (n : ℕ). slice_get p (module_place p n)) (eqb-true v.home m.types.home e) ∙ ap (slice_get p) (modules place m at).coherent.own ∙ at)
-        (ap (λ (b : Bool). component (if b then module_row m else imported_row m.types (slice_get m.imports (import_place m v.home))) (v.number ∷ [])) (sym e) ∙ is.type)
+        row_there v.home m v.number t world has
+        (ap (λ (n : ℕ). slice_get p (module_place p n)) (eqb-true v.home m.types.home e)
+        ∙ ap (slice_get p) (modules place m at).coherent.own ∙ at)
+        (ap (λ (b : Bool). component (if b then module_row m else imported_row m.types
+        (slice_get m.imports (import_place m v.home))) (v.number ∷ [])) (sym e) ∙ is.type)
     variable_there kinds world has v t is false e =
         let i = import_of m v.home e is.known in
-        let k = each_at (KnowsImport p m) m.imports (import_place m v.home) i.import i.there (modules place m at).coherent.imports in
+        let k = each_at (KnowsImport p m) m.imports (import_place m v.home) i.import i.there
+        (modules place m at).coherent.imports in
         let first : component (row (map (tree m.types) i.import.variables)) (v.number ∷ []) ≡ Some t =
         ap (λ (o : Option Imported). component (imported_row m.types o) (v.number ∷ [])) (sym i.there)
-        ∙ ap (λ (b : Bool). component (if b then module_row m else imported_row m.types (slice_get m.imports (import_place m v.home))) (v.number ∷ [])) (sym e)
+        ∙ ap (λ (b : Bool). component (if b then module_row m else imported_row m.types
+        (slice_get m.imports (import_place m v.home))) (v.number ∷ [])) (sym e)
         ∙ is.type in
-        row_there v.home k.home v.number t world has (ap (λ (n : ℕ). slice_get p (module_place p n)) (sym i.number) ∙ k.there)
-        (ap (λ (ts : List Ty). component (row ts) (v.number ∷ [])) k.variables ∙ component_old (map (tree m.types) i.import.variables) k.more v.number [] t first)
+        row_there v.home k.home v.number t world has
+        (ap (λ (n : ℕ). slice_get p (module_place p n)) (sym i.number) ∙ k.there)
+        (ap (λ (ts : List Ty). component (row ts) (v.number ∷ [])) k.variables
+        ∙ component_old (map (tree m.types) i.import.variables) k.more v.number [] t first)
 
   outermost : (o : Spot p) (number : ℕ) → o.at ≡ which.Module number → environment_of o.home o.routine ≡ []
   outermost o number e =
-      let none : o.routine.around ≡ None = at_place (λ r. r.around ≡ None) o.home.procedures number o.routine (ap (routine_of o.home) (sym e) ∙ o.is) (modules o.place o.home o.there).outermost in
+      let none : o.routine.around ≡ None = at_place (λ r. r.around ≡ None) o.home.procedures number o.routine
+      (ap (routine_of o.home) (sym e) ∙ o.is) (modules o.place o.home o.there).outermost in
       ap (kinds_around o.home o.routine.level) none ∙ no_kinds o.home o.routine.level
 
   all_known : (lacking n : ℕ) → AreKnown p lacking n base texts
@@ -146,7 +166,8 @@ module _ (p : Program) (pages : ℕ) (modules : AreModules p) where
 
   module _ (typed : AreTypedModules p pages) (lacking n : ℕ) where
     all_typed : AreTyped p lacking n base texts
-    all_typed o = let t = (typed o.place o.home o.there).procedures o.at o.routine o.is in (text_of o.home o.at, t.0, t.1)
+    all_typed o = let t = (typed o.place o.home o.there).procedures o.at o.routine o.is in
+        (text_of o.home o.at, t.0, t.1)
 
     all_kept : AreKept p lacking n base texts
     all_kept o = (typed o.place o.home o.there).kept o.at o.routine o.is
@@ -155,10 +176,13 @@ module _ (p : Program) (pages : ℕ) (modules : AreModules p) where
     first_base = record { more = frame_of [] ∷ []; is = refl }
 
     all_asked : AllSame p (first_world p) (strict_calling lacking p n n (first_world p)) (calling p n n)
-    all_asked = all_calls_same p lacking n base texts all_typed (all_known lacking n) all_kept n (first_world p) first_base
+    all_asked = all_calls_same p lacking n base texts all_typed (all_known lacking n) all_kept n (first_world p)
+        first_base
 
     -- what comes after a body
-    body_then : (y z : Outcome) (f g : State → Outcome) → SameEnd p (first_world p) false (IsGood p None) y z → ((st : State) → IsFine p (first_world p) st.store → SameRun (f st) (g st)) → SameRun (strict.then_body lacking y f) (meaning.then_body z g)
+    body_then : (y z : Outcome) (f g : State → Outcome) → SameEnd p (first_world p) false (IsGood p None) y z
+        → ((st : State) → IsFine p (first_world p) st.store → SameRun (f st) (g st))
+        → SameRun (strict.then_body lacking y f) (meaning.then_body z g)
     body_then _ _ f g (goes st fine) next = next st fine
     body_then _ _ f g (leaves st fine e) next = cc e
     body_then _ _ f g (returns v st fine good) next = next st fine
@@ -166,21 +190,29 @@ module _ (p : Program) (pages : ℕ) (modules : AreModules p) where
     body_then _ _ f g (unfinished out) next = record { is = refl; within = tt }
 
     next_place : suc (length p) ≡ length (first_world p)
-    next_place = let x = length-append (map module_row p) (frame_of [] ∷ []) in let y = length_map module_row p in omega (arith, x, y)
+    next_place = let x = length-append (map module_row p) (frame_of [] ∷ []) in let y = length_map module_row p in
+        omega (arith, x, y)
 
-    bodies_same : (left : ℕ) (before ms : Program) → p ≡ before ++ ms → (st : State) → IsFine p (first_world p) st.store → SameRun (strict.bodies lacking p n left (length before) ms st) (meaning.bodies p n left (length before) ms st)
+    bodies_same : (left : ℕ) (before ms : Program) → p ≡ before ++ ms → (st : State) → IsFine p (first_world p) st.store
+        → SameRun (strict.bodies lacking p n left (length before) ms st) (meaning.bodies p n left (length before) ms st)
     bodies_same left before [] is st fine = record { is = refl; within = refl }
     bodies_same left before (m ∷ ms) is st fine =
         let place : ℕ = length before in
         let at : slice_get p place ≡ Some m = ap (λ (q : Program). slice_get q place) is ∙ get_here before ms m in
         let t = (typed place m at).body in
         let a : Environment = body_environment p place m left in
-        let fit : Fits (context p base texts place m []) (first_world p) [] a = record { place = refl; types = refl; frames = no_pairs; withs = no_pairs; next = next_place } in
-        let body = stmts_same (context p base texts place m []) lacking (first_world p) (strict_calling lacking p n n (first_world p)) (calling p n n) (all_known lacking n place m at [] (first_world p) first_base) all_asked None false refl n
+        let fit : Fits (context p base texts place m []) (first_world p) [] a =
+        record { place = refl; types = refl; frames = no_pairs; withs = no_pairs; next = next_place } in
+        let body = stmts_same (context p base texts place m []) lacking (first_world p)
+        (strict_calling lacking p n n (first_world p)) (calling p n n)
+        (all_known lacking n place m at [] (first_world p) first_base) all_asked None false refl n
         [] false _ t.0 m.body t.1 a fit st fine in
-        let more : length (before ++ m ∷ []) ≡ suc place = (let x = length-append before (m ∷ []) in omega (arith, x)) in
+        let more : length (before ++ m ∷ []) ≡ suc place =
+        (let x = length-append before (m ∷ []) in omega (arith, x)) in
         body_then _ _ (strict.bodies lacking p n left (suc place) ms) (meaning.bodies p n left (suc place) ms) body
-        (λ st fine. subst (λ (k : ℕ). SameRun (strict.bodies lacking p n left k ms st) (meaning.bodies p n left k ms st)) more (bodies_same left (before ++ m ∷ []) ms (is ∙ sym (append_assoc before (m ∷ []) ms)) st fine))
+        (λ st fine. subst (λ (k : ℕ). SameRun (strict.bodies lacking p n left k ms st)
+        (meaning.bodies p n left k ms st)) more
+        (bodies_same left (before ++ m ∷ []) ms (is ∙ sym (append_assoc before (m ∷ []) ms)) st fine))
       where
         get_here : (before rest : Program) (m : TypedModule) → slice_get (before ++ m ∷ rest) (length before) ≡ Some m
         get_here [] rest m = refl
@@ -192,24 +224,31 @@ both_true : (a b : Bool) → a ≡ true → b ≡ true → (a && b) ≡ true
 both_true true b h k = k
 both_true false b h k = cc h
 
-all_by_place : (ms : Modules) → ((k : ℕ) (m : TypedModule) → slice_get ms k ≡ Some m → has_types m ≡ true) → all_have_types ms ≡ true
+all_by_place : (ms : Modules) → ((k : ℕ) (m : TypedModule) → slice_get ms k ≡ Some m → has_types m ≡ true)
+    → all_have_types ms ≡ true
 all_by_place [] h = refl
-all_by_place (m ∷ ms) h = both_true (has_types m) (all_have_types ms) (h 0 m refl) (all_by_place ms (λ k x e. h (suc k) x e))
+all_by_place (m ∷ ms) h = both_true (has_types m) (all_have_types ms) (h 0 m refl)
+    (all_by_place ms (λ k x e. h (suc k) x e))
 
 types_there : (p : Program) (pages : ℕ) → AreModules p → AreTypedModules p pages → all_have_types p ≡ true
 types_there p pages modules typed =
-    all_by_place p (λ k m e. both_true (are_whole m.types) (are_types m.types m.variables) (modules k m e).whole (typed k m e).variables)
+    all_by_place p (λ k m e. both_true (are_whole m.types) (are_types m.types m.variables) (modules k m e).whole
+    (typed k m e).variables)
 
-same_run : (p : Program) (pages : ℕ) → AreModules p → AreTypedModules p pages → (lacking n : ℕ) → SameRun (strict_run lacking p pages n) (run p pages n)
+same_run : (p : Program) (pages : ℕ) → AreModules p → AreTypedModules p pages → (lacking n : ℕ)
+    → SameRun (strict_run lacking p pages n) (run p pages n)
 unfolding strict_run run
 same_run p pages modules typed lacking n =
-    subst (λ (b : Bool). SameRun (if_provided lacking b (strict.bodies lacking p n (storage p pages - body_frame) 0 p) (first_state p)) (run p pages n)) (sym (types_there p pages modules typed))
-    (bodies_same p pages modules typed lacking n (storage p pages - body_frame) [] p refl (first_state p) (first_fine p))
+    subst (λ (b : Bool). SameRun (if_provided lacking b (strict.bodies lacking p n (storage p pages - body_frame) 0 p)
+    (first_state p)) (run p pages n)) (sym (types_there p pages modules typed))
+    (bodies_same p pages modules typed lacking n (storage p pages - body_frame) [] p refl (first_state p)
+    (first_fine p))
 
 pub strict_runs : StrictRuns
 strict_runs p pages modules typed lacking n = (same_run p pages modules typed lacking n).is
 
 pub nothing_lacks : NothingLacks
 nothing_lacks p pages modules typed lacking n above out e =
-    let below : lacking < 10 = ltb-true lacking 10 (subst IsWithin e (same_run p pages modules typed lacking n).within) in
+    let below : lacking < 10 = ltb-true lacking 10 (subst IsWithin e (same_run p pages modules typed lacking n).within)
+    in
     absurd (omega (arith, above, below))

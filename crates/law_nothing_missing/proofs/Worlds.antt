@@ -27,7 +27,8 @@ pub get_new : {A : Type 0} (xs ys : List A) (x : A) → slice_get (xs ++ x ∷ y
 get_new [] ys x = refl
 get_new (y ∷ xs) ys x = get_new xs ys x
 
-pub get_old : {A : Type 0} (xs : List A) (x : A) (i : ℕ) → (length xs ≡ i → ⊥) → slice_get (xs ++ x ∷ []) i ≡ slice_get xs i
+pub get_old : {A : Type 0} (xs : List A) (x : A) (i : ℕ) → (length xs ≡ i → ⊥)
+    → slice_get (xs ++ x ∷ []) i ≡ slice_get xs i
 get_old [] x zero other = absurd (other refl)
 get_old [] x (suc i) other = refl
 get_old (y ∷ xs) x zero other = refl
@@ -43,23 +44,27 @@ pub inside : (o : Option Ty) (r : Location) (t : Ty) → component_in o r ≡ So
 inside None r t e = absurd (none_some t e)
 inside (Some u) r t e = record { instance = u; is = refl; has = e }
 
-pub there_more : (world more : World) (l : Location) (t : Ty) → type_at world l ≡ Some t → type_at (world ++ more) l ≡ Some t
+pub there_more : (world more : World) (l : Location) (t : Ty) → type_at world l ≡ Some t
+    → type_at (world ++ more) l ≡ Some t
 there_more world more [] t e = absurd (none_some t e)
 there_more world more (i ∷ r) t e =
     let p = inside (slice_get world i) r t e in
     ap (λ (o : Option Ty). component_in o r) (get_more world more i p.instance p.is) ∙ p.has
 
-pub there_behind : (world : World) (l : Location) (t : Ty) (r : Location) → type_at world l ≡ Some t → type_at world (l ++ r) ≡ component t r
+pub there_behind : (world : World) (l : Location) (t : Ty) (r : Location) → type_at world l ≡ Some t
+    → type_at world (l ++ r) ≡ component t r
 there_behind world [] t r e = absurd (none_some t e)
 there_behind world (i ∷ q) t r e =
     let p = inside (slice_get world i) q t e in
     ap (λ (o : Option Ty). component_in o (q ++ r)) p.is ∙ component_append p.instance t q r p.has
 
-pub there_new : (world more : World) (t : Ty) (r : Location) → type_at (world ++ t ∷ more) (length world ∷ r) ≡ component t r
+pub there_new : (world more : World) (t : Ty) (r : Location)
+    → type_at (world ++ t ∷ more) (length world ∷ r) ≡ component t r
 there_new world more t r = ap (λ (o : Option Ty). component_in o r) (get_new world more t)
 
 -- in the row of the instances
-pub there_row : (world : World) (i : ℕ) (r : Location) (t : Ty) → component (row world) (i ∷ r) ≡ Some t → type_at world (i ∷ r) ≡ Some t
+pub there_row : (world : World) (i : ℕ) (r : Location) (t : Ty) → component (row world) (i ∷ r) ≡ Some t
+    → type_at world (i ∷ r) ≡ Some t
 unfolding component
 there_row [] i r t e = absurd (none_some t e)
 there_row (u ∷ world) zero r t e = e
@@ -86,14 +91,17 @@ pub record HoldsProcedures (p : Modules) (t : Ty) (f : Location → ℤ) : Type 
 pub record IsFine (p : Modules) (world : World) (s : Store) : Type 0 where
   pub each : (l : Location) (h : Heading) → type_at world l ≡ Some (Cell (Callable h)) → IsProcedureValue p h (s l)
 
-pub fine_placed : (p : Modules) (world : World) (s : Store) (to : Location) (t : Ty) (f : Location → ℤ) → IsFine p world s → type_at world to ≡ Some t → HoldsProcedures p t f → IsFine p world (overlay to f s)
+pub fine_placed : (p : Modules) (world : World) (s : Store) (to : Location) (t : Ty) (f : Location → ℤ)
+    → IsFine p world s → type_at world to ≡ Some t → HoldsProcedures p t f → IsFine p world (overlay to f s)
 fine_placed p world s to t f fine at new = record { each = λ l h e. go l h e (behind to l) refl }
   where
-    go : (l : Location) (h : Heading) → type_at world l ≡ Some (Cell (Callable h)) → (o : Option Location) → behind to l ≡ o → IsProcedureValue p h (overlay to f s l)
+    go : (l : Location) (h : Heading) → type_at world l ≡ Some (Cell (Callable h)) → (o : Option Location)
+        → behind to l ≡ o → IsProcedureValue p h (overlay to f s l)
     go l h e None b = subst (λ (v : ℤ). IsProcedureValue p h v) (sym (placed_else to l f s b)) (fine.each l h e)
     go l h e (Some r) b =
         let is = behind_is to l r b in
-        subst (λ (v : ℤ). IsProcedureValue p h v) (sym (ap (λ (l : Location). overlay to f s l) is ∙ placed_behind to r f s))
+        subst (λ (v : ℤ). IsProcedureValue p h v)
+        (sym (ap (λ (l : Location). overlay to f s l) is ∙ placed_behind to r f s))
         (new.each r h (sym (there_behind world to t r at) ∙ ap (type_at world) (sym is) ∙ e))
 
 behind_new : (n : ℕ) (q : Location) → behind (n ∷ []) (n ∷ q) ≡ Some q
@@ -108,21 +116,30 @@ differ : (n i : ℕ) → nat_eq n i ≡ false → n ≡ i → ⊥
 differ n i e same = cc (sym (eq-eqb n i same) ∙ e)
 
 -- an instance behind the others
-pub fine_new : (p : Modules) (world : World) (s : Store) (t : Ty) (f : Location → ℤ) → IsFine p world s → HoldsProcedures p t f → IsFine p (world ++ t ∷ []) (overlay (length world ∷ []) f s)
+pub fine_new : (p : Modules) (world : World) (s : Store) (t : Ty) (f : Location → ℤ) → IsFine p world s
+    → HoldsProcedures p t f → IsFine p (world ++ t ∷ []) (overlay (length world ∷ []) f s)
 fine_new p world s t f fine new = record { each = each }
   where
-    new_one : (q : Location) (h : Heading) → type_at (world ++ t ∷ []) (length world ∷ q) ≡ Some (Cell (Callable h)) → IsProcedureValue p h (overlay (length world ∷ []) f s (length world ∷ q))
+    new_one : (q : Location) (h : Heading) → type_at (world ++ t ∷ []) (length world ∷ q) ≡ Some (Cell (Callable h))
+        → IsProcedureValue p h (overlay (length world ∷ []) f s (length world ∷ q))
     new_one q h e =
-        subst (λ (v : ℤ). IsProcedureValue p h v) (sym (placed_behind (length world ∷ []) q f s)) (new.each q h (sym (there_new world [] t q) ∙ e))
+        subst (λ (v : ℤ). IsProcedureValue p h v) (sym (placed_behind (length world ∷ []) q f s))
+        (new.each q h (sym (there_new world [] t q) ∙ e))
 
-    go : (i : ℕ) (q : Location) (h : Heading) → type_at (world ++ t ∷ []) (i ∷ q) ≡ Some (Cell (Callable h)) → (b : Bool) → nat_eq (length world) i ≡ b → IsProcedureValue p h (overlay (length world ∷ []) f s (i ∷ q))
+    go : (i : ℕ) (q : Location) (h : Heading) → type_at (world ++ t ∷ []) (i ∷ q) ≡ Some (Cell (Callable h))
+        → (b : Bool) → nat_eq (length world) i ≡ b → IsProcedureValue p h (overlay (length world ∷ []) f s (i ∷ q))
     go i q h e true b =
-        subst (λ (i : ℕ). type_at (world ++ t ∷ []) (i ∷ q) ≡ Some (Cell (Callable h)) → IsProcedureValue p h (overlay (length world ∷ []) f s (i ∷ q))) (eqb-true (length world) i b) (λ e. new_one q h e) e
+        subst (λ (i : ℕ). type_at (world ++ t ∷ []) (i ∷ q) ≡ Some (Cell (Callable h))
+        → IsProcedureValue p h (overlay (length world ∷ []) f s (i ∷ q))) (eqb-true (length world) i b)
+        (λ e. new_one q h e) e
     go i q h e false b =
-        subst (λ (v : ℤ). IsProcedureValue p h v) (sym (placed_else (length world ∷ []) (i ∷ q) f s (behind_other (length world) i q b)))
-        (fine.each (i ∷ q) h (ap (λ (o : Option Ty). component_in o q) (sym (get_old world t i (differ (length world) i b))) ∙ e))
+        subst (λ (v : ℤ). IsProcedureValue p h v)
+        (sym (placed_else (length world ∷ []) (i ∷ q) f s (behind_other (length world) i q b)))
+        (fine.each (i ∷ q) h (ap (λ (o : Option Ty). component_in o q)
+        (sym (get_old world t i (differ (length world) i b))) ∙ e))
 
-    each : (l : Location) (h : Heading) → type_at (world ++ t ∷ []) l ≡ Some (Cell (Callable h)) → IsProcedureValue p h (overlay (length world ∷ []) f s l)
+    each : (l : Location) (h : Heading) → type_at (world ++ t ∷ []) l ≡ Some (Cell (Callable h))
+        → IsProcedureValue p h (overlay (length world ∷ []) f s l)
     each [] h e = absurd (none_some (Cell (Callable h)) e)
     each (i ∷ q) h e = go i q h e (nat_eq (length world) i) refl
 

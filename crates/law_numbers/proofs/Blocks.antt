@@ -13,7 +13,8 @@ use Rattle.law_numbers.proofs.Walking.{decls_marks}
 use Rattle.law_numbers.proofs.Declaring as placing
 use Rattle.law_numbers.proofs.Headings as heading
 
-module _ (g : Gathers) (ends : List ℕ) (s : Scope g.Reported) (first : ℕ) (ds : List Decl) (fine : (declared_block g ends (s, Ok tt) first ds).1 ≡ Ok tt) where
+module _ (g : Gathers) (ends : List ℕ) (s : Scope g.Reported) (first : ℕ) (ds : List Decl)
+    (fine : (declared_block g ends (s, Ok tt) first ds).1 ≡ Ok tt) where
   abbrev home : ℕ
   home = s.types.home
 
@@ -25,18 +26,40 @@ module _ (g : Gathers) (ends : List ℕ) (s : Scope g.Reported) (first : ℕ) (d
   marked = (all_marked marked_decl s ds).0
 
   placed_marks : placing.IsPlaced g home s.level base [] marked
-  placed_marks = decls_marks g (placing.IsPlaced g home s.level base []) (placing.free g home s.level base []) ds (s, [])
-      (record { of_home = refl; of_level = refl; counted = record { counted = omega arith; numbered = λ i x e. absurd cc } })
+  placed_marks = decls_marks g (placing.IsPlaced g home s.level base []) (placing.free g home s.level base []) ds
+      (s, [])
+      (record {
+        of_home = refl;
+        of_level = refl;
+        counted =
+            record { counted = omega arith; numbered = λ i x e. absurd cc };
+      })
 
-  placed : placing.IsPlaced g home s.level base (variables_in (declarations_of ds)) (declared_block g ends (s, Ok tt) first ds).0
+  placed : placing.IsPlaced g home s.level base (variables_in (declarations_of ds))
+      (declared_block g ends (s, Ok tt) first ds).0
   placed = placing.decls_placed g home s.level ends base [] ds (marked, Ok tt, first) placed_marks fine
 
-  headed_marks : heading.IsNumbered g home s.level ends s (length s.procedures) first [] (length s.procedures) first marked
-  headed_marks = decls_marks g (heading.IsNumbered g home s.level ends s (length s.procedures) first [] (length s.procedures) first) (heading.free g home s.level ends s (length s.procedures) first [] (length s.procedures) first) ds (s, [])
-      (record { headed = no_heading; next = refl; waits = λ x p e. e; kept = λ x p w. inl w; of_home = refl; of_level = refl; of_rest = (refl, refl, refl); of_variables = λ i t e. e })
+  headed_marks : heading.IsNumbered g home s.level ends s (length s.procedures) first [] (length s.procedures) first
+      marked
+  headed_marks = decls_marks g (heading.IsNumbered g home s.level ends s (length s.procedures) first []
+      (length s.procedures) first) (heading.free g home s.level ends s (length s.procedures) first []
+      (length s.procedures) first) ds (s, [])
+      (record {
+        headed = no_heading;
+        next = refl;
+        waits = λ x p e. e;
+        kept = λ x p w. inl w;
+        of_home = refl;
+        of_level =
+            refl;
+        of_rest = (refl, refl, refl);
+        of_variables = λ i t e. e;
+      })
 
-  pub headed : (m : ℕ) × heading.IsNumbered g home s.level ends s (length s.procedures) first (headings_in ds) m (fold (with_decl g ends) (marked, Ok tt, first) ds).2 (declared_block g ends (s, Ok tt) first ds).0
-  headed = heading.decls_numbered g home s.level ends s (length s.procedures) first [] (length s.procedures) ds (marked, Ok tt, first) headed_marks fine
+  pub headed : (m : ℕ) × heading.IsNumbered g home s.level ends s (length s.procedures) first (headings_in ds) m
+      (fold (with_decl g ends) (marked, Ok tt, first) ds).2 (declared_block g ends (s, Ok tt) first ds).0
+  headed = heading.decls_numbered g home s.level ends s (length s.procedures) first [] (length s.procedures) ds
+      (marked, Ok tt, first) headed_marks fine
 
   pub block_numbered : AreNumbered ends s first ds (declared_block g ends (s, Ok tt) first ds).0
   block_numbered = record {

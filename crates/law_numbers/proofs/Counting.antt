@@ -23,16 +23,23 @@ block_within b = within_block b (out-Block b) refl ∙ all_within [] (out-Block 
 
 -- ---- in a procedure
 
-module _ (ends : List ℕ) (n : ℕ) (d : Decl) (ds : List Decl) (h : Heading) (b : Block) (is : out-Decl d ≡ layer.Procedure h b) (c : AreCounted ends n (d ∷ ds)) where
+module _ (ends : List ℕ) (n : ℕ) (d : Decl) (ds : List Decl) (h : Heading) (b : Block)
+    (is : out-Decl d ≡ layer.Procedure h b) (c : AreCounted ends n (d ∷ ds)) where
   inside : AreCounted ends (n + 1) (out-Block b).decls
   inside = record {
     before = c.before ++ (n + 1 + length (within b)) ∷ [];
     after = ends_from (n + 1 + length (within b)) (within_all ds) ++ c.after;
     all = ends_are ends n d ds c h b is
-        ∙ ap (λ (es : List ℕ). c.before ++ ((n + 1 + length (within b)) ∷ (es ++ c.after))) (ends_append (n + 1) (within b) (within_all ds))
-        ∙ ap (λ (es : List ℕ). c.before ++ ((n + 1 + length (within b)) ∷ es)) (append_assoc (ends_from (n + 1) (within b)) (ends_from (n + 1 + length (within b)) (within_all ds)) c.after)
-        ∙ sym (append_assoc c.before ((n + 1 + length (within b)) ∷ []) (ends_from (n + 1) (within b) ++ (ends_from (n + 1 + length (within b)) (within_all ds) ++ c.after)))
-        ∙ ap (λ (ws : List ℕ). (c.before ++ (n + 1 + length (within b)) ∷ []) ++ (ends_from (n + 1) ws ++ (ends_from (n + 1 + length (within b)) (within_all ds) ++ c.after))) (block_within b);
+        ∙ ap (λ (es : List ℕ). c.before ++ ((n + 1 + length (within b)) ∷ (es ++ c.after)))
+        (ends_append (n + 1) (within b) (within_all ds))
+        ∙ ap (λ (es : List ℕ). c.before ++ ((n + 1 + length (within b)) ∷ es))
+        (append_assoc (ends_from (n + 1) (within b)) (ends_from (n + 1 + length (within b)) (within_all ds))
+        c.after)
+        ∙ sym (append_assoc c.before ((n + 1 + length (within b)) ∷ [])
+        (ends_from (n + 1) (within b) ++ (ends_from (n + 1 + length (within b)) (within_all ds) ++ c.after)))
+        ∙ ap (λ (ws : List ℕ). (c.before ++ (n + 1 + length (within b)) ∷ [])
+        ++ (ends_from (n + 1) ws ++ (ends_from (n + 1 + length (within b)) (within_all ds) ++ c.after)))
+        (block_within b);
     here = let e = length-append c.before ((n + 1 + length (within b)) ∷ []) in let h = c.here in omega (arith, e, h);
   }
 
@@ -68,13 +75,16 @@ one_length : (so : List ℕ) (y : Decl-F Decl Block) → length (with_procedure_
 one_length so (layer.Constants cs) = refl
 one_length so (layer.Types ts) = refl
 one_length so (layer.Variables vs) = refl
-one_length so (layer.Procedure h b) = length-append so (ends_from (length so) (within b)) ∙ ap (λ (k : ℕ). length so + k) (ends_length (length so) (within b) ∙ procedures_counted b)
+one_length so (layer.Procedure h b) = length-append so (ends_from (length so) (within b))
+    ∙ ap (λ (k : ℕ). length so + k) (ends_length (length so) (within b) ∙ procedures_counted b)
 
 all_length : (so : List ℕ) (ds : List Decl) → length (fold with_decl_ends so ds) ≡ behind_inside (length so) ds
 all_length so [] = refl
-all_length so (d ∷ ds) = all_length (with_decl_ends so d) ds ∙ ap (λ (n : ℕ). behind_inside n ds) (one_length so (out-Decl d))
+all_length so (d ∷ ds) = all_length (with_decl_ends so d) ds
+    ∙ ap (λ (n : ℕ). behind_inside n ds) (one_length so (out-Decl d))
 
-module _ (pre : List Decl) (d : Decl) (post : List Decl) (h : Heading) (b : Block) (is : out-Decl d ≡ layer.Procedure h b) where
+module _ (pre : List Decl) (d : Decl) (post : List Decl) (h : Heading) (b : Block)
+    (is : out-Decl d ≡ layer.Procedure h b) where
   abbrev so : List ℕ
   so = fold with_decl_ends [] pre
 

@@ -60,8 +60,11 @@ module _ (g : Gathers) (home level : ℕ) (ends : List ℕ) (start : Scope g.Rep
   not_begun n p o (inr e) f = clash f (ap is_begun e)
 
   -- a heading that was awaited
-  gets_heading : (n : List ℕ) (a p : ModuleProcedure) (o : Option (Known g.Reported)) → o ≡ Some (Declared Here (Ok (meaning.Procedure a))) → Stays n p o → Stays n p (Some (Headed (Ok (meaning.Procedure a))))
-  gets_heading n a p o w (inl e) = let q : a ≡ p = cc (sym w ∙ e) in inr (ap (λ (z : ModuleProcedure). Some (Headed (Ok (meaning.Procedure z)))) q)
+  gets_heading : (n : List ℕ) (a p : ModuleProcedure) (o : Option (Known g.Reported))
+      → o ≡ Some (Declared Here (Ok (meaning.Procedure a))) → Stays n p o
+      → Stays n p (Some (Headed (Ok (meaning.Procedure a))))
+  gets_heading n a p o w (inl e) = let q : a ≡ p = cc (sym w ∙ e) in
+      inr (ap (λ (z : ModuleProcedure). Some (Headed (Ok (meaning.Procedure z)))) q)
   gets_heading n a p o w (inr e) = let q = sym w ∙ e in absurd cc
 
   -- what declarations leave alone
@@ -75,19 +78,26 @@ module _ (g : Gathers) (home level : ℕ) (ends : List ℕ) (start : Scope g.Rep
   abbrev Kept : S → Type 0
   Kept s = (x : List ℕ) (p : ModuleProcedure) → Waits start x p → Stays x p (find_name x s.own)
 
-  kept_beside : (s : S) (name : List ℕ) (k : Known g.Reported) → ((p : ModuleProcedure) → Stays name p (find_name name s.own) → Stays name p (Some k)) → Kept s → Kept (with_known name k s)
-  kept_beside s name k h q x p = entered_all (λ (x : List ℕ) (o : Option (Known g.Reported)). Waits start x p → Stays x p o) name k s.own (λ w. h p (q name p w)) (λ x c w. q x p w) x
+  kept_beside : (s : S) (name : List ℕ) (k : Known g.Reported)
+      → ((p : ModuleProcedure) → Stays name p (find_name name s.own) → Stays name p (Some k)) → Kept s
+      → Kept (with_known name k s)
+  kept_beside s name k h q x p = entered_all
+      (λ (x : List ℕ) (o : Option (Known g.Reported)). Waits start x p → Stays x p o) name k s.own
+      (λ w. h p (q name p w)) (λ x c w. q x p w) x
 
   abbrev AreHeaded : S → (m n : ℕ) → List Heading → (m' n' : ℕ) → Type 0
   AreHeaded s = numbered.AreHeaded home level ends start s
 
-  headed_as_before : {s t : S} {m n m' n' : ℕ} {hs : List Heading} → ((x : List ℕ) (r : Meaning) → Entry s x (Headed (Ok r)) → Entry t x (Headed (Ok r))) → AreHeaded s m n hs m' n' → AreHeaded t m n hs m' n'
+  headed_as_before : {s t : S} {m n m' n' : ℕ} {hs : List Heading}
+      → ((x : List ℕ) (r : Meaning) → Entry s x (Headed (Ok r)) → Entry t x (Headed (Ok r))) → AreHeaded s m n hs m' n'
+      → AreHeaded t m n hs m' n'
   headed_as_before k no_heading = no_heading
   headed_as_before k (new_heading t l w e r) = new_heading t l w (k _ _ e) (headed_as_before k r)
   headed_as_before k (awaited_heading p w e r) = awaited_heading p w (k _ _ e) (headed_as_before k r)
   headed_as_before k (nested_heading t l e r) = nested_heading t l (k _ _ e) (headed_as_before k r)
 
-  headed_more : {s : S} {m n m' n' m'' n'' : ℕ} {hs ks : List Heading} → AreHeaded s m n hs m' n' → AreHeaded s m' n' ks m'' n'' → AreHeaded s m n (hs ++ ks) m'' n''
+  headed_more : {s : S} {m n m' n' m'' n'' : ℕ} {hs ks : List Heading} → AreHeaded s m n hs m' n'
+      → AreHeaded s m' n' ks m'' n'' → AreHeaded s m n (hs ++ ks) m'' n''
   headed_more no_heading k = k
   headed_more (new_heading t l w e r) k = new_heading t l w e (headed_more r k)
   headed_more (awaited_heading p w e r) k = awaited_heading p w e (headed_more r k)
@@ -111,30 +121,72 @@ module _ (g : Gathers) (home level : ℕ) (ends : List ℕ) (start : Scope g.Rep
       P = IsNumbered hs m' n'
 
       -- what is entered is no procedure that awaits its heading
-      no_wait : {k : Known g.Reported} (p : ModuleProcedure) → IsEntered k → k ≡ Declared Here (Ok (meaning.Procedure p)) → ⊥
+      no_wait : {k : Known g.Reported} (p : ModuleProcedure) → IsEntered k
+          → k ≡ Declared Here (Ok (meaning.Procedure p)) → ⊥
       no_wait p later_is e = absurd cc
       no_wait p ahead_is e = absurd cc
       no_wait p begun_is e = absurd cc
       no_wait p (headed_is r) e = absurd cc
       no_wait p (declared_is r n) e = n p (cc e)
 
-      waits_by : (s : S) (name : List ℕ) (k : Known g.Reported) → IsEntered k → ((x : List ℕ) (p : ModuleProcedure) → Waits s x p → Waits start x p) → (x : List ℕ) (p : ModuleProcedure) → Waits (with_known name k s) x p → Waits start x p
-      waits_by s name k i h x p = entered_all (λ (x : List ℕ) (o : Option (Known g.Reported)). o ≡ Some (Declared Here (Ok (meaning.Procedure p))) → Waits start x p) name k s.own (λ e. absurd (no_wait p i (cc e))) (λ x c e. h x p e) x
+      waits_by : (s : S) (name : List ℕ) (k : Known g.Reported) → IsEntered k
+          → ((x : List ℕ) (p : ModuleProcedure) → Waits s x p → Waits start x p) → (x : List ℕ) (p : ModuleProcedure)
+          → Waits (with_known name k s) x p → Waits start x p
+      waits_by s name k i h x p = entered_all
+          (λ (x : List ℕ) (o : Option (Known g.Reported)). o ≡ Some (Declared Here (Ok (meaning.Procedure p)))
+          → Waits start x p) name k s.own (λ e. absurd (no_wait p i (cc e))) (λ x c e. h x p e) x
 
-      entered_by : {s : S} (name : List ℕ) (k : Known g.Reported) → IsEntered k → ((p : ModuleProcedure) → Stays name p (find_name name s.own) → ⊥) → ((x : List ℕ) (r : Meaning) → Entry s x (Headed (Ok r)) → Entry (with_known name k s) x (Headed (Ok r))) → P s → P (with_known name k s)
-      entered_by {s = s} name k i n h p = record { headed = headed_as_before h p.headed; next = p.next; waits = waits_by s name k i p.waits; kept = kept_beside s name k (λ a z. absurd (n a z)) p.kept; of_home = p.of_home; of_level = p.of_level; of_rest = p.of_rest; of_variables = p.of_variables }
+      entered_by : {s : S} (name : List ℕ) (k : Known g.Reported) → IsEntered k
+          → ((p : ModuleProcedure) → Stays name p (find_name name s.own) → ⊥)
+          → ((x : List ℕ) (r : Meaning) → Entry s x (Headed (Ok r)) → Entry (with_known name k s) x (Headed (Ok r)))
+          → P s → P (with_known name k s)
+      entered_by {s = s} name k i n h p = record {
+        headed = headed_as_before h p.headed;
+        next = p.next;
+        waits =
+            waits_by s name k i p.waits;
+        kept = kept_beside s name k (λ a z. absurd (n a z)) p.kept;
+        of_home = p.of_home;
+        of_level = p.of_level;
+        of_rest = p.of_rest;
+        of_variables = p.of_variables;
+      }
 
-      pub free : (s : S) (name : List ℕ) (k : Known g.Reported) → IsEntered k → is_free (find_name name s.own) ≡ true → P s → P (with_known name k s)
-      free s name k i e p = entered_by name k i (λ a z. not_free name a (find_name name s.own) z e) (λ x r h. free_beside g x (Headed (Ok r)) refl s name k e h) p
+      pub free : (s : S) (name : List ℕ) (k : Known g.Reported) → IsEntered k → is_free (find_name name s.own) ≡ true
+          → P s → P (with_known name k s)
+      free s name k i e p = entered_by name k i (λ a z. not_free name a (find_name name s.own) z e)
+          (λ x r h. free_beside g x (Headed (Ok r)) refl s name k e h) p
 
-      begun : (s : S) (name : List ℕ) (k : Known g.Reported) → IsEntered k → is_begun (find_name name s.own) ≡ true → P s → P (with_known name k s)
-      begun s name k i e p = entered_by name k i (λ a z. not_begun name a (find_name name s.own) z e) (λ x r h. begun_beside g x (Headed (Ok r)) refl s name k e h) p
+      begun : (s : S) (name : List ℕ) (k : Known g.Reported) → IsEntered k → is_begun (find_name name s.own) ≡ true
+          → P s → P (with_known name k s)
+      begun s name k i e p = entered_by name k i (λ a z. not_begun name a (find_name name s.own) z e)
+          (λ x r h. begun_beside g x (Headed (Ok r)) refl s name k e h) p
 
       shaped : (s : S) (d : Made) → P s → P (with_shape s d)
-      shaped s d p = record { headed = headed_as_before (λ x r h. h) p.headed; next = p.next; waits = p.waits; kept = p.kept; of_home = p.of_home; of_level = p.of_level; of_rest = p.of_rest; of_variables = p.of_variables }
+      shaped s d p = record {
+        headed = headed_as_before (λ x r h. h) p.headed;
+        next = p.next;
+        waits = p.waits;
+        kept =
+            p.kept;
+        of_home = p.of_home;
+        of_level = p.of_level;
+        of_rest = p.of_rest;
+        of_variables = p.of_variables;
+      }
 
       varied : (s : S) (t : Result TypeNo g.Reported) → P s → P (with_variable_type s t)
-      varied s (Ok t) p = record { headed = headed_as_before (λ x r h. h) p.headed; next = p.next; waits = p.waits; kept = p.kept; of_home = p.of_home; of_level = p.of_level; of_rest = p.of_rest; of_variables = λ i u e. get_left s.variables (t ∷ []) i u (p.of_variables i u e) }
+      varied s (Ok t) p = record {
+        headed = headed_as_before (λ x r h. h) p.headed;
+        next = p.next;
+        waits = p.waits;
+        kept = p.kept;
+        of_home = p.of_home;
+        of_level = p.of_level;
+        of_rest = p.of_rest;
+        of_variables =
+            λ i u e. get_left s.variables (t ∷ []) i u (p.of_variables i u e);
+      }
       varied s (Err r) p = p
 
     -- ---- one heading more
@@ -145,55 +197,124 @@ module _ (g : Gathers) (home level : ℕ) (ends : List ℕ) (start : Scope g.Rep
 
     module _ (hs : List Heading) (m' n' : ℕ) (h : Heading) where
       -- the entry of this heading, and all that was there before
-      added : {s t : S} (m'' : ℕ) → ((x : List ℕ) (r : Meaning) → Entry s x (Headed (Ok r)) → Entry t x (Headed (Ok r))) → AreHeaded t m' n' (h ∷ []) m'' (number_behind ends n') → length t.procedures ≡ m'' → ((x : List ℕ) (p : ModuleProcedure) → Waits t x p → Waits start x p) → Kept t → t.types.home ≡ home → t.level ≡ level → Rest t → Olds t → IsNumbered hs m' n' s → More hs n' h t
-      added m'' k one next waits kept eh el er eo p = (m'', record { headed = headed_more (headed_as_before k p.headed) one; next = next; waits = waits; kept = kept; of_home = eh; of_level = el; of_rest = er; of_variables = eo })
+      added : {s t : S} (m'' : ℕ) → ((x : List ℕ) (r : Meaning) → Entry s x (Headed (Ok r)) → Entry t x (Headed (Ok r)))
+          → AreHeaded t m' n' (h ∷ []) m'' (number_behind ends n') → length t.procedures ≡ m''
+          → ((x : List ℕ) (p : ModuleProcedure) → Waits t x p → Waits start x p) → Kept t → t.types.home ≡ home
+          → t.level ≡ level → Rest t → Olds t → IsNumbered hs m' n' s → More hs n' h t
+      added m'' k one next waits kept eh el er eo p = (
+        m'',
+        record {
+          headed = headed_more (headed_as_before k p.headed) one;
+          next = next;
+          waits = waits;
+          kept =
+              kept;
+          of_home = eh;
+          of_level = el;
+          of_rest = er;
+          of_variables = eo;
+        },
+      )
 
-      new_in_module : (s : S) (u : TypeNo) → (level == 0) ≡ true → is_free (find_name h.name.name s.own) ≡ true → IsNumbered hs m' n' s → More hs n' h (module_procedure s h.name.name (Ok u))
-      new_in_module s u l f p = added (m' + 1) (λ x r e. free_beside g x (Headed (Ok r)) refl (with_procedure_type s (Ok u)) h.name.name _ f e)
-          (new_heading u l (λ a w. not_free h.name.name a (find_name h.name.name s.own) (p.kept h.name.name a w) f) (subst (λ (a : ℕ). Entry (module_procedure s h.name.name (Ok u)) h.name.name (Headed (Ok (meaning.Procedure (record { home = a; number = m'; heading = u }))))) p.of_home
-          (subst (λ (a : ℕ). Entry (module_procedure s h.name.name (Ok u)) h.name.name (Headed (Ok (meaning.Procedure (record { home = s.types.home; number = a; heading = u }))))) p.next (entered_here (with_procedure_type s (Ok u)) h.name.name _))) no_heading)
-          (length-append s.procedures (u ∷ []) ∙ ap (λ (a : ℕ). a + 1) p.next) (waits_by hs m' n' (with_procedure_type s (Ok u)) h.name.name _ (headed_is _) p.waits) (kept_beside (with_procedure_type s (Ok u)) h.name.name _ (λ a z. absurd (not_free h.name.name a (find_name h.name.name s.own) z f)) p.kept) p.of_home p.of_level p.of_rest p.of_variables p
+      new_in_module : (s : S) (u : TypeNo) → (level == 0) ≡ true → is_free (find_name h.name.name s.own) ≡ true
+          → IsNumbered hs m' n' s → More hs n' h (module_procedure s h.name.name (Ok u))
+      new_in_module s u l f p = added (m' + 1)
+          (λ x r e. free_beside g x (Headed (Ok r)) refl (with_procedure_type s (Ok u)) h.name.name _ f e)
+          (new_heading u l (λ a w. not_free h.name.name a (find_name h.name.name s.own) (p.kept h.name.name a w) f)
+          (subst (λ (a : ℕ). Entry (module_procedure s h.name.name (Ok u)) h.name.name
+          (Headed (Ok (meaning.Procedure (record { home = a; number = m'; heading = u }))))) p.of_home
+          (subst (λ (a : ℕ). Entry (module_procedure s h.name.name (Ok u)) h.name.name
+          (Headed (Ok (meaning.Procedure (record { home = s.types.home; number = a; heading = u }))))) p.next
+          (entered_here (with_procedure_type s (Ok u)) h.name.name _))) no_heading)
+          (length-append s.procedures (u ∷ []) ∙ ap (λ (a : ℕ). a + 1) p.next)
+          (waits_by hs m' n' (with_procedure_type s (Ok u)) h.name.name _ (headed_is _) p.waits)
+          (kept_beside (with_procedure_type s (Ok u)) h.name.name _
+          (λ a z. absurd (not_free h.name.name a (find_name h.name.name s.own) z f)) p.kept) p.of_home p.of_level
+          p.of_rest p.of_variables p
 
-      new_in_procedure : (s : S) (u : TypeNo) → (level == 0) ≡ false → is_free (find_name h.name.name s.own) ≡ true → IsNumbered hs m' n' s → More hs n' h (set_heading h.name.name (heading_means true (nested_meaning s.level n' (Ok u))) s)
+      new_in_procedure : (s : S) (u : TypeNo) → (level == 0) ≡ false → is_free (find_name h.name.name s.own) ≡ true
+          → IsNumbered hs m' n' s → More hs n' h
+          (set_heading h.name.name (heading_means true (nested_meaning s.level n' (Ok u))) s)
       new_in_procedure s u l f p = added m' (λ x r e. free_beside g x (Headed (Ok r)) refl s h.name.name _ f e)
-          (nested_heading u l (subst (λ (a : ℕ). Entry (set_heading h.name.name (heading_means true (nested_meaning s.level n' (Ok u))) s) h.name.name (Headed (Ok (meaning.LocalProcedure (record { level = a; number = n'; heading = u }))))) p.of_level (entered_here s h.name.name _)) no_heading)
-          p.next (waits_by hs m' n' s h.name.name _ (headed_is _) p.waits) (kept_beside s h.name.name _ (λ a z. absurd (not_free h.name.name a (find_name h.name.name s.own) z f)) p.kept) p.of_home p.of_level p.of_rest p.of_variables p
+          (nested_heading u l (subst (λ (a : ℕ). Entry
+          (set_heading h.name.name (heading_means true (nested_meaning s.level n' (Ok u))) s) h.name.name
+          (Headed (Ok (meaning.LocalProcedure (record { level = a; number = n'; heading = u }))))) p.of_level
+          (entered_here s h.name.name _)) no_heading)
+          p.next (waits_by hs m' n' s h.name.name _ (headed_is _) p.waits)
+          (kept_beside s h.name.name _ (λ a z. absurd (not_free h.name.name a (find_name h.name.name s.own) z f))
+          p.kept) p.of_home p.of_level p.of_rest p.of_variables p
 
-      new_by : (b : Bool) (s : S) (u : TypeNo) → (level == 0) ≡ b → is_free (find_name h.name.name s.own) ≡ true → IsNumbered hs m' n' s → More hs n' h (cond b (module_procedure s h.name.name (Ok u)) (set_heading h.name.name (heading_means true (nested_meaning s.level n' (Ok u))) s))
+      new_by : (b : Bool) (s : S) (u : TypeNo) → (level == 0) ≡ b → is_free (find_name h.name.name s.own) ≡ true
+          → IsNumbered hs m' n' s → More hs n' h
+          (cond b (module_procedure s h.name.name (Ok u))
+          (set_heading h.name.name (heading_means true (nested_meaning s.level n' (Ok u))) s))
       new_by true s u l f p = new_in_module s u l f p
       new_by false s u l f p = new_in_procedure s u l f p
 
-      heading_more : (s : S) (o : Standing) → name_standing (find_name h.name.name s.own) ≡ o → IsNumbered hs m' n' s → (headed_as g s h n' (heading_of g s h) o).1 ≡ Ok tt → More hs n' h (headed_as g s h n' (heading_of g s h) o).0
+      heading_more : (s : S) (o : Standing) → name_standing (find_name h.name.name s.own) ≡ o → IsNumbered hs m' n' s
+          → (headed_as g s h n' (heading_of g s h) o).1 ≡ Ok tt
+          → More hs n' h (headed_as g s h n' (heading_of g s h) o).0
       heading_more s Free q p e = by_made (heading_of g s h) e
         where
-          by_made : (r : Result Made g.Reported) → nothing_of (with_made s r).1 ≡ Ok tt → More hs n' h (new_procedure (with_made s r).0 h.name.name n' (with_made s r).1)
+          by_made : (r : Result Made g.Reported) → nothing_of (with_made s r).1 ≡ Ok tt
+              → More hs n' h (new_procedure (with_made s r).0 h.name.name n' (with_made s r).1)
           by_made (Err k) w = absurd cc
-          by_made (Ok d) w = new_by (s.level == 0) (with_shape s d) _ (ap (λ (l : ℕ). l == 0) (sym p.of_level)) (free_standing (find_name h.name.name s.own) q) (shaped hs m' n' s d p)
-      heading_more s (Awaited a) q p e = added m' (λ x r w. awaited_beside g x (Headed (Ok r)) (λ z v. absurd cc) s h.name.name a _ q w)
-          (awaited_heading a (p.waits h.name.name a (waiting (find_name h.name.name s.own) a q)) (entered_here s h.name.name (Headed (Ok (meaning.Procedure a)))) no_heading)
-          p.next (waits_by hs m' n' s h.name.name _ (headed_is _) p.waits) (kept_beside s h.name.name _ (λ b z. gets_heading h.name.name a b (find_name h.name.name s.own) (waiting (find_name h.name.name s.own) a q) z) p.kept) p.of_home p.of_level p.of_rest p.of_variables p
+          by_made (Ok d) w = new_by (s.level == 0) (with_shape s d) _ (ap (λ (l : ℕ). l == 0) (sym p.of_level))
+              (free_standing (find_name h.name.name s.own) q) (shaped hs m' n' s d p)
+      heading_more s (Awaited a) q p e = added m'
+          (λ x r w. awaited_beside g x (Headed (Ok r)) (λ z v. absurd cc) s h.name.name a _ q w)
+          (awaited_heading a (p.waits h.name.name a (waiting (find_name h.name.name s.own) a q))
+          (entered_here s h.name.name (Headed (Ok (meaning.Procedure a)))) no_heading)
+          p.next (waits_by hs m' n' s h.name.name _ (headed_is _) p.waits)
+          (kept_beside s h.name.name _ (λ b z. gets_heading h.name.name a b (find_name h.name.name s.own)
+          (waiting (find_name h.name.name s.own) a q) z) p.kept) p.of_home p.of_level p.of_rest p.of_variables p
       heading_more s Taken q p e = let w = beside_second g _ _ e in absurd cc
 
     -- ---- all declarations
 
-    layer_numbered : (hs : List Heading) (m' : ℕ) (c : Course g.Reported) (y : Decl-F Decl Block) → IsNumbered hs m' c.2 c.0 → (decl_layer g ends c y).1 ≡ Ok tt → (m'' : ℕ) × IsNumbered (hs ++ headings_by y) m'' (decl_layer g ends c y).2 (decl_layer g ends c y).0
-    layer_numbered hs m' c (dlayer.Constants cs) p e = (m', same (constants_stay g (IsNumbered hs m' c.2) (free hs m' c.2) (shaped hs m' c.2) (begun hs m' c.2) cs (c.0, c.1) p))
+    layer_numbered : (hs : List Heading) (m' : ℕ) (c : Course g.Reported) (y : Decl-F Decl Block)
+        → IsNumbered hs m' c.2 c.0 → (decl_layer g ends c y).1 ≡ Ok tt → (m'' : ℕ)
+        × IsNumbered (hs ++ headings_by y) m'' (decl_layer g ends c y).2 (decl_layer g ends c y).0
+    layer_numbered hs m' c (dlayer.Constants cs) p e = (
+      m',
+      same (constants_stay g (IsNumbered hs m' c.2) (free hs m' c.2) (shaped hs m' c.2) (begun hs m' c.2) cs
+          (c.0, c.1) p),
+    )
       where
         same : {s : S} → IsNumbered hs m' c.2 s → IsNumbered (hs ++ []) m' c.2 s
         same {s = s} q = subst (λ (ks : List Heading). IsNumbered ks m' c.2 s) (sym (append-nil hs)) q
-    layer_numbered hs m' c (dlayer.Types ts) p e = (m', same (types_stay g (IsNumbered hs m' c.2) (free hs m' c.2) (shaped hs m' c.2) (begun hs m' c.2) ts (c.0, c.1) p))
+    layer_numbered hs m' c (dlayer.Types ts) p e = (
+      m',
+      same (types_stay g (IsNumbered hs m' c.2) (free hs m' c.2) (shaped hs m' c.2) (begun hs m' c.2) ts
+          (c.0, c.1) p),
+    )
       where
         same : {s : S} → IsNumbered hs m' c.2 s → IsNumbered (hs ++ []) m' c.2 s
         same {s = s} q = subst (λ (ks : List Heading). IsNumbered ks m' c.2 s) (sym (append-nil hs)) q
-    layer_numbered hs m' c (dlayer.Variables vs) p e = (m', same (variables_stay g (IsNumbered hs m' c.2) (free hs m' c.2) (shaped hs m' c.2) (begun hs m' c.2) (varied hs m' c.2) (c.0, c.1) vs p))
+    layer_numbered hs m' c (dlayer.Variables vs) p e = (
+      m',
+      same (variables_stay g (IsNumbered hs m' c.2) (free hs m' c.2) (shaped hs m' c.2) (begun hs m' c.2)
+          (varied hs m' c.2) (c.0, c.1) vs p),
+    )
       where
         same : {s : S} → IsNumbered hs m' c.2 s → IsNumbered (hs ++ []) m' c.2 s
         same {s = s} q = subst (λ (ks : List Heading). IsNumbered ks m' c.2 s) (sym (append-nil hs)) q
-    layer_numbered hs m' c (dlayer.Procedure h b) p e = heading_more hs m' c.2 h c.0 (name_standing (find_name h.name.name c.0.own)) refl p (beside_second g _ _ (beside_second g _ _ e))
+    layer_numbered hs m' c (dlayer.Procedure h b) p e =
+        heading_more hs m' c.2 h c.0 (name_standing (find_name h.name.name c.0.own)) refl p
+        (beside_second g _ _ (beside_second g _ _ e))
 
-    pub decls_numbered : (hs : List Heading) (m' : ℕ) (ds : List Decl) (c : Course g.Reported) → IsNumbered hs m' c.2 c.0 → (fold (with_decl g ends) c ds).1 ≡ Ok tt → (m'' : ℕ) × IsNumbered (hs ++ headings_in ds) m'' (fold (with_decl g ends) c ds).2 (fold (with_decl g ends) c ds).0
-    decls_numbered hs m' [] c p e = (m', subst (λ (ks : List Heading). IsNumbered ks m' c.2 c.0) (sym (append-nil hs)) p)
+    pub decls_numbered : (hs : List Heading) (m' : ℕ) (ds : List Decl) (c : Course g.Reported)
+        → IsNumbered hs m' c.2 c.0 → (fold (with_decl g ends) c ds).1 ≡ Ok tt → (m'' : ℕ)
+        × IsNumbered (hs ++ headings_in ds) m'' (fold (with_decl g ends) c ds).2 (fold (with_decl g ends) c ds).0
+    decls_numbered hs m' [] c p e = (
+      m',
+      subst (λ (ks : List Heading). IsNumbered ks m' c.2 c.0) (sym (append-nil hs))
+          p,
+    )
     decls_numbered hs m' (d ∷ ds) c p e =
         let q = layer_numbered hs m' c (out-Decl d) p (decls_fine g home level ends ds (with_decl g ends c d) e) in
-        let r = decls_numbered (hs ++ headings_by (out-Decl d)) q.0 ds (with_decl g ends c d) q.1 e in
-        (r.0, subst (λ (ks : List Heading). IsNumbered ks r.0 (fold (with_decl g ends) c (d ∷ ds)).2 (fold (with_decl g ends) c (d ∷ ds)).0) (append_assoc hs (headings_by (out-Decl d)) (headings_in ds)) r.1)
+        let r = decls_numbered (hs ++ headings_by (out-Decl d)) q.0 ds (with_decl g ends c d) q.1 e in (
+          r.0,
+          subst (λ (ks : List Heading). IsNumbered ks r.0 (fold (with_decl g ends) c (d ∷ ds)).2
+              (fold (with_decl g ends) c (d ∷ ds)).0) (append_assoc hs (headings_by (out-Decl d)) (headings_in ds)) r.1,
+        )

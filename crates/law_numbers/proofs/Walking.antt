@@ -40,7 +40,8 @@ use Rattle.law_folds.proofs.BlockSteps.{heading_keeps}
 
 -- ---- what stands under the name of a heading
 
-pub waiting : {T : Type 0} (o : Option (Known T)) (p : ModuleProcedure) → name_standing o ≡ Awaited p → o ≡ Some (Declared Here (Ok (meaning.Procedure p)))
+pub waiting : {T : Type 0} (o : Option (Known T)) (p : ModuleProcedure) → name_standing o ≡ Awaited p
+    → o ≡ Some (Declared Here (Ok (meaning.Procedure p)))
 waiting None p e = absurd cc
 waiting (Some Later) p e = absurd cc
 waiting (Some Ahead) p e = absurd cc
@@ -48,8 +49,10 @@ waiting (Some Begun) p e = absurd cc
 waiting (Some (Headed m)) p e = absurd cc
 waiting {T = T} (Some (Declared Here (Ok m))) p e = by_meaning m e
   where
-    by_meaning : (m : Meaning) → standing_of m ≡ Awaited p → ◌≡◌ {A = Option (Known T)} (Some (Declared Here (Ok m))) (Some (Declared Here (Ok (meaning.Procedure p))))
-    by_meaning (meaning.Procedure q) e = let w : q ≡ p = cc e in ap (λ (z : ModuleProcedure). Some (Declared Here (Ok (meaning.Procedure z)))) w
+    by_meaning : (m : Meaning) → standing_of m ≡ Awaited p
+        → ◌≡◌ {A = Option (Known T)} (Some (Declared Here (Ok m))) (Some (Declared Here (Ok (meaning.Procedure p))))
+    by_meaning (meaning.Procedure q) e = let w : q ≡ p = cc e in
+        ap (λ (z : ModuleProcedure). Some (Declared Here (Ok (meaning.Procedure z)))) w
     by_meaning (meaning.Constant v) e = absurd cc
     by_meaning (meaning.Type t n) e = absurd cc
     by_meaning (meaning.Variable v) e = absurd cc
@@ -71,15 +74,20 @@ pub data IsEntered {T : Type 0} : Known T → Type 0 where
   ahead_is : IsEntered Ahead
   begun_is : IsEntered Begun
   headed_is : (r : Result Meaning (Meaningless T)) → IsEntered (Headed r)
-  declared_is : (r : Result Meaning T) → ((p : ModuleProcedure) → r ≡ Ok (meaning.Procedure p) → ⊥) → IsEntered (Declared Here r)
+  declared_is : (r : Result Meaning T) → ((p : ModuleProcedure) → r ≡ Ok (meaning.Procedure p) → ⊥)
+      → IsEntered (Declared Here r)
 
-no_procedure : {A T : Type 0} (r : Result A T) (f : A → Meaning) → ((x : A) (p : ModuleProcedure) → f x ≡ meaning.Procedure p → ⊥) → (p : ModuleProcedure) → (r ▷ λ x. Ok (f x)) ≡ Ok (meaning.Procedure p) → ⊥
+no_procedure : {A T : Type 0} (r : Result A T) (f : A → Meaning)
+    → ((x : A) (p : ModuleProcedure) → f x ≡ meaning.Procedure p → ⊥) → (p : ModuleProcedure)
+    → (r ▷ λ x. Ok (f x)) ≡ Ok (meaning.Procedure p) → ⊥
 no_procedure (Ok x) f n p e = n x p (cc e)
 no_procedure (Err q) f n p e = absurd cc
 
 -- ---- a fact that stays while names that are free are entered
 
-module _ (g : Gathers) (P : Scope g.Reported → Type 0) (frees : (s : Scope g.Reported) (name : List ℕ) (k : Known g.Reported) → IsEntered k → is_free (find_name name s.own) ≡ true → P s → P (with_known name k s)) where
+module _ (g : Gathers) (P : Scope g.Reported → Type 0)
+    (frees : (s : Scope g.Reported) (name : List ℕ) (k : Known g.Reported) → IsEntered k
+    → is_free (find_name name s.own) ≡ true → P s → P (with_known name k s)) where
   pub begun_stays : (s : Scope g.Reported) (name : Ident) → P s → P (begin_name g s name).0
   begun_stays s name = unless_keeps g (fact P) s name Begun (λ e. frees s name.name Begun begun_is e)
 
@@ -95,7 +103,8 @@ module _ (g : Gathers) (P : Scope g.Reported → Type 0) (frees : (s : Scope g.R
     ahead = λ s name e. frees s name Ahead ahead_is (ap is_free e);
   }
 
-  pub decls_marks : (ds : List Decl) (st : Scope g.Reported × List ℕ) → P st.0 → P (fold (with_marks marked_decl) st ds).0
+  pub decls_marks : (ds : List Decl) (st : Scope g.Reported × List ℕ) → P st.0
+      → P (fold (with_marks marked_decl) st ds).0
   decls_marks = all_marks.decls_marks marks
 
   -- ---- types
@@ -113,7 +122,8 @@ module _ (g : Gathers) (P : Scope g.Reported → Type 0) (frees : (s : Scope g.R
 
     -- ---- a fact that also stays while names that were begun are finished
 
-    module _ (finishes : (s : Scope g.Reported) (name : List ℕ) (k : Known g.Reported) → IsEntered k → is_begun (find_name name s.own) ≡ true → P s → P (with_known name k s)) where
+    module _ (finishes : (s : Scope g.Reported) (name : List ℕ) (k : Known g.Reported) → IsEntered k
+        → is_begun (find_name name s.own) ≡ true → P s → P (with_known name k s)) where
       names : KeepsNames g (λ s t. P s → P t)
       names = record {
         types = types;
@@ -125,7 +135,8 @@ module _ (g : Gathers) (P : Scope g.Reported → Type 0) (frees : (s : Scope g.R
             (declared_is _ (no_procedure t (λ v. meaning.Type v n) (λ v p e. absurd cc)));
       }
 
-      pub constants_stay : (cs : List Constant) (st : State (Unit {0}) g.Reported) → P st.0 → P (fold (with_constant g) st cs).0
+      pub constants_stay : (cs : List Constant) (st : State (Unit {0}) g.Reported) → P st.0
+          → P (fold (with_constant g) st cs).0
       constants_stay = constants_keep g names
 
       pub types_stay : (ts : List TypeDecl) (st : State (Unit {0}) g.Reported) → P st.0 → P (fold (with_type g) st ts).0
@@ -148,12 +159,15 @@ module _ (g : Gathers) (P : Scope g.Reported → Type 0) (frees : (s : Scope g.R
             (λ v p e. absurd cc)))
             e (varied s t h)
 
-        pub variables_stay : (st : State (Unit {0}) g.Reported) (vs : List Variables) → P st.0 → P (with_variables_of g st vs).0
+        pub variables_stay : (st : State (Unit {0}) g.Reported) (vs : List Variables) → P st.0
+            → P (with_variables_of g st vs).0
         variables_stay st vs = variables_of_keep g names varied variable_ends local_ends vs st
 
       -- ---- and while procedures get their headings
 
-      module _ (awaits : (s : Scope g.Reported) (name : List ℕ) (p : ModuleProcedure) (k : Known g.Reported) → name_standing (find_name name s.own) ≡ Awaited p → P s → P (with_known name k s)) (headed : (s : Scope g.Reported) (t : Result TypeNo g.Reported) → P s → P (with_procedure_type s t)) where
+      module _ (awaits : (s : Scope g.Reported) (name : List ℕ) (p : ModuleProcedure) (k : Known g.Reported)
+          → name_standing (find_name name s.own) ≡ Awaited p → P s → P (with_known name k s))
+          (headed : (s : Scope g.Reported) (t : Result TypeNo g.Reported) → P s → P (with_procedure_type s t)) where
         pub heading_stays : (s : Scope g.Reported) (x : Heading) (n : ℕ) → P s → P (with_heading g s n x).0
         heading_stays s x n =
             heading_keeps g types.order types.headings

@@ -20,19 +20,26 @@ listed x = map-Decl Decl Block Counts Counts within_decl within x
 
 pub within_is : (d : Decl) (x : Decl-F Decl Block) → out-Decl d ≡ x → within_decl d ≡ decl_layer (listed x)
 unfolding within_decl within
-within_is d x h = fold_out-Decl Counts Counts decl_layer block_layer d ∙ ap (λ (y : Decl-F Decl Block). decl_layer (map-Decl Decl Block Counts Counts within_decl within y)) h
+within_is d x h = fold_out-Decl Counts Counts decl_layer block_layer d
+    ∙ ap (λ (y : Decl-F Decl Block). decl_layer (map-Decl Decl Block Counts Counts within_decl within y)) h
 
-counted_is : (d : Decl) (x : Decl-F Decl Block) → out-Decl d ≡ x → counted d ≡ counted_decl (map-Decl Decl Block ℕ ℕ counted procedures_in x)
+counted_is : (d : Decl) (x : Decl-F Decl Block) → out-Decl d ≡ x
+    → counted d ≡ counted_decl (map-Decl Decl Block ℕ ℕ counted procedures_in x)
 unfolding procedures_in
-counted_is d x h = fold_out-Decl ℕ ℕ counted_decl counted_block d ∙ ap (λ (y : Decl-F Decl Block). counted_decl (map-Decl Decl Block ℕ ℕ counted procedures_in y)) h
+counted_is d x h = fold_out-Decl ℕ ℕ counted_decl counted_block d
+    ∙ ap (λ (y : Decl-F Decl Block). counted_decl (map-Decl Decl Block ℕ ℕ counted procedures_in y)) h
 
-pub within_block : (b : Block) (x : Block-F Decl Block) → out-Block b ≡ x → within b ≡ fold append_names [] (map within_decl x.decls)
+pub within_block : (b : Block) (x : Block-F Decl Block) → out-Block b ≡ x
+    → within b ≡ fold append_names [] (map within_decl x.decls)
 unfolding within_decl within
-within_block b x h = fold_out-Block Counts Counts decl_layer block_layer b ∙ ap (λ (y : Block-F Decl Block). fold append_names [] (map within_decl y.decls)) h
+within_block b x h = fold_out-Block Counts Counts decl_layer block_layer b
+    ∙ ap (λ (y : Block-F Decl Block). fold append_names [] (map within_decl y.decls)) h
 
-counted_block_is : (b : Block) (x : Block-F Decl Block) → out-Block b ≡ x → procedures_in b ≡ fold (λ n k. n + k) 0 (map counted x.decls)
+counted_block_is : (b : Block) (x : Block-F Decl Block) → out-Block b ≡ x
+    → procedures_in b ≡ fold (λ n k. n + k) 0 (map counted x.decls)
 unfolding procedures_in
-counted_block_is b x h = fold_out-Block ℕ ℕ counted_decl counted_block b ∙ ap (λ (y : Block-F Decl Block). fold (λ n k. n + k) 0 (map counted y.decls)) h
+counted_block_is b x h = fold_out-Block ℕ ℕ counted_decl counted_block b
+    ∙ ap (λ (y : Block-F Decl Block). fold (λ n k. n + k) 0 (map counted y.decls)) h
 
 -- ---- by induction over blocks
 
@@ -51,24 +58,32 @@ SB = (b : Block) × PB b
 abbrev bare : Decl-F SD SB → Decl-F Decl Block
 bare x = map-Decl SD SB Decl Block (λ e. e.0) (λ e. e.0) x
 
-layer_counts : (y : Decl-F SD SB) → length (decl_layer (listed (bare y))) ≡ counted_decl (map-Decl Decl Block ℕ ℕ counted procedures_in (bare y))
+layer_counts : (y : Decl-F SD SB) → length (decl_layer (listed (bare y)))
+    ≡ counted_decl (map-Decl Decl Block ℕ ℕ counted procedures_in (bare y))
 layer_counts (layer.Constants cs) = refl
 layer_counts (layer.Types ts) = refl
 layer_counts (layer.Variables vs) = refl
 layer_counts (layer.Procedure h b) = let e = b.1 in omega (arith, e)
 
 step_decl : (x : Decl-F Decl Block) (y : Decl-F SD SB) → bare y ≡ x → PD (roll-Decl x)
-step_decl x y q = ap length (within_is (roll-Decl x) (bare y) (out-roll-Decl x ∙ sym q)) ∙ layer_counts y ∙ sym (counted_is (roll-Decl x) (bare y) (out-roll-Decl x ∙ sym q))
+step_decl x y q = ap length (within_is (roll-Decl x) (bare y) (out-roll-Decl x ∙ sym q)) ∙ layer_counts y
+    ∙ sym (counted_is (roll-Decl x) (bare y) (out-roll-Decl x ∙ sym q))
 
-sum_counts : (acc : List ℕ) (n : ℕ) → length acc ≡ n → (xs : List SD) → length (fold append_names acc (map within_decl (map (λ (x : SD). x.0) xs))) ≡ fold (λ n k. n + k) n (map counted (map (λ (x : SD). x.0) xs))
+sum_counts : (acc : List ℕ) (n : ℕ) → length acc ≡ n → (xs : List SD)
+    → length (fold append_names acc (map within_decl (map (λ (x : SD). x.0) xs)))
+    ≡ fold (λ n k. n + k) n (map counted (map (λ (x : SD). x.0) xs))
 sum_counts acc n e [] = e
-sum_counts acc n e (x ∷ xs) = let l = length-append acc (within_decl x.0) in let k = x.1 in sum_counts (acc ++ within_decl x.0) (n + counted x.0) (omega (arith, l, k, e)) xs
+sum_counts acc n e (x ∷ xs) = let l = length-append acc (within_decl x.0) in let k = x.1 in
+    sum_counts (acc ++ within_decl x.0) (n + counted x.0) (omega (arith, l, k, e)) xs
 
-step_block : (x : Block-F Decl Block) (y : Block-F SD SB) → map-Block SD SB Decl Block (λ e. e.0) (λ e. e.0) y ≡ x → PB (roll-Block x)
+step_block : (x : Block-F Decl Block) (y : Block-F SD SB) → map-Block SD SB Decl Block (λ e. e.0) (λ e. e.0) y ≡ x
+    → PB (roll-Block x)
 step_block x y q =
-    ap length (within_block (roll-Block x) (map-Block SD SB Decl Block (λ e. e.0) (λ e. e.0) y) (out-roll-Block x ∙ sym q))
+    ap length (within_block (roll-Block x) (map-Block SD SB Decl Block (λ e. e.0) (λ e. e.0) y)
+    (out-roll-Block x ∙ sym q))
     ∙ sum_counts [] 0 refl y.decls
-    ∙ sym (counted_block_is (roll-Block x) (map-Block SD SB Decl Block (λ e. e.0) (λ e. e.0) y) (out-roll-Block x ∙ sym q))
+    ∙ sym (counted_block_is (roll-Block x) (map-Block SD SB Decl Block (λ e. e.0) (λ e. e.0) y)
+    (out-roll-Block x ∙ sym q))
 
 pub procedures_counted : (b : Block) → length (within b) ≡ procedures_in b
 procedures_counted = ind-Block PD PB step_decl step_block
@@ -92,4 +107,5 @@ behind_counts m n (d ∷ ds) =
 pub block_behind : (n : ℕ) (b : Block) → behind_nested n (out-Block b).decls ≡ n + procedures_in b
 block_behind n b =
     let z : n ≡ n + 0 = omega arith in
-    ap (λ (k : ℕ). behind_nested k (out-Block b).decls) z ∙ behind_counts n 0 (out-Block b).decls ∙ ap (λ (k : ℕ). n + k) (sym (counted_block_is b (out-Block b) refl))
+    ap (λ (k : ℕ). behind_nested k (out-Block b).decls) z ∙ behind_counts n 0 (out-Block b).decls
+    ∙ ap (λ (k : ℕ). n + k) (sym (counted_block_is b (out-Block b) refl))

@@ -83,13 +83,16 @@ left_append (x ∷ ms) ns = ap (with_left x.0 x.1) (left_append ms ns) ∙ with_
 
 slots_append : (ms ns : Marks) → marked_slots (ms ++ ns) ≡ marked_slots ms ++ marked_slots ns
 slots_append [] ns = refl
-slots_append (x ∷ ms) ns = ap (λ (ss : List (Option ℕ)). slot_row x.0 x.1 ++ ss) (slots_append ms ns) ∙ sym (append_assoc (slot_row x.0 x.1) (marked_slots ms) (marked_slots ns))
+slots_append (x ∷ ms) ns = ap (λ (ss : List (Option ℕ)). slot_row x.0 x.1 ++ ss) (slots_append ms ns)
+    ∙ sym (append_assoc (slot_row x.0 x.1) (marked_slots ms) (marked_slots ns))
 
 bytes_append : (ms ns : Marks) → marked_bytes (ms ++ ns) ≡ marked_bytes ms ++ marked_bytes ns
 bytes_append [] ns = refl
 bytes_append (x ∷ ms) ns =
     let v : List ℕ = replicate (variables x.0) 0 in let t : List ℕ = text_row x.0 x.1 in
-    ap (λ (bs : List ℕ). v ++ (t ++ bs)) (bytes_append ms ns) ∙ ap (λ (bs : List ℕ). v ++ bs) (sym (append_assoc t (marked_bytes ms) (marked_bytes ns))) ∙ sym (append_assoc v (t ++ marked_bytes ms) (marked_bytes ns))
+    ap (λ (bs : List ℕ). v ++ (t ++ bs)) (bytes_append ms ns)
+    ∙ ap (λ (bs : List ℕ). v ++ bs) (sym (append_assoc t (marked_bytes ms) (marked_bytes ns)))
+    ∙ sym (append_assoc v (t ++ marked_bytes ms) (marked_bytes ns))
 
 row_long : (b : TypedModule) (w : Mark) → length (slot_row b w) ≡ slots b
 row_long b None = length-replicate (slots b) None
@@ -97,7 +100,8 @@ row_long b (Some w) = somes_length (w.0 + 5) (slots b)
 
 pub slots_long : (ms : Marks) → length (marked_slots ms) ≡ slots_in (homes ms)
 slots_long [] = refl
-slots_long (x ∷ ms) = let i = length-append (slot_row x.0 x.1) (marked_slots ms) in let j = row_long x.0 x.1 in let k = slots_long ms in omega (arith, i, j, k)
+slots_long (x ∷ ms) = let i = length-append (slot_row x.0 x.1) (marked_slots ms) in let j = row_long x.0 x.1 in
+    let k = slots_long ms in omega (arith, i, j, k)
 
 text_long : (b : TypedModule) (w : Mark) → length (text_row b w) ≡ characters (module_texts b)
 text_long b None = length-replicate (characters (module_texts b)) 0
@@ -106,19 +110,23 @@ text_long b (Some w) = text_length (module_texts b)
 pub bytes_long : (ms : Marks) → length (marked_bytes ms) ≡ bytes_in (homes ms)
 bytes_long [] = refl
 bytes_long (x ∷ ms) =
-    let i = length-append (replicate (variables x.0) 0) (text_row x.0 x.1 ++ marked_bytes ms) in let j = length-append (text_row x.0 x.1) (marked_bytes ms) in
+    let i = length-append (replicate (variables x.0) 0) (text_row x.0 x.1 ++ marked_bytes ms) in
+    let j = length-append (text_row x.0 x.1) (marked_bytes ms) in
     let v : length (replicate {A = ℕ} (variables x.0) 0) ≡ variables x.0 = length-replicate (variables x.0) 0 in
     let t = text_long x.0 x.1 in let k = bytes_long ms in omega (arith, i, j, v, t, k)
 
 pub slots_unmarked : (p : Program) → marked_slots (unmarked p) ≡ replicate (slots_in p) None
 slots_unmarked [] = refl
-slots_unmarked (b ∷ bs) = ap (λ (ss : List (Option ℕ)). replicate (slots b) None ++ ss) (slots_unmarked bs) ∙ replicate-append-replicate (slots b) (slots_in bs) None
+slots_unmarked (b ∷ bs) = ap (λ (ss : List (Option ℕ)). replicate (slots b) None ++ ss) (slots_unmarked bs)
+    ∙ replicate-append-replicate (slots b) (slots_in bs) None
 
 pub bytes_unmarked : (p : Program) → marked_bytes (unmarked p) ≡ replicate (bytes_in p) 0
 bytes_unmarked [] = refl
 bytes_unmarked (b ∷ bs) =
     let v : ℕ = variables b in let c : ℕ = characters (module_texts b) in let n : ℕ = bytes_in bs in
-    ap (λ (xs : List ℕ). replicate v 0 ++ (replicate c 0 ++ xs)) (bytes_unmarked bs) ∙ ap (λ (xs : List ℕ). replicate v 0 ++ xs) (replicate-append-replicate c n 0) ∙ replicate-append-replicate v (c + n) 0
+    ap (λ (xs : List ℕ). replicate v 0 ++ (replicate c 0 ++ xs)) (bytes_unmarked bs)
+    ∙ ap (λ (xs : List ℕ). replicate v 0 ++ xs) (replicate-append-replicate c n 0)
+    ∙ replicate-append-replicate v (c + n) 0
     ∙ ap (λ (k : ℕ). replicate {A = ℕ} k 0) (omega arith)
 
 -- where a module that is not linked stands
@@ -132,19 +140,44 @@ record Split (ms : Marks) (before : Program) (b : TypedModule) (rest : Program) 
 one_same : (b c : TypedModule) (p q : Program) → b ∷ p ≡ c ∷ q → (b ≡ c) × (p ≡ q)
 one_same b c p q e = (cc e, cc e)
 
-split_by : (b c : TypedModule) (w : Mark) (ms : Marks) (before rest : Program) → with_left c w (left ms) ≡ before ++ b ∷ rest → ((front : Program) → left ms ≡ front ++ b ∷ rest → Split ms front b rest) → Split ((c, w) ∷ ms) before b rest
+split_by : (b c : TypedModule) (w : Mark) (ms : Marks) (before rest : Program)
+    → with_left c w (left ms) ≡ before ++ b ∷ rest
+    → ((front : Program) → left ms ≡ front ++ b ∷ rest → Split ms front b rest) → Split ((c, w) ∷ ms) before b rest
 split_by b c (Some w) ms before rest e on =
     let s = on before e in
-    record { front = (c, Some w) ∷ s.front; back = s.back; is = ap (λ (xs : Marks). (c, Some w) ∷ xs) s.is; front_left = s.front_left; back_left = s.back_left }
+    record {
+      front = (c, Some w) ∷ s.front;
+      back = s.back;
+      is = ap (λ (xs : Marks). (c, Some w) ∷ xs) s.is;
+      front_left =
+          s.front_left;
+      back_left = s.back_left;
+    }
 split_by b c None ms [] rest e on =
     let k = one_same c b (left ms) rest e in
-    record { front = []; back = ms; is = ap (λ (x : TypedModule). (x, None) ∷ ms) k.0; front_left = refl; back_left = k.1 }
+    record {
+      front = [];
+      back = ms;
+      is = ap (λ (x : TypedModule). (x, None) ∷ ms) k.0;
+      front_left = refl;
+      back_left =
+          k.1;
+    }
 split_by b c None ms (x ∷ before) rest e on =
     let k = one_same c x (left ms) (before ++ b ∷ rest) e in
     let s = on before k.1 in
-    record { front = (c, None) ∷ s.front; back = s.back; is = ap (λ (xs : Marks). (c, None) ∷ xs) s.is; front_left = ap (λ (y : TypedModule). y ∷ left s.front) k.0 ∙ ap (λ (p : Program). x ∷ p) s.front_left; back_left = s.back_left }
+    record {
+      front = (c, None) ∷ s.front;
+      back = s.back;
+      is = ap (λ (xs : Marks). (c, None) ∷ xs) s.is;
+      front_left =
+          ap (λ (y : TypedModule). y ∷ left s.front) k.0 ∙ ap (λ (p : Program). x ∷ p) s.front_left;
+      back_left =
+          s.back_left;
+    }
 
-split_at : (ms : Marks) (before : Program) (b : TypedModule) (rest : Program) → left ms ≡ before ++ b ∷ rest → Split ms before b rest
+split_at : (ms : Marks) (before : Program) (b : TypedModule) (rest : Program) → left ms ≡ before ++ b ∷ rest
+    → Split ms before b rest
 split_at [] [] b rest e = absurd cc
 split_at [] (x ∷ before) b rest e = absurd cc
 split_at (x ∷ ms) before b rest e = split_by b x.0 x.1 ms before rest e (λ front g. split_at ms front b rest g)
@@ -161,15 +194,18 @@ get_more (y ∷ xs) ys (suc i) x e = get_more xs ys i x e
 
 pub get_behind : {A : Type 0} (xs ys : List A) (i : ℕ) → slice_get (xs ++ ys) (length xs + i) ≡ slice_get ys i
 get_behind [] ys i = ap (slice_get ys) (omega arith)
-get_behind (x ∷ xs) ys i = let e : suc (length xs) + i ≡ suc (length xs + i) = omega arith in ap (slice_get (x ∷ (xs ++ ys))) e ∙ get_behind xs ys i
+get_behind (x ∷ xs) ys i = let e : suc (length xs) + i ≡ suc (length xs + i) = omega arith in
+    ap (slice_get (x ∷ (xs ++ ys))) e ∙ get_behind xs ys i
 
 pub own_at : (m first n i : ℕ) → i < n → slice_get (own_from m first n) i ≡ Some (Own m (first + i))
 own_at m first zero i lt = absurd (omega (arith, lt))
 own_at m first (suc n) zero lt = ap (λ (k : ℕ). Some (Own m k)) (omega arith)
-own_at m first (suc n) (suc i) lt = own_at m (suc first) n i (omega (arith, lt)) ∙ ap (λ (k : ℕ). Some (Own m k)) (omega arith)
+own_at m first (suc n) (suc i) lt = own_at m (suc first) n i (omega (arith, lt))
+    ∙ ap (λ (k : ℕ). Some (Own m k)) (omega arith)
 
 -- the module is linked as this instance
-pub record IsPlaced (p : Program) (fs : List Callee) (is : List Instance) (trees : List WModule) (b : TypedModule) (a m : ℕ) : Type 0 where
+pub record IsPlaced (p : Program) (fs : List Callee) (is : List Instance) (trees : List WModule) (b : TypedModule)
+    (a m : ℕ) : Type 0 where
   pub functions : (j : ℕ) → j < count b → slice_get (behind_host fs) (a + j) ≡ Some (Own (suc m) j)
   pub instance : slice_get is m ≡ Some (module_instance p a b)
   pub tree : slice_get trees m ≡ Some (typed_module b)
@@ -183,7 +219,8 @@ AllMarked p fs is trees [] = Unit {0}
 AllMarked p fs is trees (x ∷ ms) = IsMarked p fs is trees x.0 x.1 × AllMarked p fs is trees ms
 
 module _ (p : Program) (fs more : List Callee) (is others : List Instance) (trees : List WModule) where
-  placed_more : (b : TypedModule) (w : Mark) → IsMarked p fs is trees b w → IsMarked p (fs ++ more) (is ++ others) trees b w
+  placed_more : (b : TypedModule) (w : Mark) → IsMarked p fs is trees b w
+      → IsMarked p (fs ++ more) (is ++ others) trees b w
   placed_more b None h = tt
   placed_more b (Some w) h = record {
     functions = λ j lt. get_more (behind_host fs) more (w.0 + j) (Own (suc w.1) j) (h.functions j lt);
@@ -195,7 +232,9 @@ module _ (p : Program) (fs more : List Callee) (is others : List Instance) (tree
   marked_more [] h = tt
   marked_more (x ∷ ms) h = (placed_more x.0 x.1 h.0, marked_more ms h.1)
 
-marked_set : (p : Program) (fs : List Callee) (is : List Instance) (trees : List WModule) (front back : Marks) (b : TypedModule) (w : Mark) → AllMarked p fs is trees (front ++ (b, None) ∷ back) → IsMarked p fs is trees b w → AllMarked p fs is trees (front ++ (b, w) ∷ back)
+marked_set : (p : Program) (fs : List Callee) (is : List Instance) (trees : List WModule) (front back : Marks)
+    (b : TypedModule) (w : Mark) → AllMarked p fs is trees (front ++ (b, None) ∷ back) → IsMarked p fs is trees b w
+    → AllMarked p fs is trees (front ++ (b, w) ∷ back)
 marked_set p fs is trees [] back b w h k = (k, h.1)
 marked_set p fs is trees (x ∷ front) back b w h k = (h.0, marked_set p fs is trees front back b w h.1 k)
 
@@ -210,13 +249,16 @@ pub record AllLinked (p : Program) (pages spare : ℕ) (trees : List WModule) (r
   pub none_left : left marks ≡ []
   pub placed : AllMarked p (Own 0 0 ∷ functions) instances trees marks
   pub counted : length instances ≡ length trees
-  pub is : result ≡ store_with p pages (Own 0 0 ∷ functions) (marked_slots marks) (marked_bytes marks ++ replicate spare 0) instances
+  pub is : result ≡ store_with p pages (Own 0 0 ∷ functions) (marked_slots marks)
+      (marked_bytes marks ++ replicate spare 0) instances
 
-module _ (p : Program) (pages spare : ℕ) (room : bytes_in p + spare ≡ 65536 * pages) (le : 1 ≤ pages) (distinct : AreDistinct (names p)) (trees : List WModule) where
+module _ (p : Program) (pages spare : ℕ) (room : bytes_in p + spare ≡ 65536 * pages) (le : 1 ≤ pages)
+    (distinct : AreDistinct (names p)) (trees : List WModule) where
   abbrev state : List Callee → Marks → List Instance → Store
   state fs ms is = store_with p pages (Own 0 0 ∷ fs) (marked_slots ms) (marked_bytes ms ++ replicate spare 0) is
 
-  module _ (fs : List Callee) (is : List Instance) (front back : Marks) (b : TypedModule) (here : homes (front ++ (b, None) ∷ back) ≡ p) where
+  module _ (fs : List Callee) (is : List Instance) (front back : Marks) (b : TypedModule)
+      (here : homes (front ++ (b, None) ∷ back) ≡ p) where
     abbrev with_mark : Mark → Marks
     with_mark w = front ++ (b, w) ∷ back
 
@@ -229,45 +271,72 @@ module _ (p : Program) (pages spare : ℕ) (room : bytes_in p + spare ≡ 65536 
     slots_parts : (w : Mark) → marked_slots (with_mark w) ≡ marked_slots front ++ (slot_row b w ++ marked_slots back)
     slots_parts w = slots_append front ((b, w) ∷ back)
 
-    bytes_parts : (w : Mark) → marked_bytes (with_mark w) ++ replicate spare 0 ≡ marked_bytes front ++ (replicate (variables b) 0 ++ (text_row b w ++ high))
+    bytes_parts : (w : Mark) → marked_bytes (with_mark w) ++ replicate spare 0 ≡ marked_bytes front
+        ++ (replicate (variables b) 0 ++ (text_row b w ++ high))
     bytes_parts w =
-        let z : List ℕ = replicate spare 0 in let v : List ℕ = replicate (variables b) 0 in let t : List ℕ = text_row b w in
-        ap (λ (xs : List ℕ). xs ++ z) (bytes_append front ((b, w) ∷ back)) ∙ append_assoc (marked_bytes front) (v ++ (t ++ marked_bytes back)) z
-        ∙ ap (λ (xs : List ℕ). marked_bytes front ++ xs) (append_assoc v (t ++ marked_bytes back) z ∙ ap (λ (xs : List ℕ). v ++ xs) (append_assoc t (marked_bytes back) z))
+        let z : List ℕ = replicate spare 0 in let v : List ℕ = replicate (variables b) 0 in
+        let t : List ℕ = text_row b w in
+        ap (λ (xs : List ℕ). xs ++ z) (bytes_append front ((b, w) ∷ back))
+        ∙ append_assoc (marked_bytes front) (v ++ (t ++ marked_bytes back)) z
+        ∙ ap (λ (xs : List ℕ). marked_bytes front ++ xs)
+        (append_assoc v (t ++ marked_bytes back) z
+        ∙ ap (λ (xs : List ℕ). v ++ xs) (append_assoc t (marked_bytes back) z))
 
     parts : p ≡ homes front ++ b ∷ homes back
     parts = sym here ∙ homes_append front ((b, None) ∷ back)
 
-    size : length (marked_bytes front ++ (replicate (variables b) 0 ++ (replicate (characters (module_texts b)) 0 ++ high))) ≡ 65536 * pages
+    size : length (marked_bytes front ++ (replicate (variables b) 0
+        ++ (replicate (characters (module_texts b)) 0 ++ high))) ≡ 65536 * pages
     size =
-        let i = length-append (marked_bytes (with_mark None)) (replicate spare 0) in let j = bytes_long (with_mark None) in
+        let i = length-append (marked_bytes (with_mark None)) (replicate spare 0) in
+        let j = bytes_long (with_mark None) in
         let z : length (replicate {A = ℕ} spare 0) ≡ spare = length-replicate spare 0 in
         let k : bytes_in (homes (with_mark None)) ≡ bytes_in p = ap (λ (q : Program). bytes_in q) here in
         ap (λ (xs : List ℕ). length xs) (sym (bytes_parts None)) ∙ omega (arith, i, j, z, k, room)
 
     one_linked : (m : ℕ) → All (IsAmong (names p)) (imported_names b)
-        → linked_one (typed_link p pages ∷ trees) (suc m) (typed_module b) (state fs (with_mark None) is) ≡ Ok (state (fs ++ own_from (suc m) 0 (count b)) (with_mark (Some (address, m))) (is ++ module_instance p address b ∷ []))
+        → linked_one (typed_link p pages ∷ trees) (suc m) (typed_module b) (state fs (with_mark None) is)
+        ≡ Ok (state (fs ++ own_from (suc m) 0 (count b)) (with_mark (Some (address, m)))
+        (is ++ module_instance p address b ∷ []))
     one_linked m among =
-        ap (λ (ss : List (Option ℕ)). linked_one (typed_link p pages ∷ trees) (suc m) (typed_module b) (store_with p pages (Own 0 0 ∷ fs) ss (marked_bytes (with_mark None) ++ replicate spare 0) is)) (slots_parts None)
-        ∙ ap (λ (xs : List ℕ). linked_one (typed_link p pages ∷ trees) (suc m) (typed_module b) (store_with p pages (Own 0 0 ∷ fs) (marked_slots front ++ (replicate (slots b) None ++ marked_slots back)) xs is)) (bytes_parts None)
-        ∙ body_linked p pages trees le (homes front) (homes back) b parts distinct (Own 0 0 ∷ fs) (marked_slots front) (marked_slots back) (marked_bytes front) high is (slots_long front) (bytes_long front) (suc m) size among
-        ∙ ap (λ (ss : List (Option ℕ)). Ok (store_with p pages (Own 0 0 ∷ (fs ++ own_from (suc m) 0 (count b))) ss (marked_bytes front ++ (replicate (variables b) 0 ++ (text b ++ high))) (is ++ module_instance p address b ∷ []))) (sym (slots_parts (Some (address, m))))
-        ∙ ap (λ (xs : List ℕ). Ok (store_with p pages (Own 0 0 ∷ (fs ++ own_from (suc m) 0 (count b))) (marked_slots (with_mark (Some (address, m)))) xs (is ++ module_instance p address b ∷ []))) (sym (bytes_parts (Some (address, m))))
+        ap (λ (ss : List (Option ℕ)). linked_one (typed_link p pages ∷ trees) (suc m) (typed_module b)
+        (store_with p pages (Own 0 0 ∷ fs) ss (marked_bytes (with_mark None) ++ replicate spare 0) is))
+        (slots_parts None)
+        ∙ ap (λ (xs : List ℕ). linked_one (typed_link p pages ∷ trees) (suc m) (typed_module b)
+        (store_with p pages (Own 0 0 ∷ fs) (marked_slots front ++ (replicate (slots b) None ++ marked_slots back))
+        xs is)) (bytes_parts None)
+        ∙ body_linked p pages trees le (homes front) (homes back) b parts distinct (Own 0 0 ∷ fs) (marked_slots front)
+        (marked_slots back) (marked_bytes front) high is (slots_long front) (bytes_long front) (suc m) size among
+        ∙ ap (λ (ss : List (Option ℕ)). Ok (store_with p pages (Own 0 0 ∷ (fs ++ own_from (suc m) 0 (count b))) ss
+        (marked_bytes front ++ (replicate (variables b) 0 ++ (text b ++ high)))
+        (is ++ module_instance p address b ∷ []))) (sym (slots_parts (Some (address, m))))
+        ∙ ap (λ (xs : List ℕ). Ok (store_with p pages (Own 0 0 ∷ (fs ++ own_from (suc m) 0 (count b)))
+        (marked_slots (with_mark (Some (address, m)))) xs (is ++ module_instance p address b ∷ [])))
+        (sym (bytes_parts (Some (address, m))))
 
-    one_placed : (m : ℕ) → length is ≡ m → slice_get trees m ≡ Some (typed_module b) → IsPlaced p (Own 0 0 ∷ (fs ++ own_from (suc m) 0 (count b))) (is ++ module_instance p address b ∷ []) trees b address m
+    one_placed : (m : ℕ) → length is ≡ m → slice_get trees m ≡ Some (typed_module b)
+        → IsPlaced p (Own 0 0 ∷ (fs ++ own_from (suc m) 0 (count b))) (is ++ module_instance p address b ∷ []) trees b
+        address m
     one_placed m counted tree = record {
       functions = λ j lt.
-          get_behind (Put ∷ Stop ∷ Own 0 0 ∷ fs) (own_from (suc m) 0 (count b)) j ∙ own_at (suc m) 0 (count b) j lt ∙ ap (λ (k : ℕ). Some (Own (suc m) k)) (omega arith);
+          get_behind (Put ∷ Stop ∷ Own 0 0 ∷ fs) (own_from (suc m) 0 (count b)) j ∙ own_at (suc m) 0 (count b) j lt
+          ∙ ap (λ (k : ℕ). Some (Own (suc m) k)) (omega arith);
       instance =
-          subst (λ (k : ℕ). slice_get (is ++ module_instance p address b ∷ []) k ≡ Some (module_instance p address b)) counted
-          (let e : length is ≡ length is + 0 = omega arith in ap (slice_get (is ++ module_instance p address b ∷ [])) e ∙ get_behind is (module_instance p address b ∷ []) 0);
+          subst (λ (k : ℕ). slice_get (is ++ module_instance p address b ∷ []) k ≡ Some (module_instance p address b))
+          counted
+          (let e : length is ≡ length is + 0 = omega arith in
+          ap (slice_get (is ++ module_instance p address b ∷ [])) e
+          ∙ get_behind is (module_instance p address b ∷ []) 0);
       tree = tree;
     }
 
   -- from some marks on, the modules that are left in this order
-  pub order_linked : (q : Program) (todo : Program) → IsOrder todo q → (fs : List Callee) (is : List Instance) (ms : Marks) → left ms ≡ todo → homes ms ≡ p → AllMarked p (Own 0 0 ∷ fs) is trees ms → (before : List WModule) → length is ≡ length before
+  pub order_linked : (q : Program) (todo : Program) → IsOrder todo q
+      → (fs : List Callee) (is : List Instance) (ms : Marks) → left ms ≡ todo → homes ms ≡ p
+      → AllMarked p (Own 0 0 ∷ fs) is trees ms → (before : List WModule) → length is ≡ length before
       → trees ≡ before ++ map typed_module q → All (λ b. All (IsAmong (names p)) (imported_names b)) q
-      → (result : Store) × (linked_from (typed_link p pages ∷ trees) (suc (length is)) (map typed_module q) (state fs ms is) ≡ Ok result) × AllLinked p pages spare trees result
+      → (result : Store) × (linked_from (typed_link p pages ∷ trees) (suc (length is)) (map typed_module q)
+      (state fs ms is) ≡ Ok result) × AllLinked p pages spare trees result
   unfolding linked_from
   order_linked _ _ NoModules fs is ms todo here placed before counted rest among = (
     state fs ms is,
@@ -292,18 +361,35 @@ module _ (p : Program) (pages spare : ℕ) (room : bytes_in p + spare ≡ 65536 
       let now : Marks = s.front ++ (b, Some (a, m)) ∷ s.back in
       let here' : homes (s.front ++ (b, None) ∷ s.back) ≡ p = sym (ap homes s.is) ∙ here in
       let tree : slice_get trees m ≡ Some (typed_module b) =
-      ap (λ (ts : List WModule). slice_get ts m) trees_are ∙ ap (λ (k : ℕ). slice_get (before ++ typed_module b ∷ map typed_module q) k) counted
-      ∙ (let e : length before ≡ length before + 0 = omega arith in ap (slice_get (before ++ typed_module b ∷ map typed_module q)) e ∙ get_behind before (typed_module b ∷ map typed_module q) 0)
+      ap (λ (ts : List WModule). slice_get ts m) trees_are
+      ∙ ap (λ (k : ℕ). slice_get (before ++ typed_module b ∷ map typed_module q) k) counted
+      ∙ (let e : length before ≡ length before + 0 = omega arith in
+      ap (slice_get (before ++ typed_module b ∷ map typed_module q)) e
+      ∙ get_behind before (typed_module b ∷ map typed_module q) 0)
       in
-      let old : AllMarked p (Own 0 0 ∷ (fs ++ more)) (is ++ i ∷ []) trees (s.front ++ (b, None) ∷ s.back) = marked_more p (Own 0 0 ∷ fs) more is (i ∷ []) trees (s.front ++ (b, None) ∷ s.back) (subst (AllMarked p (Own 0 0 ∷ fs) is trees) s.is placed) in
-      let new : AllMarked p (Own 0 0 ∷ (fs ++ more)) (is ++ i ∷ []) trees now = marked_set p (Own 0 0 ∷ (fs ++ more)) (is ++ i ∷ []) trees s.front s.back b (Some (a, m)) old (one_placed fs is s.front s.back b here' m refl tree) in
+      let old : AllMarked p (Own 0 0 ∷ (fs ++ more)) (is ++ i ∷ []) trees (s.front ++ (b, None) ∷ s.back) =
+      marked_more p (Own 0 0 ∷ fs) more is (i ∷ []) trees (s.front ++ (b, None) ∷ s.back)
+      (subst (AllMarked p (Own 0 0 ∷ fs) is trees) s.is placed) in
+      let new : AllMarked p (Own 0 0 ∷ (fs ++ more)) (is ++ i ∷ []) trees now =
+      marked_set p (Own 0 0 ∷ (fs ++ more)) (is ++ i ∷ []) trees s.front s.back b (Some (a, m)) old
+      (one_placed fs is s.front s.back b here' m refl tree) in
       let longer : length (is ++ i ∷ []) ≡ suc m = (let l = length-append is (i ∷ []) in omega (arith, l)) in
-      let longer' : length (before ++ typed_module b ∷ []) ≡ suc m = (let l = length-append before (typed_module b ∷ []) in omega (arith, l, counted)) in
-      let next = order_linked q (front ++ rest) o (fs ++ more) (is ++ i ∷ []) now (left_append s.front ((b, Some (a, m)) ∷ s.back) ∙ ap (λ (x : Program). x ++ left s.back) s.front_left ∙ ap (λ (x : Program). front ++ x) s.back_left)
-      (homes_append s.front ((b, Some (a, m)) ∷ s.back) ∙ sym (homes_append s.front ((b, None) ∷ s.back)) ∙ here') new (before ++ typed_module b ∷ []) (longer ∙ sym longer')
-      (trees_are ∙ sym (append_assoc before (typed_module b ∷ []) (map typed_module q))) (All-tail (λ b. All (IsAmong (names p)) (imported_names b)) b q among)
+      let longer' : length (before ++ typed_module b ∷ []) ≡ suc m =
+      (let l = length-append before (typed_module b ∷ []) in omega (arith, l, counted)) in
+      let next = order_linked q (front ++ rest) o (fs ++ more) (is ++ i ∷ []) now
+      (left_append s.front ((b, Some (a, m)) ∷ s.back) ∙ ap (λ (x : Program). x ++ left s.back) s.front_left
+      ∙ ap (λ (x : Program). front ++ x) s.back_left)
+      (homes_append s.front ((b, Some (a, m)) ∷ s.back) ∙ sym (homes_append s.front ((b, None) ∷ s.back)) ∙ here') new
+      (before ++ typed_module b ∷ []) (longer ∙ sym longer')
+      (trees_are ∙ sym (append_assoc before (typed_module b ∷ []) (map typed_module q)))
+      (All-tail (λ b. All (IsAmong (names p)) (imported_names b)) b q among)
       in
-      let first = subst (λ (xs : Marks). linked_one (typed_link p pages ∷ trees) (suc m) (typed_module b) (state fs xs is) ≡ Ok (state (fs ++ more) now (is ++ i ∷ []))) (sym s.is)
+      let first = subst (λ (xs : Marks). linked_one (typed_link p pages ∷ trees) (suc m) (typed_module b)
+      (state fs xs is) ≡ Ok (state (fs ++ more) now (is ++ i ∷ []))) (sym s.is)
       (one_linked fs is s.front s.back b here' m (All-head (λ b. All (IsAmong (names p)) (imported_names b)) b q among))
-      in
-      (next.0, rw first (subst (λ (k : ℕ). linked_from (typed_link p pages ∷ trees) (suc k) (map typed_module q) (state (fs ++ more) now (is ++ i ∷ [])) ≡ Ok next.0) longer next.1), next.2)
+      in (
+        next.0,
+        rw first (subst (λ (k : ℕ). linked_from (typed_link p pages ∷ trees) (suc k) (map typed_module q)
+            (state (fs ++ more) now (is ++ i ∷ [])) ≡ Ok next.0) longer next.1),
+        next.2,
+      )

@@ -59,14 +59,19 @@ unfilled_headings (h ∷ hs) zero t e = (empty_routine h, refl, same_Some h t e)
 unfilled_headings (h ∷ hs) (suc n) t e = unfilled_headings hs n t e
 
 -- what is known of a module that begins in this scope, and whose definition exports this
-pub record HasBegun (g : Gathers) (s : Scope g.Reported) (m : Module) (b : Block) (es : List (List ℕ × Meaning)) (made : TypedModule) : Type 0 where
+pub record HasBegun (g : Gathers) (s : Scope g.Reported) (m : Module) (b : Block) (es : List (List ℕ × Meaning))
+    (made : TypedModule) : Type 0 where
   pub home : s.types.home ≡ made.types.home
   pub opened : OpensAll made (open_in s.tables made.imports) g (numbered_modules s.tables).0 m.imports
-  pub names : AreFormedNames made (open_in s.tables made.imports) (declared_module g (numbered_modules s.tables).0 (procedure_ends (out-Block b).decls) s m (out-Block b).decls).0.own
-  pub outer : (declared_module g (numbered_modules s.tables).0 (procedure_ends (out-Block b).decls) s m (out-Block b).decls).0.outer ≡ predeclared_block ∷ []
+  pub names : AreFormedNames made (open_in s.tables made.imports)
+      (declared_module g (numbered_modules s.tables).0 (procedure_ends (out-Block b).decls) s m
+      (out-Block b).decls).0.own
+  pub outer : (declared_module g (numbered_modules s.tables).0 (procedure_ends (out-Block b).decls) s m
+      (out-Block b).decls).0.outer ≡ predeclared_block ∷ []
   pub heads : (n : ℕ) (t : TypeNo) → slice_get (exported_headings es) n ≡ Some t → IsRoutine made.procedures n t
 
-module _ (g : Gathers) (elaborates : Elaborates g.Reported) (forms : FormsStatements g elaborates) (s : Scope g.Reported) (m : Module) (b : Block) where
+module _ (g : Gathers) (elaborates : Elaborates g.Reported) (forms : FormsStatements g elaborates)
+    (s : Scope g.Reported) (m : Module) (b : Block) where
   abbrev decls : List Decl
   decls = (out-Block b).decls
 
@@ -92,7 +97,12 @@ module _ (g : Gathers) (elaborates : Elaborates g.Reported) (forms : FormsStatem
   course = fold declared_by (marks.0, imported.1, 0) xs
 
   abbrev start : Walk g.Reported
-  start = record { scope = course.0; so_far = beside g course.1 (reported_of_lack g m.name.pos course.0); bodies = no_bodies course.0.procedures }
+  start = record {
+    scope = course.0;
+    so_far = beside g course.1 (reported_of_lack g m.name.pos course.0);
+    bodies =
+        no_bodies course.0.procedures;
+  }
 
   abbrev end : Walk g.Reported
   end = from g elaborates ends None marks.1 (start, 0) xs
@@ -113,15 +123,18 @@ module _ (g : Gathers) (elaborates : Elaborates g.Reported) (forms : FormsStatem
   imported_keeps = import_keeps g modules m.imports (s, Ok tt)
 
   start_tables : start.scope.tables ≡ s.tables
-  start_tables = course_leads.tables ∙ (marks_lead other nothing_open).tables ∙ ap (λ (p : List Table × ℕ). p.0) imported_keeps
+  start_tables = course_leads.tables ∙ (marks_lead other nothing_open).tables
+      ∙ ap (λ (p : List Table × ℕ). p.0) imported_keeps
 
   start_home : start.scope.types.home ≡ s.types.home
-  start_home = course_leads.home ∙ (marks_lead other nothing_open).home ∙ ap (λ (p : List Table × ℕ). p.1) imported_keeps
+  start_home = course_leads.home ∙ (marks_lead other nothing_open).home
+      ∙ ap (λ (p : List Table × ℕ). p.1) imported_keeps
 
   end_home : s.types.home ≡ end.scope.types.home
   end_home = sym (end_keeps.home ∙ start_home)
 
-  module _ (own : Option Table) (ys : List TypedStmt) (tables : List Table) (es : List (List ℕ × Meaning)) (starts : Starts s tables es) (ok : end.so_far ≡ Ok tt) where
+  module _ (own : Option Table) (ys : List TypedStmt) (tables : List Table) (es : List (List ℕ × Meaning))
+      (starts : Starts s tables es) (ok : end.so_far ≡ Ok tt) where
     abbrev made : TypedModule
     made = typed_module end.scope modules own m end.bodies ys
 
@@ -133,7 +146,9 @@ module _ (g : Gathers) (elaborates : Elaborates g.Reported) (forms : FormsStatem
 
     imports_open : OpensAll made opens g modules m.imports
     imports_open =
-        subst (λ (us : List Table). OpensAll made (open_in s.tables (typed_imports modules us (all_imports modules us own m.imports))) g modules m.imports) (sym (end_keeps.tables ∙ start_tables))
+        subst (λ (us : List Table). OpensAll made
+        (open_in s.tables (typed_imports modules us (all_imports modules us own m.imports))) g modules m.imports)
+        (sym (end_keeps.tables ∙ start_tables))
         (opens_all modules s.tables made g own m.imports)
 
     imports_leads : Leads made opens s imported.0
@@ -144,15 +159,19 @@ module _ (g : Gathers) (elaborates : Elaborates g.Reported) (forms : FormsStatem
 
     begun_awaits : AwaitsOwn s
     begun_awaits name p e =
-        let k = own_await g.Reported s.types.home (exported_headings es) es starts.exports starts.numbers name p (ap (λ (ns : List (List ℕ × Known g.Reported)). name_standing (find_name name ns)) (sym starts.own) ∙ e) in
+        let k = own_await g.Reported s.types.home (exported_headings es) es starts.exports starts.numbers name p
+        (ap (λ (ns : List (List ℕ × Known g.Reported)). name_standing (find_name name ns)) (sym starts.own) ∙ e) in
         (k.0, ap (λ (hs : List TypeNo). slice_get hs p.number) starts.procedures ∙ k.1)
 
     course_ok : course.1 ≡ Ok tt
-    course_ok = beside_left g course.1 (reported_of_lack g m.name.pos course.0) (checked_reported g elaborates ends None marks.1 ps (start, 0) ok)
+    course_ok = beside_left g course.1 (reported_of_lack g m.name.pos course.0)
+        (checked_reported g elaborates ends None marks.1 ps (start, 0) ok)
 
     heads : ModuleHeadsIn g elaborates ends course.0.own course.0.types course.0.procedures ps
-    heads = heads_in g elaborates ends course.0.own course.0.types course.0.procedures ps (marks.0, imported.1, 0) course.0 refl refl refl refl
-        (ap (λ (n : ℕ). n == 0) marked_leads.level ∙ starts.level) (awaits_kept g made opens s marks.0 marked_leads begun_awaits) course_ok
+    heads = heads_in g elaborates ends course.0.own course.0.types course.0.procedures ps (marks.0, imported.1, 0)
+        course.0 refl refl refl refl
+        (ap (λ (n : ℕ). n == 0) marked_leads.level ∙ starts.level)
+        (awaits_kept g made opens s marks.0 marked_leads begun_awaits) course_ok
 
     start_outer : start.scope.outer ≡ predeclared_block ∷ []
     start_outer = course_leads.outer ∙ marked_leads.outer ∙ starts.outer
@@ -170,22 +189,26 @@ module _ (g : Gathers) (elaborates : Elaborates g.Reported) (forms : FormsStatem
     numbers = numbers_in g elaborates forms ends None decls refl
 
     goes : Goes g elaborates ends None course.0.own course.0.types course.0.procedures start end
-    goes = all_go g elaborates ends None course.0.own course.0.types course.0.procedures marks.1 ps (start, 0) 0 stands heads numbers ok
+    goes = all_go g elaborates ends None course.0.own course.0.types course.0.procedures marks.1 ps (start, 0) 0 stands
+        heads numbers ok
 
     headings : Headings course.0.procedures end.bodies.procedures
     headings = goes.headings (unfilled_headings course.0.procedures)
 
     own_there : (n : ℕ) (t : TypeNo) → slice_get (exported_headings es) n ≡ Some t → IsRoutine end.bodies.procedures n t
-    own_there n t e = headings n t (course_leads.procedures n t (marked_leads.procedures n t (ap (λ (hs : List TypeNo). slice_get hs n) starts.procedures ∙ e)))
+    own_there n t e = headings n t (course_leads.procedures n t
+        (marked_leads.procedures n t (ap (λ (hs : List TypeNo). slice_get hs n) starts.procedures ∙ e)))
 
     begun_formed : AreFormedNames made opens s.own
     begun_formed =
         subst (λ (ns : List (List ℕ × Known g.Reported)). AreFormedNames made opens ns) (sym starts.own)
-        (own_formed made opens s.types.home (exported_headings es) end_home own_there g.Reported es starts.exports starts.numbers)
+        (own_formed made opens s.types.home (exported_headings es) end_home own_there g.Reported es starts.exports
+        starts.numbers)
 
     headed_leads : Leads made opens marks.0 course.0
     headed_leads =
-        heads_formed g elaborates ends course.0.own course.0.types course.0.procedures made opens (sym end_keeps.home) headings ps (marks.0, imported.1, 0) course.0 refl refl heads
+        heads_formed g elaborates ends course.0.own course.0.types course.0.procedures made opens (sym end_keeps.home)
+        headings ps (marks.0, imported.1, 0) course.0 refl refl heads
 
     names_formed : AreFormedNames made opens course.0.own
     names_formed = headed_leads.formed (marked_leads.home ∙ end_home) (marked_leads.formed end_home begun_formed)
@@ -202,7 +225,9 @@ module _ (g : Gathers) (elaborates : Elaborates g.Reported) (forms : FormsStatem
         }
 
 module _ (g : Gathers) where
-  both_begun : {P : TypedModule → Type 0} (a : Result (Unit {0}) g.Reported) (r : Result (List TypedStmt) g.Reported) (f : List TypedStmt → TypedModule) → ((ys : List TypedStmt) → a ≡ Ok tt → P (f ys)) → Holds P (both g a r ▷ λ p. Ok (f p.1))
+  both_begun : {P : TypedModule → Type 0} (a : Result (Unit {0}) g.Reported) (r : Result (List TypedStmt) g.Reported)
+      (f : List TypedStmt → TypedModule) → ((ys : List TypedStmt) → a ≡ Ok tt → P (f ys))
+      → Holds P (both g a r ▷ λ p. Ok (f p.1))
   both_begun (Ok u) (Ok ys) f k = fine (f ys) (k ys refl)
   both_begun (Ok u) (Err e) f k = broken e
   both_begun (Err e) (Ok ys) f k = broken e
@@ -219,47 +244,86 @@ module _ (g : Gathers) where
       abbrev behind : Declared g.Reported → Checked g.Reported
       behind d =
           with_statements elaborates None body
-          (bodies_checked g elaborates (procedure_ends ds) None d.2 (record { scope = d.0; so_far = beside g d.1 (reported_of_lack g m.name.pos d.0); bodies = no_bodies d.0.procedures }) ds)
+          (bodies_checked g elaborates (procedure_ends ds) None d.2
+          (record {
+            scope = d.0;
+            so_far = beside g d.1 (reported_of_lack g m.name.pos d.0);
+            bodies =
+                no_bodies d.0.procedures;
+          }) ds)
 
       abbrev last : Walk g.Reported
       last = end g elaborates forms s m b
 
-      walk_is : ◌≡◌ {A = Checked g.Reported} (walk_body g elaborates (numbered_modules s.tables).0 (procedure_ends ds) s m b) (last, statements_of elaborates last.scope None body)
+      walk_is : ◌≡◌ {A = Checked g.Reported}
+          (walk_body g elaborates (numbered_modules s.tables).0 (procedure_ends ds) s m b)
+          (last, statements_of elaborates last.scope None body)
       walk_is =
           ap behind (declared_is g elaborates forms (procedure_ends ds) (imported g elaborates forms s m b) 0 ds)
           ∙ ap (λ (w : Walk g.Reported). with_statements elaborates None body w)
-          (bodies_are g elaborates forms (procedure_ends ds) None (marks g elaborates forms s m b).1 (start g elaborates forms s m b) ds)
+          (bodies_are g elaborates forms (procedure_ends ds) None (marks g elaborates forms s m b).1
+          (start g elaborates forms s m b) ds)
 
-      body_begun : (tables : List Table) (es : List (List ℕ × Meaning)) → Starts s tables es → Holds (HasBegun g s m b es) (of_body g elaborates s own m b)
+      body_begun : (tables : List Table) (es : List (List ℕ × Meaning)) → Starts s tables es
+          → Holds (HasBegun g s m b es) (of_body g elaborates s own m b)
       body_begun tables es starts =
-          subst (λ (c : Checked g.Reported). Holds (HasBegun g s m b es) (module_or g (numbered_modules s.tables).0 own m c)) (sym walk_is)
-          (both_begun last.so_far (statements_of elaborates last.scope None body) (λ ys. typed_module last.scope (numbered_modules s.tables).0 own m last.bodies ys)
+          subst (λ (c : Checked g.Reported). Holds (HasBegun g s m b es)
+          (module_or g (numbered_modules s.tables).0 own m c)) (sym walk_is)
+          (both_begun last.so_far (statements_of elaborates last.scope None body)
+          (λ ys. typed_module last.scope (numbered_modules s.tables).0 own m last.bodies ys)
           (λ ys ok. has_begun g elaborates forms s m b own ys tables es starts ok))
 
     -- where the body of a module begins
     abbrev pub BegunAt : (number : ℕ) → Module → Option Table → List Table → TypedModule → Contents → Type 0
     BegunAt number m own tables t (contents.Definition defs) = ⊥
-    BegunAt number m own tables t (contents.Implementation b) = (o : Table) × (own ≡ Some o) × HasBegun g (implementation_scope o tables) m b o.exported t
+    BegunAt number m own tables t (contents.Implementation b) = (o : Table) × (own ≡ Some o)
+        × HasBegun g (implementation_scope o tables) m b o.exported t
     BegunAt number m own tables t (contents.Program b) = HasBegun g (first_scope number tables) m b [] t
 
     module _ (number : ℕ) (m : Module) (tables : List Table) where
       own_begun : (own : Option Table) (b : Block) → AreForOwn own tables
-          → Holds (λ t. (o : Table) × (own ≡ Some o) × HasBegun g (implementation_scope o (tables ++ console ∷ [])) m b o.exported t) (of_implementation g elaborates m own (tables ++ console ∷ []) b)
+          → Holds (λ t. (o : Table) × (own ≡ Some o)
+          × HasBegun g (implementation_scope o (tables ++ console ∷ [])) m b o.exported t)
+          (of_implementation g elaborates m own (tables ++ console ∷ []) b)
       own_begun None b k = reported_holds g m.name.pos rule.LonelyModule
       own_begun (Some o) b k =
           weaker (body_begun (implementation_scope o (tables ++ console ∷ [])) (Some o) m b tables o.exported
-          (record { tables_are = refl; outer = refl; level = refl; withs = refl; own = refl; procedures = refl; exports = k.0.exports; numbers = k.0.numbers; others = k.1 })) (λ t h. (o, refl, h))
+          (record {
+            tables_are = refl;
+            outer = refl;
+            level = refl;
+            withs = refl;
+            own = refl;
+            procedures = refl;
+            exports = k.0.exports;
+            numbers = k.0.numbers;
+            others = k.1;
+          })) (λ t h. (o, refl, h))
         where
           weaker : {A T : Type 0} {P Q : A → Type 0} {r : Result A T} → Holds P r → ((x : A) → P x → Q x) → Holds Q r
           weaker (fine x p) f = fine x (f x p)
           weaker (broken e) f = broken e
 
-      contents_begun : (own : Option Table) (c : Contents) → AreFor number own tables c → Holds (λ t. BegunAt number m own (tables ++ console ∷ []) t c) (of_contents g elaborates number m own (tables ++ console ∷ []) c)
+      contents_begun : (own : Option Table) (c : Contents) → AreFor number own tables c
+          → Holds (λ t. BegunAt number m own (tables ++ console ∷ []) t c)
+          (of_contents g elaborates number m own (tables ++ console ∷ []) c)
       contents_begun own (contents.Definition defs) k = reported_holds g m.name.pos rule.LonelyModule
       contents_begun own (contents.Implementation b) k = own_begun own b k
       contents_begun own (contents.Program b) k =
           body_begun (first_scope number (tables ++ console ∷ [])) None m b tables []
-          (record { tables_are = refl; outer = refl; level = refl; withs = refl; own = refl; procedures = refl; exports = tt; numbers = tt; others = k })
+          (record {
+            tables_are = refl;
+            outer = refl;
+            level = refl;
+            withs = refl;
+            own = refl;
+            procedures = refl;
+            exports = tt;
+            numbers = tt;
+            others = k;
+          })
 
-      pub module_begun : (own : Option Table) → AreFor number own tables m.contents → Holds (λ t. BegunAt number m own (tables ++ console ∷ []) t m.contents) (body_module g elaborates number m own tables)
+      pub module_begun : (own : Option Table) → AreFor number own tables m.contents
+          → Holds (λ t. BegunAt number m own (tables ++ console ∷ []) t m.contents)
+          (body_module g elaborates number m own tables)
       module_begun own k = contents_begun own m.contents k

@@ -33,7 +33,8 @@ module _ (x : Context) (opens : ℕ → Bool) (outermost : x.kinds ≡ []) where
   meaning_there (meaning.Standard f) h = (tt, tt)
   meaning_there (meaning.Module k) h = (h, tt)
 
-  result_there : {E : Type 0} {r : Result Meaning E} → Holds (MeaningIn x opens 0 []) r → Holds (MeaningThere x opens 0) r
+  result_there : {E : Type 0} {r : Result Meaning E} → Holds (MeaningIn x opens 0 []) r
+      → Holds (MeaningThere x opens 0) r
   result_there (fine m h) = fine m (meaning_there m h)
   result_there (broken e) = broken e
 
@@ -49,8 +50,10 @@ module _ (x : Context) (opens : ℕ → Bool) (outermost : x.kinds ≡ []) where
   names_there (e ∷ es) h = (known_there e.1 h.0, names_there es h.1)
 
   -- the names of a block, where these types and variables are known, and no slots
-  pub module_names : {T : Type 0} (types : Types) (vs : List TypeNo) (es : List (List ℕ × Known T)) → ((t : TypeNo) (m : Made) → made_at types t ≡ Some m → made_at x.home.types t ≡ Some m) → vs ≡ x.home.variables
-      → HasInstance x → NamesRanged types es → NamesWords es → NamesPlaced x.home.types.home vs es → NamesSlots [] 0 es → NamesElse x opens 0 [] es → NamesThere x opens 0 es
+  pub module_names : {T : Type 0} (types : Types) (vs : List TypeNo) (es : List (List ℕ × Known T))
+      → ((t : TypeNo) (m : Made) → made_at types t ≡ Some m → made_at x.home.types t ≡ Some m) → vs ≡ x.home.variables
+      → HasInstance x → NamesRanged types es → NamesWords es → NamesPlaced x.home.types.home vs es → NamesSlots [] 0 es
+      → NamesElse x opens 0 [] es → NamesThere x opens 0 es
   module_names types vs es grows same own ranged words placed slotted others =
       names_there es (block_typed x opens types vs [] 0 [] es (record {
         grows = grows;

@@ -69,9 +69,12 @@ made_kept : (a b : Types) → StartedFrom a b → (k n : ℕ) (x : Made) → mad
 made_kept a b p k n x e = same ∙ by (k == a.home) e where
   same : made_in b k n ≡ made_with k n a.home (a.own ++ p.more) a.others
   same =
-      ap (λ (h : ℕ). made_with k n h b.own b.others) p.home ∙ ap (λ (ms : List Made). made_with k n a.home ms b.others) p.own ∙ ap (λ (es : List (ℕ × List Made)). made_with k n a.home (a.own ++ p.more) es) p.others
+      ap (λ (h : ℕ). made_with k n h b.own b.others) p.home
+      ∙ ap (λ (ms : List Made). made_with k n a.home ms b.others) p.own
+      ∙ ap (λ (es : List (ℕ × List Made)). made_with k n a.home (a.own ++ p.more) es) p.others
 
-  by : (c : Bool) → cond c (slice_get a.own n) (in_list n (at k a.others)) ≡ Some x → cond c (slice_get (a.own ++ p.more) n) (in_list n (at k a.others)) ≡ Some x
+  by : (c : Bool) → cond c (slice_get a.own n) (in_list n (at k a.others)) ≡ Some x
+      → cond c (slice_get (a.own ++ p.more) n) (in_list n (at k a.others)) ≡ Some x
   by true g = get_some a.own p.more n x g
   by false g = g
 
@@ -79,7 +82,8 @@ reached_kept : (a b : Types) → StartedFrom a b → (ms : List ModuleTypes) →
 reached_kept a b p [] h = tt
 reached_kept a b p (m ∷ ms) h = (λ n x g. made_kept a b p m.number n x (h.0 n x g), reached_kept a b p ms h.1)
 
-all_kept : (a b : Types) → StartedFrom a b → (ts : List Table) → AllByRecursion (λ t. HasReached a t.reached) ts → AllByRecursion (λ t. HasReached b t.reached) ts
+all_kept : (a b : Types) → StartedFrom a b → (ts : List Table) → AllByRecursion (λ t. HasReached a t.reached) ts
+    → AllByRecursion (λ t. HasReached b t.reached) ts
 all_kept a b p [] h = tt
 all_kept a b p (t ∷ ts) h = (reached_kept a b p t.reached h.0, all_kept a b p ts h.1)
 
@@ -98,21 +102,28 @@ meaning_placed home vs (meaning.Standard f) p = tt
 meaning_placed home vs (meaning.Module k) p = tt
 
 module _ (home : ℕ) (vs : List TypeNo) {T : Type 0} where
-  placed_by : (b : Bool) (k : Known T) (e : List ℕ × Known T) (es more : List (List ℕ × Known T)) → KnownPlaced home vs k → NamesPlaced home vs (e ∷ es) → NamesPlaced home vs more → NamesPlaced home vs (cond b ((e.0, k) ∷ es) (e ∷ more))
+  placed_by : (b : Bool) (k : Known T) (e : List ℕ × Known T) (es more : List (List ℕ × Known T))
+      → KnownPlaced home vs k → NamesPlaced home vs (e ∷ es) → NamesPlaced home vs more
+      → NamesPlaced home vs (cond b ((e.0, k) ∷ es) (e ∷ more))
   placed_by true k e es more p h q = (p, h.1)
   placed_by false k e es more p h q = (h.0, q)
 
-  placed_more : (name : List ℕ) (k : Known T) (es : List (List ℕ × Known T)) → KnownPlaced home vs k → NamesPlaced home vs es → NamesPlaced home vs (enter_name name k es)
+  placed_more : (name : List ℕ) (k : Known T) (es : List (List ℕ × Known T)) → KnownPlaced home vs k
+      → NamesPlaced home vs es → NamesPlaced home vs (enter_name name k es)
   placed_more name k [] p h = (p, tt)
-  placed_more name k (e ∷ es) p h = placed_by (same_name name e.0) k e es (enter_name name k es) p h (placed_more name k es p h.1)
+  placed_more name k (e ∷ es) p h = placed_by (same_name name e.0) k e es (enter_name name k es) p h
+      (placed_more name k es p h.1)
 
-  own_placed : (es : List (List ℕ × Meaning)) (ns : List (List ℕ × Known T)) → ArePlacedBy vs es → NamesPlaced home vs ns → NamesPlaced home vs (fold with_own_name ns es)
+  own_placed : (es : List (List ℕ × Meaning)) (ns : List (List ℕ × Known T)) → ArePlacedBy vs es
+      → NamesPlaced home vs ns → NamesPlaced home vs (fold with_own_name ns es)
   own_placed [] ns p h = h
-  own_placed (e ∷ es) ns p h = own_placed es (with_own_name ns e) p.1 (placed_more e.0 (Declared Here (Ok e.1)) ns (fine e.1 (meaning_placed home vs e.1 p.0)) h)
+  own_placed (e ∷ es) ns p h = own_placed es (with_own_name ns e) p.1
+      (placed_more e.0 (Declared Here (Ok e.1)) ns (fine e.1 (meaning_placed home vs e.1 p.0)) h)
 
 -- ---- a body, from the tables that its job needs
 
-module _ (trees : List Module) (files : List ℕ) (jobs : List (List ℕ)) (fit : list_all fits_module trees ≡ true) (job : ℕ) where
+module _ (trees : List Module) (files : List ℕ) (jobs : List (List ℕ)) (fit : list_all fits_module trees ≡ true)
+    (job : ℕ) where
   abbrev made_of : ℕ → List Made
   made_of = types_of trees files jobs
 
@@ -125,7 +136,11 @@ module _ (trees : List Module) (files : List ℕ) (jobs : List (List ℕ)) (fit 
 
   needed_others : (here : ℕ) (ts : List Table) → AreNeeded ts → AreTables here ts → AllByRecursion (IsOther here) ts
   needed_others here [] h a = tt
-  needed_others here (t ∷ ts) h a = (other_of here t h.0.own (λ e. let q : (t.number == here) ≡ true = same_home t.number here e in let r = a.0.other in absurd cc), needed_others here ts h.1 a.1)
+  needed_others here (t ∷ ts) h a = (
+    other_of here t h.0.own
+        (λ e. let q : (t.number == here) ≡ true = same_home t.number here e in let r = a.0.other in absurd cc),
+    needed_others here ts h.1 a.1,
+  )
 
   OwnNeeded : Option Table → Type 0
   OwnNeeded None = Unit {0}
@@ -160,7 +175,18 @@ module _ (trees : List Module) (files : List ℕ) (jobs : List (List ℕ)) (fit 
     first_ready : AreTables job us → Ready (first_types job all) [] (first_scope job all)
     first_ready a = record {
       formed = first_formed made_of job all all_formed;
-      starts = record { level = refl; outer = refl; withs = refl; own = refl; procedures = refl; exports = tt; numbers = tt; once = tt; apart = λ x y p q e f n. absurd cc };
+      starts = record {
+        level = refl;
+        outer = refl;
+        withs = refl;
+        own = refl;
+        procedures = refl;
+        exports = tt;
+        numbers =
+            tt;
+        once = tt;
+        apart = λ x y p q e f n. absurd cc;
+      };
       elsewhere = all_are_elsewhere job all (all_others job a);
       words = first_words job all (all_words job all (all_others job a));
       placed = tt;
@@ -168,7 +194,8 @@ module _ (trees : List Module) (files : List ℕ) (jobs : List (List ℕ)) (fit 
     }
 
     first_begins : AreTables job us → TypesIndexed (first_types job all)
-    first_begins a = first_indexed job all (all_indexed job (first_types job all) all (all_others job a) (first_has made_of job all all_formed))
+    first_begins a = first_indexed job all
+        (all_indexed job (first_types job all) all (all_others job a) (first_has made_of job all all_formed))
 
     -- ---- an implementation
 
@@ -205,12 +232,17 @@ module _ (trees : List Module) (files : List ℕ) (jobs : List (List ℕ)) (fit 
       begun_begins : TypesIndexed (implementation_types o all)
       begun_begins =
           let started : StartedFrom base begun.types = begun_formed.ordered.started in
-          implementation_indexed o all (own.own.indexed begun.types (reached_kept base begun.types started o.reached (own_has made_of job o all own.formed own.made all_formed)))
-          (all_indexed o.number begun.types all (all_others o.number a) (all_kept base begun.types started all (tables_have made_of job o all own.formed own.made all_formed)))
+          implementation_indexed o all (own.own.indexed begun.types
+          (reached_kept base begun.types started o.reached
+          (own_has made_of job o all own.formed own.made all_formed)))
+          (all_indexed o.number begun.types all (all_others o.number a)
+          (all_kept base begun.types started all (tables_have made_of job o all own.formed own.made all_formed)))
 
 -- ---- the bodies of a graph
 
-module _ (fs : List (List ℕ × Module)) (files : List ℕ) (jobs : List (List ℕ)) (starts : List ℕ) (graph : IsGraph (number_files 0 fs) files jobs starts) (fit : list_all fits_module (trees_of fs) ≡ true) (m : Module) (job : ℕ) where
+module _ (fs : List (List ℕ × Module)) (files : List ℕ) (jobs : List (List ℕ)) (starts : List ℕ)
+    (graph : IsGraph (number_files 0 fs) files jobs starts) (fit : list_all fits_module (trees_of fs) ≡ true)
+    (m : Module) (job : ℕ) where
   abbrev trees : List Module
   trees = trees_of fs
 
@@ -226,36 +258,61 @@ module _ (fs : List (List ℕ × Module)) (files : List ℕ) (jobs : List (List 
   imports_needed : AllByRecursion (Needed trees files jobs fit job) us
   imports_needed = behind_needed trees files jobs fit job (own_table m ts) ts they_are_needed
 
-  begins_own : (o : Option Table) → OwnNeeded trees files jobs fit job o → (b : Block) → AreForOwn o us → BodyBegins job o (us ++ console ∷ []) (contents.Implementation b)
+  begins_own : (o : Option Table) → OwnNeeded trees files jobs fit job o → (b : Block) → AreForOwn o us
+      → BodyBegins job o (us ++ console ∷ []) (contents.Implementation b)
   unfolding OwnNeeded
   begins_own None h b f = tt
-  begins_own (Some o) h b f = (begun_begins trees files jobs fit job us imports_needed o h f.1, all_are_elsewhere o.number (us ++ console ∷ []) (all_others trees files jobs fit job us imports_needed o.number f.1))
+  begins_own (Some o) h b f = (
+    begun_begins trees files jobs fit job us imports_needed o h f.1,
+    all_are_elsewhere
+        o.number (us ++ console ∷ []) (all_others trees files jobs fit job us imports_needed o.number f.1),
+  )
 
-  begins_with : (c : Contents) → AreFor job (own_table m ts) us c → BodyBegins job (own_table m ts) (us ++ console ∷ []) c
+  begins_with : (c : Contents) → AreFor job (own_table m ts) us c
+      → BodyBegins job (own_table m ts) (us ++ console ∷ []) c
   begins_with (contents.Definition ds) f = tt
-  begins_with (contents.Implementation b) f = begins_own (own_table m ts) (own_needed trees files jobs fit job m ts they_are_needed) b f
+  begins_with (contents.Implementation b) f =
+      begins_own (own_table m ts) (own_needed trees files jobs fit job m ts they_are_needed) b f
   begins_with (contents.Program b) f = by (own_table m ts) where
     by : (o : Option Table) → BodyBegins job o (us ++ console ∷ []) (contents.Program b)
-    by None = (first_begins trees files jobs fit job us imports_needed f, all_are_elsewhere job (us ++ console ∷ []) (all_others trees files jobs fit job us imports_needed job f))
-    by (Some o) = (first_begins trees files jobs fit job us imports_needed f, all_are_elsewhere job (us ++ console ∷ []) (all_others trees files jobs fit job us imports_needed job f))
+    by None = (
+      first_begins trees files jobs fit job us imports_needed f,
+      all_are_elsewhere job (us ++ console ∷ [])
+          (all_others trees files jobs fit job us imports_needed job f),
+    )
+    by (Some o) = (
+      first_begins trees files jobs fit job us imports_needed f,
+      all_are_elsewhere job (us ++ console ∷ [])
+          (all_others trees files jobs fit job us imports_needed job f),
+    )
 
   module _ (t : TypedModule) (indexed : TypesIndexed t.types) where
-    own_stands : (o : Option Table) → own_table m ts ≡ o → OwnNeeded trees files jobs fit job o → (b : Block) → m.contents ≡ contents.Implementation b → fits_contents (contents.Implementation b) ≡ true → AreForOwn o us
+    own_stands : (o : Option Table) → own_table m ts ≡ o → OwnNeeded trees files jobs fit job o → (b : Block)
+        → m.contents ≡ contents.Implementation b → fits_contents (contents.Implementation b) ≡ true → AreForOwn o us
         → of_implementation least (elaborate_body least) m o (us ++ console ∷ []) b ≡ Ok t → BodyStands m job ts t
     unfolding OwnNeeded
     own_stands None q h b c e f r = absurd cc
     own_stands (Some o) q h b c e f r =
-        body_stands (implementation_scope o (us ++ console ∷ [])) m b (base trees files jobs fit job us imports_needed o h f.1) o.exported (begun_ready trees files jobs fit job us imports_needed o h f.1) e job ts (Some o) t (implementation o b q c) r indexed
+        body_stands (implementation_scope o (us ++ console ∷ [])) m b
+        (base trees files jobs fit job us imports_needed o h f.1) o.exported
+        (begun_ready trees files jobs fit job us imports_needed o h f.1) e job ts (Some o) t
+        (implementation o b q c) r indexed
 
-    contents_stand : (c : Contents) → m.contents ≡ c → fits_contents c ≡ true → AreFor job (own_table m ts) us c → of_contents least (elaborate_body least) job m (own_table m ts) (us ++ console ∷ []) c ≡ Ok t → BodyStands m job ts t
+    contents_stand : (c : Contents) → m.contents ≡ c → fits_contents c ≡ true → AreFor job (own_table m ts) us c
+        → of_contents least (elaborate_body least) job m (own_table m ts) (us ++ console ∷ []) c ≡ Ok t
+        → BodyStands m job ts t
     contents_stand (contents.Definition ds) q e f r = absurd cc
-    contents_stand (contents.Implementation b) q e f r = own_stands (own_table m ts) refl (own_needed trees files jobs fit job m ts they_are_needed) b q e f r
+    contents_stand (contents.Implementation b) q e f r =
+        own_stands (own_table m ts) refl (own_needed trees files jobs fit job m ts they_are_needed) b q e f r
     contents_stand (contents.Program b) q e f r =
-        body_stands (first_scope job (us ++ console ∷ [])) m b (first_types job (us ++ console ∷ [])) [] (first_ready trees files jobs fit job us imports_needed f) e job ts None t (program b q) r indexed
+        body_stands (first_scope job (us ++ console ∷ [])) m b (first_types job (us ++ console ∷ [])) []
+        (first_ready trees files jobs fit job us imports_needed f) e job ts None t (program b q) r indexed
 
-  pub bodies_stand : (t : TypedModule) → slice_get trees (slice_index_or files job 0) ≡ Some m → typed_body m job ts ≡ Ok t → BodyStands m job ts t
+  pub bodies_stand : (t : TypedModule) → slice_get trees (slice_index_or files job 0) ≡ Some m
+      → typed_body m job ts ≡ Ok t → BodyStands m job ts t
   bodies_stand t there r =
       let e : fits_module m ≡ true = tree_fits trees fit (slice_index_or files job 0) m there in
       let f : AreFor job (own_table m ts) us m.contents = tables_for fs files jobs starts graph m job in
-      let i : TypesIndexed t.types = holds_at (typed_body m job ts) (checked_indexed least (elaborate_body least) job m (own_table m ts) us (begins_with m.contents f)) t r in
+      let i : TypesIndexed t.types = holds_at (typed_body m job ts)
+      (checked_indexed least (elaborate_body least) job m (own_table m ts) us (begins_with m.contents f)) t r in
       contents_stand t i m.contents refl e f r

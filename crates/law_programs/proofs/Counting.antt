@@ -43,7 +43,8 @@ numbers (m ∷ ms) = own_number m ++ numbers ms
 
 numbers_both : (ms ns : List Meaning) → numbers (ms ++ ns) ≡ numbers ms ++ numbers ns
 numbers_both [] ns = refl
-numbers_both (m ∷ ms) ns = ap (λ (ks : List ℕ). own_number m ++ ks) (numbers_both ms ns) ∙ sym (append_assoc (own_number m) (numbers ms) (numbers ns))
+numbers_both (m ∷ ms) ns = ap (λ (ks : List ℕ). own_number m ++ ks) (numbers_both ms ns)
+    ∙ sym (append_assoc (own_number m) (numbers ms) (numbers ns))
 
 -- ---- scopes
 
@@ -53,36 +54,51 @@ pub record Counts {T : Type 0} (s : Scope T) : Type 0 where
   pub front : InFront s.own
 
 module _ {T : Type 0} where
-  pub counts_kept : (s s' : Scope T) → done s'.own ≡ done s.own → s'.variables ≡ s.variables → s'.procedures ≡ s.procedures → (InFront s.own → InFront s'.own) → Counts s → Counts s'
+  pub counts_kept : (s s' : Scope T) → done s'.own ≡ done s.own → s'.variables ≡ s.variables
+      → s'.procedures ≡ s.procedures → (InFront s.own → InFront s'.own) → Counts s → Counts s'
   counts_kept s s' d v p f c = record {
     variables = ap (λ (ms : List Meaning). fold with_variable_of [] ms) d ∙ c.variables ∙ sym v;
-    procedures = subst (λ (ps : List TypeNo). From 0 (length ps) (numbers (done s'.own))) (sym p) (subst (λ (ms : List Meaning). From 0 (length s.procedures) (numbers ms)) (sym d) c.procedures);
+    procedures = subst (λ (ps : List TypeNo). From 0 (length ps) (numbers (done s'.own))) (sym p)
+        (subst (λ (ms : List Meaning). From 0 (length s.procedures) (numbers ms)) (sym d) c.procedures);
     front = f c.front;
   }
 
   -- a variable is declared under a name that stands behind settled ones
   pub variable_counts : (s : Scope T) (name : List ℕ) (t : TypeNo) → Behind name s.own → Counts s
-      → Counts (with_known name (Declared Here (Ok (meaning.Variable (record { home = s.types.home; number = length s.variables; of = t })))) (with_variable_type s (Ok t)))
+      → Counts (with_known name (Declared Here
+      (Ok (meaning.Variable (record { home = s.types.home; number = length s.variables; of = t }))))
+      (with_variable_type s (Ok t)))
   variable_counts s name t b c =
       let v : Meaning = meaning.Variable (record { home = s.types.home; number = length s.variables; of = t }) in
-      let d : done (enter_name name (Declared Here (Ok v)) s.own) ≡ done s.own ++ v ∷ [] = next_done name (Declared Here (Ok v)) v s.own refl b c.front in
+      let d : done (enter_name name (Declared Here (Ok v)) s.own) ≡ done s.own ++ v ∷ [] =
+      next_done name (Declared Here (Ok v)) v s.own refl b c.front in
       record {
-        variables = ap (λ (ms : List Meaning). fold with_variable_of [] ms) d ∙ fold-append with_variable_of [] (done s.own) (v ∷ []) ∙ ap (λ (ts : List TypeNo). ts ++ t ∷ []) c.variables;
-        procedures = subst (λ (ks : List ℕ). From 0 (length s.procedures) ks) (sym (ap numbers d ∙ (numbers_both (done s.own) (v ∷ []) ∙ append-nil (numbers (done s.own))))) c.procedures;
+        variables = ap (λ (ms : List Meaning). fold with_variable_of [] ms) d
+            ∙ fold-append with_variable_of [] (done s.own) (v ∷ [])
+            ∙ ap (λ (ts : List TypeNo). ts ++ t ∷ []) c.variables;
+        procedures = subst (λ (ks : List ℕ). From 0 (length s.procedures) ks)
+            (sym (ap numbers d ∙ (numbers_both (done s.own) (v ∷ []) ∙ append-nil (numbers (done s.own)))))
+            c.procedures;
         front = next_front name (Declared Here (Ok v)) s.own refl b c.front;
       }
 
   -- so is a procedure
   pub procedure_counts : (s : Scope T) (name : List ℕ) (t : TypeNo) → Behind name s.own → Counts s
-      → Counts (with_known name (Declared Here (Ok (meaning.Procedure (record { home = s.types.home; number = length s.procedures; heading = t })))) (with_procedure_type s (Ok t)))
+      → Counts (with_known name (Declared Here
+      (Ok (meaning.Procedure (record { home = s.types.home; number = length s.procedures; heading = t }))))
+      (with_procedure_type s (Ok t)))
   procedure_counts s name t b c =
       let v : Meaning = meaning.Procedure (record { home = s.types.home; number = length s.procedures; heading = t }) in
-      let d : done (enter_name name (Declared Here (Ok v)) s.own) ≡ done s.own ++ v ∷ [] = next_done name (Declared Here (Ok v)) v s.own refl b c.front in
+      let d : done (enter_name name (Declared Here (Ok v)) s.own) ≡ done s.own ++ v ∷ [] =
+      next_done name (Declared Here (Ok v)) v s.own refl b c.front in
       let count : length (s.procedures ++ t ∷ []) ≡ length s.procedures + 1 = length-append s.procedures (t ∷ []) in
       let one : suc (length s.procedures) ≡ length (s.procedures ++ t ∷ []) = omega (arith, count) in
       record {
-        variables = ap (λ (ms : List Meaning). fold with_variable_of [] ms) d ∙ fold-append with_variable_of [] (done s.own) (v ∷ []) ∙ c.variables;
+        variables = ap (λ (ms : List Meaning). fold with_variable_of [] ms) d
+            ∙ fold-append with_variable_of [] (done s.own) (v ∷ []) ∙ c.variables;
         procedures = subst (λ (c : ℕ). From 0 c (numbers (done (enter_name name (Declared Here (Ok v)) s.own)))) one
-            (subst (λ (ks : List ℕ). From 0 (suc (length s.procedures)) ks) (sym (ap numbers d ∙ numbers_both (done s.own) (v ∷ []))) (from_next 0 (length s.procedures) (numbers (done s.own)) c.procedures));
+            (subst (λ (ks : List ℕ). From 0 (suc (length s.procedures)) ks)
+            (sym (ap numbers d ∙ numbers_both (done s.own) (v ∷ [])))
+            (from_next 0 (length s.procedures) (numbers (done s.own)) c.procedures));
         front = next_front name (Declared Here (Ok v)) s.own refl b c.front;
       }

@@ -98,27 +98,36 @@ module _ (g : Gathers) where
   simple_carries s (simple.Subrange o at low high) = made_carries s (then_holds (any_holds _) (λ r k. fine _ tt))
 
   -- an index is of a scalar type
-  index_scalar : (types : Types) (t : TypeNo) (o : Option Range) → scalar_at types t ≡ o → is_index_scalar t o ≡ true → IsScalar types t
+  index_scalar : (types : Types) (t : TypeNo) (o : Option Range) → scalar_at types t ≡ o → is_index_scalar t o ≡ true
+      → IsScalar types t
   index_scalar types t None e k = absurd cc
   index_scalar types t (Some r) e k = ap (λ (o : Option Range). is_some o) e
 
   index_is : (s : Scope g.Reported) (t : Simple) → Holds (IsScalar (index_type g s t).0.types) (index_type g s t).1
   index_is s t =
       let i : State TypeNo g.Reported = simple_type g s t in
-      then_holds (any_holds i.1) (λ u k. where_not g (is_index i.0.types u) (simple_place t) rule.NoIndex (λ e. fine u (index_scalar i.0.types u (scalar_at i.0.types u) refl e)))
+      then_holds (any_holds i.1) (λ u k. where_not g (is_index i.0.types u) (simple_place t) rule.NoIndex
+      (λ e. fine u (index_scalar i.0.types u (scalar_at i.0.types u) refl e)))
 
-  array_indexed : (a b : Scope g.Reported) (at : Pos) (i e : Result TypeNo g.Reported) → Carries a b → Holds (IsScalar a.types) i → Holds (λ (m : Made). ShapeIndexed b.types m.shape) (array_of g b.types at i e)
+  array_indexed : (a b : Scope g.Reported) (at : Pos) (i e : Result TypeNo g.Reported) → Carries a b
+      → Holds (IsScalar a.types) i → Holds (λ (m : Made). ShapeIndexed b.types m.shape) (array_of g b.types at i e)
   array_indexed a b at i e c p =
-      then_holds (both_holds g (holds_weaker (λ u k. scalar_stays a.types b.types c.types u k) p) (any_holds e)) (λ (u : TypeNo × TypeNo) k.
+      then_holds (both_holds g (holds_weaker (λ u k. scalar_stays a.types b.types c.types u k) p) (any_holds e))
+      (λ (u : TypeNo × TypeNo) k.
       then_holds (any_holds (array_cells g at (count_at b.types u.0) (cells_at b.types u.1))) (λ n j. fine _ k.0))
 
-  record_plain : (types : Types) (at : Pos) (fs : Fields) (elaborated : Result (Unit {0}) g.Reported) → Holds (λ (m : Made). ShapeIndexed types m.shape) (record_of g at fs elaborated)
-  record_plain types at fs elaborated = then_holds (any_holds elaborated) (λ u k. where_holds g (nat_lt 131072 fs.cells) at rule.LargeType (fine (record { shape = shape.Record fs.names; cells = fs.cells }) tt))
+  record_plain : (types : Types) (at : Pos) (fs : Fields) (elaborated : Result (Unit {0}) g.Reported)
+      → Holds (λ (m : Made). ShapeIndexed types m.shape) (record_of g at fs elaborated)
+  record_plain types at fs elaborated = then_holds (any_holds elaborated)
+      (λ u k. where_holds g (nat_lt 131072 fs.cells) at rule.LargeType
+      (fine (record { shape = shape.Record fs.names; cells = fs.cells }) tt))
 
-  procedure_plain : (types : Types) (formals : Result (List Formal) g.Reported) (of : Result (Option TypeNo) g.Reported) → Holds (λ (m : Made). ShapeIndexed types m.shape) (procedure_made g formals of)
+  procedure_plain : (types : Types) (formals : Result (List Formal) g.Reported) (of : Result (Option TypeNo) g.Reported)
+      → Holds (λ (m : Made). ShapeIndexed types m.shape) (procedure_made g formals of)
   procedure_plain types formals of = then_holds (any_holds (both g formals of)) (λ p k. fine _ tt)
 
-  heading_plain : (s : Scope g.Reported) (h : Heading) → Holds (λ (m : Made). ShapeIndexed s.types m.shape) (heading_of g s h)
+  heading_plain : (s : Scope g.Reported) (h : Heading)
+      → Holds (λ (m : Made). ShapeIndexed s.types m.shape) (heading_of g s h)
   heading_plain s h = procedure_plain s.types (fold (with_section g s) (Ok []) h.formals) (result_of g s h.result)
 
   abbrev CarriesMakes : Makes g → Type 0
@@ -136,17 +145,23 @@ module _ (g : Gathers) where
   abbrev stripped : TypeExpr-F ST SF → TypeExpr-F TypeExpr Field
   stripped y = bare (type_of g) (field_list g) (λ t f. CarriesMakes f) (λ d f. CarriesFields f) y
 
-  fields_all : (fs : List SF) (st : Scope g.Reported × Fields × Result (Unit {0}) g.Reported) → Carries st.0 (fold (then_fields g) st (map (field_list g) (map (λ (f : SF). f.0) fs))).0
+  fields_all : (fs : List SF) (st : Scope g.Reported × Fields × Result (Unit {0}) g.Reported)
+      → Carries st.0 (fold (then_fields g) st (map (field_list g) (map (λ (f : SF). f.0) fs))).0
   fields_all [] st = carries_refl st.0
   fields_all (f ∷ fs) st = carries_then (f.1 st) (fields_all fs (field_list g f.0 st))
 
   type_carries : (y : TypeExpr-F ST SF) → CarriesMakes (type_layer g (types_opened g (stripped y)))
   type_carries (layer.Simple t) = λ s. simple_carries s t
   type_carries (layer.Array at index t) = λ s.
-      let of : Carries (index_type g s index).0 (type_of g t.0 (index_type g s index).0).0 = t.1 (index_type g s index).0 in
-      carries_then (simple_carries s index) (carries_then of (made_carries (type_of g t.0 (index_type g s index).0).0 (array_indexed (index_type g s index).0 (type_of g t.0 (index_type g s index).0).0 at (index_type g s index).1 (type_of g t.0 (index_type g s index).0).1 of (index_is s index))))
+      let of : Carries (index_type g s index).0 (type_of g t.0 (index_type g s index).0).0 =
+      t.1 (index_type g s index).0 in
+      carries_then (simple_carries s index) (carries_then of
+      (made_carries (type_of g t.0 (index_type g s index).0).0
+      (array_indexed (index_type g s index).0 (type_of g t.0 (index_type g s index).0).0 at (index_type g s index).1
+      (type_of g t.0 (index_type g s index).0).1 of (index_is s index))))
   type_carries (layer.Record at fields) = λ s.
-      let st : Scope g.Reported × Fields × Result (Unit {0}) g.Reported = fold (then_fields g) (s, no_fields, Ok tt) (map (field_list g) (map (λ (f : SF). f.0) fields)) in
+      let st : Scope g.Reported × Fields × Result (Unit {0}) g.Reported =
+      fold (then_fields g) (s, no_fields, Ok tt) (map (field_list g) (map (λ (f : SF). f.0) fields)) in
       carries_then (fields_all fields (s, no_fields, Ok tt)) (made_carries st.0 (record_plain st.0.types at st.1 st.2))
   type_carries (layer.Procedure at formals t) = λ s. made_carries s (procedure_plain s.types _ _)
 
@@ -180,8 +195,11 @@ module _ (g : Gathers) where
         (λ fs l. meant_holds (λ u. meaning.Type u n) (λ u. tt) t);
   }
 
-  variable_placed : (s : Scope g.Reported) (t : Result TypeNo g.Reported) → Holds (MeaningPlaced (with_variable_type s t).types.home (with_variable_type s t).variables) (variable_meaning s.types.home (length s.variables) t)
-  variable_placed s (Ok t) = fine (meaning.Variable (record { home = s.types.home; number = length s.variables; of = t })) (λ e. get_last s.variables t)
+  variable_placed : (s : Scope g.Reported) (t : Result TypeNo g.Reported)
+      → Holds (MeaningPlaced (with_variable_type s t).types.home (with_variable_type s t).variables)
+      (variable_meaning s.types.home (length s.variables) t)
+  variable_placed s (Ok t) = fine (meaning.Variable
+      (record { home = s.types.home; number = length s.variables; of = t })) (λ e. get_last s.variables t)
   variable_placed s (Err e) = broken e
 
   variable_ends : VariablesEnd g Goes
@@ -197,26 +215,38 @@ module _ (g : Gathers) where
   Nested s = s.level ≡ 0 → ⊥
 
   -- a variable stands behind all others
-  slot_last : (fs : List Formal) (vs : List TypeNo) (t : TypeNo) → length fs ≤ length vs → slice_get (slots_from fs (vs ++ t ∷ [])) (length vs) ≡ Some (variable_slot t)
+  slot_last : (fs : List Formal) (vs : List TypeNo) (t : TypeNo) → length fs ≤ length vs
+      → slice_get (slots_from fs (vs ++ t ∷ [])) (length vs) ≡ Some (variable_slot t)
   slot_last fs vs t l =
       let a = length-append (map formal_slot fs) (map variable_slot (drop (length fs) vs)) in
       let b = length-map fs formal_slot in
       let c = length-map (drop (length fs) vs) variable_slot in
       let d = length-drop (length fs) vs in
       let at : length vs ≡ length (slots_from fs vs) = omega (arith, a, b, c, d, l) in
-      ap (λ (n : ℕ). slice_get (slots_from fs (vs ++ t ∷ [])) n) at ∙ ap (λ (us : Slots). slice_get us (length (slots_from fs vs))) (slots_behind fs vs t l) ∙ get_last (slots_from fs vs) (variable_slot t)
+      ap (λ (n : ℕ). slice_get (slots_from fs (vs ++ t ∷ [])) n) at
+      ∙ ap (λ (us : Slots). slice_get us (length (slots_from fs vs))) (slots_behind fs vs t l)
+      ∙ get_last (slots_from fs vs) (variable_slot t)
 
-  local_slot : (s : Scope g.Reported) (t : Result TypeNo g.Reported) → Nested s → (o : Option (List Formal)) → StandsIn o s
-      → Holds (MeaningSlot (slots_in o (with_variable_type s t).variables) (with_variable_type s t).level) (local_meaning s.level (length s.variables) t)
+  local_slot : (s : Scope g.Reported) (t : Result TypeNo g.Reported) → Nested s → (o : Option (List Formal))
+      → StandsIn o s
+      → Holds (MeaningSlot (slots_in o (with_variable_type s t).variables) (with_variable_type s t).level)
+      (local_meaning s.level (length s.variables) t)
   local_slot s (Err e) deep o l = broken e
   local_slot s (Ok t) deep None l = absurd (deep l)
-  local_slot s (Ok t) deep (Some fs) l = fine (meaning.Local (record { level = s.level; number = length s.variables; kind = kind.Variable; of = t })) (refl, slot_last fs s.variables t l)
+  local_slot s (Ok t) deep (Some fs) l = fine
+      (meaning.Local (record { level = s.level; number = length s.variables; kind = kind.Variable; of = t }))
+      (refl, slot_last fs s.variables t l)
 
-  local_placed : (s : Scope g.Reported) (t : Result TypeNo g.Reported) → Holds (MeaningPlaced (with_variable_type s t).types.home (with_variable_type s t).variables) (local_meaning s.level (length s.variables) t)
-  local_placed s t = meant_holds (λ u. meaning.Local (record { level = s.level; number = length s.variables; kind = kind.Variable; of = u })) (λ u. tt) t
+  local_placed : (s : Scope g.Reported) (t : Result TypeNo g.Reported)
+      → Holds (MeaningPlaced (with_variable_type s t).types.home (with_variable_type s t).variables)
+      (local_meaning s.level (length s.variables) t)
+  local_placed s t = meant_holds (λ u. meaning.Local
+      (record { level = s.level; number = length s.variables; kind = kind.Variable; of = u })) (λ u. tt) t
 
-  local_word : (s : Scope g.Reported) (t : Result TypeNo g.Reported) → Holds MeaningWord (local_meaning s.level (length s.variables) t)
-  local_word s t = meant_holds (λ u. meaning.Local (record { level = s.level; number = length s.variables; kind = kind.Variable; of = u })) (λ u. tt) t
+  local_word : (s : Scope g.Reported) (t : Result TypeNo g.Reported)
+      → Holds MeaningWord (local_meaning s.level (length s.variables) t)
+  local_word s t = meant_holds (λ u. meaning.Local
+      (record { level = s.level; number = length s.variables; kind = kind.Variable; of = u })) (λ u. tt) t
 
   nested_by : (s : Scope g.Reported) → (s.level == 0) ≡ false → Nested s
   nested_by s e z = let k : true ≡ false = sym (same_home s.level 0 z) ∙ e in cc
@@ -309,7 +339,8 @@ module _ (g : Gathers) where
   elsewhere_slot home slots level (meaning.Standard f) p = tt
   elsewhere_slot home slots level (meaning.Module k) p = tt
 
-  exports_elsewhere : (home : ℕ) (ts : List Table) (k : ℕ) → TablesElsewhere home ts → ExportsElsewhere home (exports_of (slice_get ts k))
+  exports_elsewhere : (home : ℕ) (ts : List Table) (k : ℕ) → TablesElsewhere home ts
+      → ExportsElsewhere home (exports_of (slice_get ts k))
   exports_elsewhere home [] k p = tt
   exports_elsewhere home (t ∷ ts) zero p = p.0
   exports_elsewhere home (t ∷ ts) (suc k) p = exports_elsewhere home ts k p.1
@@ -372,12 +403,16 @@ module _ (g : Gathers) where
       → Goes st.0 (declared_block g ends st first ds).0
   block_carries = block_keeps g blocks
 
-  pub definition_carries : (m : Module) (modules : List (List ℕ × ℕ)) (s : Scope g.Reported) (ds : List Def) → TablesElsewhere s.types.home s.tables → Goes s (declared_in g m modules s ds).0
+  pub definition_carries : (m : Module) (modules : List (List ℕ × ℕ)) (s : Scope g.Reported) (ds : List Def)
+      → TablesElsewhere s.types.home s.tables → Goes s (declared_in g m modules s ds).0
   definition_carries m modules s ds p =
       let one = defs_marks marks ds s in
       let there : FromElsewhere (fold marked_def s ds) = elsewhere_on s (fold marked_def s ds) one p in
       carries_then one (carries_then (imports_carry modules m.imports (fold marked_def s ds, Ok tt) there)
       (defs_keep g definitions ds (fold (with_import g modules) (fold marked_def s ds, Ok tt) m.imports)))
 
-  pub module_carries_on : (modules : List (List ℕ × ℕ)) (ends : List ℕ) (s : Scope g.Reported) (m : Module) (ds : List Decl) → TablesElsewhere s.types.home s.tables → Goes s (declared_module g modules ends s m ds).0
-  module_carries_on modules ends s m ds p = carries_then (imports_carry modules m.imports (s, Ok tt) p) (block_carries ends (fold (with_import g modules) (s, Ok tt) m.imports) 0 ds)
+  pub module_carries_on : (modules : List (List ℕ × ℕ)) (ends : List ℕ) (s : Scope g.Reported) (m : Module)
+      (ds : List Decl) → TablesElsewhere s.types.home s.tables → Goes s (declared_module g modules ends s m ds).0
+  module_carries_on modules ends s m ds p =
+      carries_then (imports_carry modules m.imports (s, Ok tt) p)
+      (block_carries ends (fold (with_import g modules) (s, Ok tt) m.imports) 0 ds)

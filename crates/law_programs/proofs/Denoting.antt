@@ -73,9 +73,11 @@ module _ {T : Type 0} where
 
   found_words : (name : List ℕ) (es : List (List ℕ × Known T)) → NamesWords es → WordIf (find_name name es)
   found_words name [] all = tt
-  found_words name (e ∷ es) all = found_by (same_name name e.0) e.1 (find_name name es) all.0 (found_words name es all.1)
+  found_words name (e ∷ es) all = found_by (same_name name e.0) e.1 (find_name name es) all.0
+      (found_words name es all.1)
 
-  at_place : (seen p : ℕ) (es : List (List ℕ × Known T)) (n : ℕ) → NamesWords es → WordSight (option_map (λ e. (e.1, nat_lt p seen)) (slice_get es n))
+  at_place : (seen p : ℕ) (es : List (List ℕ × Known T)) (n : ℕ) → NamesWords es
+      → WordSight (option_map (λ e. (e.1, nat_lt p seen)) (slice_get es n))
   at_place seen p [] n all = tt
   at_place seen p (e ∷ es) zero all = all.0
   at_place seen p (e ∷ es) (suc n) all = at_place seen p es n all.1
@@ -88,9 +90,12 @@ module _ {T : Type 0} where
   or_words None b p q = q
   or_words (Some k) b p q = p
 
-  outside_words : (name : List ℕ) (bs : List (Block T)) (far : Sight T) → WordSight far → BlocksWords bs → WordSight (fold (nearer name) far bs)
+  outside_words : (name : List ℕ) (bs : List (Block T)) (far : Sight T) → WordSight far → BlocksWords bs
+      → WordSight (fold (nearer name) far bs)
   outside_words name [] far p all = p
-  outside_words name (b ∷ bs) far p all = outside_words name bs (nearer name far b) (or_words (in_block name b) far (seen_words b.seen b.names (place_of name b.names) all.0) p) all.1
+  outside_words name (b ∷ bs) far p all =
+      outside_words name bs (nearer name far b)
+      (or_words (in_block name b) far (seen_words b.seen b.names (place_of name b.names) all.0) p) all.1
 
   around_words : (o : Option (Known T)) (far : Sight T) → WordIf o → WordSight far → WordSight (or_around o far)
   around_words None far p q = q
@@ -100,7 +105,8 @@ module _ (g : Gathers) where
   abbrev Means_ : {T : Type 0} → Result Meaning T → Type 0
   Means_ r = Holds (MeaningWord) r
 
-  declared_means : (at : Pos) (seen : Bool) (r : Result Meaning g.Reported) → Means_ r → Means_ (cond seen r (report g at rule.Undeclared))
+  declared_means : (at : Pos) (seen : Bool) (r : Result Meaning g.Reported) → Means_ r
+      → Means_ (cond seen r (report g at rule.Undeclared))
   declared_means at true r p = p
   declared_means at false r p = reported_holds g at rule.Undeclared
 
@@ -131,7 +137,8 @@ module _ (g : Gathers) where
 
   export_found : (name : List ℕ) (es : List (List ℕ × Meaning)) → ExportsWords es → ExportIf (find_name name es)
   export_found name [] all = tt
-  export_found name (e ∷ es) all = export_by (same_name name e.0) e.1 (find_name name es) all.0 (export_found name es all.1)
+  export_found name (e ∷ es) all = export_by (same_name name e.0) e.1 (find_name name es) all.0
+      (export_found name es all.1)
 
   export_at : (name : List ℕ) (ts : List Table) (k : ℕ) → TablesWords ts → ExportIf (exported_by name (slice_get ts k))
   export_at name [] k all = tt
@@ -146,10 +153,13 @@ module _ (g : Gathers) (s : Scope g.Reported) (h : ScopeWords s) where
   name_means : (name : Ident) → Means_ g (looked_up g s name)
   name_means name =
       field_or g (open_field s.types name.name s.withs) (means_as g name.pos (sight_of name.name s))
-      (means_words g name.pos (sight_of name.name s) (around_words (find_name name.name s.own) (known_outside name.name s.outer) (found_words name.name s.own h.names) (outside_words name.name s.outer None tt h.outer)))
+      (means_words g name.pos (sight_of name.name s)
+      (around_words (find_name name.name s.own) (known_outside name.name s.outer)
+      (found_words name.name s.own h.names) (outside_words name.name s.outer None tt h.outer)))
 
   member_means : (k : ℕ) (name : Ident) → Means_ g (exported_meaning g s.tables k name)
-  member_means k name = exported_means g name.pos (exported_by name.name (slice_get s.tables k)) (export_at g name.name s.tables k h.tables)
+  member_means k name = exported_means g name.pos (exported_by name.name (slice_get s.tables k))
+      (export_at g name.name s.tables k h.tables)
 
   -- ---- what designators and expressions stand for
 
@@ -210,7 +220,8 @@ module _ (g : Gathers) (s : Scope g.Reported) (h : ScopeWords s) where
   component_words at (denoted.Module k) = fine denoted.Variable tt
 
   field_words : (at : Pos) (name : Ident) (d : Denoted) → D_ (field_of g s at name d)
-  field_words at name (denoted.Module k) = then_holds (member_means k name) (λ m p. fine (denoted_by m) (by_meaning m p))
+  field_words at name (denoted.Module k) =
+      then_holds (member_means k name) (λ m p. fine (denoted_by m) (by_meaning m p))
   field_words at name denoted.Variable = component_words at denoted.Variable
   field_words at name (denoted.Value v) = component_words at (denoted.Value v)
   field_words at name (denoted.Type t) = component_words at (denoted.Type t)
@@ -235,7 +246,8 @@ module _ (g : Gathers) (s : Scope g.Reported) (h : ScopeWords s) where
 
   sorted_words : (at : Pos) (f : Standard) (args : List (Part g.Reported)) (o : Sort) → V_ (by_sort g s at f args o)
   sorted_words at f args Unary = then_holds (any_holds (one g s at args)) (λ p k. unary_words g f p.0 p.1)
-  sorted_words at f args Bound = then_holds (any_holds (type_only g s at args)) (λ p k. fine (bound_by f p.0 p.1) (bound_word g f p.0 p.1))
+  sorted_words at f args Bound = then_holds (any_holds (type_only g s at args))
+      (λ p k. fine (bound_by f p.0 p.1) (bound_word g f p.0 p.1))
   sorted_words at f args Conversion = conversion_words at args
     where
       converted_words : (t : TypeNo) (r : Range) (at : Pos) (o : Option Ordinal) → V_ (converted_part g t r at o)
@@ -245,7 +257,9 @@ module _ (g : Gathers) (s : Scope g.Reported) (h : ScopeWords s) where
       conversion_words : (at : Pos) (args : List (Part g.Reported)) → V_ (conversion g s at args)
       conversion_words at [] = reported_holds g at rule.ArgumentCount
       conversion_words at (t ∷ []) = reported_holds g at rule.ArgumentCount
-      conversion_words at (t ∷ x ∷ []) = then_holds (any_holds (both g (type_argument g s.types t.at (t.names s)) (constant g s x))) (λ p k. converted_words p.0.0 p.0.1 x.at (whole_number p.1))
+      conversion_words at (t ∷ x ∷ []) = then_holds
+          (any_holds (both g (type_argument g s.types t.at (t.names s)) (constant g s x)))
+          (λ p k. converted_words p.0.0 p.0.1 x.at (whole_number p.1))
       conversion_words at (t ∷ x ∷ y ∷ xs) = reported_holds g at rule.ArgumentCount
   sorted_words at f args Never = reported_holds g at rule.NoConstant
 
@@ -257,7 +271,8 @@ module _ (g : Gathers) (s : Scope g.Reported) (h : ScopeWords s) where
   called_as_words at denoted.Procedure args = reported_holds g at rule.NoConstant
   called_as_words at (denoted.Module k) args = reported_holds g at rule.NoConstant
 
-  called_words : (at : Pos) (d : Result Denoted g.Reported) (args : List (Part g.Reported)) → V_ (call_value g s at d args)
+  called_words : (at : Pos) (d : Result Denoted g.Reported) (args : List (Part g.Reported))
+      → V_ (call_value g s at d args)
   called_words at d args = then_holds (any_holds d) (λ x k. called_as_words at x args)
 
   -- ---- operators
@@ -266,22 +281,30 @@ module _ (g : Gathers) (s : Scope g.Reported) (h : ScopeWords s) where
   AllT [] = Unit {0}
   AllT (x ∷ xs) = FM x.1 × AllT xs
 
-  combined_words : (o : BinaryOp) (spot at : Pos) {x : Result Value g.Reported} (at' : Pos) {y : Result Value g.Reported} → V_ x → V_ y → V_ (constant_operation g o spot at x at' y)
-  combined_words o spot at at' p q = then_holds (both_holds g p q) (λ v k. binary_words g o spot at (operand_of v.0) at' (operand_of v.1) (operand_word v.0 k.0) (operand_word v.1 k.1))
+  combined_words : (o : BinaryOp) (spot at : Pos) {x : Result Value g.Reported} (at' : Pos)
+      {y : Result Value g.Reported} → V_ x → V_ y → V_ (constant_operation g o spot at x at' y)
+  combined_words o spot at at' p q = then_holds (both_holds g p q)
+      (λ v k. binary_words g o spot at (operand_of v.0) at' (operand_of v.1) (operand_word v.0 k.0)
+      (operand_word v.1 k.1))
 
-  factors_words : (at : Pos) (rest : List (Operator MulOp × Part g.Reported)) (v : Result Value g.Reported) → V_ v → AllT rest → V_ (fold (factor g s at) v rest)
+  factors_words : (at : Pos) (rest : List (Operator MulOp × Part g.Reported)) (v : Result Value g.Reported) → V_ v
+      → AllT rest → V_ (fold (factor g s at) v rest)
   factors_words at [] v p all = p
-  factors_words at (x ∷ xs) v p all = factors_words at xs (factor g s at v x) (combined_words (mul_op x.0.op) x.0.pos at x.1.at p (constant_words x.1 all.0)) all.1
+  factors_words at (x ∷ xs) v p all = factors_words at xs (factor g s at v x)
+      (combined_words (mul_op x.0.op) x.0.pos at x.1.at p (constant_words x.1 all.0)) all.1
 
-  terms_words : (at : Pos) (rest : List (Operator AddOp × Part g.Reported)) (v : Result Value g.Reported) → V_ v → AllT rest → V_ (fold (term g s at) v rest)
+  terms_words : (at : Pos) (rest : List (Operator AddOp × Part g.Reported)) (v : Result Value g.Reported) → V_ v
+      → AllT rest → V_ (fold (term g s at) v rest)
   terms_words at [] v p all = p
-  terms_words at (x ∷ xs) v p all = terms_words at xs (term g s at v x) (combined_words (add_op x.0.op) x.0.pos at x.1.at p (constant_words x.1 all.0)) all.1
+  terms_words at (x ∷ xs) v p all = terms_words at xs (term g s at v x)
+      (combined_words (add_op x.0.op) x.0.pos at x.1.at p (constant_words x.1 all.0)) all.1
 
   first_words : (o : Option (Operator Sign)) {x : Result Value g.Reported} → V_ x → V_ (signed_first g o x)
   first_words None p = p
   first_words (Some o) p = then_holds p (λ v k. signed_words g o.op o.pos (operand_of v))
 
-  picks_words : (ps : List (Pick g.Reported)) (d : Result Denoted g.Reported) → D_ d → AllP ps → D_ (fold (λ x p. p s x) d ps)
+  picks_words : (ps : List (Pick g.Reported)) (d : Result Denoted g.Reported) → D_ d → AllP ps
+      → D_ (fold (λ x p. p s x) d ps)
   picks_words [] d p all = p
   picks_words (x ∷ ps) d p all = picks_words ps (x s d) (all.0 d p) all.1
 
@@ -311,33 +334,53 @@ module _ (g : Gathers) (s : Scope g.Reported) (h : ScopeWords s) where
   abbrev SI : Type 0
   SI = (e : Item) × PI e
 
-  abbrev parts : Expr-F Expr Selector Designator Item → Expr-F (Meant g.Reported) (Picks g.Reported) (Meant g.Reported) (Adds g.Reported)
-  parts x = map-Expr Expr Selector Designator Item (Meant g.Reported) (Picks g.Reported) (Meant g.Reported) (Adds g.Reported) (meanings_of g) (picks g) (head g) (item g) x
+  abbrev parts : Expr-F Expr Selector Designator Item
+      → Expr-F (Meant g.Reported) (Picks g.Reported) (Meant g.Reported) (Adds g.Reported)
+  parts x = map-Expr Expr Selector Designator Item (Meant g.Reported) (Picks g.Reported) (Meant g.Reported)
+      (Adds g.Reported) (meanings_of g) (picks g) (head g) (item g) x
 
-  abbrev parts_selector : Selector-F Expr Selector Designator Item → Selector-F (Meant g.Reported) (Picks g.Reported) (Meant g.Reported) (Adds g.Reported)
-  parts_selector x = map-Selector Expr Selector Designator Item (Meant g.Reported) (Picks g.Reported) (Meant g.Reported) (Adds g.Reported) (meanings_of g) (picks g) (head g) (item g) x
+  abbrev parts_selector : Selector-F Expr Selector Designator Item
+      → Selector-F (Meant g.Reported) (Picks g.Reported) (Meant g.Reported) (Adds g.Reported)
+  parts_selector x = map-Selector Expr Selector Designator Item (Meant g.Reported) (Picks g.Reported) (Meant g.Reported)
+      (Adds g.Reported) (meanings_of g) (picks g) (head g) (item g) x
 
-  abbrev parts_designator : Designator-F Expr Selector Designator Item → Designator-F (Meant g.Reported) (Picks g.Reported) (Meant g.Reported) (Adds g.Reported)
-  parts_designator x = map-Designator Expr Selector Designator Item (Meant g.Reported) (Picks g.Reported) (Meant g.Reported) (Adds g.Reported) (meanings_of g) (picks g) (head g) (item g) x
+  abbrev parts_designator : Designator-F Expr Selector Designator Item
+      → Designator-F (Meant g.Reported) (Picks g.Reported) (Meant g.Reported) (Adds g.Reported)
+  parts_designator x = map-Designator Expr Selector Designator Item (Meant g.Reported) (Picks g.Reported)
+      (Meant g.Reported) (Adds g.Reported) (meanings_of g) (picks g) (head g) (item g) x
 
-  abbrev parts_item : Item-F Expr Selector Designator Item → Item-F (Meant g.Reported) (Picks g.Reported) (Meant g.Reported) (Adds g.Reported)
-  parts_item x = map-Item Expr Selector Designator Item (Meant g.Reported) (Picks g.Reported) (Meant g.Reported) (Adds g.Reported) (meanings_of g) (picks g) (head g) (item g) x
+  abbrev parts_item : Item-F Expr Selector Designator Item
+      → Item-F (Meant g.Reported) (Picks g.Reported) (Meant g.Reported) (Adds g.Reported)
+  parts_item x = map-Item Expr Selector Designator Item (Meant g.Reported) (Picks g.Reported) (Meant g.Reported)
+      (Adds g.Reported) (meanings_of g) (picks g) (head g) (item g) x
 
-  at_expr : (e : Expr) (x : Expr-F Expr Selector Designator Item) → out-Expr e ≡ x → meanings_of g e ≡ expr_layer g (parts x)
+  at_expr : (e : Expr) (x : Expr-F Expr Selector Designator Item) → out-Expr e ≡ x
+      → meanings_of g e ≡ expr_layer g (parts x)
   unfolding meanings_of picks head item
-  at_expr e x q = fold_out-Expr (Meant g.Reported) (Picks g.Reported) (Meant g.Reported) (Adds g.Reported) (expr_layer g) (selector_layer g) (designator_layer g) (item_layer g) e ∙ ap (λ (y : Expr-F Expr Selector Designator Item). expr_layer g (parts y)) q
+  at_expr e x q = fold_out-Expr (Meant g.Reported) (Picks g.Reported) (Meant g.Reported) (Adds g.Reported)
+      (expr_layer g) (selector_layer g) (designator_layer g) (item_layer g) e
+      ∙ ap (λ (y : Expr-F Expr Selector Designator Item). expr_layer g (parts y)) q
 
-  at_selector : (e : Selector) (x : Selector-F Expr Selector Designator Item) → out-Selector e ≡ x → picks g e ≡ selector_layer g (parts_selector x)
+  at_selector : (e : Selector) (x : Selector-F Expr Selector Designator Item) → out-Selector e ≡ x
+      → picks g e ≡ selector_layer g (parts_selector x)
   unfolding meanings_of picks head item
-  at_selector e x q = fold_out-Selector (Meant g.Reported) (Picks g.Reported) (Meant g.Reported) (Adds g.Reported) (expr_layer g) (selector_layer g) (designator_layer g) (item_layer g) e ∙ ap (λ (y : Selector-F Expr Selector Designator Item). selector_layer g (parts_selector y)) q
+  at_selector e x q = fold_out-Selector (Meant g.Reported) (Picks g.Reported) (Meant g.Reported) (Adds g.Reported)
+      (expr_layer g) (selector_layer g) (designator_layer g) (item_layer g) e
+      ∙ ap (λ (y : Selector-F Expr Selector Designator Item). selector_layer g (parts_selector y)) q
 
-  at_designator : (e : Designator) (x : Designator-F Expr Selector Designator Item) → out-Designator e ≡ x → head g e ≡ designator_layer g (parts_designator x)
+  at_designator : (e : Designator) (x : Designator-F Expr Selector Designator Item) → out-Designator e ≡ x
+      → head g e ≡ designator_layer g (parts_designator x)
   unfolding meanings_of picks head item
-  at_designator e x q = fold_out-Designator (Meant g.Reported) (Picks g.Reported) (Meant g.Reported) (Adds g.Reported) (expr_layer g) (selector_layer g) (designator_layer g) (item_layer g) e ∙ ap (λ (y : Designator-F Expr Selector Designator Item). designator_layer g (parts_designator y)) q
+  at_designator e x q = fold_out-Designator (Meant g.Reported) (Picks g.Reported) (Meant g.Reported) (Adds g.Reported)
+      (expr_layer g) (selector_layer g) (designator_layer g) (item_layer g) e
+      ∙ ap (λ (y : Designator-F Expr Selector Designator Item). designator_layer g (parts_designator y)) q
 
-  at_item : (e : Item) (x : Item-F Expr Selector Designator Item) → out-Item e ≡ x → item g e ≡ item_layer g (parts_item x)
+  at_item : (e : Item) (x : Item-F Expr Selector Designator Item) → out-Item e ≡ x
+      → item g e ≡ item_layer g (parts_item x)
   unfolding meanings_of picks head item
-  at_item e x q = fold_out-Item (Meant g.Reported) (Picks g.Reported) (Meant g.Reported) (Adds g.Reported) (expr_layer g) (selector_layer g) (designator_layer g) (item_layer g) e ∙ ap (λ (y : Item-F Expr Selector Designator Item). item_layer g (parts_item y)) q
+  at_item e x q = fold_out-Item (Meant g.Reported) (Picks g.Reported) (Meant g.Reported) (Adds g.Reported)
+      (expr_layer g) (selector_layer g) (designator_layer g) (item_layer g) e
+      ∙ ap (λ (y : Item-F Expr Selector Designator Item). item_layer g (parts_item y)) q
 
   abbrev bare : Expr-F SE SS SD SI → Expr-F Expr Selector Designator Item
   bare x = map-Expr SE SS SD SI Expr Selector Designator Item (λ e. e.0) (λ e. e.0) (λ e. e.0) (λ e. e.0) x
@@ -346,12 +389,15 @@ module _ (g : Gathers) (s : Scope g.Reported) (h : ScopeWords s) where
   bare_selector x = map-Selector SE SS SD SI Expr Selector Designator Item (λ e. e.0) (λ e. e.0) (λ e. e.0) (λ e. e.0) x
 
   abbrev bare_designator : Designator-F SE SS SD SI → Designator-F Expr Selector Designator Item
-  bare_designator x = map-Designator SE SS SD SI Expr Selector Designator Item (λ e. e.0) (λ e. e.0) (λ e. e.0) (λ e. e.0) x
+  bare_designator x = map-Designator SE SS SD SI Expr Selector Designator Item (λ e. e.0) (λ e. e.0) (λ e. e.0)
+      (λ e. e.0) x
 
   abbrev bare_item : Item-F SE SS SD SI → Item-F Expr Selector Designator Item
   bare_item x = map-Item SE SS SD SI Expr Selector Designator Item (λ e. e.0) (λ e. e.0) (λ e. e.0) (λ e. e.0) x
 
-  all_terms : {O : Type 0} (ys : List (Operator O × SE)) → AllT (map (λ (y : Operator O × Meant g.Reported). (y.0, y.1.fixed)) (map (λ (y : Operator O × Expr). (y.0, meanings_of g y.1)) (map (λ (a : Operator O × SE). (a.0, a.1.0)) ys)))
+  all_terms : {O : Type 0} (ys : List (Operator O × SE))
+      → AllT (map (λ (y : Operator O × Meant g.Reported). (y.0, y.1.fixed))
+      (map (λ (y : Operator O × Expr). (y.0, meanings_of g y.1)) (map (λ (a : Operator O × SE). (a.0, a.1.0)) ys)))
   all_terms [] = tt
   all_terms (y ∷ ys) = (y.1.1, all_terms ys)
 
@@ -368,40 +414,68 @@ module _ (g : Gathers) (s : Scope g.Reported) (h : ScopeWords s) where
   expr_words (layer.Char p c) = fine (denoted.Value (number_value (Some char) (pos c))) tt
   expr_words (layer.Text p t) = fine (denoted.Value (value.Text t)) tt
   expr_words (layer.Set q p items) =
-      then_holds (both_holds g (any_holds (set_type g s q)) (items_small g s (map (λ (i : Adds g.Reported). i) (map (item g) (map (λ (e : SI). e.0) items))) (Ok 0) (fine 0 (omega arith)) (all_items items))) (λ (b : Unit {0} × ℕ) k. fine (denoted.Value (value.Set b.1)) k.1)
-  expr_words (layer.Not p y) = value_words (then_holds (any_holds (constant g s (part g y.0))) (λ v k. negated_words g p (operand_of v)))
+      then_holds (both_holds g (any_holds (set_type g s q))
+      (items_small g s (map (λ (i : Adds g.Reported). i) (map (item g) (map (λ (e : SI). e.0) items))) (Ok 0)
+      (fine 0 (omega arith)) (all_items items))) (λ (b : Unit {0} × ℕ) k. fine (denoted.Value (value.Set b.1)) k.1)
+  expr_words (layer.Not p y) = value_words
+      (then_holds (any_holds (constant g s (part g y.0))) (λ v k. negated_words g p (operand_of v)))
   expr_words (layer.Bracketed p y) = value_words (constant_words (part g y.0) y.1)
   expr_words (layer.Use d None) = d.1
-  expr_words (layer.Use d (Some es)) = value_words (called_words (head g d.0).fixed.at ((head g d.0).fixed.denotes s) (map (λ (e : Meant g.Reported). e.fixed) (map (meanings_of g) (map (λ (e : SE). e.0) es))))
+  expr_words (layer.Use d (Some es)) = value_words
+      (called_words (head g d.0).fixed.at ((head g d.0).fixed.denotes s)
+      (map (λ (e : Meant g.Reported). e.fixed) (map (meanings_of g) (map (λ (e : SE). e.0) es))))
   expr_words (layer.Term y ys) =
-      value_words (factors_words (part g y.0).at (map (λ (z : Operator MulOp × Meant g.Reported). (z.0, z.1.fixed)) (map (λ (z : Operator MulOp × Expr). (z.0, meanings_of g z.1)) (map (λ (a : Operator MulOp × SE). (a.0, a.1.0)) ys))) (constant g s (part g y.0)) (constant_words (part g y.0) y.1) (all_terms ys))
+      value_words (factors_words (part g y.0).at
+      (map (λ (z : Operator MulOp × Meant g.Reported). (z.0, z.1.fixed))
+      (map (λ (z : Operator MulOp × Expr). (z.0, meanings_of g z.1))
+      (map (λ (a : Operator MulOp × SE). (a.0, a.1.0)) ys))) (constant g s (part g y.0))
+      (constant_words (part g y.0) y.1) (all_terms ys))
   expr_words (layer.Sum o y ys) =
-      value_words (terms_words (sign_place o (part g y.0).at) (map (λ (z : Operator AddOp × Meant g.Reported). (z.0, z.1.fixed)) (map (λ (z : Operator AddOp × Expr). (z.0, meanings_of g z.1)) (map (λ (a : Operator AddOp × SE). (a.0, a.1.0)) ys))) (signed_first g o (constant g s (part g y.0))) (first_words o (constant_words (part g y.0) y.1)) (all_terms ys))
-  expr_words (layer.Relation a o b) = value_words (combined_words (op.Relation o.op) o.pos (part g a.0).at (part g b.0).at (constant_words (part g a.0) a.1) (constant_words (part g b.0) b.1))
+      value_words (terms_words (sign_place o (part g y.0).at)
+      (map (λ (z : Operator AddOp × Meant g.Reported). (z.0, z.1.fixed))
+      (map (λ (z : Operator AddOp × Expr). (z.0, meanings_of g z.1))
+      (map (λ (a : Operator AddOp × SE). (a.0, a.1.0)) ys))) (signed_first g o (constant g s (part g y.0)))
+      (first_words o (constant_words (part g y.0) y.1)) (all_terms ys))
+  expr_words (layer.Relation a o b) = value_words
+      (combined_words (op.Relation o.op) o.pos (part g a.0).at (part g b.0).at (constant_words (part g a.0) a.1)
+      (constant_words (part g b.0) b.1))
 
   selector_words : (y : Selector-F SE SS SD SI) → FP (selector_layer g (parts_selector (bare_selector y))).fixed
   selector_words (layer.Field p name) = λ d q. then_holds q (λ z k. field_words p name z)
   selector_words (layer.Index p e) = λ d q. then_holds q (λ z k. component_words p z)
 
-  designator_words : (y : Designator-F SE SS SD SI) → FM (designator_layer g (parts_designator (bare_designator y))).fixed
-  designator_words y = picks_words (map (λ (e : Picks g.Reported). e.fixed) (map (picks g) (map (λ (e : SS). e.0) y.selectors))) (first_name g s y.name) (named_words y.name) (all_picks y.selectors)
+  designator_words : (y : Designator-F SE SS SD SI)
+      → FM (designator_layer g (parts_designator (bare_designator y))).fixed
+  designator_words y = picks_words (map (λ (e : Picks g.Reported). e.fixed)
+      (map (picks g) (map (λ (e : SS). e.0) y.selectors))) (first_name g s y.name) (named_words y.name)
+      (all_picks y.selectors)
 
   -- ---- the induction
 
   step_expr : (y : Expr-F Expr Selector Designator Item) (z : Expr-F SE SS SD SI) → bare z ≡ y → PE (roll-Expr y)
-  step_expr y z q = subst (λ (m : Meant g.Reported). FM m.fixed) (sym (at_expr (roll-Expr y) (bare z) (out-roll-Expr y ∙ sym q))) (expr_words z)
+  step_expr y z q = subst (λ (m : Meant g.Reported). FM m.fixed)
+      (sym (at_expr (roll-Expr y) (bare z) (out-roll-Expr y ∙ sym q))) (expr_words z)
 
-  step_selector : (y : Selector-F Expr Selector Designator Item) (z : Selector-F SE SS SD SI) → bare_selector z ≡ y → PS (roll-Selector y)
-  step_selector y z q = subst (λ (m : Picks g.Reported). FP m.fixed) (sym (at_selector (roll-Selector y) (bare_selector z) (out-roll-Selector y ∙ sym q))) (selector_words z)
+  step_selector : (y : Selector-F Expr Selector Designator Item) (z : Selector-F SE SS SD SI) → bare_selector z ≡ y
+      → PS (roll-Selector y)
+  step_selector y z q = subst (λ (m : Picks g.Reported). FP m.fixed)
+      (sym (at_selector (roll-Selector y) (bare_selector z) (out-roll-Selector y ∙ sym q))) (selector_words z)
 
-  step_designator : (y : Designator-F Expr Selector Designator Item) (z : Designator-F SE SS SD SI) → bare_designator z ≡ y → PD (roll-Designator y)
-  step_designator y z q = subst (λ (m : Meant g.Reported). FM m.fixed) (sym (at_designator (roll-Designator y) (bare_designator z) (out-roll-Designator y ∙ sym q))) (designator_words z)
+  step_designator : (y : Designator-F Expr Selector Designator Item) (z : Designator-F SE SS SD SI)
+      → bare_designator z ≡ y → PD (roll-Designator y)
+  step_designator y z q = subst (λ (m : Meant g.Reported). FM m.fixed)
+      (sym (at_designator (roll-Designator y) (bare_designator z) (out-roll-Designator y ∙ sym q))) (designator_words z)
 
-  abbrev fixed_item : Item-F SE SS SD SI → Item-F (Part g.Reported) (Pick g.Reported) (Part g.Reported) (Adds g.Reported)
-  fixed_item z = map-Item (Meant g.Reported) (Picks g.Reported) (Meant g.Reported) (Adds g.Reported) (Part g.Reported) (Pick g.Reported) (Part g.Reported) (Adds g.Reported) (λ e. e.fixed) (λ e. e.fixed) (λ e. e.fixed) (λ e. e) (parts_item (bare_item z))
+  abbrev fixed_item : Item-F SE SS SD SI →
+      Item-F (Part g.Reported) (Pick g.Reported) (Part g.Reported) (Adds g.Reported)
+  fixed_item z = map-Item (Meant g.Reported) (Picks g.Reported) (Meant g.Reported) (Adds g.Reported) (Part g.Reported)
+      (Pick g.Reported) (Part g.Reported) (Adds g.Reported) (λ e. e.fixed) (λ e. e.fixed) (λ e. e.fixed) (λ e. e)
+      (parts_item (bare_item z))
 
   step_item : (y : Item-F Expr Selector Designator Item) (z : Item-F SE SS SD SI) → bare_item z ≡ y → PI (roll-Item y)
-  step_item y z q = subst (λ (i : Adds g.Reported). B_ g (i s)) (sym (at_item (roll-Item y) (bare_item z) (out-roll-Item y ∙ sym q))) (added_small g s (fixed_item z).low (fixed_item z).high)
+  step_item y z q = subst (λ (i : Adds g.Reported). B_ g (i s))
+      (sym (at_item (roll-Item y) (bare_item z) (out-roll-Item y ∙ sym q)))
+      (added_small g s (fixed_item z).low (fixed_item z).high)
 
   part_words : (e : Expr) → PE e
   part_words = ind-Expr PE PS PD PI step_expr step_selector step_designator step_item

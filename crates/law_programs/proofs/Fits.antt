@@ -67,7 +67,8 @@ pub all_true : {A : Type 0} (f : A → Bool) (xs : List A) → AllByRecursion (�
 all_true f [] p = refl
 all_true f (x ∷ xs) p = both_true (f x) (list_all f xs) p.0 (all_true f xs p.1)
 
-pub there_true : {A : Type 0} (f : A → Bool) (xs : List (Option A)) → AllByRecursion (MaybeFits (λ x. True (f x))) xs → True (list_all f (present xs))
+pub there_true : {A : Type 0} (f : A → Bool) (xs : List (Option A)) → AllByRecursion (MaybeFits (λ x. True (f x))) xs
+    → True (list_all f (present xs))
 there_true f [] p = refl
 there_true f (None ∷ xs) p = there_true f xs p.1
 there_true f (Some x ∷ xs) p = both_true (f x) (list_all f (present xs)) p.0 (there_true f xs p.1)
@@ -83,8 +84,11 @@ right_true false b p = absurd cc
 pub itself_true : {A : Type 0} (f : A → Bool) (xs : List A) → True (list_all f xs) → True (list_all itself (map f xs))
 itself_true f [] p = refl
 itself_true f (x ∷ xs) p =
-    both_true (f x) (list_all itself (map f xs)) (left_true (f x) (list_all f xs) p) (itself_true f xs (right_true (f x) (list_all f xs) p))
+    both_true (f x) (list_all itself (map f xs)) (left_true (f x) (list_all f xs) p)
+    (itself_true f xs (right_true (f x) (list_all f xs) p))
 
-pub appended : {A : Type 0} (f : A → Bool) (xs ys : List A) → True (list_all f xs) → True (list_all f ys) → True (list_all f (xs ++ ys))
+pub appended : {A : Type 0} (f : A → Bool) (xs ys : List A) → True (list_all f xs) → True (list_all f ys)
+    → True (list_all f (xs ++ ys))
 appended f [] ys h q = q
-appended f (x ∷ xs) ys h q = both_true (f x) (list_all f (xs ++ ys)) (left_true (f x) (list_all f xs) h) (appended f xs ys (right_true (f x) (list_all f xs) h) q)
+appended f (x ∷ xs) ys h q = both_true (f x) (list_all f (xs ++ ys)) (left_true (f x) (list_all f xs) h)
+    (appended f xs ys (right_true (f x) (list_all f xs) h) q)

@@ -35,7 +35,9 @@ held P _ x (broken y) e = absurd cc
 inside_of : (m : TypedModule) (r : Routine) → IsNested m r → IsInside m r
 inside_of m r n = record { which = n.which; routine = n.routine; around = n.around; there = n.there }
 
-module _ (fs : List (List ℕ × Module)) (files : List ℕ) (jobs : List (List ℕ)) (starts : List ℕ) (graph : IsGraph (number_files 0 fs) files jobs starts) (each : CompileEach (number_files 0 fs) files) (fit : list_all fits_module (trees_of fs) ≡ true) where
+module _ (fs : List (List ℕ × Module)) (files : List ℕ) (jobs : List (List ℕ)) (starts : List ℕ)
+    (graph : IsGraph (number_files 0 fs) files jobs starts) (each : CompileEach (number_files 0 fs) files)
+    (fit : list_all fits_module (trees_of fs) ≡ true) where
   abbrev tables : ℕ → List Table
   tables job = tables_of (needed_of (trees_of fs) files jobs job)
 
@@ -49,19 +51,25 @@ module _ (fs : List (List ℕ × Module)) (files : List ℕ) (jobs : List (List 
   one_there s m b w =
       let ts : List Table = tables b.job in
       record {
-        well = held IsWellFormed (typed_body b.tree b.job ts) m (programs_formed fs files jobs starts graph b.tree b.job) b.typed;
-        nested = held AreNested (typed_body b.tree b.job ts) m (modules_nested least b.job b.tree (own_table b.tree ts) (tables_behind (own_table b.tree ts) ts) (tables_for fs files jobs starts graph b.tree b.job)) b.typed;
+        well = held IsWellFormed (typed_body b.tree b.job ts) m
+            (programs_formed fs files jobs starts graph b.tree b.job) b.typed;
+        nested = held AreNested (typed_body b.tree b.job ts) m
+            (modules_nested least b.job b.tree (own_table b.tree ts) (tables_behind (own_table b.tree ts) ts)
+            (tables_for fs files jobs starts graph b.tree b.job)) b.typed;
         fits = w;
       }
 
-  all_there : (ss : List ℕ) (p : Program) → AreBodiesIn (trees_of fs) files jobs ss p → AllByRecursion IsFit p → (place : ℕ) (m : TypedModule) → slice_get p place ≡ Some m → IsThere m
+  all_there : (ss : List ℕ) (p : Program) → AreBodiesIn (trees_of fs) files jobs ss p → AllByRecursion IsFit p
+      → (place : ℕ) (m : TypedModule) → slice_get p place ≡ Some m → IsThere m
   all_there [] [] b w place m e = absurd cc
   all_there [] (t ∷ ts) b w place m e = absurd b
   all_there (s ∷ ss) [] b w place m e = absurd b
   all_there (s ∷ ss) (t ∷ ts) b w zero m e = let same : t ≡ m = cc in subst IsThere same (one_there s t b.0 w.0)
   all_there (s ∷ ss) (t ∷ ts) b w (suc place) m e = all_there ss ts b.1 w.1 place m e
 
-  module _ (whole : list_all (λ m. fits_contents m.contents) (trees_of fs) ≡ true) (p : Program) (b : AreBodiesIn (trees_of fs) files jobs starts p) (w : AllByRecursion IsFit p) (pages : ℕ) (room : bytes_in p + 4096 ≤ 65536 * pages) (most : pages ≤ 1024) where
+  module _ (whole : list_all (λ m. fits_contents m.contents) (trees_of fs) ≡ true) (p : Program)
+      (b : AreBodiesIn (trees_of fs) files jobs starts p) (w : AllByRecursion IsFit p) (pages : ℕ)
+      (room : bytes_in p + 4096 ≤ 65536 * pages) (most : pages ≤ 1024) where
     pub are_modules : AreModules p
     are_modules place m e =
         let there : IsThere m = all_there starts p b w place m e in

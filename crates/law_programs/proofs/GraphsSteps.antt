@@ -1,4 +1,5 @@
--- Declarations of a definition, but for those of variables and procedures, keep the variables and procedures of a block.
+-- Declarations of a definition, but for those of variables and procedures, keep the variables and procedures of a
+-- block.
 use Rattle.std.proofs.Common.{◌≡◌, ℕ, Bool, true, false, ◌||◌, cond, List, [], ◌∷◌, Some, None, Result, Ok, Err, refl, sym, ap, subst, ◌∙◌}
 use Rattle.std.specs.List.{fold}
 use Rattle.m2_rule.specs.declared.rule.Rule.TheVariants as rule
@@ -53,7 +54,15 @@ or_none false b h = (refl, h)
 
 module _ {T : Type 0} where
   pub same_stays : (names : List (List ℕ)) (s : Scope T) → Stays names s s
-  same_stays names s = record { variables = refl; procedures = refl; done_same = refl; front = λ p. p; settled = λ y h. h; begun = λ y h. refl }
+  same_stays names s = record {
+    variables = refl;
+    procedures = refl;
+    done_same = refl;
+    front = λ p. p;
+    settled =
+        λ y h. h;
+    begun = λ y h. refl;
+  }
 
   infixl 10 ◌⨾◌
   pub ◌⨾◌ : {names : List (List ℕ)} {a b c : Scope T} → Stays names b c → Stays names a b → Stays names a c
@@ -67,11 +76,21 @@ module _ {T : Type 0} where
   }
 
   pub stays_for : (names : List (List ℕ)) {a b : Scope T} → Stays [] a b → Stays names a b
-  stays_for names p = record { variables = p.variables; procedures = p.procedures; done_same = p.done_same; front = p.front; settled = p.settled; begun = λ y h. p.begun y refl }
+  stays_for names p = record {
+    variables = p.variables;
+    procedures = p.procedures;
+    done_same = p.done_same;
+    front =
+        p.front;
+    settled = p.settled;
+    begun = λ y h. p.begun y refl;
+  }
 
   -- ---- a name is entered
 
-  pub known_stays : (name : List ℕ) (k : Known T) (s : Scope T) → counted_of k ≡ [] → is_begun (Some k) ≡ false → holds_of is_settled (find_name name s.own) ≡ false → is_begun (find_name name s.own) ≡ false → Stays [] s (with_known name k s)
+  pub known_stays : (name : List ℕ) (k : Known T) (s : Scope T) → counted_of k ≡ [] → is_begun (Some k) ≡ false
+      → holds_of is_settled (find_name name s.own) ≡ false → is_begun (find_name name s.own) ≡ false
+      → Stays [] s (with_known name k s)
   known_stays name k s n b u v = record {
     variables = refl;
     procedures = refl;
@@ -81,7 +100,8 @@ module _ {T : Type 0} where
     begun = λ y h. begun_kept y name k s.own b v;
   }
 
-  own_stays : (name : List ℕ) (k : Known T) (s : Scope T) → counted_of k ≡ [] → holds_of is_settled (find_name name s.own) ≡ false → Stays (name ∷ []) s (with_known name k s)
+  own_stays : (name : List ℕ) (k : Known T) (s : Scope T) → counted_of k ≡ []
+      → holds_of is_settled (find_name name s.own) ≡ false → Stays (name ∷ []) s (with_known name k s)
   own_stays name k s n u = record {
     variables = refl;
     procedures = refl;
@@ -91,32 +111,48 @@ module _ {T : Type 0} where
     begun = λ y h. ap is_begun (found_other name k s.own y (or_none (same_name y name) false h).0);
   }
 
-  either : (names : List (List ℕ)) (s : Scope T) (b : Bool) {A : Type 0} (x y : State A T) → (b ≡ true → Stays names s x.0) → Stays names s y.0 → Stays names s (cond b x y).0
+  either : (names : List (List ℕ)) (s : Scope T) (b : Bool) {A : Type 0} (x y : State A T)
+      → (b ≡ true → Stays names s x.0) → Stays names s y.0 → Stays names s (cond b x y).0
   either names s true x y p q = p refl
   either names s false x y p q = q
 
-  either_scope : (names : List (List ℕ)) (s : Scope T) (b : Bool) (x y : Scope T) → (b ≡ true → Stays names s x) → Stays names s y → Stays names s (cond b x y)
+  either_scope : (names : List (List ℕ)) (s : Scope T) (b : Bool) (x y : Scope T) → (b ≡ true → Stays names s x)
+      → Stays names s y → Stays names s (cond b x y)
   either_scope names s true x y p q = p refl
   either_scope names s false x y p q = q
 
-  free_stays : (name : List ℕ) (k : Known T) (s : Scope T) → counted_of k ≡ [] → is_begun (Some k) ≡ false → is_free (find_name name s.own) ≡ true → Stays [] s (with_known name k s)
-  free_stays name k s n b f = known_stays name k s n b (free_unsettled (find_name name s.own) f) (free_unbegun (find_name name s.own) f)
+  free_stays : (name : List ℕ) (k : Known T) (s : Scope T) → counted_of k ≡ [] → is_begun (Some k) ≡ false
+      → is_free (find_name name s.own) ≡ true → Stays [] s (with_known name k s)
+  free_stays name k s n b f = known_stays name k s n b (free_unsettled (find_name name s.own) f)
+      (free_unbegun (find_name name s.own) f)
 
-  finished_stays : (s : Scope T) (name : Ident) (m : Result Meaning T) → counted_if m ≡ [] → Stays (name.name ∷ []) s (finish_name s name m)
+  finished_stays : (s : Scope T) (name : Ident) (m : Result Meaning T) → counted_if m ≡ []
+      → Stays (name.name ∷ []) s (finish_name s name m)
   finished_stays s name m n =
-      either_scope (name.name ∷ []) s (is_begun (find_name name.name s.own)) (with_known name.name (Declared Here m) s) s (λ e. own_stays name.name (Declared Here m) s n (begun_unsettled (find_name name.name s.own) e)) (same_stays (name.name ∷ []) s)
+      either_scope (name.name ∷ []) s (is_begun (find_name name.name s.own)) (with_known name.name (Declared Here m) s)
+      s (λ e. own_stays name.name (Declared Here m) s n (begun_unsettled (find_name name.name s.own) e))
+      (same_stays (name.name ∷ []) s)
 
   -- it is begun no more
-  finished_ends : (s : Scope T) (name : Ident) (m : Result Meaning T) → is_begun (find_name name.name (finish_name s name m).own) ≡ false
+  finished_ends : (s : Scope T) (name : Ident) (m : Result Meaning T)
+      → is_begun (find_name name.name (finish_name s name m).own) ≡ false
   finished_ends s name m = by (is_begun (find_name name.name s.own)) refl where
-    by : (b : Bool) → is_begun (find_name name.name s.own) ≡ b → is_begun (find_name name.name (cond b (with_known name.name (Declared Here m) s) s).own) ≡ false
+    by : (b : Bool) → is_begun (find_name name.name s.own) ≡ b
+        → is_begun (find_name name.name (cond b (with_known name.name (Declared Here m) s) s).own) ≡ false
     by true e = ap is_begun (found_self name.name (Declared Here m) s.own)
     by false e = e
 
   -- ---- types that are made
 
   shape_stays : (s : Scope T) (m : Made) → Stays [] s (with_shape s m)
-  shape_stays s m = record { variables = refl; procedures = refl; done_same = refl; front = λ p. p; settled = λ y h. h; begun = λ y h. refl }
+  shape_stays s m = record {
+    variables = refl;
+    procedures = refl;
+    done_same = refl;
+    front = λ p. p;
+    settled = λ y h. h;
+    begun = λ y h. refl;
+  }
 
   pub made_stays : (s : Scope T) (r : Result Made T) → Stays [] s (with_made s r).0
   made_stays s (Ok m) = shape_stays s m
@@ -144,7 +180,10 @@ all_marks T = defs_marks marks
 module _ (g : Gathers) where
   pub begun_stays : (s : Scope g.Reported) (name : Ident) → Stays (name.name ∷ []) s (begin_name g s name).0
   begun_stays s name =
-      either (name.name ∷ []) s (is_free (find_name name.name s.own)) (with_known name.name Begun s, Ok tt) (s, report g name.pos rule.DeclaredTwice) (λ e. own_stays name.name Begun s refl (free_unsettled (find_name name.name s.own) e)) (same_stays (name.name ∷ []) s)
+      either (name.name ∷ []) s (is_free (find_name name.name s.own)) (with_known name.name Begun s, Ok tt)
+      (s, report g name.pos rule.DeclaredTwice)
+      (λ e. own_stays name.name Begun s refl (free_unsettled (find_name name.name s.own) e))
+      (same_stays (name.name ∷ []) s)
 
   pub type_of_stays : (t : TypeExpr) (s : Scope g.Reported) → Stays [] s (type_of g t s).0
   type_of_stays =
@@ -164,23 +203,28 @@ module _ (g : Gathers) where
   type_none (Ok t) n = refl
   type_none (Err e) n = refl
 
-  constant_stays : (st : State (Unit {0}) g.Reported) (c : Constant) → Stays (c.name.name ∷ []) st.0 (with_constant g st c).0
+  constant_stays : (st : State (Unit {0}) g.Reported) (c : Constant)
+      → Stays (c.name.name ∷ []) st.0 (with_constant g st c).0
   constant_stays st c =
       let b = begin_name g st.0 c.name in
-      finished_stays b.0 c.name (constant_meaning (constant g b.0 (part g c.value))) (constant_none (constant g b.0 (part g c.value))) ⨾ begun_stays st.0 c.name
+      finished_stays b.0 c.name (constant_meaning (constant g b.0 (part g c.value)))
+      (constant_none (constant g b.0 (part g c.value))) ⨾ begun_stays st.0 c.name
 
-  type_decl_stays : (st : State (Unit {0}) g.Reported) (d : TypeDecl) → Stays (d.name.name ∷ []) st.0 (with_type g st d).0
+  type_decl_stays : (st : State (Unit {0}) g.Reported) (d : TypeDecl)
+      → Stays (d.name.name ∷ []) st.0 (with_type g st d).0
   type_decl_stays st d =
       let b = begin_name g st.0 d.name in
       let t = type_of g d.of b.0 in
-      finished_stays t.0 d.name (type_meaning t.1 (brings_with d.of)) (type_none t.1 (brings_with d.of)) ⨾ (stays_for (d.name.name ∷ []) (type_of_stays d.of b.0) ⨾ begun_stays st.0 d.name)
+      finished_stays t.0 d.name (type_meaning t.1 (brings_with d.of)) (type_none t.1 (brings_with d.of)) ⨾
+      (stays_for (d.name.name ∷ []) (type_of_stays d.of b.0) ⨾ begun_stays st.0 d.name)
 
   -- ---- no declaration is left begun
 
   abbrev pub NoneBegun : {T : Type 0} → Scope T → Type 0
   NoneBegun s = (y : List ℕ) → is_begun (find_name y s.own) ≡ false
 
-  none_again : (name : List ℕ) (s s' : Scope g.Reported) → Stays (name ∷ []) s s' → is_begun (find_name name s'.own) ≡ false → NoneBegun s → NoneBegun s'
+  none_again : (name : List ℕ) (s s' : Scope g.Reported) → Stays (name ∷ []) s s'
+      → is_begun (find_name name s'.own) ≡ false → NoneBegun s → NoneBegun s'
   none_again name s s' k e n y = by (same_name y name) refl where
     by : (b : Bool) → same_name y name ≡ b → is_begun (find_name y s'.own) ≡ false
     by true q = subst (λ (z : List ℕ). is_begun (find_name z s'.own) ≡ false) (sym (same_is y name q)) e
@@ -194,8 +238,16 @@ module _ (g : Gathers) where
     pub front : InFront s.own → InFront s'.own
     pub none : NoneBegun s → NoneBegun s'
 
-  ends_by : (names : List (List ℕ)) (s s' : Scope g.Reported) → Stays names s s' → (NoneBegun s → NoneBegun s') → Ends s s'
-  ends_by names s s' k n = record { variables = k.variables; procedures = k.procedures; done_same = k.done_same; front = k.front; none = n }
+  ends_by : (names : List (List ℕ)) (s s' : Scope g.Reported) → Stays names s s' → (NoneBegun s → NoneBegun s')
+      → Ends s s'
+  ends_by names s s' k n = record {
+    variables = k.variables;
+    procedures = k.procedures;
+    done_same = k.done_same;
+    front =
+        k.front;
+    none = n;
+  }
 
   pub stays_end : (s s' : Scope g.Reported) → Stays [] s s' → Ends s s'
   stays_end s s' k = ends_by [] s s' k (λ n y. k.begun y refl ∙ n y)
@@ -213,18 +265,24 @@ module _ (g : Gathers) where
   constant_ends st c =
       let b = begin_name g st.0 c.name in
       let k = constant_stays st c in
-      ends_by (c.name.name ∷ []) st.0 (with_constant g st c).0 k (none_again c.name.name st.0 (with_constant g st c).0 k (finished_ends b.0 c.name (constant_meaning (constant g b.0 (part g c.value)))))
+      ends_by (c.name.name ∷ []) st.0 (with_constant g st c).0 k
+      (none_again c.name.name st.0 (with_constant g st c).0 k
+      (finished_ends b.0 c.name (constant_meaning (constant g b.0 (part g c.value)))))
 
   type_decl_ends : (st : State (Unit {0}) g.Reported) (d : TypeDecl) → Ends st.0 (with_type g st d).0
   type_decl_ends st d =
       let b = begin_name g st.0 d.name in
       let t = type_of g d.of b.0 in
       let k = type_decl_stays st d in
-      ends_by (d.name.name ∷ []) st.0 (with_type g st d).0 k (none_again d.name.name st.0 (with_type g st d).0 k (finished_ends t.0 d.name (type_meaning t.1 (brings_with d.of))))
+      ends_by (d.name.name ∷ []) st.0 (with_type g st d).0 k
+      (none_again d.name.name st.0 (with_type g st d).0 k
+      (finished_ends t.0 d.name (type_meaning t.1 (brings_with d.of))))
 
-  pub constants_end : (cs : List Constant) (st : State (Unit {0}) g.Reported) → Ends st.0 (fold (with_constant g) st cs).0
+  pub constants_end : (cs : List Constant) (st : State (Unit {0}) g.Reported)
+      → Ends st.0 (fold (with_constant g) st cs).0
   constants_end [] st = stays_end st.0 st.0 (same_stays [] st.0)
-  constants_end (c ∷ cs) st = ends_then st.0 (with_constant g st c).0 _ (constant_ends st c) (constants_end cs (with_constant g st c))
+  constants_end (c ∷ cs) st = ends_then st.0 (with_constant g st c).0 _ (constant_ends st c)
+      (constants_end cs (with_constant g st c))
 
   pub types_end : (ds : List TypeDecl) (st : State (Unit {0}) g.Reported) → Ends st.0 (fold (with_type g) st ds).0
   types_end [] st = stays_end st.0 st.0 (same_stays [] st.0)
@@ -239,5 +297,6 @@ module _ (g : Gathers) where
     exports = λ s name n m e. free_stays name _ s refl refl e;
   }
 
-  pub import_stays : (modules : List (List ℕ × ℕ)) (is : List Import) (st : State (Unit {0}) g.Reported) → Stays [] st.0 (fold (with_import g modules) st is).0
+  pub import_stays : (modules : List (List ℕ × ℕ)) (is : List Import) (st : State (Unit {0}) g.Reported)
+      → Stays [] st.0 (fold (with_import g modules) st is).0
   import_stays = imports_keep g imports

@@ -26,11 +26,15 @@ use Rattle.law_well_formed.proofs.Shaped.{named_known}
 use Rattle.law_well_formed.specs.FormedKnown.{HasReached, entries_of, TableFormed}
 use Rattle.law_programs.proofs.TreesAgree.{trees_agree}
 
-has_at : (types : Types) (ms : List ModuleTypes) → HasReached types ms → (k : ℕ) (l : List Made) → at k (entries_of ms) ≡ Some l → (n : ℕ) (x : Made) → slice_get l n ≡ Some x → made_in types k n ≡ Some x
+has_at : (types : Types) (ms : List ModuleTypes) → HasReached types ms → (k : ℕ) (l : List Made)
+    → at k (entries_of ms) ≡ Some l → (n : ℕ) (x : Made) → slice_get l n ≡ Some x → made_in types k n ≡ Some x
 has_at types [] h k l e n x g = absurd cc
 has_at types (m ∷ ms) h k l e n x g = by (nat_eq k m.number) refl (λ f. has_at types ms h.1 k l f n x g) e where
-  by : (c : Bool) → nat_eq k m.number ≡ c → (at k (entries_of ms) ≡ Some l → made_in types k n ≡ Some x) → cond c (Some m.made) (at k (entries_of ms)) ≡ Some l → made_in types k n ≡ Some x
-  by true i on f = let same : m.made ≡ l = cc in ap (λ (j : ℕ). made_in types j n) (eqb-true k m.number i) ∙ h.0 n x (ap (λ (xs : List Made). slice_get xs n) same ∙ g)
+  by : (c : Bool) → nat_eq k m.number ≡ c → (at k (entries_of ms) ≡ Some l → made_in types k n ≡ Some x)
+      → cond c (Some m.made) (at k (entries_of ms)) ≡ Some l → made_in types k n ≡ Some x
+  by true i on f = let same : m.made ≡ l = cc in
+      ap (λ (j : ℕ). made_in types j n) (eqb-true k m.number i)
+      ∙ h.0 n x (ap (λ (xs : List Made). slice_get xs n) same ∙ g)
   by false i on f = on f
 
 known_left : (types : Types) (xs ys : List TypeNo) → AreKnown types (xs ++ ys) → AreKnown types xs
@@ -50,17 +54,24 @@ module _ (types_of : ℕ → List Made) (below : ℕ) (t : Table) (f : TableForm
   abbrev pub only : Types
   only = made_by below [] es
 
-  only_at : (n k : ℕ) (x : Made) (es : List (ℕ × List Made)) (l : List Made) → k < below → at k es ≡ Some l → slice_get l n ≡ Some x → made_in (made_by below [] es) k n ≡ Some x
+  only_at : (n k : ℕ) (x : Made) (es : List (ℕ × List Made)) (l : List Made) → k < below → at k es ≡ Some l
+      → slice_get l n ≡ Some x → made_in (made_by below [] es) k n ≡ Some x
   only_at n k x es l less e g = by (k == below) refl where
     by : (c : Bool) → (k == below) ≡ c → cond c (slice_get [] n) (in_list n (at k es)) ≡ Some x
     by true i = let same : k ≡ below = eqb-true k below i in absurd (omega (arith, less, same))
     by false i = ap (λ (o : Option (List Made)). in_list n o) e ∙ g
 
-  only_from : (ms : List ModuleTypes) (before : List (ℕ × List Made)) (all : List (ℕ × List Made)) → before ++ entries_of ms ≡ all → OthersOrdered before (entries_of ms) → AllByRecursion (λ m. (m.number < below) × (m.made ≡ types_of m.number)) ms → HasReached (made_by below [] all) ms
+  only_from : (ms : List ModuleTypes) (before : List (ℕ × List Made)) (all : List (ℕ × List Made))
+      → before ++ entries_of ms ≡ all → OthersOrdered before (entries_of ms)
+      → AllByRecursion (λ m. (m.number < below) × (m.made ≡ types_of m.number)) ms
+      → HasReached (made_by below [] all) ms
   only_from [] before all e o r = tt
   only_from (m ∷ ms) before all e o r = (
-    λ n x g. only_at n m.number x all m.made r.0.0 (ap (λ (xs : List (ℕ × List Made)). at m.number xs) (sym e) ∙ at_placed m.number before m.made (entries_of ms) o.0) g,
-    only_from ms (before ++ (m.number, m.made) ∷ []) all (append_more before (m.number, m.made) (entries_of ms) ∙ e) o.1.1 r.1,
+    λ n x g. only_at n m.number x all m.made r.0.0
+        (ap (λ (xs : List (ℕ × List Made)). at m.number xs) (sym e)
+        ∙ at_placed m.number before m.made (entries_of ms) o.0) g,
+    only_from ms (before ++ (m.number, m.made) ∷ []) all (append_more before (m.number, m.made) (entries_of ms) ∙ e)
+        o.1.1 r.1,
   )
 
   pub only_has : HasReached only t.reached
@@ -68,7 +79,8 @@ module _ (types_of : ℕ → List Made) (below : ℕ) (t : Table) (f : TableForm
 
   only_among : (u : TypeNo) → is_known only u ≡ true → is_among es u ≡ true
   only_among u e = from u.home u.number e where
-    by : (j n : ℕ) (c : Bool) → is_some (cond c (slice_get [] n) (in_list n (at j es))) ≡ true → is_some (in_list n (at j es)) ≡ true
+    by : (j n : ℕ) (c : Bool) → is_some (cond c (slice_get [] n) (in_list n (at j es))) ≡ true
+        → is_some (in_list n (at j es)) ≡ true
     by j n true g = absurd cc
     by j n false g = g
 
@@ -76,15 +88,23 @@ module _ (types_of : ℕ → List Made) (below : ℕ) (t : Table) (f : TableForm
     from Predeclared n g = g
     from (Module j) n g = by j n (j == below) g
 
-  free_from : (ms : List ModuleTypes) → AllByRecursion (λ m. (m.number < below) × (m.made ≡ types_of m.number)) ms → at below (entries_of ms) ≡ None
+  free_from : (ms : List ModuleTypes) → AllByRecursion (λ m. (m.number < below) × (m.made ≡ types_of m.number)) ms
+      → at below (entries_of ms) ≡ None
   free_from [] h = refl
   free_from (m ∷ ms) h = by (nat_eq below m.number) refl (free_from ms h.1) where
-    by : (c : Bool) → nat_eq below m.number ≡ c → at below (entries_of ms) ≡ None → cond c (Some m.made) (at below (entries_of ms)) ≡ None
-    by true i on = let same : below ≡ m.number = eqb-true below m.number i in absurd (let l : m.number < below = h.0.0 in omega (arith, l, same))
+    by : (c : Bool) → nat_eq below m.number ≡ c → at below (entries_of ms) ≡ None
+        → cond c (Some m.made) (at below (entries_of ms)) ≡ None
+    by true i on = let same : below ≡ m.number = eqb-true below m.number i in
+        absurd (let l : m.number < below = h.0.0 in omega (arith, l, same))
     by false i on = on
 
   only_ordered : AreOrdered only
-  only_ordered = record { own = tt; others = f.ordered; alike = subst (λ (o : Option (List Made)). BeginsWith [] o) (sym (free_from t.reached f.reached)) tt }
+  only_ordered = record {
+    own = tt;
+    others = f.ordered;
+    alike =
+        subst (λ (o : Option (List Made)). BeginsWith [] o) (sym (free_from t.reached f.reached)) tt;
+  }
 
   -- what is known of a type that may be there
   abbrev KnownMade : Option Made → Type 0
@@ -100,7 +120,8 @@ module _ (types_of : ℕ → List Made) (below : ℕ) (t : Table) (f : TableForm
   -- ---- a module that knows what the table reaches
 
   module _ (a : Types) (p : AreOrdered a) (h : HasReached a t.reached) where
-    has : (k : ℕ) (l : List Made) → at k es ≡ Some l → (n : ℕ) (x : Made) → slice_get l n ≡ Some x → (made_in a k n ≡ Some x) × (made_in only k n ≡ Some x)
+    has : (k : ℕ) (l : List Made) → at k es ≡ Some l → (n : ℕ) (x : Made) → slice_get l n ≡ Some x
+        → (made_in a k n ≡ Some x) × (made_in only k n ≡ Some x)
     has k l e n x g = (has_at a t.reached h k l e n x g, has_at only t.reached only_has k l e n x g)
 
     same_made : (k n : ℕ) → is_some (in_list n (at k es)) ≡ true → made_in a k n ≡ made_in only k n
@@ -123,25 +144,31 @@ module _ (types_of : ℕ → List Made) (below : ℕ) (t : Table) (f : TableForm
 
     forms_same : (fs : List Formal) → AreKnown only (map (λ x. x.of) fs) → map (form_of a) fs ≡ map (form_of only) fs
     forms_same [] k = refl
-    forms_same (x ∷ fs) k = ap (λ (u : Ty). with_tree x u ∷ map (form_of a) fs) (same_tree x.of k.0) ∙ ap (λ (rs : List Form). form_of only x ∷ rs) (forms_same fs k.1)
+    forms_same (x ∷ fs) k = ap (λ (u : Ty). with_tree x u ∷ map (form_of a) fs) (same_tree x.of k.0)
+        ∙ ap (λ (rs : List Form). form_of only x ∷ rs) (forms_same fs k.1)
 
-    result_same : (o : Option TypeNo) → AreKnown only (result_named o) → option_map (tree a) o ≡ option_map (tree only) o
+    result_same : (o : Option TypeNo) → AreKnown only (result_named o)
+        → option_map (tree a) o ≡ option_map (tree only) o
     result_same None k = refl
     result_same (Some u) k = ap (λ (r : Ty). Some r) (same_tree u k.0)
 
     -- the same heading in trees
-    ended_same : (o : Option TypeNo) → AreKnown only (result_named o) → result_tree (known_trees a) o ≡ result_tree (known_trees only) o
+    ended_same : (o : Option TypeNo) → AreKnown only (result_named o)
+        → result_tree (known_trees a) o ≡ result_tree (known_trees only) o
     ended_same None k = refl
     ended_same (Some u) k = ap Function (same_tree u k.0)
 
-    heading_same : (fs : List Formal) (o : Option TypeNo) → AreKnown only (map (λ x. x.of) fs ++ result_named o) → heading_tree (known_trees a) fs o ≡ heading_tree (known_trees only) fs o
+    heading_same : (fs : List Formal) (o : Option TypeNo) → AreKnown only (map (λ x. x.of) fs ++ result_named o)
+        → heading_tree (known_trees a) fs o ≡ heading_tree (known_trees only) fs o
     heading_same [] o k = ended_same o k
     heading_same (x ∷ fs) o k =
-        ap (λ (u : Ty). Takes (passing_of x) u (heading_tree (known_trees a) fs o)) (same_tree x.of k.0) ∙ ap (λ (h : Heading). Takes (passing_of x) (tree only x.of) h) (heading_same fs o k.1)
+        ap (λ (u : Ty). Takes (passing_of x) u (heading_tree (known_trees a) fs o)) (same_tree x.of k.0)
+        ∙ ap (λ (h : Heading). Takes (passing_of x) (tree only x.of) h) (heading_same fs o k.1)
 
     -- formals, result and heading are the same
     abbrev AlikeShape : Shape → Type 0
-    AlikeShape s = (map (form_of a) (formals_in s) ≡ map (form_of only) (formals_in s)) × (result_in a s ≡ result_in only s) × (heading_in a s ≡ heading_in only s)
+    AlikeShape s = (map (form_of a) (formals_in s) ≡ map (form_of only) (formals_in s))
+        × (result_in a s ≡ result_in only s) × (heading_in a s ≡ heading_in only s)
 
     shape_same : (s : Shape) → AreKnown only (named_by s) → AlikeShape s
     shape_same (shape.Procedure s) k = (
@@ -156,12 +183,14 @@ module _ (types_of : ℕ → List Made) (below : ℕ) (t : Table) (f : TableForm
     shape_same (shape.Open e) k = (refl, refl, refl)
 
     made_alike : (o : Option Made) → KnownMade o
-        → (map (form_of a) (formals_made o) ≡ map (form_of only) (formals_made o)) × (result_made a o ≡ result_made only o) × (heading_made a o ≡ heading_made only o)
+        → (map (form_of a) (formals_made o) ≡ map (form_of only) (formals_made o))
+        × (result_made a o ≡ result_made only o) × (heading_made a o ≡ heading_made only o)
     made_alike None k = (refl, refl, refl)
     made_alike (Some x) k = shape_same x.shape k
 
     -- a heading has the same formals and the same result, and is the same in trees
-    pub same_heading : (u : TypeNo) → is_known only u ≡ true → (forms_of a u ≡ forms_of only u) × (result_of a u ≡ result_of only u) × (heading_at a u ≡ heading_at only u)
+    pub same_heading : (u : TypeNo) → is_known only u ≡ true → (forms_of a u ≡ forms_of only u)
+        × (result_of a u ≡ result_of only u) × (heading_at a u ≡ heading_at only u)
     same_heading u e =
         let made : made_at a u ≡ made_at only u = same_at u (only_among u e) in
         let k = made_alike (made_at only u) (named_made u) in (

@@ -19,13 +19,15 @@ use Rattle.law_well_formed.proofs.NamedImports.{IsPlaced, numbered_placed}
 use Rattle.law_well_formed.specs.FormedKnown.{HasReached}
 use Rattle.law_well_formed.proofs.Gathered.{each_more}
 
-got : {X : Type 0} (F : X → Type 0) (xs : List X) → AllByRecursion F xs → (k : ℕ) (x : X) → slice_get xs k ≡ Some x → F x
+got : {X : Type 0} (F : X → Type 0) (xs : List X) → AllByRecursion F xs → (k : ℕ) (x : X) → slice_get xs k ≡ Some x
+    → F x
 got F [] h k x e = absurd cc
 got F (y ∷ xs) h zero x e = let same : y ≡ x = cc in subst F same h.0
 got F (y ∷ xs) h (suc k) x e = got F xs h.1 k x e
 
 -- the module that is found under a name has this name
-named_at : (tables : List Table) (name : List ℕ) (k : ℕ) → find_name name (numbered_modules tables).0 ≡ Some k → (t : Table) → slice_get tables k ≡ Some t → t.name ≡ name
+named_at : (tables : List Table) (name : List ℕ) (k : ℕ) → find_name name (numbered_modules tables).0 ≡ Some k
+    → (t : Table) → slice_get tables k ≡ Some t → t.name ≡ name
 named_at tables name k h t e =
     let f = found_each (IsPlaced tables) name (numbered_modules tables).0 k (numbered_placed tables) h in
     let same : t ≡ f.2.0 = same_Some t f.2.0 (sym e ∙ f.2.1) in
@@ -58,7 +60,8 @@ module _ (IsMade : Table → Type 0) where
     pub made : IsMade table
     pub number_is : table.number ≡ i.number
     pub name_is : table.name ≡ i.name
-    pub variables : (i.variables ≡ []) ⊎ ((i.variables ≡ exported_variables table.exported) × HasReached types table.reached)
+    pub variables : (i.variables ≡ []) ⊎ ((i.variables ≡ exported_variables table.exported)
+        × HasReached types table.reached)
 
   abbrev pub AreImports : Types → List Imported → Type 0
   AreImports types is = AllByRecursion (IsImportOf types) is
@@ -69,8 +72,10 @@ module _ (IsMade : Table → Type 0) where
     | inr m ↦ inr (record { table = t; made = m; number_is = refl; name_is = refl })
   ]
 
-  entry_more : (name : List ℕ) (number : ℕ) (es : List (List ℕ × ℕ)) → IsListed name number → AreListed es → AreListed (enter_name name number es)
-  entry_more name number es p all = each_entered (λ (e : List ℕ × ℕ). IsListed e.0 e.1) name number es (λ other e. subst (λ (n : List ℕ). IsListed n number) (same_is name other e) p) all
+  entry_more : (name : List ℕ) (number : ℕ) (es : List (List ℕ × ℕ)) → IsListed name number → AreListed es
+      → AreListed (enter_name name number es)
+  entry_more name number es p all = each_entered (λ (e : List ℕ × ℕ). IsListed e.0 e.1) name number es
+      (λ other e. subst (λ (n : List ℕ). IsListed n number) (same_is name other e) p) all
 
   copies : (es so : List (List ℕ × ℕ)) → AreListed es → AreListed so → AreListed (fold with_import_copy so es)
   copies [] so p all = all
@@ -79,30 +84,40 @@ module _ (IsMade : Table → Type 0) where
   -- ---- the modules that imports name
 
   module _ (tables : List Table) (made : AreMade tables) where
-    table_listed : (so : List (List ℕ × ℕ)) (name : List ℕ) (k : ℕ) → find_name name (numbered_modules tables).0 ≡ Some k → (o : Option Table) → slice_get tables k ≡ o → AreListed so → AreListed (with_table_if so name o)
+    table_listed : (so : List (List ℕ × ℕ)) (name : List ℕ) (k : ℕ)
+        → find_name name (numbered_modules tables).0 ≡ Some k → (o : Option Table) → slice_get tables k ≡ o
+        → AreListed so → AreListed (with_table_if so name o)
     table_listed so name k h None e all = all
     table_listed so name k h (Some t) e all =
         let named : t.name ≡ name = named_at tables name k h t e in
-        entry_more name t.number so (subst (λ (n : List ℕ). IsListed n t.number) named (listed_of t (got (λ (u : Table). (is_console u.name ≡ true) ⊎ IsMade u) tables made k t e))) all
+        entry_more name t.number so (subst (λ (n : List ℕ). IsListed n t.number) named
+        (listed_of t (got (λ (u : Table). (is_console u.name ≡ true) ⊎ IsMade u) tables made k t e))) all
 
-    place_listed : (so : List (List ℕ × ℕ)) (name : List ℕ) (o : Option ℕ) → find_name name (numbered_modules tables).0 ≡ o → AreListed so → AreListed (with_place_if tables so name o)
+    place_listed : (so : List (List ℕ × ℕ)) (name : List ℕ) (o : Option ℕ)
+        → find_name name (numbered_modules tables).0 ≡ o → AreListed so → AreListed (with_place_if tables so name o)
     place_listed so name None h all = all
     place_listed so name (Some k) h all = table_listed so name k h (slice_get tables k) refl all
 
-    name_listed : (so : List (List ℕ × ℕ)) (x : Ident) → AreListed so → AreListed (with_imported (numbered_modules tables).0 tables so x)
+    name_listed : (so : List (List ℕ × ℕ)) (x : Ident) → AreListed so
+        → AreListed (with_imported (numbered_modules tables).0 tables so x)
     name_listed so x all = place_listed so x.name (find_name x.name (numbered_modules tables).0) refl all
 
-    names_listed : (xs : List Ident) (so : List (List ℕ × ℕ)) → AreListed so → AreListed (fold (with_imported (numbered_modules tables).0 tables) so xs)
+    names_listed : (xs : List Ident) (so : List (List ℕ × ℕ)) → AreListed so
+        → AreListed (fold (with_imported (numbered_modules tables).0 tables) so xs)
     names_listed [] so all = all
-    names_listed (x ∷ xs) so all = names_listed xs (with_imported (numbered_modules tables).0 tables so x) (name_listed so x all)
+    names_listed (x ∷ xs) so all = names_listed xs (with_imported (numbered_modules tables).0 tables so x)
+        (name_listed so x all)
 
-    import_listed : (so : List (List ℕ × ℕ)) (from : Option Ident) (names : List Ident) → AreListed so → AreListed (with_imports_of (numbered_modules tables).0 tables so from names)
+    import_listed : (so : List (List ℕ × ℕ)) (from : Option Ident) (names : List Ident) → AreListed so
+        → AreListed (with_imports_of (numbered_modules tables).0 tables so from names)
     import_listed so None names all = names_listed names so all
     import_listed so (Some m) names all = name_listed so m all
 
-    pub imports_listed : (is : List Import) (so : List (List ℕ × ℕ)) → AreListed so → AreListed (fold (with_import_of (numbered_modules tables).0 tables) so is)
+    pub imports_listed : (is : List Import) (so : List (List ℕ × ℕ)) → AreListed so
+        → AreListed (fold (with_import_of (numbered_modules tables).0 tables) so is)
     imports_listed [] so all = all
-    imports_listed (i ∷ is) so all = imports_listed is (with_import_of (numbered_modules tables).0 tables so i) (import_listed so i.from i.names all)
+    imports_listed (i ∷ is) so all = imports_listed is (with_import_of (numbered_modules tables).0 tables so i)
+        (import_listed so i.from i.names all)
 
     -- those of a definition
     pub table_imports : (is : List Import) → AreListed (imported_modules (numbered_modules tables).0 tables is)
@@ -115,32 +130,53 @@ module _ (IsMade : Table → Type 0) where
     -- ---- the imports of a typed module
 
     module _ (types : Types) (has : AllByRecursion (λ u. HasReached types u.reached) tables) where
-      table_by : (so : List Imported) (t : Table) → (is_console t.name ≡ true) ⊎ IsMade t → HasReached types t.reached → (b : Bool) → is_console t.name ≡ b → AreImports types so → AreImports types (cond b so (so ++ imported_as t ∷ []))
+      table_by : (so : List Imported) (t : Table) → (is_console t.name ≡ true) ⊎ IsMade t → HasReached types t.reached
+          → (b : Bool) → is_console t.name ≡ b → AreImports types so
+          → AreImports types (cond b so (so ++ imported_as t ∷ []))
       table_by so t m h true e all = all
       table_by so t m h false e all = elim m [
         | inl c ↦ (let clash : true ≡ false = sym c ∙ e in absurd cc)
-        | inr k ↦ each_more (IsImportOf types) so (imported_as t) all (record { table = t; made = k; number_is = refl; name_is = refl; variables = inr (refl, h) })
+        | inr k ↦ each_more (IsImportOf types) so (imported_as t) all
+            (record { table = t; made = k; number_is = refl; name_is = refl; variables = inr (refl, h) })
       ]
 
-      table_of : (so : List Imported) (k : ℕ) (o : Option Table) → slice_get tables k ≡ o → AreImports types so → AreImports types (with_table_of so o)
+      table_of : (so : List Imported) (k : ℕ) (o : Option Table) → slice_get tables k ≡ o → AreImports types so
+          → AreImports types (with_table_of so o)
       table_of so k None e all = all
       table_of so k (Some t) e all =
-          table_by so t (got (λ (u : Table). (is_console u.name ≡ true) ⊎ IsMade u) tables made k t e) (got (λ (u : Table). HasReached types u.reached) tables has k t e) (is_console t.name) refl all
+          table_by so t (got (λ (u : Table). (is_console u.name ≡ true) ⊎ IsMade u) tables made k t e)
+          (got (λ (u : Table). HasReached types u.reached) tables has k t e) (is_console t.name) refl all
 
-      name_by : (so : List Imported) (e : List ℕ × ℕ) → IsListed e.0 e.1 → (b : Bool) → is_console e.0 ≡ b → AreImports types so → AreImports types (cond b so (so ++ record { name = e.0; number = e.1; variables = [] } ∷ []))
+      name_by : (so : List Imported) (e : List ℕ × ℕ) → IsListed e.0 e.1 → (b : Bool) → is_console e.0 ≡ b
+          → AreImports types so → AreImports types
+          (cond b so (so ++ record { name = e.0; number = e.1; variables = [] } ∷ []))
       name_by so e p true q all = all
       name_by so e p false q all = elim p [
         | inl c ↦ (let clash : true ≡ false = sym c ∙ q in absurd cc)
-        | inr k ↦ each_more (IsImportOf types) so (record { name = e.0; number = e.1; variables = [] }) all (record { table = k.table; made = k.made; number_is = k.number_is; name_is = k.name_is; variables = inl refl })
+        | inr k ↦ each_more (IsImportOf types) so (record { name = e.0; number = e.1; variables = [] }) all
+            (record {
+              table = k.table;
+              made = k.made;
+              number_is = k.number_is;
+              name_is = k.name_is;
+              variables =
+                  inl refl;
+            })
       ]
 
-      place_of : (so : List Imported) (e : List ℕ × ℕ) → IsListed e.0 e.1 → (o : Option ℕ) → AreImports types so → AreImports types (with_place_of tables so e o)
+      place_of : (so : List Imported) (e : List ℕ × ℕ) → IsListed e.0 e.1 → (o : Option ℕ) → AreImports types so
+          → AreImports types (with_place_of tables so e o)
       place_of so e p None all = name_by so e p (is_console e.0) refl all
       place_of so e p (Some k) all = table_of so k (slice_get tables k) refl all
 
-      modules_of : (es : List (List ℕ × ℕ)) (so : List Imported) → AreListed es → AreImports types so → AreImports types (fold (with_module_of (numbered_modules tables).0 tables) so es)
+      modules_of : (es : List (List ℕ × ℕ)) (so : List Imported) → AreListed es → AreImports types so
+          → AreImports types (fold (with_module_of (numbered_modules tables).0 tables) so es)
       modules_of [] so p all = all
-      modules_of (e ∷ es) so p all = modules_of es (with_module_of (numbered_modules tables).0 tables so e) p.1 (place_of so e p.0 (find_name e.0 (numbered_modules tables).0) all)
+      modules_of (e ∷ es) so p all = modules_of es (with_module_of (numbered_modules tables).0 tables so e) p.1
+          (place_of so e p.0 (find_name e.0 (numbered_modules tables).0) all)
 
-      pub typed_are : (own : Option Table) → OwnListed own → (is : List Import) → AreImports types (typed_imports (numbered_modules tables).0 tables (all_imports (numbered_modules tables).0 tables own is))
-      typed_are own o is = modules_of (all_imports (numbered_modules tables).0 tables own is) [] (imports_listed is (definition_imports own) (own_listed own o)) tt
+      pub typed_are : (own : Option Table) → OwnListed own → (is : List Import)
+          → AreImports types (typed_imports (numbered_modules tables).0 tables
+          (all_imports (numbered_modules tables).0 tables own is))
+      typed_are own o is = modules_of (all_imports (numbered_modules tables).0 tables own is) []
+          (imports_listed is (definition_imports own) (own_listed own o)) tt

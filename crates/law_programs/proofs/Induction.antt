@@ -68,25 +68,37 @@ use Rattle.law_programs.proofs.BodiesBlocks.{StepTyped, AllTyped, StepAgrees, St
 
 pub elaborated_typed : (g : Gathers) → TypesStatements g (elaborate_body g)
 elaborated_typed g x opens s h ranged withs returns result r body fit =
-    statements_typed g (λ x ws opens s h e f. meant_typed g x ws opens s h e f) (λ x ws opens s h d f. head_typed g x ws opens s h d f) x [] opens s h ranged (ap (λ (ws : List _). length ws) (sym withs))
+    statements_typed g (λ x ws opens s h e f. meant_typed g x ws opens s h e f)
+    (λ x ws opens s h d f. head_typed g x ws opens s h d f) x [] opens s h ranged
+    (ap (λ (ws : List _). length ws) (sym withs))
     (record { gives = returns; in_loop = false }) result r body fit
 
-module _ (g : Gathers) (elaborates : Elaborates g.Reported) (forms : FormsStatements g elaborates) (writes : TypesStatements g elaborates) (base : Types) (words : WordsStay g) (ends : List ℕ) where
-  pub body_typed : (x : Context) (opens : ℕ → Bool) (s : Scope g.Reported) → IsTyped g x [] opens s → ScopeRanged s → s.withs ≡ [] → (returns : Option (Result TypeNo g.Reported)) (result : Gives) → AreReturned x.home.types returns result
-      → (body : Option (List Stmt)) → fits_body body ≡ true → Holds (StmtsTyped x result [] false) (statements_of elaborates s returns body)
+module _ (g : Gathers) (elaborates : Elaborates g.Reported) (forms : FormsStatements g elaborates)
+    (writes : TypesStatements g elaborates) (base : Types) (words : WordsStay g) (ends : List ℕ) where
+  pub body_typed : (x : Context) (opens : ℕ → Bool) (s : Scope g.Reported) → IsTyped g x [] opens s → ScopeRanged s
+      → s.withs ≡ [] → (returns : Option (Result TypeNo g.Reported)) (result : Gives)
+      → AreReturned x.home.types returns result
+      → (body : Option (List Stmt)) → fits_body body ≡ true
+      → Holds (StmtsTyped x result [] false) (statements_of elaborates s returns body)
   body_typed x opens s h ranged e returns result r None fit = fine [] (row_typed x result [] false [] tt)
   body_typed x opens s h ranged e returns result r (Some xs) fit = writes x opens s h ranged e returns result r xs fit
 
   -- what the declarations of a block lead to
   record Declares {xs : List (Steps g.Reported)} {ls : List ℕ} (ps : AreSteps g elaborates ends xs ls) : Type 0 where
-    known : (st : State (Unit {0}) g.Reported) (first : ℕ) → (all_declared marked_by declared_by st first xs).1 ≡ Ok tt → ScopeKnown base st.0 → ScopeKnown base (all_declared marked_by declared_by st first xs).0
-    locals : (st : State (Unit {0}) g.Reported) (first : ℕ) → (st.0.level == 0) ≡ false → NamesLocal st.0.own → NamesLocal (all_declared marked_by declared_by st first xs).0.own
-    agrees : (st : State (Unit {0}) g.Reported) (first : ℕ) → IsFresh st.0 → (all_declared marked_by declared_by st first xs).1 ≡ Ok tt
-        → StepsAgree g elaborates base ends (all_declared marked_by declared_by st first xs).0 (all_declared marked_by declared_by st first xs).2 0 ps
+    known : (st : State (Unit {0}) g.Reported) (first : ℕ) → (all_declared marked_by declared_by st first xs).1 ≡ Ok tt
+        → ScopeKnown base st.0 → ScopeKnown base (all_declared marked_by declared_by st first xs).0
+    locals : (st : State (Unit {0}) g.Reported) (first : ℕ) → (st.0.level == 0) ≡ false → NamesLocal st.0.own
+        → NamesLocal (all_declared marked_by declared_by st first xs).0.own
+    agrees : (st : State (Unit {0}) g.Reported) (first : ℕ) → IsFresh st.0
+        → (all_declared marked_by declared_by st first xs).1 ≡ Ok tt
+        → StepsAgree g elaborates base ends (all_declared marked_by declared_by st first xs).0
+        (all_declared marked_by declared_by st first xs).2 0 ps
 
   -- ---- a block, whose parts are known
 
-  module _ (xs : List (Steps g.Reported)) (body : Option (List Stmt)) (ls : List ℕ) (ps : AreSteps g elaborates ends xs ls) (bs : AllTyped g elaborates base ends ps) (d : Declares ps) (fit : fits_body body ≡ true)
+  module _ (xs : List (Steps g.Reported)) (body : Option (List Stmt)) (ls : List ℕ)
+      (ps : AreSteps g elaborates ends xs ls) (bs : AllTyped g elaborates base ends ps) (d : Declares ps)
+      (fit : fits_body body ≡ true)
       (around : Option Which) (returns : Option (Result TypeNo g.Reported)) (w : Walk g.Reported) where
     abbrev marks : Scope g.Reported × List ℕ
     marks = fold (with_marks marked_by) (w.scope, []) xs
@@ -107,10 +119,12 @@ module _ (g : Gathers) (elaborates : Elaborates g.Reported) (forms : FormsStatem
     other = nothing_at marks.0.types.home
 
     course_leads : Leads other nothing_open marks.0 course.0
-    course_leads = all_lead g elaborates ends other nothing_open ps (marks.0, w.so_far, length w.bodies.locals) (no_home marks.0.types.home)
+    course_leads = all_lead g elaborates ends other nothing_open ps (marks.0, w.so_far, length w.bodies.locals)
+        (no_home marks.0.types.home)
 
     start_keeps : Keeps w.scope start.scope
-    start_keeps = keeps_then (leads_keeps other nothing_open (marks_lead other nothing_open)) (leads_keeps other nothing_open course_leads)
+    start_keeps = keeps_then (leads_keeps other nothing_open (marks_lead other nothing_open))
+        (leads_keeps other nothing_open course_leads)
 
     end_keeps : Keeps start.scope end.scope
     end_keeps = all_keep g elaborates ends around marks.1 ps (start, 0)
@@ -122,12 +136,16 @@ module _ (g : Gathers) (elaborates : Elaborates g.Reported) (forms : FormsStatem
     start_known ok k = d.known (w.scope, w.so_far) (length w.bodies.locals) (start_ok ok) k
 
     block_known : end.so_far ≡ Ok tt → ScopeKnown base w.scope → ScopeKnown base end.scope
-    block_known ok k = all_known g elaborates base ends words around course.0 marks.0.level marks.1 ps bs (start, 0) ok (start_known ok k)
+    block_known ok k = all_known g elaborates base ends words around course.0 marks.0.level marks.1 ps bs (start, 0) ok
+        (start_known ok k)
 
     module _ (fs : List Formal) (enters : Enters base ends fs w ls) (ok : end.so_far ≡ Ok tt) where
       heads : HeadsIn g elaborates ends course.0.own course.0.types marks.0.level (length w.bodies.locals) ps
-      heads = heads_in g elaborates ends course.0.own course.0.types marks.0.level ps (marks.0, w.so_far, length w.bodies.locals) course.0 refl refl refl refl
-          (ap (λ (n : ℕ). n == 0) (marks_lead other nothing_open).level ∙ enters.begins.level) (λ name. (marks_lead other nothing_open).awaits name (enters.begins.awaits name)) enters.begins.numbers (start_ok ok)
+      heads = heads_in g elaborates ends course.0.own course.0.types marks.0.level ps
+          (marks.0, w.so_far, length w.bodies.locals) course.0 refl refl refl refl
+          (ap (λ (n : ℕ). n == 0) (marks_lead other nothing_open).level ∙ enters.begins.level)
+          (λ name. (marks_lead other nothing_open).awaits name (enters.begins.awaits name)) enters.begins.numbers
+          (start_ok ok)
 
       here : Here g elaborates ends around course.0.own course.0.types marks.0.level start (length w.bodies.locals) ls
       here = record {
@@ -140,41 +158,60 @@ module _ (g : Gathers) (elaborates : Elaborates g.Reported) (forms : FormsStatem
       }
 
       deep : IsDeep start
-      deep = ap (λ (bs : List (Around g.Reported)). length bs) start_keeps.outer ∙ enters.deep ∙ ap suc (sym start_keeps.level)
+      deep = ap (λ (bs : List (Around g.Reported)). length bs) start_keeps.outer ∙ enters.deep
+          ∙ ap suc (sym start_keeps.level)
 
-      stand : AllStand g elaborates base ends words around course.0 marks.0.level end.bodies.locals course.0.level (length w.bodies.locals) ps heads
-      stand = all_stand g elaborates base ends words around course.0 marks.0.level marks.1 ps bs (start, 0) (length w.bodies.locals) here deep heads ok
+      stand : AllStand g elaborates base ends words around course.0 marks.0.level end.bodies.locals course.0.level
+          (length w.bodies.locals) ps heads
+      stand = all_stand g elaborates base ends words around course.0 marks.0.level marks.1 ps bs (start, 0)
+          (length w.bodies.locals) here deep heads ok
 
       numbered : IsNumbered fs course.0
-      numbered = declared_number g elaborates base ends fs ps (marks.0, w.so_far, length w.bodies.locals) (marks_number g elaborates base ends fs ps (w.scope, []) enters.numbered)
+      numbered = declared_number g elaborates base ends fs ps (marks.0, w.so_far, length w.bodies.locals)
+          (marks_number g elaborates base ends fs ps (w.scope, []) enters.numbered)
 
-      module _ (z : Stage) (staged : StageTyped z) (serves : Serves g z around w end) (frame : HasFrame z w.scope.level around fs end.scope.variables) (result : Gives) (returned : AreReturned z.home.types returns result) where
+      module _ (z : Stage) (staged : StageTyped z) (serves : Serves g z around w end)
+          (frame : HasFrame z w.scope.level around fs end.scope.variables) (result : Gives)
+          (returned : AreReturned z.home.types returns result) where
         start_serves : Serves g z around start end
-        start_serves = serves_rest g elaborates base ends words around course.0 marks.0.level marks.1 z staged w start end start_keeps (omega arith) serves
+        start_serves = serves_rest g elaborates base ends words around course.0 marks.0.level marks.1 z staged w start
+            end start_keeps (omega arith) serves
 
-        in_home : (i : ℕ) (t : TypeNo) (r : Routine) → length w.bodies.locals ≤ i → slice_get end.bodies.locals i ≡ Some r → r.heading ≡ t → r.around ≡ around → r.level ≡ suc course.0.level → NestedStands z.home course.0.level around i t
+        in_home : (i : ℕ) (t : TypeNo) (r : Routine) → length w.bodies.locals ≤ i
+            → slice_get end.bodies.locals i ≡ Some r → r.heading ≡ t → r.around ≡ around → r.level ≡ suc course.0.level
+            → NestedStands z.home course.0.level around i t
         in_home i t r b e h a l = (r, (serves.locals i b (is_within end.bodies.locals i r e) ∙ e, (h, (a, l))))
 
         abbrev tagged : TypedModule
         tagged = tagged_module z.home course.0.level around
 
-        home_routines : RoutinesIn g elaborates ends course.0.own course.0.types marks.0.level z.home.locals (length w.bodies.locals) ps heads
-        home_routines = all_routines g elaborates base ends words around course.0 marks.0.level end.bodies.locals z.home.locals course.0.level (length w.bodies.locals) (length w.bodies.locals) (omega arith)
-            (λ i t r b e h a l. nested_routine z.home course.0.level around i t (in_home i t r b e h a l)) ps heads stand
+        home_routines : RoutinesIn g elaborates ends course.0.own course.0.types marks.0.level z.home.locals
+            (length w.bodies.locals) ps heads
+        home_routines = all_routines g elaborates base ends words around course.0 marks.0.level end.bodies.locals
+            z.home.locals course.0.level (length w.bodies.locals) (length w.bodies.locals) (omega arith)
+            (λ i t r b e h a l. nested_routine z.home course.0.level around i t (in_home i t r b e h a l)) ps heads
+            stand
 
-        tagged_routines : RoutinesIn g elaborates ends course.0.own course.0.types marks.0.level tagged.locals (length w.bodies.locals) ps heads
-        tagged_routines = all_routines g elaborates base ends words around course.0 marks.0.level end.bodies.locals tagged.locals course.0.level (length w.bodies.locals) (length w.bodies.locals) (omega arith)
+        tagged_routines : RoutinesIn g elaborates ends course.0.own course.0.types marks.0.level tagged.locals
+            (length w.bodies.locals) ps heads
+        tagged_routines = all_routines g elaborates base ends words around course.0 marks.0.level end.bodies.locals
+            tagged.locals course.0.level (length w.bodies.locals) (length w.bodies.locals) (omega arith)
             (λ i t r b e h a l. nested_tagged z.home course.0.level around i t (in_home i t r b e h a l)) ps heads stand
 
-        formed : (m : TypedModule) → w.scope.types.home ≡ m.types.home → RoutinesIn g elaborates ends course.0.own course.0.types marks.0.level m.locals (length w.bodies.locals) ps heads → AreFormedNames m z.opens course.0.own
+        formed : (m : TypedModule) → w.scope.types.home ≡ m.types.home
+            → RoutinesIn g elaborates ends course.0.own course.0.types marks.0.level m.locals (length w.bodies.locals)
+            ps heads → AreFormedNames m z.opens course.0.own
         formed m home there =
-            (all_formed g elaborates ends course.0.own course.0.types marks.0.level m z.opens ps (marks.0, w.so_far, length w.bodies.locals) (length w.bodies.locals) course.0 refl refl heads there).formed
+            (all_formed g elaborates ends course.0.own course.0.types marks.0.level m z.opens ps
+            (marks.0, w.so_far, length w.bodies.locals) (length w.bodies.locals) course.0 refl refl heads
+            there).formed
             ((marks_lead m z.opens).home ∙ home) ((marks_lead m z.opens).formed home (enters.formed m z.opens))
 
         frame_here : HasFrame z course.0.level around fs course.0.variables
         frame_here =
             subst (λ (l : ℕ). HasFrame z l around fs course.0.variables) (sym start_keeps.level)
-            (subst (λ (vs : List TypeNo). HasFrame z w.scope.level around fs vs) (all_variables g elaborates base ends words around course.0 marks.0.level marks.1 ps (start, 0)) frame)
+            (subst (λ (vs : List TypeNo). HasFrame z w.scope.level around fs vs)
+            (all_variables g elaborates base ends words around course.0 marks.0.level marks.1 ps (start, 0)) frame)
 
         known_here : ScopeKnown base course.0
         known_here = start_known ok enters.known
@@ -184,37 +221,51 @@ module _ (g : Gathers) (elaborates : Elaborates g.Reported) (forms : FormsStatem
 
         names : NamesThere (stands_in z course.0.level around) z.opens course.0.level course.0.own
         names =
-            names_there z course.0.level course.0.types.home around fs course.0.variables course.0.procedures frame_here staged.there tagged (tagged_nested z.home course.0.level around) course.0.own numbered.names
-            (names_kept course.0.types z.home.types (λ t r e. scalar_known course.0.types z.home.types grown t r e) course.0.own known_here.ranged.names)
-            known_here.words.names (d.locals (w.scope, w.so_far) (length w.bodies.locals) enters.begins.level enters.locals)
+            names_there z course.0.level course.0.types.home around fs course.0.variables course.0.procedures frame_here
+            staged.there tagged (tagged_nested z.home course.0.level around) course.0.own numbered.names
+            (names_kept course.0.types z.home.types (λ t r e. scalar_known course.0.types z.home.types grown t r e)
+            course.0.own known_here.ranged.names)
+            known_here.words.names (d.locals (w.scope, w.so_far) (length w.bodies.locals) enters.begins.level
+            enters.locals)
             (formed z.home serves.home home_routines) (formed tagged serves.home tagged_routines)
 
         end_known : ScopeKnown base end.scope
         end_known = block_known ok enters.known
 
         end_typed : IsTyped g (stands_in z end.scope.level around) [] z.opens end.scope
-        end_typed = scope_typed (stands_in z end.scope.level around) z.opens g end.scope staged.all staged.room serves.types end_known.ordered.types
+        end_typed = scope_typed (stands_in z end.scope.level around) z.opens g end.scope staged.all staged.room
+            serves.types end_known.ordered.types
             (subst (λ (l : ℕ). NamesThere (stands_in z l around) z.opens l end.scope.own) (sym end_keeps.level)
-            (subst (λ (es : List (List ℕ × Known g.Reported)). NamesThere (stands_in z course.0.level around) z.opens course.0.level es) (sym (all_own g elaborates ends around marks.1 ps (start, 0))) names))
+            (subst (λ (es : List (List ℕ × Known g.Reported)). NamesThere (stands_in z course.0.level around) z.opens
+            course.0.level es) (sym (all_own g elaborates ends around marks.1 ps (start, 0))) names))
             (subst (λ (l : ℕ). BlocksThere (stands_in z l around) z.opens l end.scope.outer) (sym end_keeps.level)
-            (subst (λ (bs : List (Around g.Reported)). BlocksThere (stands_in z course.0.level around) z.opens course.0.level bs) (sym end_keeps.outer) start_serves.outer))
+            (subst (λ (bs : List (Around g.Reported)). BlocksThere (stands_in z course.0.level around) z.opens
+            course.0.level bs) (sym end_keeps.outer) start_serves.outer))
             (end_keeps.withs ∙ start_serves.withs)
             (λ k name e. holds_weaker (λ m q. meaning_anywhere z _ z.opens end.scope.level m q)
-            (subst (λ (ts : List Table). Holds (MeaningThere (stands z []) z.opens 0) (exported_meaning g ts k name)) (sym end_keeps.tables) (start_serves.members k name e)))
+            (subst (λ (ts : List Table). Holds (MeaningThere (stands z []) z.opens 0) (exported_meaning g ts k name))
+            (sym end_keeps.tables) (start_serves.members k name e)))
 
-        block_typed : AddsTyped g z w end × Holds (StmtsTyped (stands_in z w.scope.level around) result [] false) (statements_of elaborates end.scope returns body)
+        block_typed : AddsTyped g z w end × Holds (StmtsTyped (stands_in z w.scope.level around) result [] false)
+            (statements_of elaborates end.scope returns body)
         block_typed = (
-          all_typed g elaborates base ends words around course.0 marks.0.level marks.1 z staged ps bs (start, 0) (length w.bodies.locals) here deep (keeps_refl course.0) heads
-              (d.agrees (w.scope, w.so_far) (length w.bodies.locals) enters.fresh (start_ok ok)) ok known_here start_serves names,
-          subst (λ (l : ℕ). Holds (StmtsTyped (stands_in z l around) result [] false) (statements_of elaborates end.scope returns body)) (end_keeps.level ∙ start_keeps.level)
-              (body_typed (stands_in z end.scope.level around) z.opens end.scope end_typed end_known.ranged (end_keeps.withs ∙ start_serves.withs) returns result returned body fit),
+          all_typed g elaborates base ends words around course.0 marks.0.level marks.1 z staged ps bs (start, 0)
+              (length w.bodies.locals) here deep (keeps_refl course.0) heads
+              (d.agrees (w.scope, w.so_far) (length w.bodies.locals) enters.fresh (start_ok ok)) ok known_here
+              start_serves names,
+          subst (λ (l : ℕ). Holds (StmtsTyped (stands_in z l around) result [] false)
+              (statements_of elaborates end.scope returns body)) (end_keeps.level ∙ start_keeps.level)
+              (body_typed (stands_in z end.scope.level around) z.opens end.scope end_typed end_known.ranged
+              (end_keeps.withs ∙ start_serves.withs) returns result returned body fit),
         )
 
-  of_steps : (xs : List (Steps g.Reported)) (body : Option (List Stmt)) (ls : List ℕ) (ps : AreSteps g elaborates ends xs ls) → AllTyped g elaborates base ends ps → Declares ps → fits_body body ≡ true
+  of_steps : (xs : List (Steps g.Reported)) (body : Option (List Stmt)) (ls : List ℕ)
+      (ps : AreSteps g elaborates ends xs ls) → AllTyped g elaborates base ends ps → Declares ps → fits_body body ≡ true
       → TypedBlock g base ends (block_layer g elaborates ends (record { decls = xs; body = body })) ls
   of_steps xs body ls ps bs d fit = record {
     known = λ around returns w ok k. block_known xs body ls ps bs d fit around returns w ok k;
-    typed = λ fs around returns w e ok z t s f r q. block_typed xs body ls ps bs d fit around returns w fs e ok z t s f r q;
+    typed = λ fs around returns w e ok z t s f r q. block_typed xs body ls ps bs d fit around returns w fs e ok z t s f
+        r q;
   }
 
   -- ---- steps as declarations
@@ -233,11 +284,14 @@ module _ (g : Gathers) (elaborates : Elaborates g.Reported) (forms : FormsStatem
 
   pub fits_at : (e : Decl) (x : Decl-F Decl Block) → out-Decl e ≡ x → fits_inside e ≡ fits_inside_layer (fitting x)
   unfolding fits_inside fits_whole_block
-  fits_at e x h = fold_out-Decl Bool Bool fits_inside_layer fits_whole_layer e ∙ ap (λ (y : Decl-F Decl Block). fits_inside_layer (fitting y)) h
+  fits_at e x h = fold_out-Decl Bool Bool fits_inside_layer fits_whole_layer e
+      ∙ ap (λ (y : Decl-F Decl Block). fits_inside_layer (fitting y)) h
 
-  pub fits_at_block : (e : Block) (x : Block-F Decl Block) → out-Block e ≡ x → fits_whole_block e ≡ fits_whole_layer (fitting_block x)
+  pub fits_at_block : (e : Block) (x : Block-F Decl Block) → out-Block e ≡ x
+      → fits_whole_block e ≡ fits_whole_layer (fitting_block x)
   unfolding fits_inside fits_whole_block
-  fits_at_block e x h = fold_out-Block Bool Bool fits_inside_layer fits_whole_layer e ∙ ap (λ (y : Block-F Decl Block). fits_whole_layer (fitting_block y)) h
+  fits_at_block e x h = fold_out-Block Bool Bool fits_inside_layer fits_whole_layer e
+      ∙ ap (λ (y : Block-F Decl Block). fits_whole_layer (fitting_block y)) h
 
   -- ---- trees
 
@@ -257,7 +311,9 @@ module _ (g : Gathers) (elaborates : Elaborates g.Reported) (forms : FormsStatem
   pub decls_fit : (ds : List Decl) → list_all itself (map fits_inside ds) ≡ true → list_all fits_decl ds ≡ true
   decls_fit [] e = refl
   decls_fit (d ∷ ds) e =
-      and_both (fits_decl d) (list_all fits_decl ds) (decl_fits d (both_left (fits_inside d) (list_all itself (map fits_inside ds)) e)) (decls_fit ds (both_right (fits_inside d) (list_all itself (map fits_inside ds)) e))
+      and_both (fits_decl d) (list_all fits_decl ds)
+      (decl_fits d (both_left (fits_inside d) (list_all itself (map fits_inside ds)) e))
+      (decls_fit ds (both_right (fits_inside d) (list_all itself (map fits_inside ds)) e))
 
   -- ---- the induction
 
@@ -265,8 +321,10 @@ module _ (g : Gathers) (elaborates : Elaborates g.Reported) (forms : FormsStatem
   pub record IsBodied (d : Decl) (x : Steps g.Reported) (ks : List ℕ) : Type 0 where
     pub step : IsStep g elaborates ends x ks
     pub typed : StepTyped g elaborates base ends step
-    pub agrees : (a : Scope g.Reported) (seen : ℕ) → DeclAgrees g {A = Decl} {B = Block} a seen (out-Decl d) → StepAgrees g elaborates base ends a seen step
-    pub numbered : (a : Scope g.Reported) (k : ModuleHeadOf g elaborates ends a.own a.types a.procedures step) → number_of a.own {A = Decl} {B = Block} (out-Decl d) ≡ number_at g elaborates base words ends a step k
+    pub agrees : (a : Scope g.Reported) (seen : ℕ) → DeclAgrees g {A = Decl} {B = Block} a seen (out-Decl d)
+        → StepAgrees g elaborates base ends a seen step
+    pub numbered : (a : Scope g.Reported) (k : ModuleHeadOf g elaborates ends a.own a.types a.procedures step)
+        → number_of a.own {A = Decl} {B = Block} (out-Decl d) ≡ number_at g elaborates base words ends a step k
 
   module _ (keeps : LocalsStay g) (headings : HeadingsAgree g) where
     abbrev PD : Decl → Steps g.Reported → Type 0
@@ -301,22 +359,32 @@ module _ (g : Gathers) (elaborates : Elaborates g.Reported) (forms : FormsStatem
 
     are_steps : (xs : List SD) → Fit xs → AreSteps g elaborates ends (map steps_of (decls_of xs)) (total xs)
     are_steps [] e = no_steps
-    are_steps (x ∷ xs) e = more_steps (steps_of x.0) (map steps_of (decls_of xs)) (within_decl x.0) (total xs) (x.1 (first_fits x xs e)).step (are_steps xs (rest_fits x xs e))
+    are_steps (x ∷ xs) e = more_steps (steps_of x.0) (map steps_of (decls_of xs)) (within_decl x.0) (total xs)
+        (x.1 (first_fits x xs e)).step (are_steps xs (rest_fits x xs e))
 
     they_are_typed : (xs : List SD) (e : Fit xs) → AllTyped g elaborates base ends (are_steps xs e)
     unfolding are_steps
     they_are_typed [] e = tt
     they_are_typed (x ∷ xs) e = ((x.1 (first_fits x xs e)).typed, they_are_typed xs (rest_fits x xs e))
 
-    they_agree : (a : Scope g.Reported) (seen : List ℕ) (i : ℕ) (xs : List SD) (e : Fit xs) → DeclsAgree g a seen i (decls_of xs) → StepsAgree g elaborates base ends a seen i (are_steps xs e)
+    they_agree : (a : Scope g.Reported) (seen : List ℕ) (i : ℕ) (xs : List SD) (e : Fit xs)
+        → DeclsAgree g a seen i (decls_of xs) → StepsAgree g elaborates base ends a seen i (are_steps xs e)
     unfolding are_steps
     they_agree a seen i [] e h = tt
-    they_agree a seen i (x ∷ xs) e h = ((x.1 (first_fits x xs e)).agrees a _ h.0, they_agree a seen (i + 1) xs (rest_fits x xs e) h.1)
+    they_agree a seen i (x ∷ xs) e h = (
+      (x.1 (first_fits x xs e)).agrees a _ h.0,
+      they_agree a seen (i + 1) xs
+          (rest_fits x xs e) h.1,
+    )
 
-    pub known_declared : (ds : List Decl) → list_all itself (map fits_inside ds) ≡ true → (st : State (Unit {0}) g.Reported) (first : ℕ) → (declared_block g ends st first ds).1 ≡ Ok tt → ScopeKnown base st.0 → ScopeKnown base (declared_block g ends st first ds).0
+    pub known_declared : (ds : List Decl) → list_all itself (map fits_inside ds) ≡ true
+        → (st : State (Unit {0}) g.Reported) (first : ℕ) → (declared_block g ends st first ds).1 ≡ Ok tt
+        → ScopeKnown base st.0 → ScopeKnown base (declared_block g ends st first ds).0
     known_declared ds e st first ok k = record {
-      ranged = holds_at (declared_block g ends st first ds).1 (block_ranged g ends st first ds (decls_fit ds e) (const_holds k.ranged st.1)) tt ok;
-      ordered = holds_at (declared_block g ends st first ds).1 (block_ordered base g ends st first ds (const_holds k.ordered st.1)) tt ok;
+      ranged = holds_at (declared_block g ends st first ds).1
+          (block_ranged g ends st first ds (decls_fit ds e) (const_holds k.ranged st.1)) tt ok;
+      ordered = holds_at (declared_block g ends st first ds).1
+          (block_ordered base g ends st first ds (const_holds k.ordered st.1)) tt ok;
       words = words.blocks ends st first ds k.words;
     }
 
@@ -337,20 +405,41 @@ module _ (g : Gathers) (elaborates : Elaborates g.Reported) (forms : FormsStatem
     step_at : (d : Decl) (y : Decl-F SD SB) → out-Decl d ≡ stripped y → fits_inside_layer (fitting (stripped y)) ≡ true
         → IsBodied d (steps_layer g elaborates ends (opened g elaborates ends (stripped y)))
         (nesting.decl_layer (counted (stripped y)))
-    step_at d (layer.Constants cs) is e = record { step = constants_step cs; typed = tt; agrees = λ a seen h. tt; numbered = λ a k. ap (λ (x : Decl-F Decl Block). number_of a.own {A = Decl} {B = Block} x) is }
-    step_at d (layer.Types ts) is e = record { step = types_step ts; typed = tt; agrees = λ a seen h. tt; numbered = λ a k. ap (λ (x : Decl-F Decl Block). number_of a.own {A = Decl} {B = Block} x) is }
-    step_at d (layer.Variables vs) is e = record { step = variables_step vs; typed = tt; agrees = λ a seen h. tt; numbered = λ a k. ap (λ (x : Decl-F Decl Block). number_of a.own {A = Decl} {B = Block} x) is }
+    step_at d (layer.Constants cs) is e = record {
+      step = constants_step cs;
+      typed = tt;
+      agrees = λ a seen h. tt;
+      numbered = λ a k. ap (λ (x : Decl-F Decl Block). number_of a.own {A = Decl} {B = Block} x) is;
+    }
+    step_at d (layer.Types ts) is e = record {
+      step = types_step ts;
+      typed = tt;
+      agrees = λ a seen h. tt;
+      numbered =
+          λ a k. ap (λ (x : Decl-F Decl Block). number_of a.own {A = Decl} {B = Block} x) is;
+    }
+    step_at d (layer.Variables vs) is e = record {
+      step = variables_step vs;
+      typed = tt;
+      agrees = λ a seen h. tt;
+      numbered = λ a k. ap (λ (x : Decl-F Decl Block). number_of a.own {A = Decl} {B = Block} x) is;
+    }
     step_at d (layer.Procedure h b) is e = record {
       step = procedure_step h (block_of b.0) (within b.0) (blocks_formed g elaborates forms ends b.0);
       typed = (blocks_nest g elaborates forms ends b.0, b.1 e);
       agrees = λ a seen q. subst (λ (x : Decl-F Decl Block). DeclAgrees g {A = Decl} {B = Block} a seen x) is q;
-      numbered = λ a k. ap (λ (x : Decl-F Decl Block). number_of a.own {A = Decl} {B = Block} x) is ∙ ap (λ (o : Option (Known g.Reported)). number_in a.own (numbered_known o)) k.1.0;
+      numbered = λ a k. ap (λ (x : Decl-F Decl Block). number_of a.own {A = Decl} {B = Block} x) is
+          ∙ ap (λ (o : Option (Known g.Reported)). number_in a.own (numbered_known o)) k.1.0;
     }
 
     block_of_steps : (xs : List SD) (body : Option (List Stmt)) → Fit xs → fits_body body ≡ true
-        → TypedBlock g base ends (block_layer g elaborates ends (record { decls = map steps_of (decls_of xs); body = body })) (fold append_names [] (map within_decl (decls_of xs)))
+        → TypedBlock g base ends (block_layer g elaborates ends
+        (record { decls = map steps_of (decls_of xs); body = body }))
+        (fold append_names [] (map within_decl (decls_of xs)))
     block_of_steps xs body e f =
-        subst (λ (ks : List ℕ). TypedBlock g base ends (block_layer g elaborates ends (record { decls = map steps_of (decls_of xs); body = body })) ks) (sym (total_is [] xs))
+        subst (λ (ks : List ℕ). TypedBlock g base ends
+        (block_layer g elaborates ends (record { decls = map steps_of (decls_of xs); body = body })) ks)
+        (sym (total_is [] xs))
         (of_steps (map steps_of (decls_of xs)) body (total xs) (are_steps xs e) (they_are_typed xs e) (declares xs e) f)
 
     decl_step : (y : Decl-F SD SB)

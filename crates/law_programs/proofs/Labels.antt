@@ -63,9 +63,11 @@ common_base : (base : TypeNo) (a b : Option TypeNo) → is_of_base base a ≡ tr
 common_base base None None e f = record { sort = None; is = refl }
 common_base base None (Some t) e f = record { sort = Some t; is = common_if t (numeric_as t base f e) }
 common_base base (Some t) None e f = record { sort = Some t; is = common_if t (numeric_as t base e f) }
-common_base base (Some t) (Some u) e f = record { sort = Some t; is = ap (λ (b : Bool). if b then Some (Some t) else None) (same_through t u base e f) }
+common_base base (Some t) (Some u) e f =
+    record { sort = Some t; is = ap (λ (b : Bool). if b then Some (Some t) else None) (same_through t u base e f) }
 
-module _ (g : Gathers) (x : Context) (ws : List Ty) (opens : ℕ → Bool) (s : Scope g.Reported) (h : IsTyped g x ws opens s) where
+module _ (g : Gathers) (x : Context) (ws : List Ty) (opens : ℕ → Bool) (s : Scope g.Reported)
+    (h : IsTyped g x ws opens s) where
   abbrev types : Types
   types = x.home.types
 
@@ -78,18 +80,22 @@ module _ (g : Gathers) (x : Context) (ws : List Ty) (opens : ℕ → Bool) (s : 
 
   -- ---- bounds
 
-  constant_typed : (base : TypeNo) (at : Pos) (o : Option Operand) → OperandRanged types o → Holds InSort (constant_bound g (Some base) at o)
+  constant_typed : (base : TypeNo) (at : Pos) (o : Option Operand) → OperandRanged types o
+      → Holds InSort (constant_bound g (Some base) at o)
   constant_typed base at None p = reported_holds g at rule.WrongType
   constant_typed base at (Some (operand.Set bits)) p = reported_holds g at rule.WrongType
   constant_typed base at (Some (operand.Scalar a)) p = fine (Some a) p
 
-  reported_label : (label : Pos) → Holds (λ (a : Option Ordinal). ⊥) (report g {A = Option Ordinal} label rule.WrongLabel)
+  reported_label : (label : Pos) → Holds (λ (a : Option Ordinal). ⊥)
+      (report g {A = Option Ordinal} label rule.WrongLabel)
   reported_label label = reported_holds g label rule.WrongLabel
 
   none_typed : (alike : Bool) (label at : Pos) → Holds InSort (no_constant g alike label at)
-  none_typed alike label at = then_holds (both_holds g (any_holds (of_type g alike at)) (reported_label label)) (λ v k. absurd k.1)
+  none_typed alike label at = then_holds (both_holds g (any_holds (of_type g alike at)) (reported_label label))
+      (λ v k. absurd k.1)
 
-  value_typed : (base : TypeNo) (label at : Pos) (v : Computed) → ValueTyped x ws v → Holds InSort (value_bound g (Some base) label at v)
+  value_typed : (base : TypeNo) (label at : Pos) (v : Computed) → ValueTyped x ws v
+      → Holds InSort (value_bound g (Some base) label at v)
   value_typed base label at (value.Constant v) p = constant_typed base at (operand_of v) (operand_ranged types v p.0)
   value_typed base label at (value.Scalar t b e) p = none_typed (are_same b base) label at
   value_typed base label at (value.Set e) p = none_typed false label at
@@ -104,7 +110,8 @@ module _ (g : Gathers) (x : Context) (ws : List Ty) (opens : ℕ → Bool) (s : 
   variable_typed base label at class.Procedure = none_typed false label at
   variable_typed base label at class.Whole = none_typed false label at
 
-  bound_by_typed : (base : TypeNo) (label at : Pos) (d : Designated) → DesignatedTyped x ws opens d → Holds InSort (bound_by g s.types (Some base) label at d)
+  bound_by_typed : (base : TypeNo) (label at : Pos) (d : Designated) → DesignatedTyped x ws opens d
+      → Holds InSort (bound_by g s.types (Some base) label at d)
   bound_by_typed base label at (designated.Value v) p = value_typed base label at v p
   bound_by_typed base label at (designated.Variable t d) p = variable_typed base label at (class_at s.types t)
   bound_by_typed base label at (designated.Open t slot) p = none_typed false label at
@@ -117,13 +124,15 @@ module _ (g : Gathers) (x : Context) (ws : List Ty) (opens : ℕ → Bool) (s : 
   abbrev Known_ : Meant g.Reported → Type 0
   Known_ y = Holds (DesignatedTyped x ws opens) (y.means s)
 
-  bound_in_typed : (base : TypeNo) (label at : Pos) {d : Result Designated (Meaningless g.Reported)} → Holds (DesignatedTyped x ws opens) d → Holds InSort (bound_in g s.types (Some base) label at d)
+  bound_in_typed : (base : TypeNo) (label at : Pos) {d : Result Designated (Meaningless g.Reported)}
+      → Holds (DesignatedTyped x ws opens) d → Holds InSort (bound_in g s.types (Some base) label at d)
   bound_in_typed base label at (fine d k) = bound_by_typed base label at d k
   bound_in_typed base label at (broken (Broken e)) = broken e
   bound_in_typed base label at (broken (Headless true e)) = reported_holds g at rule.NoProcedureValue
   bound_in_typed base label at (broken (Headless false e)) = none_typed false label at
 
-  bound_typed : (base : TypeNo) (label : Pos) (y : Meant g.Reported) → Known_ y → Holds InSort (bound_of g s (Some base) label y)
+  bound_typed : (base : TypeNo) (label : Pos) (y : Meant g.Reported) → Known_ y
+      → Holds InSort (bound_of g s (Some base) label y)
   bound_typed base label y p = bound_in_typed base label y.fixed.at p
 
   -- ---- labels
@@ -133,43 +142,59 @@ module _ (g : Gathers) (x : Context) (ws : List Ty) (opens : ℕ → Bool) (s : 
   AreBounds (Some b) = IsLabel (label_by b)
 
   label_of : (a b : Ordinal) → IsInSort a → IsInSort b → a.number ≤ℤ b.number → AreBounds (Some (a, b))
-  label_of a b p q r = record { low = (small types h.all.ranged a.sort a.number p).0; order = r; high = (small types h.all.ranged b.sort b.number q).1 }
+  label_of a b p q r = record {
+    low = (small types h.all.ranged a.sort a.number p).0;
+    order = r;
+    high =
+        (small types h.all.ranged b.sort b.number q).1;
+  }
 
-  single_typed : (base : TypeNo) (at : Pos) {a : Bound g.Reported} → Holds InSort a → Holds AreBounds (single g (Some base) at a)
-  single_typed base at {a = a} p = then_holds (both_holds g p (any_holds (bound_suits g (Some base) at a))) (λ v k. fine (bounds_of v.0 v.0) (at_both v.0 k.0))
+  single_typed : (base : TypeNo) (at : Pos) {a : Bound g.Reported} → Holds InSort a
+      → Holds AreBounds (single g (Some base) at a)
+  single_typed base at {a = a} p = then_holds (both_holds g p (any_holds (bound_suits g (Some base) at a)))
+      (λ v k. fine (bounds_of v.0 v.0) (at_both v.0 k.0))
     where
       at_both : (o : Option Ordinal) → InSort o → AreBounds (bounds_of o o)
       at_both None q = tt
       at_both (Some o) q = label_of o o q q (at_itself o.number)
 
-  suits_typed : (base : TypeNo) (at : Pos) (a : Ordinal) → Holds (λ u. is_of_base base a.sort ≡ true) (suits_base g (Some base) at a)
-  suits_typed base at a = where_not g (is_of_base base a.sort) at rule.WrongType (λ e. then_any e (fits_base g at base a.sort a.number)) where
-    then_any : {P : Type 0} → P → (r : Result (Unit {0}) g.Reported) → Holds (λ u. P) r
-    then_any p (Ok u) = fine u p
-    then_any p (Err e) = broken e
+  suits_typed : (base : TypeNo) (at : Pos) (a : Ordinal)
+      → Holds (λ u. is_of_base base a.sort ≡ true) (suits_base g (Some base) at a)
+  suits_typed base at a = where_not g (is_of_base base a.sort) at rule.WrongType
+      (λ e. then_any e (fits_base g at base a.sort a.number)) where
+        then_any : {P : Type 0} → P → (r : Result (Unit {0}) g.Reported) → Holds (λ u. P) r
+        then_any p (Ok u) = fine u p
+        then_any p (Err e) = broken e
 
   abbrev Ordered : Ordinal → Ordinal → Option (Option TypeNo) → Type 0
   Ordered a b None = Unit {0}
   Ordered a b (Some sort) = a.number ≤ℤ b.number
 
-  ordered_at : (a b : Ordinal) (o : Option (Option TypeNo)) (c : Option TypeNo) → o ≡ Some c → Ordered a b o → a.number ≤ℤ b.number
+  ordered_at : (a b : Ordinal) (o : Option (Option TypeNo)) (c : Option TypeNo) → o ≡ Some c → Ordered a b o
+      → a.number ≤ℤ b.number
   ordered_at a b None c e p = absurd cc
   ordered_at a b (Some sort) c e p = p
 
-  ordered_typed : (at : Pos) (a b : Ordinal) (o : Option (Option TypeNo)) → Holds (λ u. Ordered a b o) (ordered_if g at a b o)
+  ordered_typed : (at : Pos) (a b : Ordinal) (o : Option (Option TypeNo))
+      → Holds (λ u. Ordered a b o) (ordered_if g at a b o)
   ordered_typed at a b None = fine tt tt
   ordered_typed at a b (Some sort) = by (int_lt b.number a.number) refl where
-    by : (q : Bool) → int_lt b.number a.number ≡ q → Holds (λ u. a.number ≤ℤ b.number) (reported_where g {A = Unit {0}} q at rule.EmptyRange (Ok (tt {0})))
+    by : (q : Bool) → int_lt b.number a.number ≡ q
+        → Holds (λ u. a.number ≤ℤ b.number) (reported_where g {A = Unit {0}} q at rule.EmptyRange (Ok (tt {0})))
     by true e = reported_holds g at rule.EmptyRange
     by false e = fine tt (not_less b.number a.number e)
 
   abbrev Third : TypeNo → Pos → Pos → Ordinal → Ordinal → Result (Unit {0}) g.Reported
-  Third base at at' a b = beside g (beside g (suits_base g (Some base) at a) (suits_base g (Some base) at' b)) (ordered_if g at a b (common a.sort b.sort))
+  Third base at at' a b = beside g (beside g (suits_base g (Some base) at a) (suits_base g (Some base) at' b))
+      (ordered_if g at a b (common a.sort b.sort))
 
-  third_typed : (base : TypeNo) (at at' : Pos) (a b : Ordinal) → Holds (λ u. a.number ≤ℤ b.number) (Third base at at' a b)
+  third_typed : (base : TypeNo) (at at' : Pos) (a b : Ordinal)
+      → Holds (λ u. a.number ≤ℤ b.number) (Third base at at' a b)
   third_typed base at at' a b =
-      weaker (λ k. let c = common_base base a.sort b.sort k.0.0 k.0.1 in ordered_at a b (common a.sort b.sort) c.sort c.is k.1)
-      (beside_holds g (beside_holds g (suits_typed base at a) (suits_typed base at' b)) (ordered_typed at a b (common a.sort b.sort)))
+      weaker (λ k. let c = common_base base a.sort b.sort k.0.0 k.0.1 in
+      ordered_at a b (common a.sort b.sort) c.sort c.is k.1)
+      (beside_holds g (beside_holds g (suits_typed base at a) (suits_typed base at' b))
+      (ordered_typed at a b (common a.sort b.sort)))
     where
       weaker : {P Q : Type 0} {r : Result (Unit {0}) g.Reported} → (P → Q) → Holds (λ u. P) r → Holds (λ u. Q) r
       weaker f (fine u p) = fine u (f p)
@@ -178,36 +203,47 @@ module _ (g : Gathers) (x : Context) (ws : List Ty) (opens : ℕ → Bool) (s : 
   no_ordinal : (e : g.Reported) → Holds {A = Option Ordinal} (λ d. ⊥) (Err e)
   no_ordinal e = broken e
 
-  two_bounds : (a b : Option Ordinal) → Holds {A = Option Ordinal × Option Ordinal} {T = g.Reported} (λ v. v ≡ (a, b)) (Ok (a, b))
+  two_bounds : (a b : Option Ordinal) → Holds {A = Option Ordinal × Option Ordinal} {T = g.Reported} (λ v. v ≡ (a, b))
+      (Ok (a, b))
   two_bounds a b = fine (a, b) refl
 
   abbrev Besides : TypeNo → Pos → Pos → Bound g.Reported → Bound g.Reported → Result (Unit {0}) g.Reported
-  Besides base at at' a b = beside g (beside g (bound_suits g (Some base) at a) (bound_suits g (Some base) at' b)) (bounds_ordered g at a b)
+  Besides base at at' a b = beside g (beside g (bound_suits g (Some base) at a) (bound_suits g (Some base) at' b))
+      (bounds_ordered g at a b)
 
   abbrev BoundsOf : Option Ordinal × Option Ordinal → Type 0
   BoundsOf z = AreBounds (bounds_of z.0 z.1)
 
-  without_typed : (base : TypeNo) (at at' : Pos) (a b : Option Ordinal) → BoundsOf (a, b) → Holds AreBounds (label_range g (Some base) at (Ok a) at' (Ok b))
-  without_typed base at at' a b p = then_holds (both_holds g (two_bounds a b) (any_holds (Besides base at at' (Ok a) (Ok b)))) (λ v k. fine (bounds_of v.0.0 v.0.1) (subst BoundsOf (sym k.0) p))
+  without_typed : (base : TypeNo) (at at' : Pos) (a b : Option Ordinal) → BoundsOf (a, b)
+      → Holds AreBounds (label_range g (Some base) at (Ok a) at' (Ok b))
+  without_typed base at at' a b p = then_holds
+      (both_holds g (two_bounds a b) (any_holds (Besides base at at' (Ok a) (Ok b))))
+      (λ v k. fine (bounds_of v.0.0 v.0.1) (subst BoundsOf (sym k.0) p))
 
-  spanned_typed : (base : TypeNo) (at : Pos) {a : Bound g.Reported} (at' : Pos) {b : Bound g.Reported} → Holds InSort a → Holds InSort b → Holds AreBounds (label_range g (Some base) at a at' b)
+  spanned_typed : (base : TypeNo) (at : Pos) {a : Bound g.Reported} (at' : Pos) {b : Bound g.Reported} → Holds InSort a
+      → Holds InSort b → Holds AreBounds (label_range g (Some base) at a at' b)
   spanned_typed base at at' (fine (Some a) p) (fine (Some b) q) =
       then_holds (both_holds g (two_bounds (Some a) (Some b)) (third_typed base at at' a b)) (λ v k.
       fine (bounds_of v.0.0 v.0.1) (subst BoundsOf (sym k.0) (label_of a b p q k.1)))
   spanned_typed base at at' (fine (Some a) p) (fine None q) = without_typed base at at' (Some a) None tt
   spanned_typed base at at' (fine None p) (fine b q) = without_typed base at at' None b tt
   spanned_typed base at {a = a} at' {b = b} (fine k p) (broken e) =
-      then_holds (both_holds g (both_holds g (any_holds a) (no_ordinal e)) (any_holds (Besides base at at' a b))) (λ v j. absurd j.0.1)
+      then_holds (both_holds g (both_holds g (any_holds a) (no_ordinal e)) (any_holds (Besides base at at' a b)))
+      (λ v j. absurd j.0.1)
   spanned_typed base at {a = a} at' {b = b} (broken e) q =
-      then_holds (both_holds g (both_holds g (no_ordinal e) (any_holds b)) (any_holds (Besides base at at' a b))) (λ v j. absurd j.0.0)
+      then_holds (both_holds g (both_holds g (no_ordinal e) (any_holds b)) (any_holds (Besides base at at' a b)))
+      (λ v j. absurd j.0.0)
 
   abbrev KnownIf : Option (Meant g.Reported) → Type 0
   KnownIf None = Unit {0}
   KnownIf (Some y) = Known_ y
 
-  between_typed : (base : TypeNo) (low : Meant g.Reported) (high : Option (Meant g.Reported)) → Known_ low → KnownIf high → Holds AreBounds (label_between g s (Some base) low high)
+  between_typed : (base : TypeNo) (low : Meant g.Reported) (high : Option (Meant g.Reported)) → Known_ low
+      → KnownIf high → Holds AreBounds (label_between g s (Some base) low high)
   between_typed base low None p q = single_typed base low.fixed.at (bound_typed base low.fixed.at low p)
-  between_typed base low (Some high) p q = spanned_typed base low.fixed.at high.fixed.at (bound_typed base low.fixed.at low p) (bound_typed base low.fixed.at high q)
+  between_typed base low (Some high) p q =
+      spanned_typed base low.fixed.at high.fixed.at (bound_typed base low.fixed.at low p)
+      (bound_typed base low.fixed.at high q)
 
   -- ---- one after another
 
@@ -215,12 +251,15 @@ module _ (g : Gathers) (x : Context) (ws : List Ty) (opens : ℕ → Bool) (s : 
   labels_more [] l p q = (q, tt)
   labels_more (y ∷ ls) l p q = (p.0, labels_more ls l p.1 q)
 
-  next_label : {so : Result (List Label) g.Reported} {r : Result Label g.Reported} → Holds AreLabels so → Holds IsLabel r → Holds AreLabels (with_next g so r)
+  next_label : {so : Result (List Label) g.Reported} {r : Result Label g.Reported} → Holds AreLabels so
+      → Holds IsLabel r → Holds AreLabels (with_next g so r)
   next_label p q = then_holds (both_holds g p q) (λ v k. fine (v.0 ++ v.1 ∷ []) (labels_more v.0 v.1 k.0 k.1))
 
-  with_typed : (at : Pos) (st : Labels g.Reported) {r : Result Bounds g.Reported} → Holds AreLabels st.1 → Holds AreBounds r → Holds AreLabels (with_label g at st r).1
+  with_typed : (at : Pos) (st : Labels g.Reported) {r : Result Bounds g.Reported} → Holds AreLabels st.1
+      → Holds AreBounds r → Holds AreLabels (with_label g at st r).1
   with_typed at st p (fine None q) = p
-  with_typed at st p (fine (Some b) q) = next_label p (where_not g (enter_label b st.0).1 at rule.WrongLabel (λ e. fine (label_by b) q))
+  with_typed at st p (fine (Some b) q) = next_label p
+      (where_not g (enter_label b st.0).1 at rule.WrongLabel (λ e. fine (label_by b) q))
   with_typed at st p (broken e) = next_label p (broken e)
 
   module _ (exprs : ExpressionsAreTyped g) where
@@ -230,14 +269,19 @@ module _ (g : Gathers) (x : Context) (ws : List Ty) (opens : ℕ → Bool) (s : 
 
     item_typed : (base : TypeNo) (i : Item) → fits_label i ≡ true → Holds AreBounds (item_label g s (Some base) i)
     item_typed base i f =
-        between_typed base (meanings_of g (out-Item i).low) (meant_if g (out-Item i).high) (exprs x ws opens s h (out-Item i).low (both_left (fits_whole (out-Item i).low) (fits_if (out-Item i).high) f))
+        between_typed base (meanings_of g (out-Item i).low) (meant_if g (out-Item i).high)
+        (exprs x ws opens s h (out-Item i).low
+        (both_left (fits_whole (out-Item i).low) (fits_if (out-Item i).high) f))
         (high_known (out-Item i).high (both_right (fits_whole (out-Item i).low) (fits_if (out-Item i).high) f))
 
-    from_labels : (base : TypeNo) (is : List Item) (st : Labels g.Reported) → list_all fits_label is ≡ true → Holds AreLabels st.1 → Holds AreLabels (fold (with_item g s (Some base)) st is).1
+    from_labels : (base : TypeNo) (is : List Item) (st : Labels g.Reported) → list_all fits_label is ≡ true
+        → Holds AreLabels st.1 → Holds AreLabels (fold (with_item g s (Some base)) st is).1
     from_labels base [] st f p = p
     from_labels base (i ∷ is) st f p =
         from_labels base is (with_item g s (Some base) st i) (both_right (fits_label i) (list_all fits_label is) f)
-        (with_typed (meanings_of g (out-Item i).low).fixed.at st p (item_typed base i (both_left (fits_label i) (list_all fits_label is) f)))
+        (with_typed (meanings_of g (out-Item i).low).fixed.at st p
+        (item_typed base i (both_left (fits_label i) (list_all fits_label is) f)))
 
-    pub labels_typed : (base : TypeNo) (ranges : List Range) (is : List Item) → list_all fits_label is ≡ true → Holds AreLabels (labels_in g s (Some base) ranges is).1
+    pub labels_typed : (base : TypeNo) (ranges : List Range) (is : List Item) → list_all fits_label is ≡ true
+        → Holds AreLabels (labels_in g s (Some base) ranges is).1
     labels_typed base ranges is f = from_labels base is (ranges, Ok []) f (fine [] tt)

@@ -37,7 +37,8 @@ stays_refl s = record { locals = λ h. h }
 stays_then : {T : Type 0} {a b c : Scope T} → Stays a b → Stays b c → Stays a c
 stays_then p q = record { locals = λ h. q.locals (p.locals h) }
 
-known_stays : {T : Type 0} (s : Scope T) (name : List ℕ) (k : Known T) → (NamesLocal s.own → KnownLocal k) → Stays s (with_known name k s)
+known_stays : {T : Type 0} (s : Scope T) (name : List ℕ) (k : Known T) → (NamesLocal s.own → KnownLocal k)
+    → Stays s (with_known name k s)
 known_stays s name k p = record { locals = λ h. entered_local name k s.own (p h) h }
 
 shape_stays : {T : Type 0} (s : Scope T) (x : Made) → Stays s (with_shape s x)
@@ -60,7 +61,8 @@ module _ (g : Gathers) where
   If None = Unit {0}
   If (Some k) = KnownLocal k
 
-  if_by : (b : Bool) (k : Known g.Reported) (o : Option (Known g.Reported)) → KnownLocal k → If o → If (cond b (Some k) o)
+  if_by : (b : Bool) (k : Known g.Reported) (o : Option (Known g.Reported)) → KnownLocal k → If o
+      → If (cond b (Some k) o)
   if_by true k o p q = p
   if_by false k o p q = q
 
@@ -80,7 +82,8 @@ module _ (g : Gathers) where
   none_of p (meaning.Standard f) e h = h
   none_of p (meaning.Module k) e h = h
 
-  none_elaborated : (p : Procedure) (r : Result Meaning g.Reported) → standing_elaborated r ≡ Awaited p → Holds MeaningLocal r → ⊥
+  none_elaborated : (p : Procedure) (r : Result Meaning g.Reported) → standing_elaborated r ≡ Awaited p
+      → Holds MeaningLocal r → ⊥
   none_elaborated p _ e (fine m h) = none_of p m e h
   none_elaborated p _ e (broken x) = absurd cc
 

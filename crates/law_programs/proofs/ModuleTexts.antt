@@ -34,17 +34,22 @@ bytes_each : (cs : List ℕ) → ((j : ℕ) → j < length cs → get_or cs j 0 
 bytes_each [] h = tt
 bytes_each (c ∷ cs) h = (h 0 (omega arith), bytes_each cs (λ j l. h (suc j) (omega (arith, l))))
 
-bytes_joined : (ts us : Texts) → AreBytes (all_characters ts) → AreBytes (all_characters us) → AreBytes (all_characters (ts ++ us))
-bytes_joined ts us h k = subst AreBytes (sym (characters_append ts us)) (bytes_append (all_characters ts) (all_characters us) h k)
+bytes_joined : (ts us : Texts) → AreBytes (all_characters ts) → AreBytes (all_characters us)
+    → AreBytes (all_characters (ts ++ us))
+bytes_joined ts us h k = subst AreBytes (sym (characters_append ts us))
+    (bytes_append (all_characters ts) (all_characters us) h k)
 
 -- ---- texts that stand among bytes
 
 module _ (x : Context) where
-  one_bytes : (from to at : ℕ) (t : List ℕ) → AreSmall x from to → from ≤ at → at + length t ≤ to → TextStands x at t → AreBytes t
+  one_bytes : (from to at : ℕ) (t : List ℕ) → AreSmall x from to → from ≤ at → at + length t ≤ to → TextStands x at t
+      → AreBytes t
   one_bytes from to at t small low high h =
-      bytes_each t (λ j l. subst (λ (c : ℕ). c < 256) (h.same j l) (small (at + j) (omega (arith, low)) (omega (arith, l, high))))
+      bytes_each t (λ j l. subst (λ (c : ℕ). c < 256) (h.same j l)
+      (small (at + j) (omega (arith, low)) (omega (arith, l, high))))
 
-  texts_bytes : (from to at : ℕ) (ts : Texts) → AreSmall x from to → from ≤ at → at + characters ts ≤ to → TextsStand x at ts → AreBytes (all_characters ts)
+  texts_bytes : (from to at : ℕ) (ts : Texts) → AreSmall x from to → from ≤ at → at + characters ts ≤ to
+      → TextsStand x at ts → AreBytes (all_characters ts)
   texts_bytes from to at [] small low high h = tt
   texts_bytes from to at (t ∷ ts) small low high h =
       bytes_append t (all_characters ts)
@@ -66,16 +71,19 @@ module _ (z : Stage) (typed : AreBodiesTyped z z.home.body) (provided : AreProvi
       let x : Context = stands z (kinds_of m.types r ∷ environment_of m r) in
       let has = provided.procedures w r is (kinds_of m.types r ∷ environment_of m r) in
       texts_bytes x (text_of m w) (text_of m w + characters (body_texts r.body)) (text_of m w) (body_texts r.body)
-      (stmts_small x (result_of m.types r.heading) [] false (text_of m w) (text_of m w + characters (body_texts r.body)) r.body ((typed.procedures w r is).0 (text_of m w) has))
+      (stmts_small x (result_of m.types r.heading) [] false (text_of m w) (text_of m w + characters (body_texts r.body))
+      r.body ((typed.procedures w r is).0 (text_of m w) has))
       (omega arith) (omega arith) has.texts
 
   which_bytes : (w : Which) (o : Option Routine) → routine_of m w ≡ o → AreBytes (all_characters (which_texts m w))
   which_bytes w None is = subst (λ (ts : Texts). AreBytes (all_characters ts)) (sym (no_texts m w is)) tt
-  which_bytes w (Some r) is = subst (λ (ts : Texts). AreBytes (all_characters ts)) (sym (which_texts_are m w r is)) (routine_bytes w r is)
+  which_bytes w (Some r) is = subst (λ (ts : Texts). AreBytes (all_characters ts)) (sym (which_texts_are m w r is))
+      (routine_bytes w r is)
 
   all_routines : (ws : List Which) → AreBytes (all_characters (flat_map (which_texts m) ws))
   all_routines [] = tt
-  all_routines (w ∷ ws) = bytes_joined (which_texts m w) (flat_map (which_texts m) ws) (which_bytes w (routine_of m w) refl) (all_routines ws)
+  all_routines (w ∷ ws) = bytes_joined (which_texts m w) (flat_map (which_texts m) ws)
+      (which_bytes w (routine_of m w) refl) (all_routines ws)
 
   body_bytes : AreBytes (all_characters (body_texts m.body))
   body_bytes =
@@ -87,4 +95,5 @@ module _ (z : Stage) (typed : AreBodiesTyped z z.home.body) (provided : AreProvi
       (omega arith) (omega arith) has.texts
 
   pub module_bytes : All (λ b. b < 256) (text m)
-  module_bytes = All-from_recursion (λ b. b < 256) (text m) (bytes_joined (routines_texts m) (body_texts m.body) (all_routines m.order) body_bytes)
+  module_bytes = All-from_recursion (λ b. b < 256) (text m)
+      (bytes_joined (routines_texts m) (body_texts m.body) (all_routines m.order) body_bytes)

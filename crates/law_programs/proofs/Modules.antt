@@ -81,12 +81,14 @@ ends_length : (n : ℕ) (ks : List ℕ) → length (ends_from n ks) ≡ length k
 ends_length n [] = refl
 ends_length n (k ∷ ks) = ap suc (ends_length (n + 1) ks)
 
-ends_at : (n : ℕ) (ks : List ℕ) (i c : ℕ) → slice_get ks i ≡ Some c → slice_get (ends_from n ks) i ≡ Some (n + i + 1 + c)
+ends_at : (n : ℕ) (ks : List ℕ) (i c : ℕ) → slice_get ks i ≡ Some c
+    → slice_get (ends_from n ks) i ≡ Some (n + i + 1 + c)
 ends_at n [] i c e = absurd cc
-ends_at n (k ∷ ks) zero c e = let a : n + 1 + c ≡ n + 0 + 1 + c = omega arith in ap (λ (o : Option ℕ). by o) e ∙ ap (λ (x : ℕ). Some x) a where
-  by : Option ℕ → Option ℕ
-  by None = None
-  by (Some x) = Some (n + 1 + x)
+ends_at n (k ∷ ks) zero c e = let a : n + 1 + c ≡ n + 0 + 1 + c = omega arith in
+    ap (λ (o : Option ℕ). by o) e ∙ ap (λ (x : ℕ). Some x) a where
+      by : Option ℕ → Option ℕ
+      by None = None
+      by (Some x) = Some (n + 1 + x)
 ends_at n (k ∷ ks) (suc i) c e =
     let a : n + 1 + i + 1 + c ≡ n + suc i + 1 + c = omega arith in
     ends_at (n + 1) ks i c e ∙ ap (λ (x : ℕ). Some x) a
@@ -94,7 +96,8 @@ ends_at n (k ∷ ks) (suc i) c e =
 counted_layer : Decl-F Decl Block → List ℕ
 counted_layer x = nesting.decl_layer (map-Decl Decl Block (List ℕ) (List ℕ) within_decl within x)
 
-layer_ends : (so : List ℕ) (x : Decl-F Decl Block) → with_procedure_ends so x ≡ so ++ ends_from (length so) (inside (counted_layer x))
+layer_ends : (so : List ℕ) (x : Decl-F Decl Block)
+    → with_procedure_ends so x ≡ so ++ ends_from (length so) (inside (counted_layer x))
 unfolding counted_layer
 layer_ends so (layer.Constants cs) = sym (append-nil so)
 layer_ends so (layer.Types ts) = sym (append-nil so)
@@ -106,7 +109,8 @@ unfolding within_decl within counted_layer
 counted d = fold_out-Decl (List ℕ) (List ℕ) nesting.decl_layer nesting.block_layer d
 
 decl_ends : (so : List ℕ) (d : Decl) → with_decl_ends so d ≡ so ++ ends_from (length so) (inside (within_decl d))
-decl_ends so d = layer_ends so (out-Decl d) ∙ ap (λ (ks : List ℕ). so ++ ends_from (length so) (inside ks)) (sym (counted d))
+decl_ends so d = layer_ends so (out-Decl d)
+    ∙ ap (λ (ks : List ℕ). so ++ ends_from (length so) (inside ks)) (sym (counted d))
 
 ends_more : (so : List ℕ) (ds : List Decl) → (more : List ℕ) × (fold with_decl_ends so ds ≡ so ++ more)
 ends_more so [] = ([], sym (append-nil so))
@@ -125,10 +129,16 @@ unfilled_headings (h ∷ hs) (suc n) t e = unfilled_headings hs n t e
 unfilled_bodies : (z : Stage) (hs : List TypeNo) → AllBodies z (map empty_routine hs)
 unfilled_bodies z [] n r e = absurd cc
 unfilled_bodies z (h ∷ hs) zero r e =
-    subst (λ (x : Routine). BodyTyped z x) (same_Some (empty_routine h) r e) (row_typed (stands z (kinds_of z.home.types (empty_routine h) ∷ environment_of z.home (empty_routine h))) (result_of z.home.types h) [] false [] tt, tt)
+    subst (λ (x : Routine). BodyTyped z x) (same_Some (empty_routine h) r e) (
+      row_typed (stands z (kinds_of z.home.types (empty_routine h) ∷ environment_of z.home (empty_routine h)))
+          (result_of z.home.types h) [] false [] tt,
+      tt,
+    )
 unfilled_bodies z (h ∷ hs) (suc n) r e = unfilled_bodies z hs n r e
 
-module _ (g : Gathers) (elaborates : Elaborates g.Reported) (forms : FormsStatements g elaborates) (writes : TypesStatements g elaborates) (base : Types) (words : WordsStay g) (ends : List ℕ) (keeps : LocalsStay g) (headings : HeadingsAgree g) where
+module _ (g : Gathers) (elaborates : Elaborates g.Reported) (forms : FormsStatements g elaborates)
+    (writes : TypesStatements g elaborates) (base : Types) (words : WordsStay g) (ends : List ℕ) (keeps : LocalsStay g)
+    (headings : HeadingsAgree g) where
   -- ---- the declarations of the module as steps
 
   abbrev steps_of : Decl → Steps g.Reported
@@ -149,68 +159,100 @@ module _ (g : Gathers) (elaborates : Elaborates g.Reported) (forms : FormsStatem
 
   are_steps : (ds : List Decl) → Fit ds → AreSteps g elaborates ends (map steps_of ds) (total ds)
   are_steps [] e = no_steps
-  are_steps (d ∷ ds) e = more_steps (steps_of d) (map steps_of ds) (within_decl d) (total ds) (decls_typed g elaborates forms writes base words ends keeps headings d (first_fits d ds e)).step (are_steps ds (rest_fits d ds e))
+  are_steps (d ∷ ds) e = more_steps (steps_of d) (map steps_of ds) (within_decl d) (total ds)
+      (decls_typed g elaborates forms writes base words ends keeps headings d (first_fits d ds e)).step
+      (are_steps ds (rest_fits d ds e))
 
   they_are_typed : (ds : List Decl) (e : Fit ds) → AllTyped g elaborates base ends (are_steps ds e)
   unfolding are_steps
   they_are_typed [] e = tt
-  they_are_typed (d ∷ ds) e = ((decls_typed g elaborates forms writes base words ends keeps headings d (first_fits d ds e)).typed, they_are_typed ds (rest_fits d ds e))
+  they_are_typed (d ∷ ds) e = (
+    (decls_typed g elaborates forms writes base words ends keeps headings d
+        (first_fits d ds e)).typed,
+    they_are_typed ds (rest_fits d ds e),
+  )
 
-  they_agree : (a : Scope g.Reported) (seen : List ℕ) (i : ℕ) (ds : List Decl) (e : Fit ds) → DeclsAgree g a seen i ds → StepsAgree g elaborates base ends a seen i (are_steps ds e)
+  they_agree : (a : Scope g.Reported) (seen : List ℕ) (i : ℕ) (ds : List Decl) (e : Fit ds) → DeclsAgree g a seen i ds
+      → StepsAgree g elaborates base ends a seen i (are_steps ds e)
   unfolding are_steps
   they_agree a seen i [] e h = tt
-  they_agree a seen i (d ∷ ds) e h = ((decls_typed g elaborates forms writes base words ends keeps headings d (first_fits d ds e)).agrees a _ h.0, they_agree a seen (i + 1) ds (rest_fits d ds e) h.1)
+  they_agree a seen i (d ∷ ds) e h = (
+    (decls_typed g elaborates forms writes base words ends keeps headings d
+        (first_fits d ds e)).agrees a _ h.0,
+    they_agree a seen (i + 1) ds (rest_fits d ds e) h.1,
+  )
 
-  they_are_other : (a : Scope g.Reported) (o : Option ℕ) (ds : List Decl) (e : Fit ds) (k : ModuleHeadsIn g elaborates ends a.own a.types a.procedures (are_steps ds e)) → OtherThan a.own o ds → AllOther g elaborates base words ends a o (are_steps ds e) k
+  they_are_other : (a : Scope g.Reported) (o : Option ℕ) (ds : List Decl) (e : Fit ds)
+      (k : ModuleHeadsIn g elaborates ends a.own a.types a.procedures (are_steps ds e)) → OtherThan a.own o ds
+      → AllOther g elaborates base words ends a o (are_steps ds e) k
   unfolding are_steps
   they_are_other a o [] e k h = tt
-  they_are_other a o (d ∷ ds) e k h = (λ n p q. h.0 n p ((decls_typed g elaborates forms writes base words ends keeps headings d (first_fits d ds e)).numbered a k.0 ∙ q), they_are_other a o ds (rest_fits d ds e) k.1 h.1)
+  they_are_other a o (d ∷ ds) e k h = (
+    λ n p q. h.0 n p
+        ((decls_typed g elaborates forms writes base words ends keeps headings d (first_fits d ds e)).numbered a k.0
+        ∙ q),
+    they_are_other a o ds (rest_fits d ds e) k.1 h.1,
+  )
 
-  they_are_apart : (a : Scope g.Reported) (ds : List Decl) (e : Fit ds) (k : ModuleHeadsIn g elaborates ends a.own a.types a.procedures (are_steps ds e)) → NumbersApart a.own ds → AllApart g elaborates base words ends a (are_steps ds e) k
+  they_are_apart : (a : Scope g.Reported) (ds : List Decl) (e : Fit ds)
+      (k : ModuleHeadsIn g elaborates ends a.own a.types a.procedures (are_steps ds e)) → NumbersApart a.own ds
+      → AllApart g elaborates base words ends a (are_steps ds e) k
   unfolding are_steps
   they_are_apart a [] e k h = tt
   they_are_apart a (d ∷ ds) e k h = (
-    they_are_other a _ ds (rest_fits d ds e) k.1 (subst (λ (o : Option ℕ). OtherThan a.own o ds) ((decls_typed g elaborates forms writes base words ends keeps headings d (first_fits d ds e)).numbered a k.0) h.0),
+    they_are_other a _ ds (rest_fits d ds e) k.1
+        (subst (λ (o : Option ℕ). OtherThan a.own o ds)
+        ((decls_typed g elaborates forms writes base words ends keeps headings d (first_fits d ds e)).numbered a k.0)
+        h.0),
     they_are_apart a ds (rest_fits d ds e) k.1 h.1,
   )
 
-  step_numbers : {x : Steps g.Reported} {ks : List ℕ} (p : IsStep g elaborates ends x ks) (n : ℕ) → AreNumbered ends n (inside ks) → NumbersOf g elaborates ends None n p
+  step_numbers : {x : Steps g.Reported} {ks : List ℕ} (p : IsStep g elaborates ends x ks) (n : ℕ)
+      → AreNumbered ends n (inside ks) → NumbersOf g elaborates ends None n p
   step_numbers (constants_step cs) n k = tt
   step_numbers (types_step ts) n k = tt
   step_numbers (variables_step vs) n k = tt
   step_numbers (procedure_step h block ks f) n k = k
 
-  step_count : {x : Steps g.Reported} {ks : List ℕ} (p : IsStep g elaborates ends x ks) → count_of g elaborates ends None p ≡ length (inside ks)
+  step_count : {x : Steps g.Reported} {ks : List ℕ} (p : IsStep g elaborates ends x ks)
+      → count_of g elaborates ends None p ≡ length (inside ks)
   step_count (constants_step cs) = refl
   step_count (types_step ts) = refl
   step_count (variables_step vs) = refl
   step_count (procedure_step h block ks f) = refl
 
-  first_numbers : (so : List ℕ) (d : Decl) (ds : List Decl) → ends ≡ fold with_decl_ends so (d ∷ ds) → AreNumbered ends (length so) (inside (within_decl d))
+  first_numbers : (so : List ℕ) (d : Decl) (ds : List Decl) → ends ≡ fold with_decl_ends so (d ∷ ds)
+      → AreNumbered ends (length so) (inside (within_decl d))
   first_numbers so d ds q i c e =
       let ks : List ℕ = inside (within_decl d) in
       let new : List ℕ = ends_from (length so) ks in
       let k = ends_more (with_decl_ends so d) ds in
-      let all : ends ≡ so ++ (new ++ k.0) = q ∙ k.1 ∙ ap (λ (es : List ℕ). es ++ k.0) (decl_ends so d) ∙ append_assoc so new k.0 in
+      let all : ends ≡ so ++ (new ++ k.0) = q ∙ k.1 ∙ ap (λ (es : List ℕ). es ++ k.0) (decl_ends so d)
+      ∙ append_assoc so new k.0 in
       ap (λ (es : List ℕ). slice_get es (length so + i)) all ∙ behind_end so (new ++ k.0) i
       ∙ before_end new k.0 i (subst (λ (l : ℕ). i < l) (sym (ends_length (length so) ks)) (is_within ks i c e))
       ∙ ends_at (length so) ks i c e
 
-  numbers_from : (so : List ℕ) (ds : List Decl) (e : Fit ds) → ends ≡ fold with_decl_ends so ds → NumbersIn g elaborates ends None (length so) (are_steps ds e)
+  numbers_from : (so : List ℕ) (ds : List Decl) (e : Fit ds) → ends ≡ fold with_decl_ends so ds
+      → NumbersIn g elaborates ends None (length so) (are_steps ds e)
   unfolding are_steps
   numbers_from so [] e q = tt
   numbers_from so (d ∷ ds) e q =
       let p = (decls_typed g elaborates forms writes base words ends keeps headings d (first_fits d ds e)).step in
       let ks : List ℕ = inside (within_decl d) in
       let l : length (with_decl_ends so d) ≡ length so + count_of g elaborates ends None p =
-      ap (λ (es : List ℕ). length es) (decl_ends so d) ∙ length-append so (ends_from (length so) ks) ∙ ap (λ (n : ℕ). length so + n) (ends_length (length so) ks ∙ sym (step_count p)) in (
+      ap (λ (es : List ℕ). length es) (decl_ends so d) ∙ length-append so (ends_from (length so) ks)
+      ∙ ap (λ (n : ℕ). length so + n) (ends_length (length so) ks ∙ sym (step_count p)) in (
         step_numbers p (length so) (first_numbers so d ds q),
-        subst (λ (n : ℕ). NumbersIn g elaborates ends None n (are_steps ds (rest_fits d ds e))) l (numbers_from (with_decl_ends so d) ds (rest_fits d ds e) q),
+        subst (λ (n : ℕ). NumbersIn g elaborates ends None n (are_steps ds (rest_fits d ds e))) l
+            (numbers_from (with_decl_ends so d) ds (rest_fits d ds e) q),
       )
 
   -- ---- the module
 
-  module _ (st : State (Unit {0}) g.Reported) (lack : Scope g.Reported → Result (Unit {0}) g.Reported) (ds : List Decl) (fit : Fit ds) (ended : ends ≡ procedure_ends ds) (body : Option (List Stmt)) (fits : fits_body body ≡ true) (begins : ModuleBegins st.0) where
+  module _ (st : State (Unit {0}) g.Reported) (lack : Scope g.Reported → Result (Unit {0}) g.Reported) (ds : List Decl)
+      (fit : Fit ds) (ended : ends ≡ procedure_ends ds) (body : Option (List Stmt)) (fits : fits_body body ≡ true)
+      (begins : ModuleBegins st.0) where
     abbrev xs : List (Steps g.Reported)
     xs = map steps_of ds
 
@@ -233,10 +275,16 @@ module _ (g : Gathers) (elaborates : Elaborates g.Reported) (forms : FormsStatem
 
     steps_lead : Leading (all_declared marked_by declared_by st 0 xs)
     steps_lead = record {
-      keeps_all = keeps_then (leads_keeps other nothing_open marks_lead) (leads_keeps other nothing_open (all_lead g elaborates ends other nothing_open ps (marks.0, st.1, 0) (no_home marks.0.types.home)));
+      keeps_all = keeps_then (leads_keeps other nothing_open marks_lead)
+          (leads_keeps other nothing_open (all_lead g elaborates ends other nothing_open ps (marks.0, st.1, 0)
+          (no_home marks.0.types.home)));
       heads_all = λ ok.
-          heads_in g elaborates ends (all_declared marked_by declared_by st 0 xs).0.own (all_declared marked_by declared_by st 0 xs).0.types (all_declared marked_by declared_by st 0 xs).0.procedures ps (marks.0, st.1, 0)
-          (all_declared marked_by declared_by st 0 xs).0 refl refl refl refl (ap (λ (n : ℕ). n == 0) marks_lead.level ∙ begins.level) (awaits_kept g other nothing_open st.0 marks.0 marks_lead begins.awaits) ok;
+          heads_in g elaborates ends (all_declared marked_by declared_by st 0 xs).0.own
+          (all_declared marked_by declared_by st 0 xs).0.types
+          (all_declared marked_by declared_by st 0 xs).0.procedures ps (marks.0, st.1, 0)
+          (all_declared marked_by declared_by st 0 xs).0 refl refl refl refl
+          (ap (λ (n : ℕ). n == 0) marks_lead.level ∙ begins.level)
+          (awaits_kept g other nothing_open st.0 marks.0 marks_lead begins.awaits) ok;
     }
 
     abbrev d : Declared g.Reported
@@ -287,31 +335,41 @@ module _ (g : Gathers) (elaborates : Elaborates g.Reported) (forms : FormsStatem
       }
 
       all : TypedTo g elaborates base words ends d.0 z start end
-      all = all_to g elaborates base words ends d.0 z staged has.names d.2 ps (they_are_typed ds fit) (start, 0) 0 standing (keeps_refl d.0) heads (numbers_from [] ds fit ended)
-          (they_agree d.0 d.2 0 ds fit (headings ends st 0 ds (record { withs = begins.withs }) declared_ok)) (they_are_apart d.0 ds fit heads (numbers_apart g ends st 0 ds begins.level begins.awaits begins.apart declared_ok)) ok has.known serves (unfilled_headings d.0.procedures)
+      all = all_to g elaborates base words ends d.0 z staged has.names d.2 ps (they_are_typed ds fit) (start, 0) 0
+          standing (keeps_refl d.0) heads (numbers_from [] ds fit ended)
+          (they_agree d.0 d.2 0 ds fit (headings ends st 0 ds (record { withs = begins.withs }) declared_ok))
+          (they_are_apart d.0 ds fit heads (numbers_apart g ends st 0 ds begins.level begins.awaits begins.apart
+          declared_ok)) ok has.known serves (unfilled_headings d.0.procedures)
           (λ i. ap (λ (rs : List Routine). slice_get rs i) (sym has.procedures))
 
       end_known : ScopeKnown base end.scope
-      end_known = all_known g elaborates base ends words None d.0 0 d.2 ps (they_are_typed ds fit) (start, 0) ok has.known
+      end_known = all_known g elaborates base ends words None d.0 0 d.2 ps (they_are_typed ds fit) (start, 0) ok
+          has.known
 
       end_level : end.scope.level ≡ 0
       end_level = end_keeps.level ∙ level
 
       end_typed : IsTyped g (stands z []) [] z.opens end.scope
-      end_typed = scope_typed (stands z []) z.opens g end.scope staged.all staged.room serves.types end_known.ordered.types
+      end_typed = scope_typed (stands z []) z.opens g end.scope staged.all staged.room serves.types
+          end_known.ordered.types
           (subst (λ (n : ℕ). NamesThere (stands z []) z.opens n end.scope.own) (sym end_level)
-          (subst (λ (es : List (List ℕ × Known g.Reported)). NamesThere (stands z []) z.opens 0 es) (sym (all_own g elaborates ends None d.2 ps (start, 0))) has.names))
+          (subst (λ (es : List (List ℕ × Known g.Reported)). NamesThere (stands z []) z.opens 0 es)
+          (sym (all_own g elaborates ends None d.2 ps (start, 0))) has.names))
           (subst (λ (n : ℕ). BlocksThere (stands z []) z.opens n end.scope.outer) (sym end_level)
-          (subst (λ (bs : List (Around g.Reported)). BlocksThere (stands z []) z.opens 0 bs) (sym end_keeps.outer) has.outer))
+          (subst (λ (bs : List (Around g.Reported)). BlocksThere (stands z []) z.opens 0 bs) (sym end_keeps.outer)
+          has.outer))
           (end_keeps.withs ∙ withs)
           (λ k name e. holds_weaker (λ m q. meaning_anywhere z [] z.opens end.scope.level m q)
-          (subst (λ (ts : List _). Holds (MeaningThere (stands z []) z.opens 0) (exported_meaning g ts k name)) (sym end_keeps.tables) (has.members k name e)))
+          (subst (λ (ts : List _). Holds (MeaningThere (stands z []) z.opens 0) (exported_meaning g ts k name))
+          (sym end_keeps.tables) (has.members k name e)))
 
       body_holds : Holds (StmtsTyped (stands z []) None [] false) (statements_of elaborates end.scope None body)
-      body_holds = body_typed g elaborates forms writes base words ends (stands z []) z.opens end.scope end_typed end_known.ranged (end_keeps.withs ∙ withs) None None refl body fits
+      body_holds = body_typed g elaborates forms writes base words ends (stands z []) z.opens end.scope end_typed
+          end_known.ranged (end_keeps.withs ∙ withs) None None refl body fits
 
       by_which : (w : Which) (r : Routine) → routine_of z.home w ≡ Some r → BodyTyped z r
-      by_which (which.Module n) r e = all.1 (unfilled_bodies z d.0.procedures) n r (ap (λ (rs : List Routine). slice_get rs n) has.procedures ∙ e)
+      by_which (which.Module n) r e = all.1 (unfilled_bodies z d.0.procedures) n r
+          (ap (λ (rs : List Routine). slice_get rs n) has.procedures ∙ e)
       by_which (which.Local n) r e = all.0 n r (omega arith) (ap (λ (rs : List Routine). slice_get rs n) has.locals ∙ e)
 
       stay : (t : TypeNo) (x : Made) → made_at d.0.types t ≡ Some x → made_at z.home.types t ≡ Some x
@@ -319,9 +377,12 @@ module _ (g : Gathers) (elaborates : Elaborates g.Reported) (forms : FormsStatem
 
       variables_known : AreKnown z.home.types z.home.variables
       variables_known =
-          subst (λ (us : List TypeNo). AreKnown z.home.types us) has.variables (all_kept d.0.types z.home.types (made_known d.0.types z.home.types stay) d.0.variables has.known.ordered.variables)
+          subst (λ (us : List TypeNo). AreKnown z.home.types us) has.variables
+          (all_kept d.0.types z.home.types (made_known d.0.types z.home.types stay) d.0.variables
+          has.known.ordered.variables)
 
-      pub module_typed : (ss : List TypedStmt) → statements_of elaborates end.scope None body ≡ Ok ss → AreBodiesTyped z ss
+      pub module_typed : (ss : List TypedStmt) → statements_of elaborates end.scope None body ≡ Ok ss
+          → AreBodiesTyped z ss
       module_typed ss e = record {
         procedures = by_which;
         body = holds_at (statements_of elaborates end.scope None body) body_holds ss e;
@@ -337,11 +398,19 @@ modules_typed g base modules s m b fit begins ok z staged has ss e =
     let ends : List ℕ = procedure_ends ds in
     let st : State (Unit {0}) g.Reported = fold (with_import g modules) (s, Ok tt) m.imports in
     let d : Declared g.Reported = declared_block g ends st 0 ds in
-    let first : Walk g.Reported = record { scope = d.0; so_far = beside g d.1 (reported_of_lack g m.name.pos d.0); bodies = no_bodies d.0.procedures } in
-    let f = sym (fits_at_block g (elaborate_body g) (elaborated_formed g) (elaborated_typed g) base words ends b (out-Block b) refl) ∙ fit in
+    let first : Walk g.Reported = record {
+      scope = d.0;
+      so_far = beside g d.1 (reported_of_lack g m.name.pos d.0);
+      bodies = no_bodies d.0.procedures;
+    } in
+    let f = sym (fits_at_block g (elaborate_body g) (elaborated_formed g) (elaborated_typed g) base words ends b
+    (out-Block b) refl) ∙ fit in
     let parts = list_all itself (map fits_inside ds) in
-    subst (λ (w : Walk g.Reported). w.so_far ≡ Ok tt → HasModule g base z d.0 w → statements_of (elaborate_body g) w.scope None (out-Block b).body ≡ Ok ss → AreBodiesTyped z ss)
+    subst (λ (w : Walk g.Reported). w.so_far ≡ Ok tt → HasModule g base z d.0 w
+    → statements_of (elaborate_body g) w.scope None (out-Block b).body ≡ Ok ss → AreBodiesTyped z ss)
     (sym (bodies_are g (elaborate_body g) (elaborated_formed g) ends None d.2 first ds))
-    (λ o h q. module_typed g (elaborate_body g) (elaborated_formed g) (elaborated_typed g) base words ends keeps headings st (reported_of_lack g m.name.pos) ds (both_left parts (fits_body (out-Block b).body) f) refl (out-Block b).body
+    (λ o h q. module_typed g (elaborate_body g) (elaborated_formed g) (elaborated_typed g) base words ends keeps
+    headings st (reported_of_lack g m.name.pos) ds (both_left parts (fits_body (out-Block b).body) f) refl
+    (out-Block b).body
     (both_right parts (fits_body (out-Block b).body) f) begins o z staged h ss q)
     ok has e

@@ -49,7 +49,9 @@ use Rattle.law_programs.proofs.Shifting.{names_deeper, blocks_deeper}
 use Rattle.law_programs.proofs.Scopes.{blocks_more}
 use Rattle.law_programs.proofs.Entered.{entered_locals, entered_fresh, entered_count, entered_known}
 
-module _ (g : Gathers) (elaborates : Elaborates g.Reported) (base : Types) (words : WordsStay g) (ends : List ℕ) (h : Heading) (block : ChecksBlock g.Reported) (ks : List ℕ) (f : FormedBlock g ends block ks) (b : TypedBlock g base ends block ks)
+module _ (g : Gathers) (elaborates : Elaborates g.Reported) (base : Types) (words : WordsStay g) (ends : List ℕ)
+    (h : Heading) (block : ChecksBlock g.Reported) (ks : List ℕ) (f : FormedBlock g ends block ks)
+    (b : TypedBlock g base ends block ks)
     (around : Option Which) (seen : ℕ) (w : Walk g.Reported) where
   abbrev first : Walk g.Reported
   first = (entry g elaborates ends h block ks f around seen w).0
@@ -74,22 +76,29 @@ module _ (g : Gathers) (elaborates : Elaborates g.Reported) (base : Types) (word
 
   pub procedure_known : behind.so_far ≡ Ok tt → ScopeKnown base w.scope → ScopeKnown base behind.scope
   procedure_known ok k =
-      let e = b.known own returns first (inner_ok g elaborates ends h block ks f around seen w ok) (entered_known g base words w.scope seen h k) in
+      let e = b.known own returns first (inner_ok g elaborates ends h block ks f around seen w ok)
+      (entered_known g base words w.scope seen h k) in
       let o = (entry g elaborates ends h block ks f around seen w).1.outside in
       record {
         ranged = left_ranged o last.scope e.ranged;
-        ordered = left_ordered base o last.scope e.ordered (all_kept w.scope.types last.scope.types (made_known w.scope.types last.scope.types stays.types) w.scope.variables k.ordered.variables);
+        ordered = left_ordered base o last.scope e.ordered
+            (all_kept w.scope.types last.scope.types (made_known w.scope.types last.scope.types stays.types)
+            w.scope.variables k.ordered.variables);
         words = words.left o last.scope e.words;
       }
 
-  module _ (level : (w.scope.level == 0) ≡ false) (deep : 1 < length w.scope.outer) (is_deep : IsDeep w) (l : ℕ) (t : TypeNo)
-      (head : find_name h.name.name w.scope.own ≡ Some (Headed (Ok (meaning.LocalProcedure (record { level = l; number = length w.bodies.locals; heading = t })))))
+  module _ (level : (w.scope.level == 0) ≡ false) (deep : 1 < length w.scope.outer) (is_deep : IsDeep w) (l : ℕ)
+      (t : TypeNo)
+      (head : find_name h.name.name w.scope.own
+      ≡ Some (Headed (Ok (meaning.LocalProcedure
+      (record { level = l; number = length w.bodies.locals; heading = t })))))
       (numbers : AreNumbered ends (length w.bodies.locals + 1) ks) (ok : behind.so_far ≡ Ok tt) where
     first_locals : first.bodies.locals ≡ w.bodies.locals ++ empty_routine integer ∷ []
     first_locals = begun_locals (w.scope.level == 0) level w.bodies
 
     first_length : length first.bodies.locals ≡ length w.bodies.locals + 1
-    first_length = ap (λ (rs : List Routine). length rs) first_locals ∙ length-append w.bodies.locals (empty_routine integer ∷ [])
+    first_length = ap (λ (rs : List Routine). length rs) first_locals
+        ∙ length-append w.bodies.locals (empty_routine integer ∷ [])
 
     outer_length : length first.scope.outer ≡ length w.scope.outer + 1
     outer_length = length-append w.scope.outer (around_it g elaborates ends h block ks f around seen w ∷ [])
@@ -106,7 +115,8 @@ module _ (g : Gathers) (elaborates : Elaborates g.Reported) (base : Types) (word
     numbered = record { which = which.Local (length w.bodies.locals); heading = t }
 
     abbrev new : Routine
-    new = routine last.scope h.name numbered around (entry g elaborates ends h block ks f around seen w).1.formals (body_ok g elaborates ends h block ks f around seen w ok).0
+    new = routine last.scope h.name numbered around (entry g elaborates ends h block ks f around seen w).1.formals
+        (body_ok g elaborates ends h block ks f around seen w ok).0
 
     own_is : own ≡ Some (which.Local (length w.bodies.locals))
     own_is = ap (λ (o : Option (Known g.Reported)). which_of (numbered_known o)) head
@@ -114,8 +124,12 @@ module _ (g : Gathers) (elaborates : Elaborates g.Reported) (base : Types) (word
     locals_are : behind.bodies.locals ≡ slice_set last.bodies.locals (length w.bodies.locals) new
     locals_are =
         ap (λ (rs : Bodies). rs.locals)
-        (ap (λ (o : Option (Known g.Reported)). with_routine last.scope h.name around (entry g elaborates ends h block ks f around seen w).1.formals (numbered_known o) (inner g elaborates ends h block ks f around seen w).1 last.bodies) head
-        ∙ ap (λ (r : Result (List TypedStmt) g.Reported). with_routine last.scope h.name around (entry g elaborates ends h block ks f around seen w).1.formals (Some numbered) r last.bodies) (body_ok g elaborates ends h block ks f around seen w ok).1)
+        (ap (λ (o : Option (Known g.Reported)). with_routine last.scope h.name around
+        (entry g elaborates ends h block ks f around seen w).1.formals (numbered_known o)
+        (inner g elaborates ends h block ks f around seen w).1 last.bodies) head
+        ∙ ap (λ (r : Result (List TypedStmt) g.Reported). with_routine last.scope h.name around
+        (entry g elaborates ends h block ks f around seen w).1.formals (Some numbered) r last.bodies)
+        (body_ok g elaborates ends h block ks f around seen w ok).1)
 
     last_length : length last.bodies.locals ≡ length w.bodies.locals + 1 + length ks
     last_length =
@@ -131,13 +145,16 @@ module _ (g : Gathers) (elaborates : Elaborates g.Reported) (base : Types) (word
         ap (λ (rs : List Routine). slice_get rs (length w.bodies.locals)) locals_are
         ∙ set_same last.bodies.locals (length w.bodies.locals) new (let e = last_length in omega (arith, e))
 
-    get_other : (k : ℕ) → (k ≡ length w.bodies.locals → ⊥) → slice_get behind.bodies.locals k ≡ slice_get last.bodies.locals k
-    get_other k apart = ap (λ (rs : List Routine). slice_get rs k) locals_are ∙ set_other last.bodies.locals (length w.bodies.locals) k new apart
+    get_other : (k : ℕ) → (k ≡ length w.bodies.locals → ⊥)
+        → slice_get behind.bodies.locals k ≡ slice_get last.bodies.locals k
+    get_other k apart = ap (λ (rs : List Routine). slice_get rs k) locals_are
+        ∙ set_other last.bodies.locals (length w.bodies.locals) k new apart
 
     new_level : new.level ≡ suc w.scope.level
     new_level = stays.level ∙ is_deep
 
-    module _ (known : ScopeKnown base w.scope) (z : Stage) (staged : StageTyped z) (serves : Serves g z around w behind) (names : NamesThere (stands_in z w.scope.level around) z.opens w.scope.level w.scope.own)
+    module _ (known : ScopeKnown base w.scope) (z : Stage) (staged : StageTyped z) (serves : Serves g z around w behind)
+        (names : NamesThere (stands_in z w.scope.level around) z.opens w.scope.level w.scope.own)
         (agrees : HeadingAgrees g w.scope seen h) where
       abbrev types : Types
       types = z.home.types
@@ -146,16 +163,19 @@ module _ (g : Gathers) (elaborates : Elaborates g.Reported) (base : Types) (word
       kss = kinds_around z.home (suc w.scope.level) around
 
       agreed : (formals_of types t ≡ fs) × AreReturned types returns (result_of types t)
-      agreed = agrees numbered (ap (λ (o : Option (Known g.Reported)). numbered_known o) head) types (λ u y e. serves.types u y ((procedure_keeps g elaborates ends h block ks f around seen w).types u y e))
+      agreed = agrees numbered (ap (λ (o : Option (Known g.Reported)). numbered_known o) head) types
+          (λ u y e. serves.types u y ((procedure_keeps g elaborates ends h block ks f around seen w).types u y e))
 
       home_new : slice_get z.home.locals (length w.bodies.locals) ≡ Some new
-      home_new = serves.locals (length w.bodies.locals) (omega arith) (let e = behind_length in omega (arith, e)) ∙ get_new
+      home_new = serves.locals (length w.bodies.locals) (omega arith) (let e = behind_length in omega (arith, e))
+          ∙ get_new
 
       -- the frames in its block
       frames : kinds_around z.home (suc first.scope.level) own ≡ kinds_of types new ∷ kss
       frames =
           ap (λ (v : Option Which). kinds_around z.home (suc first.scope.level) v) own_is
-          ∙ ap (λ (o : Option Routine). own_kinds z.home o ++ kinds_around z.home first.scope.level (around_in o)) home_new
+          ∙ ap (λ (o : Option Routine). own_kinds z.home o ++ kinds_around z.home first.scope.level (around_in o))
+          home_new
           ∙ ap (λ (n : ℕ). kinds_of types new ∷ kinds_around z.home n around) is_deep
 
       inner_serves : Serves g z own first last
@@ -168,10 +188,14 @@ module _ (g : Gathers) (elaborates : Elaborates g.Reported) (base : Types) (word
             let e = behind_length in
             serves.locals n (omega (arith, p, c)) (omega (arith, q, d, e)) ∙ get_other n (λ y. omega (arith, y, p, c));
         members = serves.members;
-        outer = subst (λ (n : ℕ). BlocksThere (stands_in z first.scope.level own) z.opens n first.scope.outer) (sym is_deep)
-            (subst (λ (k : List Kinds). BlocksThere (stands z k) z.opens (suc w.scope.level) first.scope.outer) (sym frames)
-            (blocks_more (stands z (kinds_of types new ∷ kss)) z.opens (suc w.scope.level) w.scope.outer (around_it g elaborates ends h block ks f around seen w)
-            (blocks_deeper z (kinds_of types new) kss z.opens w.scope.level w.scope.outer serves.outer) (names_deeper z (kinds_of types new) kss z.opens w.scope.level w.scope.own names)));
+        outer = subst (λ (n : ℕ). BlocksThere (stands_in z first.scope.level own) z.opens n first.scope.outer)
+            (sym is_deep)
+            (subst (λ (k : List Kinds). BlocksThere (stands z k) z.opens (suc w.scope.level) first.scope.outer)
+            (sym frames)
+            (blocks_more (stands z (kinds_of types new ∷ kss)) z.opens (suc w.scope.level) w.scope.outer
+            (around_it g elaborates ends h block ks f around seen w)
+            (blocks_deeper z (kinds_of types new) kss z.opens w.scope.level w.scope.outer serves.outer)
+            (names_deeper z (kinds_of types new) kss z.opens w.scope.level w.scope.own names)));
         withs = serves.withs;
       }
 
@@ -179,8 +203,11 @@ module _ (g : Gathers) (elaborates : Elaborates g.Reported) (base : Types) (word
       frame = record {
         rest = kss;
         kinds = frames
-            ∙ ap (λ (xs : List Formal). (map (formal_kind types) xs ++ map (λ t. Kept (tree types t)) new.variables) ∷ kss) agreed.0
-            ∙ ap (λ (n : ℕ). (map (formal_kind types) fs ++ map (λ t. Kept (tree types t)) (drop n last.scope.variables)) ∷ kss) (entered_count g w.scope seen h);
+            ∙ ap (λ (xs : List Formal). (map (formal_kind types) xs ++ map (λ t. Kept (tree types t)) new.variables)
+            ∷ kss) agreed.0
+            ∙ ap (λ (n : ℕ). (map (formal_kind types) fs
+            ++ map (λ t. Kept (tree types t)) (drop n last.scope.variables)) ∷ kss)
+            (entered_count g w.scope seen h);
       }
 
       enters : Enters base ends fs first ks
@@ -194,25 +221,36 @@ module _ (g : Gathers) (elaborates : Elaborates g.Reported) (base : Types) (word
         formed = λ m opens. formals_formed m opens g (inwards w.scope seen) h.formals;
       }
 
-      inner_typed : AddsTyped g z first last × Holds (StmtsTyped (stands_in z first.scope.level own) (result_of types t) [] false) (inner g elaborates ends h block ks f around seen w).1
-      inner_typed = b.typed fs own returns first enters (inner_ok g elaborates ends h block ks f around seen w ok) z staged inner_serves frame (result_of types t) agreed.1
+      inner_typed : AddsTyped g z first last
+          × Holds (StmtsTyped (stands_in z first.scope.level own) (result_of types t) [] false)
+          (inner g elaborates ends h block ks f around seen w).1
+      inner_typed = b.typed fs own returns first enters (inner_ok g elaborates ends h block ks f around seen w ok) z
+          staged inner_serves frame (result_of types t) agreed.1
 
       new_known : AreKnown types new.variables
       new_known =
           let e = b.known own returns first (inner_ok g elaborates ends h block ks f around seen w ok) enters.known in
-          all_kept last.scope.types types (made_known last.scope.types types serves.types) new.variables (known_behind last.scope.types (entry g elaborates ends h block ks f around seen w).1.formals last.scope.variables e.ordered.variables)
+          all_kept last.scope.types types (made_known last.scope.types types serves.types) new.variables
+          (known_behind last.scope.types (entry g elaborates ends h block ks f around seen w).1.formals
+          last.scope.variables e.ordered.variables)
 
       new_typed : BodyTyped z new
       new_typed = (
-        subst (λ (k : List Kinds). StmtsTyped (stands z k) (result_of types t) [] false (body_ok g elaborates ends h block ks f around seen w ok).0)
+        subst (λ (k : List Kinds). StmtsTyped (stands z k) (result_of types t) [] false
+            (body_ok g elaborates ends h block ks f around seen w ok).0)
             (frames ∙ ap (λ (n : ℕ). kinds_of types new ∷ kinds_around z.home n around) (sym new_level))
-            (holds_at (inner g elaborates ends h block ks f around seen w).1 inner_typed.1 (body_ok g elaborates ends h block ks f around seen w ok).0 (body_ok g elaborates ends h block ks f around seen w ok).1),
+            (holds_at (inner g elaborates ends h block ks f around seen w).1 inner_typed.1
+            (body_ok g elaborates ends h block ks f around seen w ok).0
+            (body_ok g elaborates ends h block ks f around seen w ok).1),
         new_known,
       )
 
-      typed_at : (k : ℕ) (r : Routine) → slice_get behind.bodies.locals k ≡ Some r → Placed (length w.bodies.locals) k → BodyTyped z r
-      typed_at k r e (there q) = subst (λ (x : Routine). BodyTyped z x) (same_Some new r (sym get_new ∙ ap (λ (n : ℕ). slice_get behind.bodies.locals n) (sym q) ∙ e)) new_typed
-      typed_at k r e (past q) = inner_typed.0 k r (let a = first_length in omega (arith, a, q)) (sym (get_other k (λ y. omega (arith, y, q))) ∙ e)
+      typed_at : (k : ℕ) (r : Routine) → slice_get behind.bodies.locals k ≡ Some r → Placed (length w.bodies.locals) k
+          → BodyTyped z r
+      typed_at k r e (there q) = subst (λ (x : Routine). BodyTyped z x)
+          (same_Some new r (sym get_new ∙ ap (λ (n : ℕ). slice_get behind.bodies.locals n) (sym q) ∙ e)) new_typed
+      typed_at k r e (past q) = inner_typed.0 k r (let a = first_length in omega (arith, a, q))
+          (sym (get_other k (λ y. omega (arith, y, q))) ∙ e)
 
       pub nested_typed : AddsTyped g z w behind
       nested_typed k r a e = typed_at k r e (placed (length w.bodies.locals) k a)

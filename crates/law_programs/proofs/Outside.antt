@@ -28,6 +28,7 @@ module _ (z : Stage) (opens : ℕ → Bool) where
   known_outside (Headed r) h = holds_weaker meaning_outside h
   known_outside (Declared o r) h = holds_weaker meaning_outside h
 
-  pub names_outside : {T : Type 0} (es : List (List ℕ × Known T)) → NamesIn (stands z []) opens 0 [] es → NamesThere (stands z []) opens 0 es
+  pub names_outside : {T : Type 0} (es : List (List ℕ × Known T)) → NamesIn (stands z []) opens 0 [] es
+      → NamesThere (stands z []) opens 0 es
   names_outside [] h = tt
   names_outside (e ∷ es) h = (known_outside e.1 h.0, names_outside es h.1)

@@ -60,7 +60,8 @@ module _ (F : Meaning → Type 0) where
 abbrev pub IsPlain : {T : Type 0} → Known T → Type 0
 IsPlain k = KnownBrought (λ m. ⊥) k
 
-outer_by : {A T : Type 0} (r : Result A T) (f : A → Meaning) → ((x : A) → IsOuter (f x)) → Holds IsOuter (r ▷ λ x. Ok (f x))
+outer_by : {A T : Type 0} (r : Result A T) (f : A → Meaning) → ((x : A) → IsOuter (f x))
+    → Holds IsOuter (r ▷ λ x. Ok (f x))
 outer_by (Ok x) f k = fine (f x) (k x)
 outer_by (Err e) f k = broken e
 

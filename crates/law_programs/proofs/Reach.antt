@@ -53,20 +53,36 @@ long_more : {X : Type 0} (xs : List X) (x : X) → length (xs ++ x ∷ []) ≡ s
 long_more [] x = refl
 long_more (y ∷ xs) x = let k : length (xs ++ x ∷ []) ≡ suc (length xs) = long_more xs x in omega (arith, k)
 
-pub tree_fits : (ms : List Module) → list_all fits_module ms ≡ true → (k : ℕ) (m : Module) → slice_get ms k ≡ Some m → fits_module m ≡ true
+pub tree_fits : (ms : List Module) → list_all fits_module ms ≡ true → (k : ℕ) (m : Module) → slice_get ms k ≡ Some m
+    → fits_module m ≡ true
 tree_fits [] e k m g = absurd cc
-tree_fits (x ∷ ms) e zero m g = let same : x ≡ m = cc in subst (λ (y : Module). fits_module y ≡ true) same (both_left (fits_module x) (list_all fits_module ms) e)
+tree_fits (x ∷ ms) e zero m g = let same : x ≡ m = cc in
+    subst (λ (y : Module). fits_module y ≡ true) same (both_left (fits_module x) (list_all fits_module ms) e)
 tree_fits (x ∷ ms) e (suc k) m g = tree_fits ms (both_right (fits_module x) (list_all fits_module ms) e) k m g
 
 -- ---- tables
 
 -- what is so below a number is so below a greater one
-below_by : (types_of : ℕ → List Made) (p n : ℕ) → p < n → (ms : List ModuleTypes) → AllByRecursion (λ m. (m.number < suc p) × (m.made ≡ types_of m.number)) ms → AllByRecursion (λ m. (m.number < n) × (m.made ≡ types_of m.number)) ms
+below_by : (types_of : ℕ → List Made) (p n : ℕ) → p < n → (ms : List ModuleTypes)
+    → AllByRecursion (λ m. (m.number < suc p) × (m.made ≡ types_of m.number)) ms
+    → AllByRecursion (λ m. (m.number < n) × (m.made ≡ types_of m.number)) ms
 below_by types_of p n l [] h = tt
-below_by types_of p n l (m ∷ ms) h = ((let k : m.number < suc p = h.0.0 in omega (arith, k, l), h.0.1), below_by types_of p n l ms h.1)
+below_by types_of p n l (m ∷ ms) h = (
+  (let k : m.number < suc p = h.0.0 in omega (arith, k, l), h.0.1),
+  below_by
+      types_of p n l ms h.1,
+)
 
-formed_below : (types_of : ℕ → List Made) (p n : ℕ) (t : Table) → p < n → TableFormed types_of (suc p) t → TableFormed types_of n t
-formed_below types_of p n t l h = record { reached = below_by types_of p n l t.reached h.reached; ordered = h.ordered; once = h.once; ranged = h.ranged; based = h.based; exports = h.exports }
+formed_below : (types_of : ℕ → List Made) (p n : ℕ) (t : Table) → p < n → TableFormed types_of (suc p) t
+    → TableFormed types_of n t
+formed_below types_of p n t l h = record {
+  reached = below_by types_of p n l t.reached h.reached;
+  ordered = h.ordered;
+  once = h.once;
+  ranged = h.ranged;
+  based = h.based;
+  exports = h.exports;
+}
 
 module _ (trees : List Module) (files : List ℕ) (jobs : List (List ℕ)) (fit : list_all fits_module trees ≡ true) where
   abbrev its_types : ℕ → List Made
@@ -82,7 +98,8 @@ module _ (trees : List Module) (files : List ℕ) (jobs : List (List ℕ)) (fit 
   abbrev Fact : ℕ → Type 0
   Fact p = (t : Table) → one p ≡ Defined t → IsFormedAt p t
 
-  own_types_are : (p : ℕ) (t : Table) → one p ≡ Defined t → t.number ≡ p → types_made_in t.number t.reached ≡ its_types t.number
+  own_types_are : (p : ℕ) (t : Table) → one p ≡ Defined t → t.number ≡ p
+      → types_made_in t.number t.reached ≡ its_types t.number
   own_types_are p t e q = sym (ap its_types q ∙ ap (made_by trees files jobs) e)
 
   -- ---- results of jobs
@@ -92,13 +109,15 @@ module _ (trees : List Module) (files : List ℕ) (jobs : List (List ℕ)) (fit 
 
   many : (n : ℕ) → length (below n) ≡ n
   many zero = refl
-  many (suc n) = let k : length (below n) ≡ n = many n in let l : length (below (suc n)) ≡ suc (length (below n)) = long_more (below n) (one n) in omega (arith, k, l)
+  many (suc n) = let k : length (below n) ≡ n = many n in
+      let l : length (below (suc n)) ≡ suc (length (below n)) = long_more (below n) (one n) in omega (arith, k, l)
 
   at_below : (n j : ℕ) → j < n → slice_get (below n) j ≡ Some (one j)
   at_below zero j l = absurd (omega (arith, l))
   at_below (suc n) j l = elim (cases_lt j n) [
     | inl less ↦ get_front (below n) (one n ∷ []) j (omega (arith, less, many n)) ∙ at_below n j less
-    | inr le ↦ let e : j ≡ n = omega (arith, l, le) in get_last (below n) (one n) j (e ∙ sym (many n)) ∙ ap (λ (k : ℕ). Some (one k)) (sym e)
+    | inr le ↦ let e : j ≡ n = omega (arith, l, le) in
+        get_last (below n) (one n) j (e ∙ sym (many n)) ∙ ap (λ (k : ℕ). Some (one k)) (sym e)
   ]
 
   is_within : (n p : ℕ) (x : Compiled) → slice_get (below n) p ≡ Some x → p < n
@@ -119,15 +138,22 @@ module _ (trees : List Module) (files : List ℕ) (jobs : List (List ℕ)) (fit 
         let l : p < n = is_within n p x e in
         let is : one p ≡ Defined t = same_Some (one p) x (sym (at_below n p l) ∙ e) ∙ q in
         let f : IsFormedAt p t = known p l t is in
-        record { formed = formed_below its_types p n t l f.1; own = own_types_are p t is f.0; made = ap one f.0 ∙ is; before = (let q : t.number ≡ p = f.0 in omega (arith, l, q)) }
+        record {
+          formed = formed_below its_types p n t l f.1;
+          own = own_types_are p t is f.0;
+          made = ap one f.0 ∙ is;
+          before = (let q : t.number ≡ p = f.0 in omega (arith, l, q));
+        }
 
-    with_one : (x : Compiled) (ts : List Table) → ((t : Table) → x ≡ Defined t → IsNeeded t) → AllByRecursion IsNeeded ts → AllByRecursion IsNeeded (table_in x ++ ts)
+    with_one : (x : Compiled) (ts : List Table) → ((t : Table) → x ≡ Defined t → IsNeeded t)
+        → AllByRecursion IsNeeded ts → AllByRecursion IsNeeded (table_in x ++ ts)
     with_one (Defined t) ts k h = (k t refl, h)
     with_one (Built b) ts k h = h
     with_one (Refused f) ts k h = h
     with_one Blocked ts k h = h
 
-    with_picked : (p : ℕ) (xs : List Compiled) (o : Option Compiled) → slice_get (below n) p ≡ o → AllByRecursion IsNeeded (tables_of xs) → AllByRecursion IsNeeded (tables_of (with_item o xs))
+    with_picked : (p : ℕ) (xs : List Compiled) (o : Option Compiled) → slice_get (below n) p ≡ o
+        → AllByRecursion IsNeeded (tables_of xs) → AllByRecursion IsNeeded (tables_of (with_item o xs))
     with_picked p xs None e h = h
     with_picked p xs (Some x) e h = with_one x (tables_of xs) (table_needed p x e) h
 
@@ -141,8 +167,12 @@ module _ (trees : List Module) (files : List ℕ) (jobs : List (List ℕ)) (fit 
 
     -- ---- a definition
 
-    result_formed : (t : Table) (r : Result Table Breach) → Holds (λ u. (u.number ≡ n) × (types_made_in n u.reached ≡ its_types n → TableFormed its_types (suc n) u)) r → (t.number ≡ n → types_made_in n t.reached ≡ its_types n) → of_definition r ≡ Defined t → IsFormedAt n t
-    result_formed t _ (fine u h) k is = let same : u ≡ t = cc in let j = subst (λ (v : Table). (v.number ≡ n) × (types_made_in n v.reached ≡ its_types n → TableFormed its_types (suc n) v)) same h in (j.0, j.1 (k j.0))
+    result_formed : (t : Table) (r : Result Table Breach)
+        → Holds (λ u. (u.number ≡ n) × (types_made_in n u.reached ≡ its_types n → TableFormed its_types (suc n) u)) r
+        → (t.number ≡ n → types_made_in n t.reached ≡ its_types n) → of_definition r ≡ Defined t → IsFormedAt n t
+    result_formed t _ (fine u h) k is = let same : u ≡ t = cc in
+        let j = subst (λ (v : Table). (v.number ≡ n)
+        × (types_made_in n v.reached ≡ its_types n → TableFormed its_types (suc n) v)) same h in (j.0, j.1 (k j.0))
     result_formed t _ (broken e) k is = absurd cc
 
     no_fit : (t : Table) (b : TypedModule) (o : Option Pos) → of_fit b o ≡ Defined t → ⊥
@@ -153,25 +183,37 @@ module _ (trees : List Module) (files : List ℕ) (jobs : List (List ℕ)) (fit 
     no_body t (Ok b) e = no_fit t b (too_large b) e
     no_body t (Err f) e = absurd cc
 
-    from_contents : (m : Module) (ts : List Table) → fits_contents m.contents ≡ true → TablesFormed its_types n ts → (t : Table) → (t.number ≡ n → types_made_in n t.reached ≡ its_types n) → (c : Contents) → of_contents m n ts c ≡ Defined t → IsFormedAt n t
-    from_contents m ts f p t k (contents.Definition ds) e = result_formed t (types.definition_table least n m ts) (tables_formed least its_types n m ts f p) k e
+    from_contents : (m : Module) (ts : List Table) → fits_contents m.contents ≡ true → TablesFormed its_types n ts
+        → (t : Table) → (t.number ≡ n → types_made_in n t.reached ≡ its_types n) → (c : Contents)
+        → of_contents m n ts c ≡ Defined t → IsFormedAt n t
+    from_contents m ts f p t k (contents.Definition ds) e =
+        result_formed t (types.definition_table least n m ts) (tables_formed least its_types n m ts f p) k e
     from_contents m ts f p t k (contents.Implementation b) e = absurd (no_body t (typed_body m n ts) e)
     from_contents m ts f p t k (contents.Program b) e = absurd (no_body t (typed_body m n ts) e)
 
-    from_compiled : (m : Module) → fits_contents m.contents ≡ true → (outs : List Compiled) → TablesFormed its_types n (tables_of outs) → (t : Table) → (t.number ≡ n → types_made_in n t.reached ≡ its_types n) → compilation_of m n outs ≡ Defined t → IsFormedAt n t
+    from_compiled : (m : Module) → fits_contents m.contents ≡ true → (outs : List Compiled)
+        → TablesFormed its_types n (tables_of outs) → (t : Table)
+        → (t.number ≡ n → types_made_in n t.reached ≡ its_types n) → compilation_of m n outs ≡ Defined t
+        → IsFormedAt n t
     unfolding compilation_of
     from_compiled m f outs p t k e = by (list_all is_sound outs) e where
       by : (b : Bool) → cond b (of_contents m n (tables_of outs) m.contents) Blocked ≡ Defined t → IsFormedAt n t
       by true e = from_contents m (tables_of outs) f p t k m.contents e
       by false e = absurd cc
 
-    from_tree : (place : ℕ) (o : Option Module) → slice_get trees place ≡ o → (outs : List Compiled) → TablesFormed its_types n (tables_of outs) → (t : Table) → (t.number ≡ n → types_made_in n t.reached ≡ its_types n) → compile_in_place o n outs ≡ Defined t → IsFormedAt n t
+    from_tree : (place : ℕ) (o : Option Module) → slice_get trees place ≡ o → (outs : List Compiled)
+        → TablesFormed its_types n (tables_of outs) → (t : Table)
+        → (t.number ≡ n → types_made_in n t.reached ≡ its_types n) → compile_in_place o n outs ≡ Defined t
+        → IsFormedAt n t
     from_tree place None there outs p t k e = absurd cc
     from_tree place (Some m) there outs p t k e = from_compiled m (tree_fits trees fit place m there) outs p t k e
 
     fact_next : Fact n
     fact_next t e =
-        from_tree (slice_index_or files n 0) (slice_get trees (slice_index_or files n 0)) refl (items_at (below n) (prerequisites_of jobs n)) (all_formed (tables_of (items_at (below n) (prerequisites_of jobs n))) (all_needed (prerequisites_of jobs n))) t
+        from_tree (slice_index_or files n 0) (slice_get trees (slice_index_or files n 0)) refl
+        (items_at (below n) (prerequisites_of jobs n))
+        (all_formed (tables_of (items_at (below n) (prerequisites_of jobs n)))
+        (all_needed (prerequisites_of jobs n))) t
         (λ q. ap (λ (k : ℕ). types_made_in k t.reached) (sym q) ∙ (own_types_are n t e q ∙ ap its_types q)) e
 
     -- ---- a body
@@ -180,20 +222,25 @@ module _ (trees : List Module) (files : List ℕ) (jobs : List (List ℕ)) (fit 
     own_by true t h = (h.formed, h.own)
     own_by false t h = tt
 
-    pub own_formed : (m : Module) (ts : List Table) → AllByRecursion IsNeeded ts → OwnFormed its_types n (own_table m ts)
+    pub own_formed : (m : Module) (ts : List Table) → AllByRecursion IsNeeded ts
+        → OwnFormed its_types n (own_table m ts)
     own_formed m [] h = tt
     own_formed m (t ∷ ts) h = own_by (same_name t.name m.name.name) t h.0
 
-    pub behind_formed : (o : Option Table) (ts : List Table) → AllByRecursion IsNeeded ts → TablesFormed its_types n (tables_behind o ts)
+    pub behind_formed : (o : Option Table) (ts : List Table) → AllByRecursion IsNeeded ts
+        → TablesFormed its_types n (tables_behind o ts)
     behind_formed None ts h = all_formed ts h
     behind_formed (Some t) [] h = tt
     behind_formed (Some t) (u ∷ ts) h = all_formed ts h.1
 
-    body_formed : (m : Module) → fits_module m ≡ true → Holds (λ t. AreRanged t.types × AreOrdered t.types) (typed_body m n (tables_of (items_at (below n) (prerequisites_of jobs n))))
+    body_formed : (m : Module) → fits_module m ≡ true
+        → Holds (λ t. AreRanged t.types × AreOrdered t.types)
+        (typed_body m n (tables_of (items_at (below n) (prerequisites_of jobs n))))
     body_formed m f =
         let ts : List Table = tables_of (items_at (below n) (prerequisites_of jobs n)) in
         let h : AllByRecursion IsNeeded ts = all_needed (prerequisites_of jobs n) in
-        checked_formed least (elaborate_body least) its_types n m (own_table m ts) (tables_behind (own_table m ts) ts) f (own_formed m ts h) (behind_formed (own_table m ts) ts h)
+        checked_formed least (elaborate_body least) its_types n m (own_table m ts) (tables_behind (own_table m ts) ts) f
+        (own_formed m ts h) (behind_formed (own_table m ts) ts h)
 
   -- ---- all jobs
 
@@ -214,5 +261,7 @@ module _ (trees : List Module) (files : List ℕ) (jobs : List (List ℕ)) (fit 
   pub tables_same : (job : ℕ) (t : Table) → one job ≡ Defined t → IsFormedAt job t
   tables_same job = facts_below (suc job) job (omega arith)
 
-  pub bodies_know : (m : Module) (job : ℕ) → fits_module m ≡ true → Holds (λ t. AreRanged t.types × AreOrdered t.types) (typed_body m job (tables_of (needed_of trees files jobs job)))
+  pub bodies_know : (m : Module) (job : ℕ) → fits_module m ≡ true
+      → Holds (λ t. AreRanged t.types × AreOrdered t.types)
+      (typed_body m job (tables_of (needed_of trees files jobs job)))
   bodies_know m job f = body_formed job (facts_below job) m f

@@ -22,7 +22,8 @@ use Rattle.law_programs.proofs.Stmts.{arm_fits, label_fits, stmt_fits}
 use Rattle.law_programs.proofs.Stmts as stmts
 use Rattle.law_programs.proofs.GraphsBlocks.{block_fits, decl_fits, module_fits}
 
-tree_fits : (r : Rule) (x : El (grammar r).shape) → PartFits (grammar r).shape x → FitsEl (grammar r).shape x → Fits r (tree r x)
+tree_fits : (r : Rule) (x : El (grammar r).shape) → PartFits (grammar r).shape x → FitsEl (grammar r).shape x
+    → Fits r (tree r x)
 tree_fits module_rule x b h = module_fits x b h
 tree_fits import_rule x b h = tt
 tree_fits idents_rule x b h = tt
@@ -70,8 +71,10 @@ whole (more {ts = ts} {us = us} d c) h = (whole d (front_fits ts us h), whole c 
 whole (nested d) h = whole d h
 whole (closed {ts = ts} t u k d l) h = (h.0, whole d (front_fits ts (u ∷ []) h.1))
 
-pub tree_whole : (ts : List Token) (m : Module) → list_all token_fits ts ≡ true → Spells (ast module_rule) (rule module_rule) m ts → fits_contents m.contents ≡ true
+pub tree_whole : (ts : List Token) (m : Module) → list_all token_fits ts ≡ true
+    → Spells (ast module_rule) (rule module_rule) m ts → fits_contents m.contents ≡ true
 tree_whole ts m e d = whole d (tokens_from ts e)
 
-pub text_whole : (text : List ℕ) (ts : List Token) (m : Module) → HasTokens text ts → Spells (ast module_rule) (rule module_rule) m ts → fits_contents m.contents ≡ true
+pub text_whole : (text : List ℕ) (ts : List Token) (m : Module) → HasTokens text ts
+    → Spells (ast module_rule) (rule module_rule) m ts → fits_contents m.contents ≡ true
 text_whole text ts m t d = tree_whole ts m (tokens_fit text ts t) d

@@ -24,5 +24,6 @@ pub passed_bytes : (cs : List ℕ) → list_all fits_character cs ≡ true → l
 passed_bytes [] e = refl
 passed_bytes (c ∷ cs) e = e
 
-pub has_text : (x : Context) (at : ℕ) (text : List ℕ) → TextStands x at text → list_all fits_character text ≡ true → HasText x at text
+pub has_text : (x : Context) (at : ℕ) (text : List ℕ) → TextStands x at text → list_all fits_character text ≡ true
+    → HasText x at text
 has_text x at text t e = record { fits = t.fits; same = t.same; small = bytes_small text e }

@@ -43,7 +43,8 @@ use Rattle.law_programs.proofs.BlockNames.{module_names}
 same_there : {X : Type 0} (x y : X) → Some x ≡ Some y → x ≡ y
 same_there x y e = cc e
 
-pub each_at : {X : Type 0} (P : X → Type 0) (xs : List X) → AllByRecursion P xs → (n : ℕ) (x : X) → slice_get xs n ≡ Some x → P x
+pub each_at : {X : Type 0} (P : X → Type 0) (xs : List X) → AllByRecursion P xs → (n : ℕ) (x : X)
+    → slice_get xs n ≡ Some x → P x
 each_at P [] h n x e = absurd cc
 each_at P (y ∷ xs) h zero x e = subst P (same_there y x e) h.0
 each_at P (y ∷ xs) h (suc n) x e = each_at P xs h.1 n x e
@@ -56,7 +57,8 @@ second_true : (a b : Bool) → a && b ≡ true → b ≡ true
 second_true true b e = e
 second_true false b e = absurd (let no : false ≡ true = e in cc no)
 
-passes_at : {X : Type 0} (f : X → Bool) (xs : List X) → list_all f xs ≡ true → (n : ℕ) (x : X) → slice_get xs n ≡ Some x → f x ≡ true
+passes_at : {X : Type 0} (f : X → Bool) (xs : List X) → list_all f xs ≡ true → (n : ℕ) (x : X) → slice_get xs n ≡ Some x
+    → f x ≡ true
 passes_at f [] h n x e = absurd cc
 passes_at f (y ∷ xs) h zero x e = ap f (sym (same_there y x e)) ∙ first_true (f y) (list_all f xs) h
 passes_at f (y ∷ xs) h (suc n) x e = passes_at f xs (second_true (f y) (list_all f xs) h) n x e
@@ -67,25 +69,30 @@ held P _ x (broken y) e = absurd cc
 
 -- ---- texts
 
-texts_within : (p : Program) (place : ℕ) (m : TypedModule) → slice_get p place ≡ Some m → characters (module_texts m) ≤ bytes_in p
+texts_within : (p : Program) (place : ℕ) (m : TypedModule) → slice_get p place ≡ Some m
+    → characters (module_texts m) ≤ bytes_in p
 texts_within [] place m e = absurd cc
-texts_within (x ∷ p) zero m e = subst (λ (y : TypedModule). characters (module_texts y) ≤ bytes_in (x ∷ p)) (same_there x m e) (omega arith)
+texts_within (x ∷ p) zero m e = subst (λ (y : TypedModule). characters (module_texts y) ≤ bytes_in (x ∷ p))
+    (same_there x m e) (omega arith)
 texts_within (x ∷ p) (suc place) m e = let l = texts_within p place m e in omega (arith, l)
 
-texts_room : (p : Program) (pages place : ℕ) (m : TypedModule) → slice_get p place ≡ Some m → bytes_in p + 4096 ≤ 65536 * pages → pages ≤ 1024 → length (all_characters (module_texts m)) ≤ 2 ^ 32
+texts_room : (p : Program) (pages place : ℕ) (m : TypedModule) → slice_get p place ≡ Some m
+    → bytes_in p + 4096 ≤ 65536 * pages → pages ≤ 1024 → length (all_characters (module_texts m)) ≤ 2 ^ 32
 texts_room p pages place m e room most =
     let same = text_length (module_texts m) in
     let within = texts_within p place m e in omega (arith, same, within, room, most)
 
 -- ---- where a body begins
 
-block_fits : (m : Module) (job : ℕ) (ts : List Table) (s : Scope least.Reported) (b : Block) → BeginsIn m job ts s b → fits_contents m.contents ≡ true → fits_whole_block b ≡ true
+block_fits : (m : Module) (job : ℕ) (ts : List Table) (s : Scope least.Reported) (b : Block) → BeginsIn m job ts s b
+    → fits_contents m.contents ≡ true → fits_whole_block b ≡ true
 block_fits m job ts _ _ (program b e) h = ap fits_contents (sym e) ∙ h
 block_fits m job ts _ _ (implementation own b o e) h = ap fits_contents (sym e) ∙ h
 
 -- ---- one module
 
-module _ (p : Program) (pages place : ℕ) (m : TypedModule) (there : slice_get p place ≡ Some m) (tree : Module) (job : ℕ) (ts : List Table) (st : BodyStands tree job ts m) where
+module _ (p : Program) (pages place : ℕ) (m : TypedModule) (there : slice_get p place ≡ Some m) (tree : Module)
+    (job : ℕ) (ts : List Table) (st : BodyStands tree job ts m) where
   abbrev opens : ℕ → Bool
   opens = is_open (tables_by tree ts) m.imports
 
@@ -95,7 +102,8 @@ module _ (p : Program) (pages place : ℕ) (m : TypedModule) (there : slice_get 
   abbrev z : Stage
   z = stage_at p pages place m opens
 
-  module _ (own : HasInstance x) (stand : NamesStand x opens st.scope tree st.block) (fits : fits_contents tree.contents ≡ true) where
+  module _ (own : HasInstance x) (stand : NamesStand x opens st.scope tree st.block)
+      (fits : fits_contents tree.contents ≡ true) where
     abbrev behind : Scope least.Reported
     behind = (declared_in st.scope tree st.block).0
 
@@ -104,7 +112,8 @@ module _ (p : Program) (pages place : ℕ) (m : TypedModule) (there : slice_get 
 
     names_are : NamesThere x opens 0 behind.own
     names_are =
-        module_names x opens refl behind.types behind.variables behind.own st.grows (sym st.variables) own st.known.ranged.names st.known.words.names
+        module_names x opens refl behind.types behind.variables behind.own st.grows (sym st.variables) own
+        st.known.ranged.names st.known.words.names
         (subst (λ (n : ℕ). NamesPlaced n behind.variables behind.own) (st.same_home ∙ sym st.home) st.placed)
         (subst (λ (n : ℕ). NamesSlots [] n behind.own) st.level st.slots) stand.others
 
@@ -127,8 +136,12 @@ module _ (p : Program) (pages place : ℕ) (m : TypedModule) (there : slice_get 
 
 -- ---- the modules of a graph
 
-module _ (fs : List (List ℕ × Module)) (files : List ℕ) (jobs : List (List ℕ)) (starts : List ℕ) (graph : IsGraph (number_files 0 fs) files jobs starts) (each : CompileEach (number_files 0 fs) files) (fit : list_all fits_module (trees_of fs) ≡ true) (whole : list_all (λ m. fits_contents m.contents) (trees_of fs) ≡ true) where
-  module _ (p : Program) (b : AreBodiesIn (trees_of fs) files jobs starts p) (pages : ℕ) (room : bytes_in p + 4096 ≤ 65536 * pages) (most : pages ≤ 1024) where
+module _ (fs : List (List ℕ × Module)) (files : List ℕ) (jobs : List (List ℕ)) (starts : List ℕ)
+    (graph : IsGraph (number_files 0 fs) files jobs starts) (each : CompileEach (number_files 0 fs) files)
+    (fit : list_all fits_module (trees_of fs) ≡ true)
+    (whole : list_all (λ m. fits_contents m.contents) (trees_of fs) ≡ true) where
+  module _ (p : Program) (b : AreBodiesIn (trees_of fs) files jobs starts p) (pages : ℕ)
+      (room : bytes_in p + 4096 ≤ 65536 * pages) (most : pages ≤ 1024) where
     abbrev Body : TypedModule → Type 0
     Body m = IsBodyOf (trees_of fs) files jobs m
 
@@ -141,9 +154,12 @@ module _ (fs : List (List ℕ × Module)) (files : List ℕ) (jobs : List (List 
     ordered : (m : TypedModule) (o : Body m) → AreOrdered m
     ordered m o =
         let ts : List Table = tables o in
-        held AreOrdered (typed_body o.tree o.job ts) m (bodies_ordered least o.job o.tree (own_table o.tree ts) (tables_behind (own_table o.tree ts) ts)) o.typed
+        held AreOrdered (typed_body o.tree o.job ts) m
+        (bodies_ordered least o.job o.tree (own_table o.tree ts) (tables_behind (own_table o.tree ts) ts)) o.typed
 
-    names_begun : (m : TypedModule) (o : Body m) {x : Context} → BodyNamed (trees_of fs) files jobs o x → (s : Scope least.Reported) (b : Block) → BeginsIn o.tree o.job (tables o) s b → NamesStand x (is_open (tables_by o.tree (tables o)) m.imports) s o.tree b
+    names_begun : (m : TypedModule) (o : Body m) {x : Context} → BodyNamed (trees_of fs) files jobs o x
+        → (s : Scope least.Reported) (b : Block) → BeginsIn o.tree o.job (tables o) s b
+        → NamesStand x (is_open (tables_by o.tree (tables o)) m.imports) s o.tree b
     names_begun m o named _ _ (program b e) = named.program b e
     names_begun m o named _ _ (implementation own b k e) = named.implementation own b k e
 
@@ -155,10 +171,15 @@ module _ (fs : List (List ℕ × Module)) (files : List ℕ) (jobs : List (List 
     one_there : (place : ℕ) (m : TypedModule) → slice_get p place ≡ Some m → IsPlaced place m
     one_there place m e =
         let o : Body m = body_of place m e in
-        let named : BodyNamed (trees_of fs) files jobs o (placed_at p pages place m) = body_named fs files jobs starts graph each fit p b pages place m e o in
-        let st : BodyStands o.tree o.job (tables o) m = bodies_stand fs files jobs starts graph fit o.tree o.job m o.is_tree o.typed in
-        let stand : NamesStand (placed_at p pages place m) (is_open (tables_by o.tree (tables o)) m.imports) st.scope o.tree st.block = names_begun m o named st.scope st.block st.begun in
-        let typed = bodies_typed p pages place m e o.tree o.job (tables o) st named.own stand (passes_at (λ (t : Module). fits_contents t.contents) (trees_of fs) whole (slice_index_or files o.job 0) o.tree o.is_tree) (texts_room p pages place m e room most) in
+        let named : BodyNamed (trees_of fs) files jobs o (placed_at p pages place m) =
+        body_named fs files jobs starts graph each fit p b pages place m e o in
+        let st : BodyStands o.tree o.job (tables o) m =
+        bodies_stand fs files jobs starts graph fit o.tree o.job m o.is_tree o.typed in
+        let stand : NamesStand (placed_at p pages place m) (is_open (tables_by o.tree (tables o)) m.imports) st.scope
+        o.tree st.block = names_begun m o named st.scope st.block st.begun in
+        let typed = bodies_typed p pages place m e o.tree o.job (tables o) st named.own stand
+        (passes_at (λ (t : Module). fits_contents t.contents) (trees_of fs) whole (slice_index_or files o.job 0)
+        o.tree o.is_tree) (texts_room p pages place m e room most) in
         let z : Stage = stage_at p pages place m (opens p pages place m e o.tree o.job (tables o) st) in
         let provided = bodies_provided z (ordered m o) in
         record {

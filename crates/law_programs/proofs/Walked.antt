@@ -78,7 +78,9 @@ layer_fits (layer.Procedure h b) e = refl
 decls_fit : (ds : List Decl) → list_all itself (map fits_within ds) ≡ true → list_all fits_decl ds ≡ true
 decls_fit [] e = refl
 decls_fit (d ∷ ds) e =
-    and_both (fits_decl d) (list_all fits_decl ds) (layer_fits (out-Decl d) (sym (fits_at d) ∙ both_left (fits_within d) (list_all itself (map fits_within ds)) e)) (decls_fit ds (both_right (fits_within d) (list_all itself (map fits_within ds)) e))
+    and_both (fits_decl d) (list_all fits_decl ds)
+    (layer_fits (out-Decl d) (sym (fits_at d) ∙ both_left (fits_within d) (list_all itself (map fits_within ds)) e))
+    (decls_fit ds (both_right (fits_within d) (list_all itself (map fits_within ds)) e))
 
 block_fits : (b : Block) → fits_block b ≡ true → list_all fits_decl (out-Block b).decls ≡ true
 block_fits b e = decls_fit (out-Block b).decls (sym (fits_at_block b) ∙ e)
@@ -87,28 +89,39 @@ block_fits b e = decls_fit (out-Block b).decls (sym (fits_at_block b) ∙ e)
 
 module _ (g : Gathers) (elaborates : Elaborates g.Reported) (ends : List ℕ) where
   abbrev opened : Decl-F Decl Block → Decl-F (Steps g.Reported) (ChecksBlock g.Reported)
-  opened x = map-Decl Decl Block (Steps g.Reported) (ChecksBlock g.Reported) (steps g elaborates ends) (checks_block g elaborates ends) x
+  opened x = map-Decl Decl Block (Steps g.Reported) (ChecksBlock g.Reported) (steps g elaborates ends)
+      (checks_block g elaborates ends) x
 
   step_is : (d : Decl) → steps g elaborates ends d ≡ steps_layer g elaborates ends (opened (out-Decl d))
   unfolding steps checks_block
-  step_is d = fold_out-Decl (Steps g.Reported) (ChecksBlock g.Reported) (steps_layer g elaborates ends) (block_layer g elaborates ends) d
+  step_is d = fold_out-Decl (Steps g.Reported) (ChecksBlock g.Reported) (steps_layer g elaborates ends)
+      (block_layer g elaborates ends) d
 
-  layer_variables : (x : Decl-F Decl Block) (around : Option Which) (seen : ℕ) (w : Walk g.Reported) → ((steps_layer g elaborates ends (opened x)).checks around seen w).scope.variables ≡ w.scope.variables
+  layer_variables : (x : Decl-F Decl Block) (around : Option Which) (seen : ℕ) (w : Walk g.Reported)
+      → ((steps_layer g elaborates ends (opened x)).checks around seen w).scope.variables ≡ w.scope.variables
   layer_variables (layer.Constants cs) around seen w = refl
   layer_variables (layer.Types ts) around seen w = refl
   layer_variables (layer.Variables vs) around seen w = refl
   layer_variables (layer.Procedure h b) around seen w = refl
 
-  decl_variables : (d : Decl) (around : Option Which) (seen : ℕ) (w : Walk g.Reported) → (checks_decl g elaborates ends d around seen w).scope.variables ≡ w.scope.variables
-  decl_variables d around seen w = ap (λ (x : Steps g.Reported). (x.checks around seen w).scope.variables) (step_is d) ∙ layer_variables (out-Decl d) around seen w
+  decl_variables : (d : Decl) (around : Option Which) (seen : ℕ) (w : Walk g.Reported)
+      → (checks_decl g elaborates ends d around seen w).scope.variables ≡ w.scope.variables
+  decl_variables d around seen w = ap (λ (x : Steps g.Reported). (x.checks around seen w).scope.variables) (step_is d)
+      ∙ layer_variables (out-Decl d) around seen w
 
-  bodies_variables : (seen : List ℕ) (ds : List Decl) (st : Walk g.Reported × ℕ) → (fold (with_body (λ d. checks_decl g elaborates ends d None) seen) st ds).0.scope.variables ≡ st.0.scope.variables
+  bodies_variables : (seen : List ℕ) (ds : List Decl) (st : Walk g.Reported × ℕ)
+      → (fold (with_body (λ d. checks_decl g elaborates ends d None) seen) st ds).0.scope.variables
+      ≡ st.0.scope.variables
   bodies_variables seen [] st = refl
-  bodies_variables seen (d ∷ ds) st = bodies_variables seen ds (with_body (λ d. checks_decl g elaborates ends d None) seen st d) ∙ decl_variables d None (unwrap_or (slice_get seen st.1) 0) st.0
+  bodies_variables seen (d ∷ ds) st = bodies_variables seen ds
+      (with_body (λ d. checks_decl g elaborates ends d None) seen st d)
+      ∙ decl_variables d None (unwrap_or (slice_get seen st.1) 0) st.0
 
 -- ---- a walk over a module
 
-parts_of : (g : Gathers) (a : Result (Unit {0}) g.Reported) (r : Result (List TypedStmt) g.Reported) (f : List TypedStmt → TypedModule) (t : TypedModule) → (both g a r ▷ λ p. Ok (f p.1)) ≡ Ok t → (a ≡ Ok tt) × ((ys : List TypedStmt) × ((r ≡ Ok ys) × (f ys ≡ t)))
+parts_of : (g : Gathers) (a : Result (Unit {0}) g.Reported) (r : Result (List TypedStmt) g.Reported)
+    (f : List TypedStmt → TypedModule) (t : TypedModule) → (both g a r ▷ λ p. Ok (f p.1)) ≡ Ok t → (a ≡ Ok tt)
+    × ((ys : List TypedStmt) × ((r ≡ Ok ys) × (f ys ≡ t)))
 parts_of g (Ok u) (Ok ys) f t e = (refl, (ys, (refl, cc)))
 parts_of g (Ok u) (Err x) f t e = absurd cc
 parts_of g (Err x) (Ok ys) f t e = absurd cc
@@ -136,34 +149,47 @@ module _ (s : Scope least.Reported) (m : Module) (b : Block) where
   abbrev start : Walk least.Reported
   start = begun_from d (no_bodies d.0.procedures)
 
-  abbrev ps : AreSteps least (elaborate_body least) ends (map (steps least (elaborate_body least) ends) (decls_in b)) (total least (elaborate_body least) (elaborated_formed least) ends (decls_in b))
+  abbrev ps : AreSteps least (elaborate_body least) ends (map (steps least (elaborate_body least) ends) (decls_in b))
+      (total least (elaborate_body least) (elaborated_formed least) ends (decls_in b))
   ps = are_steps least (elaborate_body least) (elaborated_formed least) ends (decls_in b)
 
   declared_ok : w.0.so_far ≡ Ok tt → d.1 ≡ Ok tt
   declared_ok e =
-      checked_reported least (elaborate_body least) ends None d.2 ps (start, 0) (sym (ap (λ (w : Walk least.Reported). w.so_far) (bodies_are least (elaborate_body least) (elaborated_formed least) ends None d.2 start (decls_in b))) ∙ e)
+      checked_reported least (elaborate_body least) ends None d.2 ps (start, 0)
+      (sym (ap (λ (w : Walk least.Reported). w.so_far)
+      (bodies_are least (elaborate_body least) (elaborated_formed least) ends None d.2 start (decls_in b))) ∙ e)
 
   walk_grows : Keeps d.0 w.0.scope
   walk_grows =
-      subst (λ (w : Walk least.Reported). Keeps d.0 w.scope) (sym (bodies_are least (elaborate_body least) (elaborated_formed least) ends None d.2 start (decls_in b))) (all_keep least (elaborate_body least) ends None d.2 ps (start, 0))
+      subst (λ (w : Walk least.Reported). Keeps d.0 w.scope)
+      (sym (bodies_are least (elaborate_body least) (elaborated_formed least) ends None d.2 start (decls_in b)))
+      (all_keep least (elaborate_body least) ends None d.2 ps (start, 0))
 
-  block_outer : (st : State (Unit {0}) least.Reported) → (declared_block least ends st 0 (decls_in b)).0.outer ≡ st.0.outer
+  block_outer : (st : State (Unit {0}) least.Reported)
+      → (declared_block least ends st 0 (decls_in b)).0.outer ≡ st.0.outer
   block_outer st =
-      let marks : Scope least.Reported × List ℕ = fold (with_marks marked_by) (st.0, []) (map (steps least (elaborate_body least) ends) (decls_in b)) in
+      let marks : Scope least.Reported × List ℕ =
+      fold (with_marks marked_by) (st.0, []) (map (steps least (elaborate_body least) ends) (decls_in b)) in
       let other : TypedModule = nothing_at marks.0.types.home in
-      let one : Leads other nothing_open st.0 marks.0 = all_marks least (elaborate_body least) ends other nothing_open ps (st.0, []) in
-      let two = all_lead least (elaborate_body least) ends other nothing_open ps (marks.0, st.1, 0) (no_home marks.0.types.home) in
-      ap (λ (d : Declared least.Reported). d.0.outer) (declared_is least (elaborate_body least) (elaborated_formed least) ends st 0 (decls_in b)) ∙ (two.outer ∙ one.outer)
+      let one : Leads other nothing_open st.0 marks.0 =
+      all_marks least (elaborate_body least) ends other nothing_open ps (st.0, []) in
+      let two = all_lead least (elaborate_body least) ends other nothing_open ps (marks.0, st.1, 0)
+      (no_home marks.0.types.home) in
+      ap (λ (d : Declared least.Reported). d.0.outer)
+      (declared_is least (elaborate_body least) (elaborated_formed least) ends st 0 (decls_in b))
+      ∙ (two.outer ∙ one.outer)
 
   module _ (base : Types) (es : List (List ℕ × Meaning)) (ready : Ready base es s) (fit : fits_block b ≡ true) where
     carried : Carries s d.0
     carried = module_carries_on least (modules_in s) ends s m (decls_in b) ready.elsewhere
 
     outer_is : d.0.outer ≡ s.outer
-    outer_is = let k : Stays s (imported_in s m) = import_stays least (modules_in s) m.imports (s, Ok tt) in block_outer (fold (with_import least (modules_in s)) (s, Ok tt) m.imports) ∙ k.outer
+    outer_is = let k : Stays s (imported_in s m) = import_stays least (modules_in s) m.imports (s, Ok tt) in
+        block_outer (fold (with_import least (modules_in s)) (s, Ok tt) m.imports) ∙ k.outer
 
     walk_formed : w.0.so_far ≡ Ok tt → ScopeFormed base w.0.scope
-    walk_formed e = holds_at w.0.so_far (walked_formed least (elaborate_body least) ends base (modules_in s) s m b fit ready.formed) tt e
+    walk_formed e = holds_at w.0.so_far (walked_formed least (elaborate_body least) ends base (modules_in s) s m b fit
+        ready.formed) tt e
 
     types_typed : w.0.so_far ≡ Ok tt → TypesIndexed w.0.scope.types → TypesTyped w.0.scope.types
     types_typed e i =
@@ -176,7 +202,9 @@ module _ (s : Scope least.Reported) (m : Module) (b : Block) where
           indexed = indexed_known w.0.scope.types i;
         }
 
-    walk_stands : (job : ℕ) (ts : List Table) (own : Option Table) (ys : List TypedStmt) → BeginsIn m job ts s b → w.0.so_far ≡ Ok tt → w.1 ≡ Ok ys → TypesIndexed w.0.scope.types → BodyStands m job ts (typed_module w.0.scope (modules_in s) own m w.0.bodies ys)
+    walk_stands : (job : ℕ) (ts : List Table) (own : Option Table) (ys : List TypedStmt) → BeginsIn m job ts s b
+        → w.0.so_far ≡ Ok tt → w.1 ≡ Ok ys → TypesIndexed w.0.scope.types
+        → BodyStands m job ts (typed_module w.0.scope (modules_in s) own m w.0.bodies ys)
     walk_stands job ts own ys begun e q i =
         let ok : d.1 ≡ Ok tt = declared_ok e in
         record {
@@ -199,8 +227,10 @@ module _ (s : Scope least.Reported) (m : Module) (b : Block) where
           tables = carried.tables;
           outer = outer_is ∙ ready.starts.outer;
           known = record {
-            ranged = holds_at d.1 (module_ranged least (modules_in s) ends s m (decls_in b) (block_fits b fit) ready.formed.ranged) tt ok;
-            ordered = holds_at d.1 (module_ordered base least (modules_in s) ends s m (decls_in b) ready.formed.ordered) tt ok;
+            ranged = holds_at d.1 (module_ranged least (modules_in s) ends s m (decls_in b) (block_fits b fit)
+                ready.formed.ranged) tt ok;
+            ordered = holds_at d.1 (module_ordered base least (modules_in s) ends s m (decls_in b) ready.formed.ordered)
+                tt ok;
             words = carried.words ready.words;
           };
           placed = carried.placed ready.placed;
@@ -209,8 +239,10 @@ module _ (s : Scope least.Reported) (m : Module) (b : Block) where
           typed = types_typed e i;
         }
 
-    pub body_stands : (job : ℕ) (ts : List Table) (own : Option Table) (t : TypedModule) → BeginsIn m job ts s b → of_body least (elaborate_body least) s own m b ≡ Ok t → TypesIndexed t.types → BodyStands m job ts t
+    pub body_stands : (job : ℕ) (ts : List Table) (own : Option Table) (t : TypedModule) → BeginsIn m job ts s b
+        → of_body least (elaborate_body least) s own m b ≡ Ok t → TypesIndexed t.types → BodyStands m job ts t
     body_stands job ts own t begun e i =
         let k = parts_of least w.0.so_far w.1 (λ ys. typed_module w.0.scope (modules_in s) own m w.0.bodies ys) t e in
         subst (λ (t : TypedModule). BodyStands m job ts t) k.1.1.1
-        (walk_stands job ts own k.1.0 begun k.0 k.1.1.0 (subst (λ (t : TypedModule). TypesIndexed t.types) (sym k.1.1.1) i))
+        (walk_stands job ts own k.1.0 begun k.0 k.1.1.0
+        (subst (λ (t : TypedModule). TypesIndexed t.types) (sym k.1.1.1) i))

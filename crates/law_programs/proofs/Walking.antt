@@ -52,16 +52,22 @@ module _ (g : Gathers) (elaborates : Elaborates g.Reported) (ends : List ℕ) wh
   StepIndexed x = (around : Option Which) → CheckIndexed (checked_by x around)
 
   abbrev BlockIndexed : ChecksBlock g.Reported → Type 0
-  BlockIndexed block = (around : Option Which) (returns : Option (Result TypeNo g.Reported)) (w : Walk g.Reported) → WalkIndexed w → WalkIndexed (block around returns w).0
+  BlockIndexed block = (around : Option Which) (returns : Option (Result TypeNo g.Reported)) (w : Walk g.Reported)
+      → WalkIndexed w → WalkIndexed (block around returns w).0
 
   -- ---- procedures
 
-  procedure_indexed : (h : Heading) (block : ChecksBlock g.Reported) → BlockIndexed block → (around : Option Which) → CheckIndexed (procedure_checked g elaborates ends h block around)
-  procedure_indexed h block f around seen w p = let b = begun_procedure g w seen h in f (which_of b.1.procedure) b.1.returns b.0 p
+  procedure_indexed : (h : Heading) (block : ChecksBlock g.Reported) → BlockIndexed block → (around : Option Which)
+      → CheckIndexed (procedure_checked g elaborates ends h block around)
+  procedure_indexed h block f around seen w p = let b = begun_procedure g w seen h in
+      f (which_of b.1.procedure) b.1.returns b.0 p
 
-  bodies_indexed : {X : Type 0} (checks : X → ℕ → Walk g.Reported → Walk g.Reported) (seen : List ℕ) (xs : List X) → AllByRecursion (λ x. CheckIndexed (checks x)) xs → (st : Walk g.Reported × ℕ) → WalkIndexed st.0 → WalkIndexed (fold (with_body checks seen) st xs).0
+  bodies_indexed : {X : Type 0} (checks : X → ℕ → Walk g.Reported → Walk g.Reported) (seen : List ℕ) (xs : List X)
+      → AllByRecursion (λ x. CheckIndexed (checks x)) xs → (st : Walk g.Reported × ℕ) → WalkIndexed st.0
+      → WalkIndexed (fold (with_body checks seen) st xs).0
   bodies_indexed checks seen [] h st p = p
-  bodies_indexed checks seen (x ∷ xs) h st p = bodies_indexed checks seen xs h.1 (with_body checks seen st x) (h.0 (unwrap_or (slice_get seen st.1) 0) st.0 p)
+  bodies_indexed checks seen (x ∷ xs) h st p =
+      bodies_indexed checks seen xs h.1 (with_body checks seen st x) (h.0 (unwrap_or (slice_get seen st.1) 0) st.0 p)
 
   -- ---- steps as declarations
 
@@ -85,20 +91,28 @@ module _ (g : Gathers) (elaborates : Elaborates g.Reported) (ends : List ℕ) wh
   abbrev decls_of : List SD → List Decl
   decls_of xs = map (λ (x : SD). x.0) xs
 
-  all_steps : (xs : List SD) (around : Option Which) → AllByRecursion (λ x. CheckIndexed (checked_by x around)) (map steps_of (decls_of xs))
+  all_steps : (xs : List SD) (around : Option Which)
+      → AllByRecursion (λ x. CheckIndexed (checked_by x around)) (map steps_of (decls_of xs))
   all_steps [] around = tt
   all_steps (x ∷ xs) around = (x.1 around, all_steps xs around)
 
-  block_indexed : (xs : List SD) (body : Option (List Stmt)) → BlockIndexed (block_layer g elaborates ends (record { decls = map steps_of (decls_of xs); body = body }))
+  block_indexed : (xs : List SD) (body : Option (List Stmt))
+      → BlockIndexed (block_layer g elaborates ends (record { decls = map steps_of (decls_of xs); body = body }))
   block_indexed xs body around returns w p =
       let first : ℕ = length w.bodies.locals in
       let is : all_declared marked_by declared_by (w.scope, w.so_far) first (map steps_of (decls_of xs))
       ≡ declared_block g ends (w.scope, w.so_far) first (decls_of xs) =
       declared_same g elaborates ends (decls_of xs) (w.scope, w.so_far) first in
-      let start : WalkIndexed (begun_from (all_declared marked_by declared_by (w.scope, w.so_far) first (map steps_of (decls_of xs))) w.bodies)
-      = subst (λ (d : Declared g.Reported). WalkIndexed (begun_from d w.bodies)) (sym is) (let c = block_carries g ends (w.scope, w.so_far) first (decls_of xs) in c.indexed p) in
-      bodies_indexed (λ (x : Steps g.Reported). checked_by x around) (all_declared marked_by declared_by (w.scope, w.so_far) first (map steps_of (decls_of xs))).2 (map steps_of (decls_of xs)) (all_steps xs around)
-      (begun_from (all_declared marked_by declared_by (w.scope, w.so_far) first (map steps_of (decls_of xs))) w.bodies, 0) start
+      let start : WalkIndexed (begun_from (all_declared marked_by declared_by (w.scope, w.so_far) first
+      (map steps_of (decls_of xs))) w.bodies)
+      = subst (λ (d : Declared g.Reported). WalkIndexed (begun_from d w.bodies)) (sym is)
+      (let c = block_carries g ends (w.scope, w.so_far) first (decls_of xs) in c.indexed p) in
+      bodies_indexed (λ (x : Steps g.Reported). checked_by x around)
+      (all_declared marked_by declared_by (w.scope, w.so_far) first (map steps_of (decls_of xs))).2
+      (map steps_of (decls_of xs)) (all_steps xs around) (
+        begun_from (all_declared marked_by declared_by (w.scope, w.so_far) first (map steps_of (decls_of xs))) w.bodies,
+        0,
+      ) start
 
   step_at : (y : Decl-F SD SB) → StepIndexed (steps_layer g elaborates ends (opened g elaborates ends (stripped y)))
   step_at (layer.Constants cs) = λ around seen w p. p
@@ -113,30 +127,42 @@ module _ (g : Gathers) (elaborates : Elaborates g.Reported) (ends : List ℕ) wh
 
   -- ---- modules
 
-  all_decls : (ds : List Decl) (around : Option Which) → AllByRecursion (λ d. CheckIndexed (checks_decl g elaborates ends d around)) ds
+  all_decls : (ds : List Decl) (around : Option Which)
+      → AllByRecursion (λ d. CheckIndexed (checks_decl g elaborates ends d around)) ds
   all_decls [] around = tt
   all_decls (d ∷ ds) around = (decl_indexed d around, all_decls ds around)
 
-  walked_indexed : (modules : List (List ℕ × ℕ)) (s : Scope g.Reported) (m : Module) (b : Block) → TablesElsewhere s.types.home s.tables → TypesIndexed s.types → WalkIndexed (walk_body g elaborates modules ends s m b).0
+  walked_indexed : (modules : List (List ℕ × ℕ)) (s : Scope g.Reported) (m : Module) (b : Block)
+      → TablesElsewhere s.types.home s.tables → TypesIndexed s.types
+      → WalkIndexed (walk_body g elaborates modules ends s m b).0
   walked_indexed modules s m b e p =
       let ds : List Decl = (out-Block b).decls in
       let d : Declared g.Reported = declared_module g modules ends s m ds in
-      bodies_indexed (λ (x : Decl). checks_decl g elaborates ends x None) d.2 ds (all_decls ds None) (_, 0) (let c = module_carries_on g modules ends s m ds e in c.indexed p)
+      bodies_indexed (λ (x : Decl). checks_decl g elaborates ends x None) d.2 ds (all_decls ds None) (_, 0)
+      (let c = module_carries_on g modules ends s m ds e in c.indexed p)
 
 module _ (g : Gathers) (elaborates : Elaborates g.Reported) where
   abbrev ModuleIndexed : TypedModule → Type 0
   ModuleIndexed t = TypesIndexed t.types
 
-  body_indexed : (s : Scope g.Reported) (own : Option Table) (m : Module) (b : Block) → TablesElsewhere s.types.home s.tables → TypesIndexed s.types → Holds ModuleIndexed (of_body g elaborates s own m b)
-  body_indexed s own m b e p = then_holds (any_holds _) (λ x k. fine _ (walked_indexed g elaborates (procedure_ends (out-Block b).decls) (numbered_modules s.tables).0 s m b e p))
+  body_indexed : (s : Scope g.Reported) (own : Option Table) (m : Module) (b : Block)
+      → TablesElsewhere s.types.home s.tables → TypesIndexed s.types
+      → Holds ModuleIndexed (of_body g elaborates s own m b)
+  body_indexed s own m b e p = then_holds (any_holds _)
+      (λ x k. fine _ (walked_indexed g elaborates (procedure_ends (out-Block b).decls) (numbered_modules s.tables).0 s m
+      b e p))
 
-  contents_indexed : (number : ℕ) (m : Module) (own : Option Table) (ts : List Table) (c : Contents) → BodyBegins number own ts c → Holds ModuleIndexed (of_contents g elaborates number m own ts c)
+  contents_indexed : (number : ℕ) (m : Module) (own : Option Table) (ts : List Table) (c : Contents)
+      → BodyBegins number own ts c → Holds ModuleIndexed (of_contents g elaborates number m own ts c)
   contents_indexed number m own ts (contents.Definition ds) p = reported_holds g m.name.pos rule.LonelyModule
   contents_indexed number m None ts (contents.Implementation b) p = reported_holds g m.name.pos rule.LonelyModule
-  contents_indexed number m (Some t) ts (contents.Implementation b) p = body_indexed (implementation_scope t ts) (Some t) m b p.1 p.0
+  contents_indexed number m (Some t) ts (contents.Implementation b) p =
+      body_indexed (implementation_scope t ts) (Some t) m b p.1 p.0
   contents_indexed number m own ts (contents.Program b) p = body_indexed (first_scope number ts) None m b p.1 p.0
 
-  pub checked_indexed : (number : ℕ) (m : Module) (own : Option Table) (ts : List Table) → BodyBegins number own (ts ++ console ∷ []) m.contents → Holds ModuleIndexed (body_module g elaborates number m own ts)
+  pub checked_indexed : (number : ℕ) (m : Module) (own : Option Table) (ts : List Table)
+      → BodyBegins number own (ts ++ console ∷ []) m.contents
+      → Holds ModuleIndexed (body_module g elaborates number m own ts)
   checked_indexed number m own ts p = contents_indexed number m own (ts ++ console ∷ []) m.contents p
 
 -- ---- where an implementation begins
@@ -154,18 +180,24 @@ module _ (types : Types) where
   copies_indexed [] p = tt
   copies_indexed (m ∷ ms) p = (copy_indexed m.shape p.0, copies_indexed ms p.1)
 
-  made_in_by : (b : Bool) (xs ys : List Made) → AllIndexed types xs → AllIndexed types ys → AllIndexed types (cond b xs ys)
+  made_in_by : (b : Bool) (xs ys : List Made) → AllIndexed types xs → AllIndexed types ys
+      → AllIndexed types (cond b xs ys)
   made_in_by true xs ys p q = p
   made_in_by false xs ys p q = q
 
-  made_in_indexed : (home : ℕ) (ms : List ModuleTypes) → ReachedIndexed types ms → AllIndexed types (types_made_in home ms)
+  made_in_indexed : (home : ℕ) (ms : List ModuleTypes) → ReachedIndexed types ms
+      → AllIndexed types (types_made_in home ms)
   made_in_indexed home [] p = tt
-  made_in_indexed home (m ∷ ms) p = made_in_by (m.number == home) m.made (types_made_in home ms) p.0 (made_in_indexed home ms p.1)
+  made_in_indexed home (m ∷ ms) p = made_in_by (m.number == home) m.made (types_made_in home ms) p.0
+      (made_in_indexed home ms p.1)
 
-pub implementation_indexed : (own : Table) (tables : List Table) → ReachedIndexed (implementation_types own tables) own.reached → TablesIndexed (implementation_types own tables) tables → TypesIndexed (implementation_types own tables)
+pub implementation_indexed : (own : Table) (tables : List Table)
+    → ReachedIndexed (implementation_types own tables) own.reached
+    → TablesIndexed (implementation_types own tables) tables → TypesIndexed (implementation_types own tables)
 implementation_indexed own tables p q =
     let types : Types = implementation_types own tables in
     record {
-      own = copies_indexed types (types_made_in own.number own.reached) (made_in_indexed types own.number own.reached p);
+      own = copies_indexed types (types_made_in own.number own.reached)
+          (made_in_indexed types own.number own.reached p);
       others = table_reach types own.reached (others_of tables) p (tables_indexed types tables q);
     }

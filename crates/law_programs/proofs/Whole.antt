@@ -1,4 +1,5 @@
--- What the modules of a graph are by the tables that they are checked with, and where the modules of these tables stand.
+-- What the modules of a graph are by the tables that they are checked with, and where the modules of these tables
+-- stand.
 use Rattle.std.proofs.Common.{◌≡◌, ◌⊎◌, inl, inr, ℕ, zero, suc, ◌<◌, true, List, [], ◌∷◌, ◌++◌, length, Option, Some, None, Ok, refl, sym, ap, subst, ◌∙◌, arith}
 use Rattle.std.specs.Prelude.{slice_get, slice_index_or, codes, All}
 use Rattle.std.specs.List.{AllByRecursion, fold, list_all}
@@ -63,7 +64,8 @@ use Rattle.law_programs.proofs.Imported.{IsWithin, typed_within}
 
 -- ---- lists
 
-pub got : {X : Type 0} (F : X → Type 0) (xs : List X) → AllByRecursion F xs → (k : ℕ) (x : X) → slice_get xs k ≡ Some x → F x
+pub got : {X : Type 0} (F : X → Type 0) (xs : List X) → AllByRecursion F xs → (k : ℕ) (x : X) → slice_get xs k ≡ Some x
+    → F x
 got F [] h k x e = absurd cc
 got F (y ∷ xs) h zero x e = let same : y ≡ x = cc in subst F same h.0
 got F (y ∷ xs) h (suc k) x e = got F xs h.1 k x e
@@ -71,26 +73,35 @@ got F (y ∷ xs) h (suc k) x e = got F xs h.1 k x e
 -- ---- the table of a definition
 
 module _ (g : Gathers) (m : Module) where
-  tables_stay : (modules : List (List ℕ × ℕ)) (s : Scope g.Reported) (defs : List Def) → (types.declared_in g m modules s defs).0.tables ≡ s.tables
+  tables_stay : (modules : List (List ℕ × ℕ)) (s : Scope g.Reported) (defs : List Def)
+      → (types.declared_in g m modules s defs).0.tables ≡ s.tables
   tables_stay modules s defs =
       let t = fold marked_def s defs in
       ap (λ (k : List Table × ℕ). k.0)
-      (fold_keeps (λ (st : State (Unit {0}) g.Reported). st.0) (with_def g) (def_keeps g) defs (fold (with_import g modules) (t, Ok tt) m.imports)
-      ∙ (import_keeps g modules m.imports (t, Ok tt) ∙ fold_keeps (λ (s : Scope g.Reported). s) marked_def (def_marks g.Reported) defs s))
+      (fold_keeps (λ (st : State (Unit {0}) g.Reported). st.0) (with_def g) (def_keeps g) defs
+      (fold (with_import g modules) (t, Ok tt) m.imports)
+      ∙ (import_keeps g modules m.imports (t, Ok tt)
+      ∙ fold_keeps (λ (s : Scope g.Reported). s) marked_def (def_marks g.Reported) defs s))
 
   module _ (IsMade : Table → Type 0) (home : ℕ) where
-    definition_listed : (tables : List Table) → AreMade IsMade tables → (defs : List Def) → Holds (λ t. AreListed IsMade t.imports) (types.of_definition g home m tables defs)
+    definition_listed : (tables : List Table) → AreMade IsMade tables → (defs : List Def)
+        → Holds (λ t. AreListed IsMade t.imports) (types.of_definition g home m tables defs)
     definition_listed tables made defs =
         let modules : List (List ℕ × ℕ) = (numbered_modules tables).0 in
         let st : State (Unit {0}) g.Reported = types.declared_in g m modules (first_scope home tables) defs in
-        then_holds (any_holds st.1) (λ x k. fine _ (subst (λ (ts : List Table). AreListed IsMade (imported_modules modules ts m.imports)) (sym (tables_stay modules (first_scope home tables) defs)) (table_imports IsMade tables made m.imports)))
+        then_holds (any_holds st.1) (λ x k. fine _
+        (subst (λ (ts : List Table). AreListed IsMade (imported_modules modules ts m.imports))
+        (sym (tables_stay modules (first_scope home tables) defs)) (table_imports IsMade tables made m.imports)))
 
-    contents_listed : (tables : List Table) → AreMade IsMade tables → (c : Contents) → Holds (λ t. AreListed IsMade t.imports) (types.of_contents g home m tables c)
+    contents_listed : (tables : List Table) → AreMade IsMade tables → (c : Contents)
+        → Holds (λ t. AreListed IsMade t.imports) (types.of_contents g home m tables c)
     contents_listed tables made (contents.Definition defs) = definition_listed tables made defs
     contents_listed tables made (contents.Implementation b) = reported_holds g m.name.pos rule.LonelyModule
     contents_listed tables made (contents.Program b) = reported_holds g m.name.pos rule.LonelyModule
 
-module _ (fs : List (List ℕ × Module)) (files : List ℕ) (jobs : List (List ℕ)) (starts : List ℕ) (graph : IsGraph (number_files 0 fs) files jobs starts) (each : CompileEach (number_files 0 fs) files) (fit : list_all fits_module (trees_of fs) ≡ true) where
+module _ (fs : List (List ℕ × Module)) (files : List ℕ) (jobs : List (List ℕ)) (starts : List ℕ)
+    (graph : IsGraph (number_files 0 fs) files jobs starts) (each : CompileEach (number_files 0 fs) files)
+    (fit : list_all fits_module (trees_of fs) ≡ true) where
   abbrev trees : List Module
   trees = trees_of fs
 
@@ -120,9 +131,11 @@ module _ (fs : List (List ℕ × Module)) (files : List ℕ) (jobs : List (List 
 
   with_console : (ts : List Table) → AreMade IsMade ts → AreMade IsMade (ts ++ console ∷ [])
   unfolding console
-  with_console ts h = each_more (λ (t : Table). (is_console t.name ≡ true) ⊎ IsMade t) ts console h (inl (same_refl (codes "Console")))
+  with_console ts h = each_more (λ (t : Table). (is_console t.name ≡ true) ⊎ IsMade t) ts console h
+      (inl (same_refl (codes "Console")))
 
-  behind : (n : ℕ) (o : Option Table) (ts : List Table) → AllByRecursion (Needed n) ts → AllByRecursion (Needed n) (tables_behind o ts)
+  behind : (n : ℕ) (o : Option Table) (ts : List Table) → AllByRecursion (Needed n) ts
+      → AllByRecursion (Needed n) (tables_behind o ts)
   behind n None ts h = h
   behind n (Some t) [] h = tt
   behind n (Some t) (u ∷ ts) h = h.1
@@ -130,7 +143,9 @@ module _ (fs : List (List ℕ × Module)) (files : List ℕ) (jobs : List (List 
   imports_listed : (job : ℕ) (t : Table) → job < length files → one job ≡ Defined t → AreListed IsMade t.imports
   imports_listed job t l e =
       let d : IsDefined trees files jobs fit job t = defined_by trees files jobs fit job t e in
-      holds_ok (contents_listed least d.tree IsMade job (needed job ++ console ∷ []) (with_console (needed job) (made_of job l (needed job) (tables_needed trees files jobs fit job))) d.tree.contents) t d.compiled_to
+      holds_ok (contents_listed least d.tree IsMade job (needed job ++ console ∷ [])
+      (with_console (needed job) (made_of job l (needed job) (tables_needed trees files jobs fit job)))
+      d.tree.contents) t d.compiled_to
 
   -- ---- a body
 
@@ -141,7 +156,8 @@ module _ (fs : List (List ℕ × Module)) (files : List ℕ) (jobs : List (List 
     pub named : table.name ≡ t.name
     pub home : t.types.home ≡ table.number
     pub has : HasReached t.types table.reached
-    pub heads : (n : ℕ) (h : TypeNo) → slice_get (exported_headings table.exported) n ≡ Some h → IsRoutine t.procedures n h
+    pub heads : (n : ℕ) (h : TypeNo) → slice_get (exported_headings table.exported) n ≡ Some h
+        → IsRoutine t.procedures n h
 
   -- what is known of the module of a body, by the tables of its imports
   pub record IsPart (t : TypedModule) (tree : Module) (job : ℕ) (ts : List Table) : Type 0 where
@@ -168,36 +184,48 @@ module _ (fs : List (List ℕ × Module)) (files : List ℕ) (jobs : List (List 
     for_it = for_body fs files jobs starts graph b.tree b.job
 
     pub begun : BegunAt least (elaborate_body least) (elaborated_formed least) b.job b.tree own ts t b.tree.contents
-    begun = holds_ok (module_begun least (elaborate_body least) (elaborated_formed least) b.job b.tree imported own for_it) t b.typed
+    begun = holds_ok (module_begun least (elaborate_body least) (elaborated_formed least) b.job b.tree imported own
+        for_it) t b.typed
 
     known : IsKnown b.tree own b.job ts t b.tree.contents
     known =
-        holds_ok (module_known least (elaborate_body least) its_types b.job b.tree own imported (tree_fits trees fit (slice_index_or files b.job 0) b.tree b.is_tree)
-        (own_formed trees files jobs fit b.job (known_below trees files jobs fit b.job) b.tree (needed b.job) (tables_needed trees files jobs fit b.job)) (behind_formed trees files jobs fit b.job (known_below trees files jobs fit b.job) own (needed b.job) (tables_needed trees files jobs fit b.job))) t b.typed
+        holds_ok (module_known least (elaborate_body least) its_types b.job b.tree own imported
+        (tree_fits trees fit (slice_index_or files b.job 0) b.tree b.is_tree)
+        (own_formed trees files jobs fit b.job (known_below trees files jobs fit b.job) b.tree (needed b.job)
+        (tables_needed trees files jobs fit b.job))
+        (behind_formed trees files jobs fit b.job (known_below trees files jobs fit b.job) own (needed b.job)
+        (tables_needed trees files jobs fit b.job))) t b.typed
 
     nested : AreNested t
     nested = holds_ok (modules_nested least b.job b.tree own imported for_it) t b.typed
 
     all_made : AreMade IsMade ts
-    all_made = with_console imported (made_of b.job b.is_job imported (behind b.job own (needed b.job) (tables_needed trees files jobs fit b.job)))
+    all_made = with_console imported (made_of b.job b.is_job imported
+        (behind b.job own (needed b.job) (tables_needed trees files jobs fit b.job)))
 
-    part_from : (o : Option Table) (home : ℕ) → OwnListed IsMade o → IsKnownBy b.tree o home ts t → ((is_program b.tree ≡ true) × (t.types.home ≡ b.job)) ⊎ IsOwn t → IsPart t b.tree b.job ts
+    part_from : (o : Option Table) (home : ℕ) → OwnListed IsMade o → IsKnownBy b.tree o home ts t
+        → ((is_program b.tree ≡ true) × (t.types.home ≡ b.job)) ⊎ IsOwn t → IsPart t b.tree b.job ts
     part_from o home l k kind = record {
       name = k.name;
       ordered = k.ordered;
       made = all_made;
       has = k.has;
-      imports = subst (λ (is : List Imported). AreImports IsMade t.types is) (sym k.imports) (typed_are IsMade ts all_made t.types k.has o l b.tree.imports);
-      within = subst (λ (is : List Imported). AllByRecursion (IsWithin ts) is) (sym k.imports) (typed_within ts (all_imports (numbered_modules ts).0 ts o b.tree.imports));
+      imports = subst (λ (is : List Imported). AreImports IsMade t.types is) (sym k.imports)
+          (typed_are IsMade ts all_made t.types k.has o l b.tree.imports);
+      within = subst (λ (is : List Imported). AllByRecursion (IsWithin ts) is) (sym k.imports)
+          (typed_within ts (all_imports (numbered_modules ts).0 ts o b.tree.imports));
       outermost = nested.outermost;
       kind = kind;
     }
 
-    part_by : (c : Contents) → b.tree.contents ≡ c → IsKnown b.tree own b.job ts t c → BegunAt least (elaborate_body least) (elaborated_formed least) b.job b.tree own ts t c → IsPart t b.tree b.job ts
+    part_by : (c : Contents) → b.tree.contents ≡ c → IsKnown b.tree own b.job ts t c
+        → BegunAt least (elaborate_body least) (elaborated_formed least) b.job b.tree own ts t c
+        → IsPart t b.tree b.job ts
     part_by (contents.Definition defs) is k h = absurd k
     part_by (contents.Program body) is k h = part_from None b.job tt k (inl (ap is_program_part is, k.home_is))
     part_by (contents.Implementation body) is k h =
-        let o = own_is trees files jobs fit b.job b.tree (needed b.job) (tables_needed trees files jobs fit b.job) k.0 k.1 in
+        let o = own_is trees files jobs fit b.job b.tree (needed b.job) (tables_needed trees files jobs fit b.job) k.0
+        k.1 in
         let made : IsMade k.0 = is_made b.job b.is_job k.0 o.0 in
         let same : h.0 ≡ k.0 = same_Some h.0 k.0 (sym h.1 ∙ k.1) in
         part_from (Some k.0) k.0.number (imports_listed k.0.number k.0 made.0 made.1) k.2
@@ -207,7 +235,8 @@ module _ (fs : List (List ℕ × Module)) (files : List ℕ) (jobs : List (List 
           named = o.1 ∙ sym k.2.name;
           home = k.2.home_is;
           has = k.2.own_in.0;
-          heads = subst (λ (u : Table). (n : ℕ) (z : TypeNo) → slice_get (exported_headings u.exported) n ≡ Some z → IsRoutine t.procedures n z) same h.2.heads;
+          heads = subst (λ (u : Table). (n : ℕ) (z : TypeNo) → slice_get (exported_headings u.exported) n ≡ Some z
+              → IsRoutine t.procedures n z) same h.2.heads;
         }))
 
     pub part_of : IsPart t b.tree b.job ts
@@ -234,27 +263,38 @@ module _ (fs : List (List ℕ × Module)) (files : List ℕ) (jobs : List (List 
       pub ordered : AreOrdered home.types
       pub has : HasReached home.types u.reached
       pub outermost : All (λ r. r.around ≡ None) home.procedures
-      pub heads : (n : ℕ) (h : TypeNo) → slice_get (exported_headings u.exported) n ≡ Some h → IsRoutine home.procedures n h
+      pub heads : (n : ℕ) (h : TypeNo) → slice_get (exported_headings u.exported) n ≡ Some h
+          → IsRoutine home.procedures n h
 
     module _ (place : ℕ) (m : TypedModule) (there : slice_get p place ≡ Some m) where
-      home_by : (i : Imported) (k : IsImportOf IsMade m.types i) (q : ℕ) (home : TypedModule) → slice_get p q ≡ Some home → home.name ≡ i.name → (tree : Module) (job : ℕ) (us : List Table) → slice_get trees (slice_index_or files job 0) ≡ Some tree
-          → (a : IsPart home tree job us) → ((is_program tree ≡ true) × (home.types.home ≡ job)) ⊎ IsOwn home → HasHome k.table
-      home_by i k q home at named tree job us is_tree a (inl x) = absurd (whole.programs tree job k.table is_tree x.0 k.table.number k.made.0 k.made.1 (k.name_is ∙ (sym named ∙ a.name)))
+      home_by : (i : Imported) (k : IsImportOf IsMade m.types i) (q : ℕ) (home : TypedModule)
+          → slice_get p q ≡ Some home → home.name ≡ i.name → (tree : Module) (job : ℕ) (us : List Table)
+          → slice_get trees (slice_index_or files job 0) ≡ Some tree
+          → (a : IsPart home tree job us) → ((is_program tree ≡ true) × (home.types.home ≡ job)) ⊎ IsOwn home
+          → HasHome k.table
+      home_by i k q home at named tree job us is_tree a (inl x) =
+          absurd (whole.programs tree job k.table is_tree x.0 k.table.number k.made.0 k.made.1
+          (k.name_is ∙ (sym named ∙ a.name)))
       home_by i k q home at named tree job us is_tree a (inr x) =
-          let number : x.table.number ≡ k.table.number = whole.definitions x.table.number k.table.number x.table k.table x.made.0 k.made.0 x.made.1 k.made.1 (x.named ∙ (named ∙ sym k.name_is)) in
+          let number : x.table.number ≡ k.table.number =
+          whole.definitions x.table.number k.table.number x.table k.table x.made.0 k.made.0 x.made.1 k.made.1
+          (x.named ∙ (named ∙ sym k.name_is)) in
           let same : x.table ≡ k.table = one_table x.table k.table x.made k.made number in
           let its_home : home.types.home ≡ k.table.number = x.home ∙ number in
-          let found : module_place p k.table.number ≡ q = ap (λ (n : ℕ). module_place p n) (sym its_home) ∙ (coherent_at q home at).own in
+          let found : module_place p k.table.number ≡ q = ap (λ (n : ℕ). module_place p n) (sym its_home)
+          ∙ (coherent_at q home at).own in
           record {
             home = home;
             there = ap (λ (n : ℕ). slice_get p n) found ∙ at;
             ordered = a.ordered;
             has = subst (λ (t : Table). HasReached home.types t.reached) same x.has;
             outermost = a.outermost;
-            heads = subst (λ (t : Table). (n : ℕ) (h : TypeNo) → slice_get (exported_headings t.exported) n ≡ Some h → IsRoutine home.procedures n h) same x.heads;
+            heads = subst (λ (t : Table). (n : ℕ) (h : TypeNo) → slice_get (exported_headings t.exported) n ≡ Some h
+                → IsRoutine home.procedures n h) same x.heads;
           }
 
-      pub home_of : (n : ℕ) (i : Imported) → slice_get m.imports n ≡ Some i → (k : IsImportOf IsMade m.types i) → HasHome k.table
+      pub home_of : (n : ℕ) (i : Imported) → slice_get m.imports n ≡ Some i → (k : IsImportOf IsMade m.types i)
+          → HasHome k.table
       home_of n i e k =
           let c = whole.closed place n m i there e in
           let b : IsBodyOf trees files jobs c.1 = got (IsBodyOf trees files jobs) p whole.bodies c.0 c.1 c.2 in

@@ -42,23 +42,29 @@ at_end : (ws : List Ty) (t : Ty) → slice_get (ws ++ t ∷ []) (length ws) ≡ 
 at_end [] t = refl
 at_end (w ∷ ws) t = at_end ws t
 
-opened_more : (types : Types) (name : List ℕ) (ws : List OpenedRecord) (r : OpenedRecord) → opened_fields types name (ws ++ r ∷ []) ≡ or_outside (field_in types name r) (opened_fields types name ws)
+opened_more : (types : Types) (name : List ℕ) (ws : List OpenedRecord) (r : OpenedRecord)
+    → opened_fields types name (ws ++ r ∷ []) ≡ or_outside (field_in types name r) (opened_fields types name ws)
 opened_more types name [] r = or_none (field_in types name r)
 opened_more types name (x ∷ ws) r =
-    subst (λ (o : Option OpenedField). or_outside o (field_in types name x) ≡ or_outside (field_in types name r) (or_outside (opened_fields types name ws) (field_in types name x))) (sym (opened_more types name ws r))
+    subst (λ (o : Option OpenedField). or_outside o (field_in types name x)
+    ≡ or_outside (field_in types name r) (or_outside (opened_fields types name ws) (field_in types name x)))
+    (sym (opened_more types name ws r))
     (or_twice (field_in types name r) (opened_fields types name ws) (field_in types name x))
 
 -- the component of a record is its field
-field_component : (types : Types) (fs : List (List ℕ × TypeNo)) (n : ℕ) (f : List ℕ × TypeNo) → slice_get fs n ≡ Some f → component (row (map (λ (f : List ℕ × TypeNo). tree types f.1) fs)) (n ∷ []) ≡ Some (tree types f.1)
+field_component : (types : Types) (fs : List (List ℕ × TypeNo)) (n : ℕ) (f : List ℕ × TypeNo) → slice_get fs n ≡ Some f
+    → component (row (map (λ (f : List ℕ × TypeNo). tree types f.1) fs)) (n ∷ []) ≡ Some (tree types f.1)
 unfolding component
 field_component types [] n f e = absurd cc
-field_component types (x ∷ fs) zero f e = let same : x ≡ f = cc in ap (λ (y : List ℕ × TypeNo). Some (tree types y.1)) same
+field_component types (x ∷ fs) zero f e = let same : x ≡ f = cc in
+    ap (λ (y : List ℕ × TypeNo). Some (tree types y.1)) same
 field_component types (x ∷ fs) (suc n) f e = field_component types fs n f e
 
 -- ---- meanings
 
 module _ (x : Context) (ws : List Ty) (opens : ℕ → Bool) (level : ℕ) where
-  meaning_within : (t : Ty) (y : Meaning) → MeaningTyped x ws opens level y → MeaningTyped x (ws ++ t ∷ []) opens level y
+  meaning_within : (t : Ty) (y : Meaning) → MeaningTyped x ws opens level y
+      → MeaningTyped x (ws ++ t ∷ []) opens level y
   meaning_within t (meaning.Constant v) p = p
   meaning_within t (meaning.Type u n) p = p
   meaning_within t (meaning.Variable v) p = p
@@ -72,7 +78,8 @@ module _ (x : Context) (ws : List Ty) (opens : ℕ → Bool) (level : ℕ) where
 
 -- ---- fields of the record
 
-module _ (g : Gathers) (x : Context) (ws : List Ty) (opens : ℕ → Bool) (s : Scope g.Reported) (h : IsTyped g x ws opens s) (count : length ws ≡ length s.withs) (t : TypeNo) where
+module _ (g : Gathers) (x : Context) (ws : List Ty) (opens : ℕ → Bool) (s : Scope g.Reported)
+    (h : IsTyped g x ws opens s) (count : length ws ≡ length s.withs) (t : TypeNo) where
   abbrev r : OpenedRecord
   r = record { number = length s.withs; of = t }
 
@@ -80,7 +87,8 @@ module _ (g : Gathers) (x : Context) (ws : List Ty) (opens : ℕ → Bool) (s : 
   inner = ws ++ tree x.home.types t ∷ []
 
   abbrev FieldTyped : OpenedField → Type 0
-  FieldTyped f = (slice_get inner f.with ≡ Some (tree x.home.types f.whole)) × (component (tree x.home.types f.whole) (f.number ∷ []) ≡ Some (tree x.home.types f.of))
+  FieldTyped f = (slice_get inner f.with ≡ Some (tree x.home.types f.whole))
+      × (component (tree x.home.types f.whole) (f.number ∷ []) ≡ Some (tree x.home.types f.of))
 
   abbrev IfTyped : Option OpenedField → Type 0
   IfTyped None = Unit {0}
@@ -89,20 +97,30 @@ module _ (g : Gathers) (x : Context) (ws : List Ty) (opens : ℕ → Bool) (s : 
   there : slice_get inner (length s.withs) ≡ Some (tree x.home.types t)
   there = ap (λ (n : ℕ). slice_get inner n) (sym count) ∙ at_end ws (tree x.home.types t)
 
-  field_by : (fs : List (List ℕ × TypeNo)) (n : ℕ) (o : Option (List ℕ × TypeNo)) → fields_at s.types t ≡ Some fs → slice_get fs n ≡ o → IfTyped (option_map (λ e. record { with = r.number; whole = r.of; number = n; of = e.1 }) o)
+  field_by : (fs : List (List ℕ × TypeNo)) (n : ℕ) (o : Option (List ℕ × TypeNo)) → fields_at s.types t ≡ Some fs
+      → slice_get fs n ≡ o → IfTyped (option_map (λ e. record { with = r.number; whole = r.of; number = n; of = e.1 })
+      o)
   field_by fs n None e q = tt
-  field_by fs n (Some f) e q =
-      (there, ap (λ (u : Ty). component u (n ∷ [])) (record_is x.home.types h.all t fs (fields_known s.types x.home.types h.types t fs e)) ∙ field_component x.home.types fs n f q)
+  field_by fs n (Some f) e q = (
+    there,
+    ap (λ (u : Ty). component u (n ∷ []))
+        (record_is x.home.types h.all t fs (fields_known s.types x.home.types h.types t fs e))
+        ∙ field_component x.home.types fs n f q,
+  )
 
-  field_at : (fs : List (List ℕ × TypeNo)) (o : Option ℕ) → fields_at s.types t ≡ Some fs → IfTyped (field_numbered r fs o)
+  field_at : (fs : List (List ℕ × TypeNo)) (o : Option ℕ) → fields_at s.types t ≡ Some fs
+      → IfTyped (field_numbered r fs o)
   field_at fs None e = tt
   field_at fs (Some n) e = field_by fs n (slice_get fs n) e refl
 
-  fields_typed : (name : List ℕ) (o : Option (List (List ℕ × TypeNo))) → fields_at s.types t ≡ o → IfTyped (field_among r name o)
+  fields_typed : (name : List ℕ) (o : Option (List (List ℕ × TypeNo))) → fields_at s.types t ≡ o
+      → IfTyped (field_among r name o)
   fields_typed name None e = tt
   fields_typed name (Some fs) e = field_at fs (place_of name fs) e
 
-  name_typed : {T : Type 0} (o far : Option OpenedField) (m : Result Meaning T) → IfTyped o → Holds (MeaningTyped x ws opens s.level) (means_or far m) → Holds (MeaningTyped x inner opens s.level) (means_or (or_outside o far) m)
+  name_typed : {T : Type 0} (o far : Option OpenedField) (m : Result Meaning T) → IfTyped o
+      → Holds (MeaningTyped x ws opens s.level) (means_or far m)
+      → Holds (MeaningTyped x inner opens s.level) (means_or (or_outside o far) m)
   name_typed None far m p q = holds_weaker (meaning_within x ws opens s.level (tree x.home.types t)) q
   name_typed (Some f) far m p q = fine (meaning.Field f) p
 
@@ -113,8 +131,11 @@ module _ (g : Gathers) (x : Context) (ws : List Ty) (opens : ℕ → Bool) (s : 
     types = h.types;
     formals = h.formals;
     names = λ name.
-        subst (λ (o : Option OpenedField). Holds (MeaningTyped x inner opens s.level) (means_or o (means_as g name.pos (sight_of name.name s)))) (sym (opened_more s.types name.name s.withs r))
-        (name_typed (field_in s.types name.name r) (opened_fields s.types name.name s.withs) (means_as g name.pos (sight_of name.name s)) (fields_typed name.name (fields_at s.types t) refl) (h.names name));
+        subst (λ (o : Option OpenedField). Holds (MeaningTyped x inner opens s.level)
+        (means_or o (means_as g name.pos (sight_of name.name s)))) (sym (opened_more s.types name.name s.withs r))
+        (name_typed (field_in s.types name.name r) (opened_fields s.types name.name s.withs)
+        (means_as g name.pos (sight_of name.name s)) (fields_typed name.name (fields_at s.types t) refl)
+        (h.names name));
     members = λ k name q. holds_weaker (meaning_within x ws opens s.level (tree x.home.types t)) (h.members k name q);
   }
 
@@ -125,4 +146,11 @@ module _ (g : Gathers) (x : Context) (ws : List Ty) (opens : ℕ → Bool) (s : 
       omega (arith, a, b, count)
 
 pub within_ranged : {T : Type 0} (s : Scope T) (t : TypeNo) → ScopeRanged s → ScopeRanged (into_record s t)
-within_ranged s t h = record { types = h.types; own = h.own; others = h.others; names = h.names; outer = h.outer; tables = h.tables }
+within_ranged s t h = record {
+  types = h.types;
+  own = h.own;
+  others = h.others;
+  names = h.names;
+  outer = h.outer;
+  tables = h.tables;
+}

@@ -58,7 +58,8 @@ up_to_small n = let e = divided 4294967295 (2 ^ (31 - n)) in omega (arith, e) wh
   divided a b = grind arith
 
 pub span_small : (low high : ℤ) → Small (with_span 0 low high)
-span_small low high = or_lt 32 0 (without (up_to (place high)) (up_to (place low) / 2)) (omega arith) (without_small (up_to (place high)) (up_to (place low) / 2) (up_to_small (place high)))
+span_small low high = or_lt 32 0 (without (up_to (place high)) (up_to (place low) / 2)) (omega arith)
+    (without_small (up_to (place high)) (up_to (place low) / 2) (up_to_small (place high)))
 
 -- ---- operands
 
@@ -102,10 +103,14 @@ module _ (g : Gathers) where
   applied_words Or spot sort x y = truth_words _
   applied_words (Relation r) spot sort x y = truth_words _
 
-  operated_words : (op : BinaryOp) (spot : Pos) (sort : Option TypeNo) (at : Pos) (a : Ordinal) (at' : Pos) (b : Ordinal) → W_ (ordinal_operation g op spot sort at a at' b)
-  operated_words op spot sort at a at' b = where_holds g _ spot rule.WrongType (then_holds (any_holds _) (λ x k. applied_words op spot sort a.number b.number))
+  operated_words : (op : BinaryOp) (spot : Pos) (sort : Option TypeNo) (at : Pos) (a : Ordinal) (at' : Pos)
+      (b : Ordinal) → W_ (ordinal_operation g op spot sort at a at' b)
+  operated_words op spot sort at a at' b =
+      where_holds g _ spot rule.WrongType (then_holds (any_holds _)
+      (λ x k. applied_words op spot sort a.number b.number))
 
-  scalars_words : (op : BinaryOp) (spot at : Pos) (a : Ordinal) (at' : Pos) (b : Ordinal) (o : Option (Option TypeNo)) → W_ (on_scalars g op spot at a at' b o)
+  scalars_words : (op : BinaryOp) (spot at : Pos) (a : Ordinal) (at' : Pos) (b : Ordinal) (o : Option (Option TypeNo))
+      → W_ (on_scalars g op spot at a at' b o)
   scalars_words op spot at a at' b None = reported_holds g spot rule.WrongType
   scalars_words op spot at a at' b (Some sort) = operated_words op spot sort at a at' b
 
@@ -124,7 +129,8 @@ module _ (g : Gathers) where
   member_words (Relation rel.AtMost) spot at a bits = reported_holds g spot rule.WrongType
   member_words (Relation rel.Greater) spot at a bits = reported_holds g spot rule.WrongType
   member_words (Relation rel.AtLeast) spot at a bits = reported_holds g spot rule.WrongType
-  member_words (Relation rel.In) spot at a bits = where_holds g _ spot rule.WrongType (where_holds g _ at rule.OutOfRange (truth_words _))
+  member_words (Relation rel.In) spot at a bits =
+      where_holds g _ spot rule.WrongType (where_holds g _ at rule.OutOfRange (truth_words _))
 
   related_words : (spot : Pos) (r : RelOp) (a b : ℕ) → W_ (set_related g spot r a b)
   related_words spot rel.Equal a b = truth_words _
@@ -146,18 +152,23 @@ module _ (g : Gathers) where
   sets_words Or spot a b p q = reported_holds g spot rule.WrongType
   sets_words (Relation r) spot a b p q = related_words spot r a b
 
-  pub binary_words : (op : BinaryOp) (spot at : Pos) (x : Option Operand) (at' : Pos) (y : Option Operand) → OperandWord x → OperandWord y → W_ (binary g op spot at x at' y)
-  binary_words op spot at (Some (operands.Scalar a)) at' (Some (operands.Scalar b)) p q = scalars_words op spot at a at' b (common a.sort b.sort)
+  pub binary_words : (op : BinaryOp) (spot at : Pos) (x : Option Operand) (at' : Pos) (y : Option Operand)
+      → OperandWord x → OperandWord y → W_ (binary g op spot at x at' y)
+  binary_words op spot at (Some (operands.Scalar a)) at' (Some (operands.Scalar b)) p q =
+      scalars_words op spot at a at' b (common a.sort b.sort)
   binary_words op spot at (Some (operands.Scalar a)) at' (Some (operands.Set b)) p q = member_words op spot at a b
   binary_words op spot at (Some (operands.Scalar a)) at' None p q = reported_holds g spot rule.WrongType
-  binary_words op spot at (Some (operands.Set a)) at' (Some (operands.Scalar b)) p q = reported_holds g spot rule.WrongType
+  binary_words op spot at (Some (operands.Set a)) at' (Some (operands.Scalar b)) p q =
+      reported_holds g spot rule.WrongType
   binary_words op spot at (Some (operands.Set a)) at' (Some (operands.Set b)) p q = sets_words op spot a b p q
   binary_words op spot at (Some (operands.Set a)) at' None p q = reported_holds g spot rule.WrongType
   binary_words op spot at None at' y p q = reported_holds g spot rule.WrongType
 
   signed_scalar_words : (o : Sign) (spot : Pos) (a : Ordinal) → W_ (signed_scalar g o spot a)
-  signed_scalar_words sign.Plus spot a = where_holds g _ spot rule.WrongType (fine (number_value a.sort a.number) (valued_word a.sort a.number))
-  signed_scalar_words sign.Minus spot a = where_holds g _ spot rule.WrongType (number_words spot a.sort (whole_arithmetic Minus (pos 0) a.number))
+  signed_scalar_words sign.Plus spot a = where_holds g _ spot rule.WrongType
+      (fine (number_value a.sort a.number) (valued_word a.sort a.number))
+  signed_scalar_words sign.Minus spot a =
+      where_holds g _ spot rule.WrongType (number_words spot a.sort (whole_arithmetic Minus (pos 0) a.number))
 
   pub signed_words : (o : Sign) (spot : Pos) (x : Option Operand) → W_ (signed_value g o spot x)
   signed_words o spot None = reported_holds g spot rule.WrongType
@@ -177,7 +188,8 @@ module _ (g : Gathers) where
 
   absolute_words : (at : Pos) (o : Option Ordinal) → W_ (absolute_part g at o)
   absolute_words at None = reported_holds g at rule.WrongArgument
-  absolute_words at (Some a) = either_words (int_lt a.number (pos 0)) (number_words at a.sort _) (number_words at a.sort a.number)
+  absolute_words at (Some a) = either_words (int_lt a.number (pos 0)) (number_words at a.sort _)
+      (number_words at a.sort a.number)
 
   capital_words : (at : Pos) (o : Option Ordinal) → W_ (capital_part g at o)
   capital_words at None = reported_holds g at rule.WrongArgument
@@ -235,11 +247,15 @@ module _ (g : Gathers) where
   B_ r = Holds Small r
 
   single_small : (at : Pos) (v : Value) → B_ (single g at v)
-  single_small at v = then_holds (any_holds (set_element g at v)) (λ a k. then_holds (any_holds _) (λ f j. fine (with_span 0 a.number a.number) (span_small a.number a.number)))
+  single_small at v = then_holds (any_holds (set_element g at v))
+      (λ a k. then_holds (any_holds _) (λ f j. fine (with_span 0 a.number a.number) (span_small a.number a.number)))
 
-  pub added_small : (s : Scope g.Reported) (low : Part g.Reported) (high : Option (Part g.Reported)) → B_ (element_or_range g s low high)
+  pub added_small : (s : Scope g.Reported) (low : Part g.Reported) (high : Option (Part g.Reported))
+      → B_ (element_or_range g s low high)
   added_small s low None = then_holds (any_holds (constant g s low)) (λ v k. single_small low.at v)
-  added_small s low (Some high) = then_holds (any_holds _) (λ (p : (Ordinal × Ordinal) × Unit {0}) k. fine (with_span 0 p.0.0.number p.0.1.number) (span_small p.0.0.number p.0.1.number))
+  added_small s low (Some high) = then_holds (any_holds _)
+      (λ (p : (Ordinal × Ordinal) × Unit {0}) k. fine (with_span 0 p.0.0.number p.0.1.number)
+      (span_small p.0.0.number p.0.1.number))
 
   joined_small : {so more : Result ℕ g.Reported} → B_ so → B_ more → B_ (joined_bits g so more)
   joined_small p q = then_holds (both_holds g p q) (λ v k. fine (bit_or v.0 v.1) (or_lt 32 v.0 v.1 k.0 k.1))
@@ -248,6 +264,7 @@ module _ (g : Gathers) where
   AllSmall s [] = Unit {0}
   AllSmall s (i ∷ is) = B_ (i s) × AllSmall s is
 
-  pub items_small : (s : Scope g.Reported) (is : List (Adds g.Reported)) (so : Result ℕ g.Reported) → B_ so → AllSmall s is → B_ (fold (with_item g s) so is)
+  pub items_small : (s : Scope g.Reported) (is : List (Adds g.Reported)) (so : Result ℕ g.Reported) → B_ so
+      → AllSmall s is → B_ (fold (with_item g s) so is)
   items_small s [] so p all = p
   items_small s (i ∷ is) so p all = items_small s is (with_item g s so i) (joined_small p all.0) all.1

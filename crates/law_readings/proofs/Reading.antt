@@ -366,14 +366,16 @@ module _ (exports : ℕ → Ident → Standing) where
           same_trees = λ of_exports before around rs vs xs. (
             (λ x.
                 meaning_as of_exports p b
-                (λ of_names. MeansBodies exports of_exports inner before of_names around before.nested rs) before z.same_end e o
+                (λ of_names. MeansBodies exports of_exports inner before of_names around before.nested rs) before
+                z.same_end e o
                 (meaning_with of_exports p b end names own
                 (λ of_names. MeansBodies exports of_exports bodies before of_names around before.nested rs)
                 (λ of_names. MeansBodies exports of_exports inner before of_names around before.nested rs) before
                 (λ of_names k. (z.same_trees of_exports before of_names around before.nested rs).0 k) x)),
             (λ x.
                 meaning_as of_exports p b
-                (λ of_names. MeansBodies exports of_exports bodies before of_names around before.nested rs) before (sym z.same_end) (sym e) (sym o)
+                (λ of_names. MeansBodies exports of_exports bodies before of_names around before.nested rs) before
+                (sym z.same_end) (sym e) (sym o)
                 (meaning_with of_exports p b last named owns
                 (λ of_names. MeansBodies exports of_exports inner before of_names around before.nested rs)
                 (λ of_names. MeansBodies exports of_exports bodies before of_names around before.nested rs) before
@@ -438,21 +440,29 @@ module _ (exports : ℕ → Ident → Standing) where
           same_trees = λ of_exports before of_names around n rs.
               let next = next_number (before.level == 0) n (out-Decl x) in (
                 (λ w.
-                    entering_as of_exports (λ at which within vs xs. MeansBlock exports of_exports d at which within vs xs)
-                    (λ behind. MeansBodies exports of_exports q before of_names around next behind) before of_names around n rs eh es
-                    (entering_with of_exports h seen (λ at which within vs xs. MeansBlock exports of_exports c at which within vs xs)
+                    entering_as of_exports (λ at which within vs xs. MeansBlock exports of_exports d at which within vs
+                    xs)
+                    (λ behind. MeansBodies exports of_exports q before of_names around next behind) before of_names
+                    around n rs eh es
+                    (entering_with of_exports h seen (λ at which within vs xs. MeansBlock exports of_exports c at which
+                    within vs xs)
                     (λ at which within vs xs. MeansBlock exports of_exports d at which within vs xs)
                     (λ behind. MeansBodies exports of_exports r before of_names around next behind)
-                    (λ behind. MeansBodies exports of_exports q before of_names around next behind) before of_names around n rs
+                    (λ behind. MeansBodies exports of_exports q before of_names around next behind) before of_names
+                    around n rs
                     (λ at which within vs xs k. (y.same_trees of_exports at which within vs xs).0 k)
                     (λ behind k. (z.same_trees of_exports before of_names around next behind).0 k) w)),
                 (λ w.
-                    entering_as of_exports (λ at which within vs xs. MeansBlock exports of_exports c at which within vs xs)
-                    (λ behind. MeansBodies exports of_exports r before of_names around next behind) before of_names around n rs (sym eh) (sym es)
-                    (entering_with of_exports k sees (λ at which within vs xs. MeansBlock exports of_exports d at which within vs xs)
+                    entering_as of_exports (λ at which within vs xs. MeansBlock exports of_exports c at which within vs
+                    xs)
+                    (λ behind. MeansBodies exports of_exports r before of_names around next behind) before of_names
+                    around n rs (sym eh) (sym es)
+                    (entering_with of_exports k sees (λ at which within vs xs. MeansBlock exports of_exports d at which
+                    within vs xs)
                     (λ at which within vs xs. MeansBlock exports of_exports c at which within vs xs)
                     (λ behind. MeansBodies exports of_exports q before of_names around next behind)
-                    (λ behind. MeansBodies exports of_exports r before of_names around next behind) before of_names around n rs
+                    (λ behind. MeansBodies exports of_exports r before of_names around next behind) before of_names
+                    around n rs
                     (λ at which within vs xs k. (y.same_trees of_exports at which within vs xs).1 k)
                     (λ behind k. (z.same_trees of_exports before of_names around next behind).1 k) w)),
               );
@@ -511,5 +521,8 @@ means_as home tables exported of_definition m exports p types end last b r q t x
     }
 
 pub modules_alike : ModulesAreAlike
-modules_alike home tables exported of_definition m exports p types end last b r q t =
-    (means_as home tables exported of_definition m exports p types end last b r q t, means_as home tables exported of_definition m exports p types last end b q r t)
+modules_alike home tables exported of_definition m exports p types end last b r q t = (
+  means_as home tables exported of_definition m exports p types end last b r q t,
+  means_as home tables exported
+      of_definition m exports p types last end b q r t,
+)

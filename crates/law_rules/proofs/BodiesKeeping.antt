@@ -51,18 +51,23 @@ module _ {V : Type 0} where
   pub grows_refl : (es : Names V) → Grows es es
   grows_refl es = record { kept = λ n k e. (k, e, refl); new = λ n k e f. absurd (clash e f); longer = omega arith }
 
-  new_by : (es fs gs : Names V) (n : List ℕ) (k : V) → length es ≤ length fs → (o : Option V) → find_name n fs ≡ o → ((v : V) → find_name n fs ≡ Some v → length es ≤ index n fs) → ((v : V) → find_name n fs ≡ Some v → KeptAt n fs gs) → (find_name n fs ≡ None → length fs ≤ index n gs) → length es ≤ index n gs
+  new_by : (es fs gs : Names V) (n : List ℕ) (k : V) → length es ≤ length fs → (o : Option V) → find_name n fs ≡ o
+      → ((v : V) → find_name n fs ≡ Some v → length es ≤ index n fs)
+      → ((v : V) → find_name n fs ≡ Some v → KeptAt n fs gs) → (find_name n fs ≡ None → length fs ≤ index n gs)
+      → length es ≤ index n gs
   new_by es fs gs n k l (Some v) e near kept far = let a = near v e in let b = (kept v e).2 in omega (arith, a, b)
   new_by es fs gs n k l None e near kept far = let a = far e in omega (arith, a, l)
 
   pub grows_then : {es fs gs : Names V} → Grows es fs → Grows fs gs → Grows es gs
   grows_then {es = es} {fs = fs} {gs = gs} p q = record {
     kept = λ n k e. let a = p.kept n k e in let b = q.kept n a.0 a.1 in (b.0, b.1, b.2 ∙ a.2);
-    new = λ n k e f. new_by es fs gs n k p.longer (find_name n fs) refl (λ v h. p.new n v e h) (λ v h. q.kept n v h) (λ h. q.new n k h f);
+    new = λ n k e f. new_by es fs gs n k p.longer (find_name n fs) refl (λ v h. p.new n v e h) (λ v h. q.kept n v h)
+        (λ h. q.new n k h f);
     longer = let a = p.longer in let b = q.longer in omega (arith, a, b);
   }
 
-  kept_head : (b : Bool) (old v k : V) (o : Option V) (i : ℕ) → cond b (Some old) o ≡ Some k → (w : V) × (cond b (Some v) o ≡ Some w) × (cond b 0 (suc i) ≡ cond b 0 (suc i))
+  kept_head : (b : Bool) (old v k : V) (o : Option V) (i : ℕ) → cond b (Some old) o ≡ Some k → (w : V)
+      × (cond b (Some v) o ≡ Some w) × (cond b 0 (suc i) ≡ cond b 0 (suc i))
   kept_head true old v k o i e = (v, refl, refl)
   kept_head false old v k o i e = (k, e, refl)
 
@@ -70,11 +75,14 @@ module _ {V : Type 0} where
   none_head true old v k o e f = absurd cc
   none_head false old v k o e f = clash e f
 
-  kept_tail : (b : Bool) (v k : V) (o r : Option V) (i l : ℕ) → cond b (Some v) o ≡ Some k → (o ≡ Some k → (w : V) × (r ≡ Some w) × (l ≡ i)) → (w : V) × (cond b (Some v) r ≡ Some w) × (cond b 0 (suc l) ≡ cond b 0 (suc i))
+  kept_tail : (b : Bool) (v k : V) (o r : Option V) (i l : ℕ) → cond b (Some v) o ≡ Some k
+      → (o ≡ Some k → (w : V) × (r ≡ Some w) × (l ≡ i)) → (w : V) × (cond b (Some v) r ≡ Some w)
+      × (cond b 0 (suc l) ≡ cond b 0 (suc i))
   kept_tail true v k o r i l e h = (v, refl, refl)
   kept_tail false v k o r i l e h = let q = h e in (q.0, q.1, ap (λ (n : ℕ). suc n) q.2)
 
-  none_tail : (b : Bool) (v k : V) (o r : Option V) (n l : ℕ) → cond b (Some v) o ≡ None → cond b (Some v) r ≡ Some k → (o ≡ None → r ≡ Some k → n ≤ l) → suc n ≤ cond b 0 (suc l)
+  none_tail : (b : Bool) (v k : V) (o r : Option V) (n l : ℕ) → cond b (Some v) o ≡ None → cond b (Some v) r ≡ Some k
+      → (o ≡ None → r ≡ Some k → n ≤ l) → suc n ≤ cond b 0 (suc l)
   none_tail true v k o r n l e f h = absurd cc
   none_tail false v k o r n l e f h = let q = h e f in omega (arith, q)
 
@@ -87,12 +95,15 @@ module _ {V : Type 0} where
 
   grows_tail : (e : List ℕ × V) {es fs : Names V} → Grows es fs → Grows (e ∷ es) (e ∷ fs)
   grows_tail e {es = es} {fs = fs} p = record {
-    kept = λ n k q. kept_tail (same_name n e.0) e.1 k (find_name n es) (find_name n fs) (index n es) (index n fs) q (p.kept n k);
-    new = λ n k q f. none_tail (same_name n e.0) e.1 k (find_name n es) (find_name n fs) (length es) (index n fs) q f (p.new n k);
+    kept = λ n k q. kept_tail (same_name n e.0) e.1 k (find_name n es) (find_name n fs) (index n es) (index n fs) q
+        (p.kept n k);
+    new = λ n k q f. none_tail (same_name n e.0) e.1 k (find_name n es) (find_name n fs) (length es) (index n fs) q f
+        (p.new n k);
     longer = let a = p.longer in omega (arith, a);
   }
 
-  grows_by : (b : Bool) (e : List ℕ × V) (v : V) {es fs : Names V} → Grows es fs → Grows (e ∷ es) (cond b ((e.0, v) ∷ es) (e ∷ fs))
+  grows_by : (b : Bool) (e : List ℕ × V) (v : V) {es fs : Names V} → Grows es fs
+      → Grows (e ∷ es) (cond b ((e.0, v) ∷ es) (e ∷ fs))
   grows_by true e v {es = es} p = grows_head e v es
   grows_by false e v p = grows_tail e p
 
@@ -131,7 +142,15 @@ pub record Keeps {T : Type 0} (s t : Scope T) : Type 0 where
   pub entries : (n : List ℕ) (k : Known T) → find_name n t.own ≡ Some k → (find_name n s.own ≡ Some k) ⊎ Fits s.level k
 
 pub keeps_refl : {T : Type 0} (s : Scope T) → Keeps s s
-keeps_refl s = record { tables = refl; outer = refl; level = refl; withs = refl; home = refl; grows = grows_refl s.own; entries = λ n k e. inl e }
+keeps_refl s = record {
+  tables = refl;
+  outer = refl;
+  level = refl;
+  withs = refl;
+  home = refl;
+  grows = grows_refl s.own;
+  entries = λ n k e. inl e;
+}
 
 pub keeps_then : {T : Type 0} {a b c : Scope T} → Keeps a b → Keeps b c → Keeps a c
 keeps_then p q = record {
@@ -141,13 +160,15 @@ keeps_then p q = record {
   withs = q.withs ∙ p.withs;
   home = q.home ∙ p.home;
   grows = grows_then p.grows q.grows;
-  entries = λ n k e. elim (q.entries n k e) [ inl f ↦ p.entries n k f | inr f ↦ inr (subst (λ (l : ℕ). Fits l k) p.level f) ];
+  entries = λ n k e. elim (q.entries n k e)
+      [ inl f ↦ p.entries n k f | inr f ↦ inr (subst (λ (l : ℕ). Fits l k) p.level f) ];
 }
 
 one_known : {T : Type 0} {k l : Known T} → ◌≡◌ {A = Option (Known T)} (Some k) (Some l) → k ≡ l
 one_known e = cc
 
-pub known_keeps : {T : Type 0} (s : Scope T) (name : List ℕ) (k : Known T) → Fits s.level k → Keeps s (with_known name k s)
+pub known_keeps : {T : Type 0} (s : Scope T) (name : List ℕ) (k : Known T) → Fits s.level k
+    → Keeps s (with_known name k s)
 known_keeps {T = T} s name k f = record {
   tables = refl;
   outer = refl;
@@ -155,14 +176,24 @@ known_keeps {T = T} s name k f = record {
   withs = refl;
   home = refl;
   grows = grows_entered name k s.own;
-  entries = entered_all (λ (n : List ℕ) (o : Option (Known T)). (l : Known T) → o ≡ Some l → (find_name n s.own ≡ Some l) ⊎ Fits s.level l) name k s.own
+  entries = entered_all (λ (n : List ℕ) (o : Option (Known T)). (l : Known T) → o ≡ Some l
+      → (find_name n s.own ≡ Some l) ⊎ Fits s.level l) name k s.own
       (λ l e. inr (subst (λ (m : Known T). Fits s.level m) (one_known e) f)) (λ n c l e. inl e);
 }
 
 -- ---- types
 
 pub shape_keeps : {T : Type 0} (s : Scope T) (x : Made) → Keeps s (with_shape s x)
-shape_keeps s x = record { tables = refl; outer = refl; level = refl; withs = refl; home = refl; grows = grows_refl s.own; entries = λ n k e. inl e }
+shape_keeps s x = record {
+  tables = refl;
+  outer = refl;
+  level = refl;
+  withs = refl;
+  home = refl;
+  grows =
+      grows_refl s.own;
+  entries = λ n k e. inl e;
+}
 
 -- ---- marks
 
@@ -185,7 +216,8 @@ module _ (g : Gathers) where
   abbrev Goes : Scope g.Reported → Scope g.Reported → Type 0
   Goes s t = Keeps s t
 
-  fits_by : {A : Type 0} (l : ℕ) (r : Result A g.Reported) (f : A → Meaning) → ((x : A) → FitsMeaning l (f x)) → Fits {T = g.Reported} l (Declared Here (r ▷ λ x. Ok (f x)))
+  fits_by : {A : Type 0} (l : ℕ) (r : Result A g.Reported) (f : A → Meaning) → ((x : A) → FitsMeaning l (f x))
+      → Fits {T = g.Reported} l (Declared Here (r ▷ λ x. Ok (f x)))
   fits_by l (Ok x) f h = h x
   fits_by l (Err e) f h = tt
 
@@ -259,5 +291,6 @@ module _ (g : Gathers) where
     awaited = λ s name p e. known_keeps s name (Headed (Ok (meaning.Procedure p))) tt;
   }
 
-  pub declarations_keep : (ends : List ℕ) (ds : List Decl) (c : Course g.Reported) → Goes c.0 (fold (with_decl g ends) c ds).0
+  pub declarations_keep : (ends : List ℕ) (ds : List Decl) (c : Course g.Reported)
+      → Goes c.0 (fold (with_decl g ends) c ds).0
   declarations_keep = decls_keep g blocks

@@ -44,17 +44,23 @@ length_more : {A : Type 0} (xs : List A) (x : A) → length (xs ++ x ∷ []) ≡
 length_more [] x = refl
 length_more (y ∷ xs) x = let e = length_more xs x in omega (arith, e)
 
-module _ (g : Gathers) (j : Judges g) (lawful : Lawful g j) (exports : ℕ → Ident → Standing) (p : Place) (start : Scope g.Reported) (block : List Declaration) (whole : List Resolved) (order : in_order whole ≡ block)
+module _ (g : Gathers) (j : Judges g) (lawful : Lawful g j) (exports : ℕ → Ident → Standing) (p : Place)
+    (start : Scope g.Reported) (block : List Declaration) (whole : List Resolved) (order : in_order whole ≡ block)
     (added : AddedAll start.types exports p.names p.taken p.awaited (is_nested start) block whole)
-    (names : Ident → Standing) (all : All start.types exports p.names p.taken p.awaited (is_nested start) block whole names) (own : Ident → Bool)
+    (names : Ident → Standing) (all : All start.types exports p.names p.taken p.awaited (is_nested start) block whole
+    names) (own : Ident → Bool)
     (v : Scope g.Reported) (keeps : Keeps start v) (no_withs : start.withs ≡ [])
-    (knows : (ns : Ident → Standing) → All start.types exports p.names p.taken p.awaited (is_nested start) block whole ns → Knows g j ns exports v)
+    (knows : (ns : Ident → Standing) → All start.types exports p.names p.taken p.awaited (is_nested start) block whole
+    ns → Knows g j ns exports v)
     (owns_first : KnowsOwn g j p.own start) (owns : KnowsOwn g j own v)
     (none_first : (n : List ℕ) → p.taken n ≡ false → find_name n start.own ≡ None)
-    (others : (n : List ℕ) → (p.taken n ≡ false → AnyDeclares block n → ⊥) → IsAsBefore (find_name n start.own) (find_name n v.own))
+    (others : (n : List ℕ) → (p.taken n ≡ false → AnyDeclares block n → ⊥)
+    → IsAsBefore (find_name n start.own) (find_name n v.own))
     (declared : (n : List ℕ) → p.taken n ≡ false → AnyDeclares block n → find_name n v.own ≡ None → ⊥)
     (level : start.level < length start.outer)
-    (locals : (name : Ident) (x : LocalVariable) → looked_up g start name ≡ Ok (meaning.Local x) → (is_nested start ≡ true) × (x.level < length start.outer) × ((is_own x.kind && (x.level == start.level)) ≡ false))
+    (locals : (name : Ident) (x : LocalVariable) → looked_up g start name ≡ Ok (meaning.Local x)
+    → (is_nested start ≡ true) × (x.level < length start.outer)
+    × ((is_own x.kind && (x.level == start.level)) ≡ false))
     (front : List Declaration) (h : Heading) (rest : List Declaration) (text : block ≡ front ++ OfProcedure h ∷ rest)
     (seen : ℕ) (places : (n : List ℕ) → PlaceIs g j p.taken block front start.level v seen n (find_name n v.own))
     (extends : Extends (types_behind start.types whole) v.types)
@@ -66,7 +72,8 @@ module _ (g : Gathers) (j : Judges g) (lawful : Lawful g j) (exports : ℕ → I
   knows_names = knows names all
 
   pub ahead : (name : Ident) → p.taken name.name ≡ false → AnyDeclares block name.name → names name ≡ Ahead → ⊥
-  ahead name t a e = never_ahead start.types exports p.names p.taken p.awaited (is_nested start) block whole order name t a (all name) e
+  ahead name t a e = never_ahead start.types exports p.names p.taken p.awaited (is_nested start) block whole order name
+      t a (all name) e
 
   -- ---- around it
 
@@ -83,10 +90,12 @@ module _ (g : Gathers) (j : Judges g) (lawful : Lawful g j) (exports : ℕ → I
   sees = sights.1
 
   pub sight_knows : Knows g j sight exports around
-  sight_knows = seen_knows g j p.taken block front start.level v seen exports names knows_names no_withs_now places ahead sight sees
+  sight_knows = seen_knows g j p.taken block front start.level v seen exports names knows_names no_withs_now places
+      ahead sight sees
 
   sight_repeats : (f : Breach) → Repeats g j sight around f → Repeats g j names v f
-  sight_repeats = seen_repeats g j p.taken block front start.level v seen exports names knows_names no_withs_now places ahead sight sees
+  sight_repeats = seen_repeats g j p.taken block front start.level v seen exports names knows_names no_withs_now places
+      ahead sight sees
 
   -- ---- inside
 
@@ -119,9 +128,12 @@ module _ (g : Gathers) (j : Judges g) (lawful : Lawful g j) (exports : ℕ → I
   inner_level : length v.outer ≡ length start.outer
   inner_level = ap (λ (bs : List (Around g.Reported)). length bs) keeps.outer
 
-  mine_is : (name : Ident) (m : Meaning) → looked_up g v name ≡ Ok m → module_variables p block own name ≡ is_own_variable entered.0 m
-  mine_is name m e = ap (λ (b : Bool). cond b ((p.taken name.name || not (is_declared name.name block)) && p.own name) (own name)) nested
-      ∙ mine_counts g j start v p.taken block p.own own keeps no_withs none_first others level locals owns_first owns entered.0 refl inner_level declared name m e
+  mine_is : (name : Ident) (m : Meaning) → looked_up g v name ≡ Ok m
+      → module_variables p block own name ≡ is_own_variable entered.0 m
+  mine_is name m e = ap (λ (b : Bool). cond b ((p.taken name.name || not (is_declared name.name block)) && p.own name)
+      (own name)) nested
+      ∙ mine_counts g j start v p.taken block p.own own keeps no_withs none_first others level locals owns_first owns
+      entered.0 refl inner_level declared name m e
 
   kind_own : (f : Formal) → is_own (formal_kind f) ≡ false
   kind_own f = by f.is_open f.is_var
@@ -138,14 +150,21 @@ module _ (g : Gathers) (j : Judges g) (lawful : Lawful g j) (exports : ℕ → I
   Name = NameIs g j lawful exports sight around no_withs_now refl sight_knows h
 
   pub around_known : (name : Ident) (m : Meaning) → looked_up g around name ≡ Ok m → looked_up g v name ≡ Ok m
-  around_known = known_around g j p.taken block front start.level v seen exports names knows_names no_withs_now places ahead sight sees
+  around_known = known_around g j p.taken block front start.level v seen exports names knows_names no_withs_now places
+      ahead sight sees
 
-  formal_own : (f : Formal) (l n : ℕ) {m : Meaning} → meaning.Local (record { level = l; number = n; kind = formal_kind f; of = f.of }) ≡ m → false ≡ is_own_variable entered.0 m
-  formal_own f l n e = subst (λ (m : Meaning). false ≡ is_own_variable entered.0 m) e (sym (ap (λ (b : Bool). b && (l == entered.0.level)) (kind_own f)))
+  formal_own : (f : Formal) (l n : ℕ) {m : Meaning}
+      → meaning.Local (record { level = l; number = n; kind = formal_kind f; of = f.of }) ≡ m
+      → false ≡ is_own_variable entered.0 m
+  formal_own f l n e = subst (λ (m : Meaning). false ≡ is_own_variable entered.0 m) e
+      (sym (ap (λ (b : Bool). b && (l == entered.0.level)) (kind_own f)))
 
-  own_by : (name : Ident) → Name name → (m : Meaning) → looked_up g entered.0 name ≡ Ok m → (not (is_formal name.name h) && module_variables p block own name) ≡ is_own_variable entered.0 m
-  own_by name (of_around e l t) m q = ap (λ (o : Option Section). not (is_some o) && module_variables p block own name) e ∙ mine_is name m (around_known name m (sym l ∙ q))
-  own_by name (of_formal x t k e n u l z) m q = ap (λ (o : Option Section). not (is_some o) && module_variables p block own name) e
+  own_by : (name : Ident) → Name name → (m : Meaning) → looked_up g entered.0 name ≡ Ok m
+      → (not (is_formal name.name h) && module_variables p block own name) ≡ is_own_variable entered.0 m
+  own_by name (of_around e l t) m q = ap (λ (o : Option Section). not (is_some o) && module_variables p block own name)
+      e ∙ mine_is name m (around_known name m (sym l ∙ q))
+  own_by name (of_formal x t k e n u l z) m q =
+      ap (λ (o : Option Section). not (is_some o) && module_variables p block own name) e
       ∙ formal_own (record { is_var = x.is_var; is_open = x.of.is_open; of = t }) around.level k (same_ok (sym l ∙ q))
   own_by name (of_broken x r e n a l z) m q = let c = sym l ∙ q in absurd cc
 
@@ -153,7 +172,8 @@ module _ (g : Gathers) (j : Judges g) (lawful : Lawful g j) (exports : ℕ → I
   owns_inside name m q = own_by name (name_is g j lawful exports sight around no_withs_now refl sight_knows h name) m q
 
   abbrev Local : LocalVariable → Type 0
-  Local x = (is_nested entered.0 ≡ true) × (x.level < length entered.0.outer) × ((is_own x.kind && (x.level == entered.0.level)) ≡ false)
+  Local x = (is_nested entered.0 ≡ true) × (x.level < length entered.0.outer)
+      × ((is_own x.kind && (x.level == entered.0.level)) ≡ false)
 
   is_inner : is_nested entered.0 ≡ true
   is_inner = ap (λ (b : Bool). not b) (some_level level inner_level)
@@ -165,7 +185,12 @@ module _ (g : Gathers) (j : Judges g) (lawful : Lawful g j) (exports : ℕ → I
   outer_length = length_more v.outer (record { names = v.own; seen = seen }) ∙ ap (λ (n : ℕ). n + 1) inner_level
 
   local_outer : (x : LocalVariable) → x.level < length start.outer → Local x
-  local_outer x l = (is_inner, lower l outer_length, ap (λ (b : Bool). is_own x.kind && b) (other_level l inner_level) ∙ never (is_own x.kind))
+  local_outer x l = (
+    is_inner,
+    lower l outer_length,
+    ap (λ (b : Bool). is_own x.kind && b) (other_level l inner_level)
+        ∙ never (is_own x.kind),
+  )
     where
       lower : {a b c : ℕ} → a < b → c ≡ b + 1 → a < c
       lower l e = omega (arith, l, e)
@@ -180,15 +205,26 @@ module _ (g : Gathers) (j : Judges g) (lawful : Lawful g j) (exports : ℕ → I
   same_local : {x y : LocalVariable} → meaning.Local x ≡ meaning.Local y → x ≡ y
   same_local e = cc
 
-  local_formal : (f : Formal) (n : ℕ) → Local (record { level = around.level; number = n; kind = formal_kind f; of = f.of })
-  local_formal f n = (is_inner, lower outer_length inner_level, ap (λ (b : Bool). b && (around.level == entered.0.level)) (kind_own f))
+  local_formal : (f : Formal) (n : ℕ) → Local
+      (record { level = around.level; number = n; kind = formal_kind f; of = f.of })
+  local_formal f n = (
+    is_inner,
+    lower outer_length inner_level,
+    ap
+        (λ (b : Bool). b && (around.level == entered.0.level)) (kind_own f),
+  )
     where
       lower : {a b c : ℕ} → c ≡ b + 1 → a ≡ b → a < c
       lower e q = omega (arith, e, q)
 
-  local_by : (name : Ident) → Name name → (x : LocalVariable) → looked_up g entered.0 name ≡ Ok (meaning.Local x) → Local x
-  local_by name (of_around e l t) x q = local_outer x (local_around g j start v p.taken block p.own own keeps no_withs none_first others level locals owns_first owns name x (around_known name (meaning.Local x) (sym l ∙ q))).1
-  local_by name (of_formal y t k e n u l z) x q = subst Local (same_local (same_ok (sym l ∙ q))) (local_formal (record { is_var = y.is_var; is_open = y.of.is_open; of = t }) k)
+  local_by : (name : Ident) → Name name → (x : LocalVariable) → looked_up g entered.0 name ≡ Ok (meaning.Local x)
+      → Local x
+  local_by name (of_around e l t) x q = local_outer x
+      (local_around g j start v p.taken block p.own own keeps no_withs none_first others level locals owns_first owns
+      name x (around_known name (meaning.Local x) (sym l ∙ q))).1
+  local_by name (of_formal y t k e n u l z) x q =
+      subst Local (same_local (same_ok (sym l ∙ q)))
+      (local_formal (record { is_var = y.is_var; is_open = y.of.is_open; of = t }) k)
   local_by name (of_broken y r e n a l z) x q = let c = sym l ∙ q in absurd cc
 
   -- ---- all of it
@@ -202,24 +238,32 @@ module _ (g : Gathers) (j : Judges g) (lawful : Lawful g j) (exports : ℕ → I
     gives = gives_knows g j lawful exports sight around no_withs_now refl sight_knows h gives body_gives;
     nested = sym is_inner;
     level = let a = outer_length in let b = inner_level in omega (arith, a, b);
-    locals = λ name x q. local_by name (name_is g j lawful exports sight around no_withs_now refl sight_knows h name) x q;
+    locals = λ name x q. local_by name (name_is g j lawful exports sight around no_withs_now refl sight_knows h name) x
+        q;
   }
 
   headed : HeadingAt start.types exports p.names p.taken p.awaited (is_nested start) block whole front h
-  headed = heading_at start.types exports p.names p.taken p.awaited (is_nested start) block whole added front h rest (order ∙ text)
+  headed = heading_at start.types exports p.names p.taken p.awaited (is_nested start) block whole added front h rest
+      (order ∙ text)
 
   abbrev Else : Breach → Type 0
   Else f = Repeats g j names v f ⊎ Breaks start.types exports p.names p.taken p.awaited (is_nested start) block whole f
 
-  pub of_formals : (f : Breach) → Repeats g j sight around f ⊎ ((x : Section) × Among x h.formals × BrokenTypeName sight exports x.of.of f) → Else f
+  pub of_formals : (f : Breach) → Repeats g j sight around f
+      ⊎ ((x : Section) × Among x h.formals × BrokenTypeName sight exports x.of.of f) → Else f
   of_formals f (inl o) = inl (sight_repeats f o)
-  of_formals f (inr z) = inr (formal_refused g j exports p.names start p.taken p.awaited block whole order v knows front names all sight sees h headed z.0 z.1 f z.2)
+  of_formals f (inr z) = inr (formal_refused g j exports p.names start p.taken p.awaited block whole order v knows front
+      names all sight sees h headed z.0 z.1 f z.2)
 
   of_result : (f : Breach) → BrokenResult around.types sight exports h.result f ⊎ Repeats g j sight around f → Else f
-  of_result f (inl b) = inr (result_refused g j exports p.names start p.taken p.awaited block whole order v knows front names all sight sees h headed v.types (extends_then (types_behind start.types headed.before) (types_behind start.types whole) v.types headed.made extends) f b)
+  of_result f (inl b) = inr (result_refused g j exports p.names start p.taken p.awaited block whole order v knows front
+      names all sight sees h headed v.types (extends_then (types_behind start.types headed.before)
+      (types_behind start.types whole) v.types headed.made extends) f b)
   of_result f (inr o) = inl (sight_repeats f o)
 
   -- What the body repeats is broken in the block, or repeated there.
   pub place_repeats : (f : Breach) → RepeatsResult g j inside entered.0 (returns_of entered.1) f → Else f
-  place_repeats f (inl o) = of_formals f (inside_repeats g j lawful exports sight around no_withs_now refl sight_knows h inside stands_inside f o)
-  place_repeats f (inr o) = of_result f (gives_repeats g j lawful exports sight around no_withs_now refl sight_knows h f o)
+  place_repeats f (inl o) = of_formals f (inside_repeats g j lawful exports sight around no_withs_now refl sight_knows h
+      inside stands_inside f o)
+  place_repeats f (inr o) = of_result f (gives_repeats g j lawful exports sight around no_withs_now refl sight_knows h f
+      o)

@@ -20,20 +20,29 @@ use Rattle.law_rules.proofs.Keys.{keys, entered_last, entered_other, there_found
 -- the names that are declared here, with what they mean
 pub data Found {T : Type 0} (own : List (List ℕ × Known T)) : List Ident → List Entry → Type 0 where
   no_more : Found own [] []
-  one_more : {x : Ident} {xs : List Ident} {m : Meaning} {es : List Entry} → find_name x.name own ≡ Some (known.Declared Here (Ok m)) → Found own xs es → Found own (x ∷ xs) ((x.name, m) ∷ es)
+  one_more : {x : Ident} {xs : List Ident} {m : Meaning} {es : List Entry}
+      → find_name x.name own ≡ Some (known.Declared Here (Ok m)) → Found own xs es
+      → Found own (x ∷ xs) ((x.name, m) ∷ es)
 
 one_meaning : {a b : Meaning} → ◌≡◌ {A = Option Meaning} (Some a) (Some b) → a ≡ b
 one_meaning q = cc
 
 module _ {T : Type 0} where
-  named_by : (own : List (List ℕ × Known T)) (n : List ℕ) (m : Meaning) (x : Ident) (w : Meaning) (o : Option Meaning) {b : Bool} → Decided (n ≡ x.name) b → find_name x.name own ≡ Some (known.Declared Here (Ok w)) → (o ≡ Some m → find_name n own ≡ Some (known.Declared Here (Ok m))) → cond b (Some w) o ≡ Some m → find_name n own ≡ Some (known.Declared Here (Ok m))
-  named_by own n m x w o (holds q) e h z = subst (λ (k : List ℕ). find_name k own ≡ Some (known.Declared Here (Ok m))) (sym q) (e ∙ ap (λ (w : Meaning). let k : Option (Known T) = Some (known.Declared Here (Ok w)) in k) (one_meaning z))
+  named_by : (own : List (List ℕ × Known T)) (n : List ℕ) (m : Meaning) (x : Ident) (w : Meaning) (o : Option Meaning)
+      {b : Bool} → Decided (n ≡ x.name) b → find_name x.name own ≡ Some (known.Declared Here (Ok w))
+      → (o ≡ Some m → find_name n own ≡ Some (known.Declared Here (Ok m))) → cond b (Some w) o ≡ Some m
+      → find_name n own ≡ Some (known.Declared Here (Ok m))
+  named_by own n m x w o (holds q) e h z =
+      subst (λ (k : List ℕ). find_name k own ≡ Some (known.Declared Here (Ok m))) (sym q)
+      (e ∙ ap (λ (w : Meaning). let k : Option (Known T) = Some (known.Declared Here (Ok w)) in k) (one_meaning z))
   named_by own n m x w o (fails_it c) e h z = h z
 
   -- What is listed is declared.
-  pub found_named : {own : List (List ℕ × Known T)} {xs : List Ident} {es : List Entry} → Found own xs es → (n : List ℕ) (m : Meaning) → find_name n es ≡ Some m → find_name n own ≡ Some (known.Declared Here (Ok m))
+  pub found_named : {own : List (List ℕ × Known T)} {xs : List Ident} {es : List Entry} → Found own xs es
+      → (n : List ℕ) (m : Meaning) → find_name n es ≡ Some m → find_name n own ≡ Some (known.Declared Here (Ok m))
   found_named no_more n m z = absurd cc
-  found_named {own = own} (one_more {x = x} {m = w} {es = es} e f) n m z = named_by own n m x w (find_name n es) (name_decided n x.name) e (λ q. found_named f n m q) z
+  found_named {own = own} (one_more {x = x} {m = w} {es = es} e f) n m z =
+      named_by own n m x w (find_name n es) (name_decided n x.name) e (λ q. found_named f n m q) z
 
   -- what one name exports
   abbrev pub entry_of : List ℕ → Known T → List Entry
@@ -45,7 +54,8 @@ module _ {T : Type 0} where
   entries [] = []
   entries (e ∷ es) = entry_of e.0 e.1 ++ entries es
 
-  known_entered : (so : List Entry) (n : List ℕ) (k : Known T) → find_name n so ≡ None → with_known so n k ≡ so ++ entry_of n k
+  known_entered : (so : List Entry) (n : List ℕ) (k : Known T) → find_name n so ≡ None
+      → with_known so n k ≡ so ++ entry_of n k
   known_entered so n known.Later h = sym (nil_right so)
   known_entered so n known.Ahead h = sym (nil_right so)
   known_entered so n known.Begun h = sym (nil_right so)
@@ -57,7 +67,8 @@ module _ {T : Type 0} where
   known_entered so n (known.Declared (Export k) m) h = sym (nil_right so)
 
   -- another name is not there behind it
-  still_none : (so : List Entry) (n o : List ℕ) (k : Known T) → find_name n so ≡ None → (o ≡ n → ⊥) → find_name n (with_known so o k) ≡ None
+  still_none : (so : List Entry) (n o : List ℕ) (k : Known T) → find_name n so ≡ None → (o ≡ n → ⊥)
+      → find_name n (with_known so o k) ≡ None
   still_none so n o known.Later h c = h
   still_none so n o known.Ahead h c = h
   still_none so n o known.Begun h c = h
@@ -68,11 +79,14 @@ module _ {T : Type 0} where
   still_none so n o (known.Declared (Module k) m) h c = h
   still_none so n o (known.Declared (Export k) m) h c = h
 
-  exports_from : {own : List (List ℕ × Known T)} → AreOnce own → (so : List Entry) → ((e : List ℕ × Known T) → Among e own → find_name e.0 so ≡ None) → fold with_export so own ≡ so ++ entries own
+  exports_from : {own : List (List ℕ × Known T)} → AreOnce own → (so : List Entry)
+      → ((e : List ℕ × Known T) → Among e own → find_name e.0 so ≡ None) → fold with_export so own ≡ so ++ entries own
   exports_from no_names so h = sym (nil_right so)
   exports_from (one_name {e = e} {es = es} n o) so h =
-      exports_from o (with_export so e) (λ f m. still_none so f.0 e.0 e.1 (h f (later m)) (λ q. there_found f es m (subst (λ (k : List ℕ). find_name k es ≡ None) q n)))
-      ∙ ap (λ (fs : List Entry). fs ++ entries es) (known_entered so e.0 e.1 (h e here)) ∙ append_assoc so (entry_of e.0 e.1) (entries es)
+      exports_from o (with_export so e) (λ f m. still_none so f.0 e.0 e.1 (h f (later m))
+      (λ q. there_found f es m (subst (λ (k : List ℕ). find_name k es ≡ None) q n)))
+      ∙ ap (λ (fs : List Entry). fs ++ entries es) (known_entered so e.0 e.1 (h e here))
+      ∙ append_assoc so (entry_of e.0 e.1) (entries es)
 
   exports_are : {own : List (List ℕ × Known T)} → AreOnce own → exports own ≡ entries own
   exports_are o = exports_from o [] (λ e m. refl)
@@ -88,19 +102,27 @@ module _ {T : Type 0} where
     abbrev AsFound : List (List ℕ × Known T) → Type 0
     AsFound es = (e : List ℕ × Known T) → Among e es → find_name e.0 own ≡ Some e.1
 
-    foreign_entries : (es : List (List ℕ × Known T)) → ((e : List ℕ × Known T) → Among e es → entry_of e.0 e.1 ≡ []) → entries es ≡ []
+    foreign_entries : (es : List (List ℕ × Known T)) → ((e : List ℕ × Known T) → Among e es → entry_of e.0 e.1 ≡ [])
+        → entries es ≡ []
     foreign_entries [] h = refl
-    foreign_entries (e ∷ es) h = ap (λ (fs : List Entry). fs ++ entries es) (h e here) ∙ foreign_entries es (λ f m. h f (later m))
+    foreign_entries (e ∷ es) h = ap (λ (fs : List Entry). fs ++ entries es) (h e here)
+        ∙ foreign_entries es (λ f m. h f (later m))
 
     one_known : {k l : Known T} → ◌≡◌ {A = Option (Known T)} (Some k) (Some l) → k ≡ l
     one_known q = cc
 
     -- names that come first are exported, and no other is
-    found_entries : {xs : List Ident} {fs : List Entry} (es : List (List ℕ × Known T)) (rest : List (List ℕ)) → Found own xs fs → AsFound es → keys es ≡ map (λ (x : Ident). x.name) xs ++ rest → ((e : List ℕ × Known T) → Among e es → (n : List ℕ) → Among n rest → e.0 ≡ n → entry_of e.0 e.1 ≡ []) → entries es ≡ fs
-    found_entries es rest no_more a q c = foreign_entries es (λ e m. c e m e.0 (subst (λ (ks : List (List ℕ)). Among e.0 ks) q (key_among m)) refl)
+    found_entries : {xs : List Ident} {fs : List Entry} (es : List (List ℕ × Known T)) (rest : List (List ℕ))
+        → Found own xs fs → AsFound es → keys es ≡ map (λ (x : Ident). x.name) xs ++ rest
+        → ((e : List ℕ × Known T) → Among e es → (n : List ℕ) → Among n rest → e.0 ≡ n → entry_of e.0 e.1 ≡ [])
+        → entries es ≡ fs
+    found_entries es rest no_more a q c = foreign_entries es
+        (λ e m. c e m e.0 (subst (λ (ks : List (List ℕ)). Among e.0 ks) q (key_among m)) refl)
     found_entries [] rest (one_more w f) a q c = absurd cc
     found_entries (e ∷ es) rest (one_more {x = x} {xs = xs} {m = m} {es = fs} w f) a q c =
-        ap (λ (gs : List Entry). gs ++ entries es) first ∙ ap (λ (gs : List Entry). (x.name, m) ∷ gs) (found_entries es rest f (λ d n. a d (later n)) tail (λ d n. c d (later n)))
+        ap (λ (gs : List Entry). gs ++ entries es) first
+        ∙ ap (λ (gs : List Entry). (x.name, m) ∷ gs)
+        (found_entries es rest f (λ d n. a d (later n)) tail (λ d n. c d (later n)))
       where
         head : e.0 ≡ x.name
         head = cc
@@ -109,10 +131,15 @@ module _ {T : Type 0} where
         tail = cc
 
         known_so : e.1 ≡ known.Declared Here (Ok m)
-        known_so = one_known (sym (a e here) ∙ subst (λ (n : List ℕ). find_name n own ≡ Some (known.Declared Here (Ok m))) (sym head) w)
+        known_so = one_known (sym (a e here) ∙ subst
+            (λ (n : List ℕ). find_name n own ≡ Some (known.Declared Here (Ok m))) (sym head) w)
 
         first : entry_of e.0 e.1 ≡ (x.name, m) ∷ []
-        first = ap (λ (k : Known T). entry_of e.0 k) known_so ∙ ap (λ (n : List ℕ). let y : List Entry = (n, m) ∷ [] in y) head
+        first = ap (λ (k : Known T). entry_of e.0 k) known_so
+            ∙ ap (λ (n : List ℕ). let y : List Entry = (n, m) ∷ [] in y) head
 
-  pub exported_are : {own : List (List ℕ × Known T)} {xs : List Ident} {fs : List Entry} → AreOnce own → (rest : List (List ℕ)) → Found own xs fs → keys own ≡ map (λ (x : Ident). x.name) xs ++ rest → ((e : List ℕ × Known T) → Among e own → (n : List ℕ) → Among n rest → e.0 ≡ n → entry_of e.0 e.1 ≡ []) → exports own ≡ fs
+  pub exported_are : {own : List (List ℕ × Known T)} {xs : List Ident} {fs : List Entry} → AreOnce own
+      → (rest : List (List ℕ)) → Found own xs fs → keys own ≡ map (λ (x : Ident). x.name) xs ++ rest
+      → ((e : List ℕ × Known T) → Among e own → (n : List ℕ) → Among n rest → e.0 ≡ n → entry_of e.0 e.1 ≡ [])
+      → exports own ≡ fs
   exported_are {own = own} o rest f q c = exports_are o ∙ found_entries own own rest f (once_found o) q c

@@ -25,15 +25,20 @@ Extends a b = (t : TypeNo) (s : Shape) → IsMade a t s → IsMade b t s
 pub extends_then : (a b c : Types) → Extends a b → Extends b c → Extends a c
 extends_then a b c p q t s m = q t s (p t s m)
 
-got_shape : {s : Shape} (m : Option Made) → option_map (λ (m : Made). m.shape) m ≡ Some s → (x : Made) × (m ≡ Some x) × (x.shape ≡ s)
+got_shape : {s : Shape} (m : Option Made) → option_map (λ (m : Made). m.shape) m ≡ Some s → (x : Made) × (m ≡ Some x)
+    × (x.shape ≡ s)
 got_shape None e = absurd cc
 got_shape (Some x) e = let z : x.shape ≡ _ = cc in (x, refl, z)
 
 pub extends_more : (a : Types) (ms : List Made) → Extends a (with_types a ms)
 extends_more a ms t s m = from t.home t.number m
   where
-    here : (b : Bool) (n : ℕ) (other : Option Made) → option_map (λ (m : Made). m.shape) (cond b (slice_get a.own n) other) ≡ Some s → option_map (λ (m : Made). m.shape) (cond b (slice_get (a.own ++ ms) n) other) ≡ Some s
-    here true n other e = let z = got_shape (slice_get a.own n) e in ap (λ (m : Option Made). option_map (λ (m : Made). m.shape) m) (get_more a.own ms n z.0 z.1) ∙ ap (λ (s : Shape). Some s) z.2
+    here : (b : Bool) (n : ℕ) (other : Option Made)
+        → option_map (λ (m : Made). m.shape) (cond b (slice_get a.own n) other) ≡ Some s
+        → option_map (λ (m : Made). m.shape) (cond b (slice_get (a.own ++ ms) n) other) ≡ Some s
+    here true n other e = let z = got_shape (slice_get a.own n) e in
+        ap (λ (m : Option Made). option_map (λ (m : Made). m.shape) m) (get_more a.own ms n z.0 z.1)
+        ∙ ap (λ (s : Shape). Some s) z.2
     here false n other e = e
 
     from : (h : Home) (n : ℕ) → shape_from a n h ≡ Some s → shape_from (with_types a ms) n h ≡ Some s

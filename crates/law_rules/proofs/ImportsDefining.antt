@@ -28,7 +28,11 @@ leaves_refl : {T : Type 0} (s : Scope T) → Leaves s s
 leaves_refl s = record { rest = refl; free = λ f. f }
 
 leaves_then : {T : Type 0} {s t u : Scope T} → Leaves s t → Leaves t u → Leaves s u
-leaves_then {T = T} {u = u} a b = record { rest = b.rest ∙ ap (λ (t : Scope T). record t { own = u.own }) a.rest; free = λ f. b.free (a.free f) }
+leaves_then {T = T} {u = u} a b = record {
+  rest = b.rest ∙ ap (λ (t : Scope T). record t { own = u.own }) a.rest;
+  free =
+      λ f. b.free (a.free f);
+}
 
 new_leaves : {T : Type 0} (s : Scope T) (name : List ℕ) (k : Known T) → is_free (Some k) ≡ true
     → Leaves s (with_known name k s)
@@ -44,5 +48,8 @@ marks = record {
 
 pub definition_imports : (g : Gathers) (j : Judges g) → Lawful g j → DefinitionImportsAreExact g j
 definition_imports g j lawful home tables defs imports =
-    let z = defs_marks marks defs (first_scope home tables) in
-    (z.rest, imports_answer g j lawful (λ n. false) (fold marked_def (first_scope home tables) defs) (λ n. not_own (z.free (λ n. refl) n)) imports)
+    let z = defs_marks marks defs (first_scope home tables) in (
+      z.rest,
+      imports_answer g j lawful (λ n. false) (fold marked_def (first_scope home tables) defs)
+          (λ n. not_own (z.free (λ n. refl) n)) imports,
+    )

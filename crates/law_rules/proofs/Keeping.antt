@@ -15,7 +15,9 @@ use Rattle.law_folds.proofs.Orders.{fact}
 use Rattle.law_folds.proofs.DefinitionSteps.{KeepsDefinitions}
 use Rattle.law_folds.proofs.DefinitionSteps as all_definitions
 
-module _ (g : Gathers) (P : List (List ℕ × Known g.Reported) → Type 0) (more : (name : List ℕ) (k : Known g.Reported) (es : List (List ℕ × Known g.Reported)) → P es → P (enter_name name k es)) where
+module _ (g : Gathers) (P : List (List ℕ × Known g.Reported) → Type 0)
+    (more : (name : List ℕ) (k : Known g.Reported) (es : List (List ℕ × Known g.Reported)) → P es
+    → P (enter_name name k es)) where
   abbrev Stays : Scope g.Reported → Scope g.Reported → Type 0
   Stays s t = P s.own → P t.own
 

@@ -20,7 +20,8 @@ use Rattle.def_typing.specs.Parts.{Among, here, later}
 
 -- ---- lists
 
-pub fold_agrees : {A X Y : Type 0} (f : A → Y → A) (k : A → X → A) (h : X → Y) → ((a : A) (x : X) → f a (h x) ≡ k a x) → (a : A) (xs : List X) → fold f a (map h xs) ≡ fold k a xs
+pub fold_agrees : {A X Y : Type 0} (f : A → Y → A) (k : A → X → A) (h : X → Y) → ((a : A) (x : X) → f a (h x) ≡ k a x)
+    → (a : A) (xs : List X) → fold f a (map h xs) ≡ fold k a xs
 fold_agrees f k h e a [] = refl
 fold_agrees f k h e a (x ∷ xs) = ap (λ b. fold f b (map h xs)) (e a x) ∙ fold_agrees f k h e (k a x) xs
 
@@ -49,7 +50,8 @@ module _ (g : Gathers) (elaborates : Elaborates g.Reported) (ends : List ℕ) wh
   marks_is : (s : Scope g.Reported) (d : Decl) → (steps g elaborates ends d).marks s ≡ marked_decl s d
   marks_is s d = ap (λ (x : S). x.marks s) (at d) ∙ marked_mapped s (out-Decl d)
 
-  declared_mapped : (c : Course g.Reported) (x : Decl-F Decl Block) → decl_layer g ends c (opened x) ≡ decl_layer g ends c x
+  declared_mapped : (c : Course g.Reported) (x : Decl-F Decl Block)
+      → decl_layer g ends c (opened x) ≡ decl_layer g ends c x
   declared_mapped c (layer.Constants cs) = refl
   declared_mapped c (layer.Types ts) = refl
   declared_mapped c (layer.Variables vs) = refl
@@ -64,51 +66,68 @@ module _ (g : Gathers) (elaborates : Elaborates g.Reported) (ends : List ℕ) wh
   abbrev pub checks_written : Decl-F Decl Block → Option Which → ℕ → Walk g.Reported → Walk g.Reported
   checks_written x around seen w = checks_layer g elaborates ends (opened x) around seen w
 
-  pub checks_is : (d : Decl) (around : Option Which) (seen : ℕ) (w : Walk g.Reported) → checks_decl g elaborates ends d around seen w ≡ checks_written (out-Decl d) around seen w
+  pub checks_is : (d : Decl) (around : Option Which) (seen : ℕ) (w : Walk g.Reported)
+      → checks_decl g elaborates ends d around seen w ≡ checks_written (out-Decl d) around seen w
   checks_is d around seen w = ap (λ (x : S). x.checks around seen w) (at d)
 
   -- ---- blocks
 
-  all_marks : (s : Scope g.Reported) (ds : List Decl) → all_marked marked_by s (map (steps g elaborates ends) ds) ≡ all_marked marked_decl s ds
+  all_marks : (s : Scope g.Reported) (ds : List Decl)
+      → all_marked marked_by s (map (steps g elaborates ends) ds) ≡ all_marked marked_decl s ds
   all_marks s ds = fold_agrees (with_marks marked_by) (with_marks marked_decl) (steps g elaborates ends)
       (λ st d. ap (λ (x : Scope g.Reported). (x, st.1 ++ length st.0.own ∷ [])) (marks_is st.0 d)) (s, []) ds
 
-  all_declares : (c : Course g.Reported) (ds : List Decl) → fold declared_by c (map (steps g elaborates ends) ds) ≡ fold (with_decl g ends) c ds
+  all_declares : (c : Course g.Reported) (ds : List Decl)
+      → fold declared_by c (map (steps g elaborates ends) ds) ≡ fold (with_decl g ends) c ds
   all_declares c ds = fold_agrees declared_by (with_decl g ends) (steps g elaborates ends) declares_is c ds
 
   abbrev behind : List ℕ → Course g.Reported → Declared g.Reported
   behind seen c = (c.0, c.1, seen)
 
-  declared_is : (st : State (Unit {0}) g.Reported) (first : ℕ) (ds : List Decl) → all_declared marked_by declared_by st first (map (steps g elaborates ends) ds) ≡ declared_block g ends st first ds
+  declared_is : (st : State (Unit {0}) g.Reported) (first : ℕ) (ds : List Decl)
+      → all_declared marked_by declared_by st first (map (steps g elaborates ends) ds)
+      ≡ declared_block g ends st first ds
   declared_is st first ds =
-      ap (λ (m : Scope g.Reported × List ℕ). behind m.1 (fold declared_by (m.0, st.1, first) (map (steps g elaborates ends) ds))) (all_marks st.0 ds)
-      ∙ ap (behind (all_marked marked_decl st.0 ds).1) (all_declares ((all_marked marked_decl st.0 ds).0, st.1, first) ds)
+      ap (λ (m : Scope g.Reported × List ℕ). behind m.1
+      (fold declared_by (m.0, st.1, first) (map (steps g elaborates ends) ds))) (all_marks st.0 ds)
+      ∙ ap (behind (all_marked marked_decl st.0 ds).1)
+      (all_declares ((all_marked marked_decl st.0 ds).0, st.1, first) ds)
 
   bodies_is : (around : Option Which) (seen : List ℕ) (w : Walk g.Reported) (ds : List Decl)
-      → with_bodies (λ x. checked_by x around) seen w (map (steps g elaborates ends) ds) ≡ bodies_checked g elaborates ends around seen w ds
+      → with_bodies (λ x. checked_by x around) seen w (map (steps g elaborates ends) ds)
+      ≡ bodies_checked g elaborates ends around seen w ds
   bodies_is around seen w ds =
       ap (λ (st : Walk g.Reported × ℕ). st.0)
-      (fold_agrees (with_body (λ x. checked_by x around) seen) (with_body (λ d. checks_decl g elaborates ends d around) seen) (steps g elaborates ends) (λ st d. refl) (w, 0) ds)
+      (fold_agrees (with_body (λ x. checked_by x around) seen)
+      (with_body (λ d. checks_decl g elaborates ends d around) seen) (steps g elaborates ends) (λ st d. refl) (w, 0)
+      ds)
 
-  abbrev pub written : (around : Option Which) → Option (Result TypeNo g.Reported) → Walk g.Reported → Block → Checked g.Reported
+  abbrev pub written : (around : Option Which) → Option (Result TypeNo g.Reported) → Walk g.Reported → Block
+      → Checked g.Reported
   written around returns w b =
       let d = begun_block g ends w (out-Block b).decls in
-      with_statements elaborates returns (out-Block b).body (bodies_checked g elaborates ends around d.1 d.0 (out-Block b).decls)
+      with_statements elaborates returns (out-Block b).body
+      (bodies_checked g elaborates ends around d.1 d.0 (out-Block b).decls)
 
   pub block_is : (around : Option Which) (returns : Option (Result TypeNo g.Reported)) (w : Walk g.Reported) (b : Block)
       → checks_block g elaborates ends b around returns w ≡ written around returns w b
   unfolding steps checks_block
   block_is around returns w b =
-      ap (λ (f : B). f around returns w) (fold_out-Block S B (steps_layer g elaborates ends) (block_layer g elaborates ends) b)
-      ∙ ap (λ (d : Declared g.Reported). block_from elaborates checked_by around returns d (map (steps g elaborates ends) (out-Block b).decls) (out-Block b).body w.bodies)
+      ap (λ (f : B). f around returns w) (fold_out-Block S B (steps_layer g elaborates ends)
+      (block_layer g elaborates ends) b)
+      ∙ ap (λ (d : Declared g.Reported). block_from elaborates checked_by around returns d
+      (map (steps g elaborates ends) (out-Block b).decls) (out-Block b).body w.bodies)
       (declared_is (w.scope, w.so_far) (length w.bodies.locals) (out-Block b).decls)
       ∙ ap (λ (v : Walk g.Reported). with_statements elaborates returns (out-Block b).body v)
-      (bodies_is around (begun_block g ends w (out-Block b).decls).1 (begun_block g ends w (out-Block b).decls).0 (out-Block b).decls)
+      (bodies_is around (begun_block g ends w (out-Block b).decls).1 (begun_block g ends w (out-Block b).decls).0
+      (out-Block b).decls)
 
 -- ---- all blocks
 
 -- What holds of a block if it holds of the blocks of its procedures holds of all.
-module _ (P : Block → Type 0) (turn : (b : Block) → ((d : Decl) (h : Heading) (c : Block) → Among d (out-Block b).decls → out-Decl d ≡ layer.Procedure h c → P c) → P b) where
+module _ (P : Block → Type 0) (turn : (b : Block)
+    → ((d : Decl) (h : Heading) (c : Block) → Among d (out-Block b).decls → out-Decl d ≡ layer.Procedure h c → P c)
+    → P b) where
   abbrev PD : Decl → Type 0
   PD d = (h : Heading) (c : Block) → out-Decl d ≡ layer.Procedure h c → P c
 
@@ -143,7 +162,8 @@ module _ (P : Block → Type 0) (turn : (b : Block) → ((d : Decl) (h : Heading
   among_turn (x ∷ xs) d (later m) = among_turn xs d m
 
   step_block : (x : Block-F Decl Block) (y : Block-F SD SB) → bare_block y ≡ x → P (roll-Block x)
-  step_block x y q = turn (roll-Block x) (λ d h c m e. among_turn y.decls d (subst (λ (z : Block-F Decl Block). Among d z.decls) (out-roll-Block x ∙ sym q) m) h c e)
+  step_block x y q = turn (roll-Block x) (λ d h c m e. among_turn y.decls d
+      (subst (λ (z : Block-F Decl Block). Among d z.decls) (out-roll-Block x ∙ sym q) m) h c e)
 
   pub all_blocks : (b : Block) → P b
   all_blocks = ind-Block PD P step_decl step_block

@@ -37,7 +37,8 @@ names_all (d ∷ ds) = all_names d ++ names_all ds
 
 pub names_both : (xs ys : List Declaration) → names_all (xs ++ ys) ≡ names_all xs ++ names_all ys
 names_both [] ys = refl
-names_both (x ∷ xs) ys = ap (λ (ns : List Ident). all_names x ++ ns) (names_both xs ys) ∙ sym (append_assoc (all_names x) (names_all xs) (names_all ys))
+names_both (x ∷ xs) ys = ap (λ (ns : List Ident). all_names x ++ ns) (names_both xs ys)
+    ∙ sym (append_assoc (all_names x) (names_all xs) (names_all ys))
 
 pub any_named_all : (ds : List Declaration) {n : List ℕ} → AnyDeclares ds n → Named (names_all ds) n
 any_named_all [] a = elim a.1 [ ]
@@ -45,18 +46,23 @@ any_named_all (d ∷ ds) (_, here, h) = named_left (names_all ds) h
 any_named_all (d ∷ ds) (x, later m, h) = named_right (all_names d) (any_named_all ds (x, m, h))
 
 module _ {T : Type 0} where
-  pub found_both : {own : List (List ℕ × Known T)} {xs ys : List Ident} {es fs : List Entry} → Found own xs es → Found own ys fs → Found own (xs ++ ys) (es ++ fs)
+  pub found_both : {own : List (List ℕ × Known T)} {xs ys : List Ident} {es fs : List Entry} → Found own xs es
+      → Found own ys fs → Found own (xs ++ ys) (es ++ fs)
   found_both no_more k = k
   found_both (one_more e f) k = one_more e (found_both f k)
 
-  pub found_moves : {own new : List (List ℕ × Known T)} {xs : List Ident} {es : List Entry} → ((x : Ident) → Among x xs → find_name x.name new ≡ find_name x.name own) → Found own xs es → Found new xs es
+  pub found_moves : {own new : List (List ℕ × Known T)} {xs : List Ident} {es : List Entry}
+      → ((x : Ident) → Among x xs → find_name x.name new ≡ find_name x.name own) → Found own xs es → Found new xs es
   found_moves h no_more = no_more
   found_moves h (one_more {x = x} e f) = one_more (h x here ∙ e) (found_moves (λ y m. h y (later m)) f)
 
   -- one name after another
-  pub listed_from : {own : List (List ℕ × Known T)} {Is : Ident → Meaning → Type 0} (xs : List Ident) → ((x : Ident) → Among x xs → (m : Meaning) × (find_name x.name own ≡ Some (known.Declared Here (Ok m))) × Is x m) → (es : List Entry) × Found own xs es × Lists Is xs es
+  pub listed_from : {own : List (List ℕ × Known T)} {Is : Ident → Meaning → Type 0} (xs : List Ident)
+      → ((x : Ident) → Among x xs → (m : Meaning) × (find_name x.name own ≡ Some (known.Declared Here (Ok m))) × Is x m)
+      → (es : List Entry) × Found own xs es × Lists Is xs es
   listed_from [] h = ([], no_more, no_name)
-  listed_from (x ∷ xs) h = let q = h x here in let z = listed_from xs (λ y m. h y (later m)) in ((x.name, q.0) ∷ z.0, one_more q.1 z.1, a_name q.2 z.2)
+  listed_from (x ∷ xs) h = let q = h x here in let z = listed_from xs (λ y m. h y (later m)) in
+      ((x.name, q.0) ∷ z.0, one_more q.1 z.1, a_name q.2 z.2)
 
 module _ (g : Gathers) (exports : ℕ → Ident → Standing) where
   abbrev S : Type 0
@@ -77,27 +83,41 @@ module _ (g : Gathers) (exports : ℕ → Ident → Standing) where
     pub procedures : length t.procedures ≡ length s.procedures + procedures_of p.what
 
   pub record OneListing (p : Placed) (old up : St) : Type 0 where
-    pub others : (n : List ℕ) → (Declares p.what n → ⊥) ⊎ (p.at.taken n ≡ true) → find_name n up.0.own ≡ find_name n old.0.own
+    pub others : (n : List ℕ) → (Declares p.what n → ⊥) ⊎ (p.at.taken n ≡ true)
+        → find_name n up.0.own ≡ find_name n old.0.own
     pub listed : up.1 ≡ Ok tt → (old.1 ≡ Ok tt) × OneListed p old.0 up.0
 
   -- all of them
-  pub record AllListed (taken next : List ℕ → Bool) (xs : List Declaration) (whole : List Placed) (s t : S) : Type 0 where
-    pub new : NoTwice (λ n. taken n ≡ true) (names_all xs)
-    pub reached : (n : List ℕ) → Named (names_all xs) n → next n ≡ true
-    pub entries : List Entry
-    pub found : Found t.own (names_all xs) entries
-    pub lists : (ws : List Placed) (es : List Entry) → AreExported exports (length t.variables) (length t.procedures) ws es → AreExported exports (length s.variables) (length s.procedures) (whole ++ ws) (entries ++ es)
+  pub record AllListed (taken next : List ℕ → Bool) (xs : List Declaration) (whole : List Placed) (s t : S) : Type 0
+    where
+      pub new : NoTwice (λ n. taken n ≡ true) (names_all xs)
+      pub reached : (n : List ℕ) → Named (names_all xs) n → next n ≡ true
+      pub entries : List Entry
+      pub found : Found t.own (names_all xs) entries
+      pub lists : (ws : List Placed) (es : List Entry)
+          → AreExported exports (length t.variables) (length t.procedures) ws es
+          → AreExported exports (length s.variables) (length s.procedures) (whole ++ ws) (entries ++ es)
 
-  pub record Listing (taken next : List ℕ → Bool) (xs : List Declaration) (whole : List Placed) (old up : St) : Type 0 where
-    pub kept : (n : List ℕ) → taken n ≡ true → (next n ≡ true) × (find_name n up.0.own ≡ find_name n old.0.own)
-    pub others : (n : List ℕ) → (AnyDeclares xs n → ⊥) → find_name n up.0.own ≡ find_name n old.0.own
-    pub listed : up.1 ≡ Ok tt → (old.1 ≡ Ok tt) × AllListed taken next xs whole old.0 up.0
+  pub record Listing (taken next : List ℕ → Bool) (xs : List Declaration) (whole : List Placed) (old up : St) : Type 0
+    where
+      pub kept : (n : List ℕ) → taken n ≡ true → (next n ≡ true) × (find_name n up.0.own ≡ find_name n old.0.own)
+      pub others : (n : List ℕ) → (AnyDeclares xs n → ⊥) → find_name n up.0.own ≡ find_name n old.0.own
+      pub listed : up.1 ≡ Ok tt → (old.1 ≡ Ok tt) × AllListed taken next xs whole old.0 up.0
 
   pub listing_nothing : (taken : List ℕ → Bool) (st : St) → Listing taken taken [] [] st st
   listing_nothing taken st = record {
     kept = λ n q. (q, refl);
     others = λ n c. refl;
-    listed = λ e. (e, record { new = λ f h. absurd h; reached = λ n h. elim h.1 [ ]; entries = []; found = no_more; lists = λ ws es k. k });
+    listed = λ e. (
+      e,
+      record {
+        new = λ f h. absurd h;
+        reached = λ n h. elim h.1 [ ];
+        entries = [];
+        found = no_more;
+        lists = λ ws es k. k;
+      },
+    );
   }
 
   named_taken : (xs : List Ident) (n : List ℕ) → Named xs n → is_among n xs ≡ true
@@ -107,24 +127,35 @@ module _ (g : Gathers) (exports : ℕ → Ident → Standing) where
       by (holds q) = refl
       by (fails_it c) = absurd (c h)
 
-  module _ (p : Placed) (mid next : List ℕ → Bool) (follows : (n : List ℕ) → mid n ≡ (is_among n (all_names p.what) || p.at.taken n)) (xs : List Declaration) (whole : List Placed) (old st up : St) (q : OneListing p old st) (z : Listing mid next xs whole st up) where
+  module _ (p : Placed) (mid next : List ℕ → Bool)
+      (follows : (n : List ℕ) → mid n ≡ (is_among n (all_names p.what) || p.at.taken n)) (xs : List Declaration)
+      (whole : List Placed) (old st up : St) (q : OneListing p old st) (z : Listing mid next xs whole st up) where
     mid_taken : (n : List ℕ) → p.at.taken n ≡ true → mid n ≡ true
     mid_taken n t = follows n ∙ either_second (is_among n (all_names p.what)) (p.at.taken n) t
 
     mid_named : (n : List ℕ) → Named (all_names p.what) n → mid n ≡ true
-    mid_named n h = follows n ∙ either_first (is_among n (all_names p.what)) (p.at.taken n) (named_taken (all_names p.what) n h)
+    mid_named n h = follows n ∙ either_first (is_among n (all_names p.what)) (p.at.taken n)
+        (named_taken (all_names p.what) n h)
 
-    one_then : OneListed p old.0 st.0 → AllListed mid next xs whole st.0 up.0 → AllListed p.at.taken next (p.what ∷ xs) (p ∷ whole) old.0 up.0
+    one_then : OneListed p old.0 st.0 → AllListed mid next xs whole st.0 up.0
+        → AllListed p.at.taken next (p.what ∷ xs) (p ∷ whole) old.0 up.0
     one_then a b = record {
       new = λ f h. elim (twice_split (λ n. p.at.taken n ≡ true) (all_names p.what) (names_all xs) f h) [
         | inl y ↦ a.new f y
-        | inr y ↦ b.new f (twice_as (λ n w. elim (added (all_names p.what) (λ n. p.at.taken n ≡ true) n w) [ inl u ↦ mid_named n u | inr u ↦ mid_taken n u ]) (names_all xs) f y)
+        | inr y ↦ b.new f (twice_as (λ n w. elim (added (all_names p.what) (λ n. p.at.taken n ≡ true) n w)
+            [ inl u ↦ mid_named n u | inr u ↦ mid_taken n u ]) (names_all xs) f y)
       ];
-      reached = λ n h. elim (named_split (all_names p.what) h) [ inl y ↦ (z.kept n (mid_named n y)).0 | inr y ↦ b.reached n y ];
+      reached = λ n h. elim (named_split (all_names p.what) h)
+          [ inl y ↦ (z.kept n (mid_named n y)).0 | inr y ↦ b.reached n y ];
       entries = (a.own ++ a.constants) ++ b.entries;
       found = found_both (found_moves (λ x m. (z.kept x.name (mid_named x.name (x, m, refl))).1) a.found) b.found;
-      lists = λ ws es k. subst (λ (fs : List Entry). AreExported exports (length old.0.variables) (length old.0.procedures) (p ∷ (whole ++ ws)) fs) (sym (append_assoc (a.own ++ a.constants) b.entries es ∙ append_assoc a.own a.constants (b.entries ++ es)))
-          (one_exports a.owns a.brings (subst (λ (v : ℕ). AreExported exports v (length old.0.procedures + procedures_of p.what) (whole ++ ws) (b.entries ++ es)) a.variables (subst (λ (v : ℕ). AreExported exports (length st.0.variables) v (whole ++ ws) (b.entries ++ es)) a.procedures (b.lists ws es k))));
+      lists = λ ws es k. subst (λ (fs : List Entry). AreExported exports (length old.0.variables)
+          (length old.0.procedures) (p ∷ (whole ++ ws)) fs)
+          (sym (append_assoc (a.own ++ a.constants) b.entries es ∙ append_assoc a.own a.constants (b.entries ++ es)))
+          (one_exports a.owns a.brings (subst (λ (v : ℕ). AreExported exports v
+          (length old.0.procedures + procedures_of p.what) (whole ++ ws) (b.entries ++ es)) a.variables
+          (subst (λ (v : ℕ). AreExported exports (length st.0.variables) v (whole ++ ws) (b.entries ++ es))
+          a.procedures (b.lists ws es k))));
     }
 
     pub listing_more : Listing p.at.taken next (p.what ∷ xs) (p ∷ whole) old up
@@ -134,18 +165,27 @@ module _ (g : Gathers) (exports : ℕ → Ident → Standing) where
       listed = λ e. let b = z.listed e in let a = q.listed b.0 in (a.0, one_then a.1 b.1);
     }
 
-  module _ (taken mid next : List ℕ → Bool) (xs ys : List Declaration) (ws us : List Placed) (old st up : St) (q : Listing taken mid xs ws old st) (z : Listing mid next ys us st up) where
-    both_then : AllListed taken mid xs ws old.0 st.0 → AllListed mid next ys us st.0 up.0 → AllListed taken next (xs ++ ys) (ws ++ us) old.0 up.0
+  module _ (taken mid next : List ℕ → Bool) (xs ys : List Declaration) (ws us : List Placed) (old st up : St)
+      (q : Listing taken mid xs ws old st) (z : Listing mid next ys us st up) where
+    both_then : AllListed taken mid xs ws old.0 st.0 → AllListed mid next ys us st.0 up.0
+        → AllListed taken next (xs ++ ys) (ws ++ us) old.0 up.0
     both_then a b = record {
-      new = subst (λ (ns : List Ident). NoTwice (λ n. taken n ≡ true) ns) (sym (names_both xs ys)) (λ f h. elim (twice_split (λ n. taken n ≡ true) (names_all xs) (names_all ys) f h) [
-        | inl y ↦ a.new f y
-        | inr y ↦ b.new f (twice_as (λ n w. elim (added (names_all xs) (λ n. taken n ≡ true) n w) [ inl u ↦ a.reached n u | inr u ↦ (q.kept n u).0 ]) (names_all ys) f y)
-      ]);
-      reached = λ n h. elim (named_split (names_all xs) (subst (λ (ns : List Ident). Named ns n) (names_both xs ys) h)) [ inl y ↦ (z.kept n (a.reached n y)).0 | inr y ↦ b.reached n y ];
+      new = subst (λ (ns : List Ident). NoTwice (λ n. taken n ≡ true) ns) (sym (names_both xs ys))
+          (λ f h. elim (twice_split (λ n. taken n ≡ true) (names_all xs) (names_all ys) f h) [
+            | inl y ↦ a.new f y
+            | inr y ↦ b.new f (twice_as (λ n w. elim (added (names_all xs) (λ n. taken n ≡ true) n w)
+                [ inl u ↦ a.reached n u | inr u ↦ (q.kept n u).0 ]) (names_all ys) f y)
+          ]);
+      reached = λ n h. elim (named_split (names_all xs) (subst (λ (ns : List Ident). Named ns n) (names_both xs ys) h))
+          [ inl y ↦ (z.kept n (a.reached n y)).0 | inr y ↦ b.reached n y ];
       entries = a.entries ++ b.entries;
-      found = subst (λ (ns : List Ident). Found up.0.own ns (a.entries ++ b.entries)) (sym (names_both xs ys)) (found_both (found_moves (λ x m. (z.kept x.name (a.reached x.name (x, m, refl))).1) a.found) b.found);
-      lists = λ vs es k. subst (λ (fs : List Entry). AreExported exports (length old.0.variables) (length old.0.procedures) ((ws ++ us) ++ vs) fs) (sym (append_assoc a.entries b.entries es))
-          (subst (λ (ps : List Placed). AreExported exports (length old.0.variables) (length old.0.procedures) ps (a.entries ++ (b.entries ++ es))) (sym (append_assoc ws us vs)) (a.lists (us ++ vs) (b.entries ++ es) (b.lists vs es k)));
+      found = subst (λ (ns : List Ident). Found up.0.own ns (a.entries ++ b.entries)) (sym (names_both xs ys))
+          (found_both (found_moves (λ x m. (z.kept x.name (a.reached x.name (x, m, refl))).1) a.found) b.found);
+      lists = λ vs es k. subst (λ (fs : List Entry). AreExported exports (length old.0.variables)
+          (length old.0.procedures) ((ws ++ us) ++ vs) fs) (sym (append_assoc a.entries b.entries es))
+          (subst (λ (ps : List Placed). AreExported exports (length old.0.variables) (length old.0.procedures) ps
+          (a.entries ++ (b.entries ++ es))) (sym (append_assoc ws us vs))
+          (a.lists (us ++ vs) (b.entries ++ es) (b.lists vs es k)));
     }
 
     any_left : {n : List ℕ} → AnyDeclares xs n → AnyDeclares (xs ++ ys) n

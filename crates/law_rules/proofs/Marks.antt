@@ -66,9 +66,11 @@ module _ (T : Type 0) where
   abbrev listed_field : Field-F TypeExpr Field → Field-F (List Ident) (List Ident)
   listed_field x = map-Field TypeExpr Field (List Ident) (List Ident) constants_in constants_in_field x
 
-  field_at : (f : Field) (x : Field-F TypeExpr Field) → out-Field f ≡ x → constants_in_field f ≡ constants_of_field (listed_field x)
+  field_at : (f : Field) (x : Field-F TypeExpr Field) → out-Field f ≡ x
+      → constants_in_field f ≡ constants_of_field (listed_field x)
   unfolding constants_in constants_in_field
-  field_at f x h = fold_out-Field (List Ident) (List Ident) constants_layer constants_of_field f ∙ ap (λ (y : Field-F TypeExpr Field). constants_of_field (listed_field y)) h
+  field_at f x h = fold_out-Field (List Ident) (List Ident) constants_layer constants_of_field f
+      ∙ ap (λ (y : Field-F TypeExpr Field). constants_of_field (listed_field y)) h
 
   simple_marks : (x : Simple) (s : Scope T) → marked_simple x s ≡ marked s (constants_listed x)
   simple_marks (simple.Named q) s = refl
@@ -90,7 +92,9 @@ module _ (T : Type 0) where
   layer_marks : (y : TypeExpr-F ST SF) (s : Scope T)
       → marking.type_layer (marks_opened (shut y)) s ≡ marked s (listed (shut y))
   layer_marks (layer.Simple x) s = simple_marks x s
-  layer_marks (layer.Array at index t) s = t.1 (marked_simple index s) ∙ ap (λ (u : Scope T). marked u (constants_in t.0)) (simple_marks index s) ∙ fold_both marked_later s (constants_listed index) (constants_in t.0)
+  layer_marks (layer.Array at index t) s = t.1 (marked_simple index s)
+      ∙ ap (λ (u : Scope T). marked u (constants_in t.0)) (simple_marks index s)
+      ∙ fold_both marked_later s (constants_listed index) (constants_in t.0)
   layer_marks (layer.Record at fields) s = fields_mark fields s
   layer_marks (layer.Procedure at formals t) s = refl
 
@@ -131,17 +135,21 @@ module _ (T : Type 0) where
   abbrev Marking : List Ident → Scope T → Scope T → Type 1
   Marking xs s t = (There : List ℕ → Type 0) → Covers There s → NoTwice There xs → Marked There xs s t
 
-  mark_by : (x : Ident) (k : Known T) (s : Scope T) (o : Option (Known T)) → find_name x.name s.own ≡ o → Marking (x ∷ []) s (unless_marked x.name k s o)
-  mark_by x k s (Some e) q There c n = absurd (n (x.pos ! rule.DeclaredTwice) (inl (c x.name (ap (λ (o : Option (Known T)). is_some o) q), refl)))
+  mark_by : (x : Ident) (k : Known T) (s : Scope T) (o : Option (Known T)) → find_name x.name s.own ≡ o
+      → Marking (x ∷ []) s (unless_marked x.name k s o)
+  mark_by x k s (Some e) q There c n = absurd
+      (n (x.pos ! rule.DeclaredTwice) (inl (c x.name (ap (λ (o : Option (Known T)). is_some o) q), refl)))
   mark_by x k s None q There c n = record {
     last = last_key x.name k s.own q;
-    covers = entered_all (λ n o. is_some o ≡ true → (x.name ≡ n) ⊎ There n) x.name k s.own (λ e. inl refl) (λ n d e. inr (c n e));
+    covers = entered_all (λ n o. is_some o ≡ true → (x.name ≡ n) ⊎ There n) x.name k s.own (λ e. inl refl)
+        (λ n d e. inr (c n e));
   }
 
   mark_one : (x : Ident) (k : Known T) (s : Scope T) → Marking (x ∷ []) s (mark_name x k s)
   mark_one x k s = mark_by x k s (find_name x.name s.own) refl
 
-  adding_both : (xs ys : List Ident) (There : List ℕ → Type 0) (n : List ℕ) → Adding ys (Adding xs There) n → Adding (xs ++ ys) There n
+  adding_both : (xs ys : List Ident) (There : List ℕ → Type 0) (n : List ℕ) → Adding ys (Adding xs There) n
+      → Adding (xs ++ ys) There n
   adding_both [] ys There n h = h
   adding_both (x ∷ xs) ys There n h = adding_both xs ys (λ m. (x.name ≡ m) ⊎ There m) n h
 
@@ -149,7 +157,9 @@ module _ (T : Type 0) where
   then_marked xs ys {s = s} a b There c n =
       let p = a There c (λ f h. n f (twice_join There xs ys f (inl h))) in
       let q = b (Adding xs There) p.covers (λ f h. n f (twice_join There xs ys f (inr h))) in record {
-        last = q.last ∙ ap (λ (ks : List (List ℕ)). ks ++ names ys) p.last ∙ append_assoc (keys s.own) (names xs) (names ys) ∙ ap (λ (ks : List (List ℕ)). keys s.own ++ ks) (sym (names_append xs ys));
+        last = q.last ∙ ap (λ (ks : List (List ℕ)). ks ++ names ys) p.last
+            ∙ append_assoc (keys s.own) (names xs) (names ys)
+            ∙ ap (λ (ks : List (List ℕ)). keys s.own ++ ks) (sym (names_append xs ys));
         covers = λ n e. adding_both xs ys There n (q.covers n e);
       }
 
@@ -163,26 +173,42 @@ module _ (T : Type 0) where
   -- ---- declarations
 
   as_names : {xs ys : List Ident} {s t : Scope T} → xs ≡ ys → Marking xs s t → Marking ys s t
-  as_names {s = s} {t = t} e m There c n = let p = m There c (subst (λ (zs : List Ident). NoTwice There zs) (sym e) n) in subst (λ (zs : List Ident). Marked There zs s t) e p
+  as_names {s = s} {t = t} e m There c n = let p =
+      m There c (subst (λ (zs : List Ident). NoTwice There zs) (sym e) n) in
+      subst (λ (zs : List Ident). Marked There zs s t) e p
 
   type_declares : (d : TypeDecl) (s : Scope T) → Marking (d.name ∷ constants_in d.of) s (marked_type s d)
   type_declares d s = let e = type_marked d.of (mark_name d.name Later s) in
-      λ There c n. subst (λ (t : Scope T). Marked There (d.name ∷ constants_in d.of) s t) (sym e) (then_marked (d.name ∷ []) (constants_in d.of) (mark_one d.name Later s) (list_marked (constants_in d.of) (mark_name d.name Later s)) There c n)
+      λ There c n. subst (λ (t : Scope T). Marked There (d.name ∷ constants_in d.of) s t) (sym e)
+      (then_marked (d.name ∷ []) (constants_in d.of) (mark_one d.name Later s)
+      (list_marked (constants_in d.of) (mark_name d.name Later s)) There c n)
 
   variables_declare : (v : Variables) (s : Scope T) → Marking (v.names ++ constants_in v.of) s (marked_variables s v)
   variables_declare v s = let e = type_marked v.of (fold marked_later s v.names) in
-      λ There c n. subst (λ (t : Scope T). Marked There (v.names ++ constants_in v.of) s t) (sym e) (then_marked v.names (constants_in v.of) (list_marked v.names s) (list_marked (constants_in v.of) (fold marked_later s v.names)) There c n)
+      λ There c n. subst (λ (t : Scope T). Marked There (v.names ++ constants_in v.of) s t) (sym e)
+      (then_marked v.names (constants_in v.of) (list_marked v.names s)
+      (list_marked (constants_in v.of) (fold marked_later s v.names)) There c n)
 
-  section_declares : {X : Type 0} (f : Scope T → X → Scope T) (of : X → Declaration) (ns : X → List Ident) → ((x : X) (s : Scope T) → Marking (ns x) s (f s x)) → ((x : X) (rest : List Declaration) → names_all (of x ∷ rest) ≡ ns x ++ names_all rest) → (xs : List X) (s : Scope T) → Marking (names_all (map of xs)) s (fold f s xs)
+  section_declares : {X : Type 0} (f : Scope T → X → Scope T) (of : X → Declaration) (ns : X → List Ident)
+      → ((x : X) (s : Scope T) → Marking (ns x) s (f s x))
+      → ((x : X) (rest : List Declaration) → names_all (of x ∷ rest) ≡ ns x ++ names_all rest)
+      → (xs : List X) (s : Scope T) → Marking (names_all (map of xs)) s (fold f s xs)
   section_declares f of ns h e [] s There c n = nothing_marked s There c n
-  section_declares f of ns h e (x ∷ xs) s There c n = as_names (sym (e x (map of xs))) (then_marked (ns x) (names_all (map of xs)) (h x s) (section_declares f of ns h e xs (f s x))) There c n
+  section_declares f of ns h e (x ∷ xs) s There c n =
+      as_names (sym (e x (map of xs))) (then_marked (ns x) (names_all (map of xs)) (h x s)
+      (section_declares f of ns h e xs (f s x))) There c n
 
   def_declares : (d : Def) (s : Scope T) → Marking (names_all (declared_in d)) s (marked_def s d)
-  def_declares (def.Constants cs) s = section_declares marked_constant OfConstant (λ c. c.name ∷ []) (λ c s. mark_one c.name Later s) (λ c rest. refl) cs s
-  def_declares (def.Types ts) s = section_declares marked_type OfType (λ d. d.name ∷ constants_in d.of) type_declares (λ d rest. refl) ts s
-  def_declares (def.Variables vs) s = section_declares marked_variables OfVariables (λ v. v.names ++ constants_in v.of) variables_declare (λ v rest. refl) vs s
+  def_declares (def.Constants cs) s = section_declares marked_constant OfConstant (λ c. c.name ∷ [])
+      (λ c s. mark_one c.name Later s) (λ c rest. refl) cs s
+  def_declares (def.Types ts) s = section_declares marked_type OfType (λ d. d.name ∷ constants_in d.of) type_declares
+      (λ d rest. refl) ts s
+  def_declares (def.Variables vs) s = section_declares marked_variables OfVariables (λ v. v.names ++ constants_in v.of)
+      variables_declare (λ v rest. refl) vs s
   def_declares (def.Procedure h) s = mark_one h.name Ahead s
 
   pub defs_declare : (ds : List Def) (s : Scope T) → Marking (names_all (all_declared ds)) s (fold marked_def s ds)
   defs_declare [] s There c n = nothing_marked s There c n
-  defs_declare (d ∷ ds) s There c n = as_names (sym (names_both (declared_in d) (all_declared ds))) (then_marked (names_all (declared_in d)) (names_all (all_declared ds)) (def_declares d s) (defs_declare ds (marked_def s d))) There c n
+  defs_declare (d ∷ ds) s There c n = as_names (sym (names_both (declared_in d) (all_declared ds)))
+      (then_marked (names_all (declared_in d)) (names_all (all_declared ds)) (def_declares d s)
+      (defs_declare ds (marked_def s d))) There c n

@@ -39,7 +39,8 @@ put_all b rs = record {
 }
 
 bodies_as : {p q : List Routine} {l m : List Routine} {o r : List Which} → p ≡ q → l ≡ m → o ≡ r
-    → ◌≡◌ {A = Bodies} (record { procedures = p; locals = l; order = o }) (record { procedures = q; locals = m; order = r })
+    → ◌≡◌ {A = Bodies} (record { procedures = p; locals = l; order = o })
+    (record { procedures = q; locals = m; order = r })
 bodies_as {q = q} {l = l} {m = m} {o = o} e f d =
     ap (λ (p : List Routine). let b : Bodies = record { procedures = p; locals = l; order = o } in b) e
     ∙ ap (λ (l : List Routine). let b : Bodies = record { procedures = q; locals = l; order = o } in b) f
@@ -51,7 +52,9 @@ put_none b = bodies_as refl (sym (append-nil b.locals)) (sym (append-nil b.order
 order_as : (x : Which) (o w b : List Which) → ((o ++ w) ++ x ∷ []) ++ b ≡ o ++ (w ++ x ∷ b)
 order_as x o w b = append_assoc (o ++ w) (x ∷ []) b ∙ append_assoc o w (x ∷ b)
 
-pub put_module : (b : Bodies) (n : ℕ) (r : Routine) (within behind : Routines) → put_all (put_routine (put_all b within) (which.Module n) r) behind ≡ put_all b (with_routine (which.Module n) r within behind)
+pub put_module : (b : Bodies) (n : ℕ) (r : Routine) (within behind : Routines)
+    → put_all (put_routine (put_all b within) (which.Module n) r) behind
+    ≡ put_all b (with_routine (which.Module n) r within behind)
 put_module b n r within behind = bodies_as
     (sym (fold_append put_number b.procedures within.procedures ((n, r) ∷ behind.procedures)))
     (append_assoc b.locals within.locals behind.locals)
@@ -62,10 +65,12 @@ set_there e r [] ys = refl
 set_there e r (x ∷ xs) ys = ap (λ (zs : List Routine). x ∷ zs) (set_there e r xs ys)
 
 pub put_local : (b : Bodies) (e r : Routine) (within behind : Routines)
-    → put_all (put_routine (put_all (record b { locals = b.locals ++ e ∷ [] }) within) (which.Local (length b.locals)) r) behind ≡ put_all b (with_routine (which.Local (length b.locals)) r within behind)
+    → put_all (put_routine (put_all (record b { locals = b.locals ++ e ∷ [] }) within) (which.Local (length b.locals))
+    r) behind ≡ put_all b (with_routine (which.Local (length b.locals)) r within behind)
 put_local b e r within behind = bodies_as
     (sym (fold_append put_number b.procedures within.procedures behind.procedures))
-    (ap (λ (ls : List Routine). ls ++ behind.locals) (set_there e r b.locals within.locals) ∙ append_assoc b.locals (r ∷ within.locals) behind.locals)
+    (ap (λ (ls : List Routine). ls ++ behind.locals) (set_there e r b.locals within.locals)
+    ∙ append_assoc b.locals (r ∷ within.locals) behind.locals)
     (order_as _ b.order within.order behind.order)
 
 set_length : (rs : List Routine) (n : ℕ) (r : Routine) → length (slice_set rs n r) ≡ length rs
@@ -81,18 +86,21 @@ length_last : {A : Type 0} (xs : List A) (x : A) → length (xs ++ x ∷ []) ≡
 length_last [] x = refl
 length_last (y ∷ xs) x = let e = length_last xs x in omega (arith, e)
 
-begun_as : (o : Bool) (b : Bodies) → length (cond o b (record b { locals = b.locals ++ empty_routine integer ∷ [] })).locals ≡ first_within o (length b.locals)
+begun_as : (o : Bool) (b : Bodies) → length
+    (cond o b (record b { locals = b.locals ++ empty_routine integer ∷ [] })).locals ≡ first_within o (length b.locals)
 begun_as true b = refl
 begun_as false b = length_last b.locals (empty_routine integer)
 
 -- The first procedure within a procedure has the number of the procedures that were met.
-pub begun_first : (level : ℕ) (b : Bodies) → length (begun_at level b).locals ≡ first_within (level == 0) (length b.locals)
+pub begun_first : (level : ℕ) (b : Bodies)
+    → length (begun_at level b).locals ≡ first_within (level == 0) (length b.locals)
 begun_first level b = begun_as (level == 0) b
 
 pub begun_module : (level : ℕ) (b : Bodies) → (level == 0) ≡ true → begun_at level b ≡ b
 begun_module level b e = ap (λ (o : Bool). cond o b (record b { locals = b.locals ++ empty_routine integer ∷ [] })) e
 
-pub begun_local : (level : ℕ) (b : Bodies) → (level == 0) ≡ false → begun_at level b ≡ record b { locals = b.locals ++ empty_routine integer ∷ [] }
+pub begun_local : (level : ℕ) (b : Bodies) → (level == 0) ≡ false
+    → begun_at level b ≡ record b { locals = b.locals ++ empty_routine integer ∷ [] }
 begun_local level b e = ap (λ (o : Bool). cond o b (record b { locals = b.locals ++ empty_routine integer ∷ [] })) e
 
 -- ---- how procedures in procedures are counted
@@ -102,11 +110,13 @@ abbrev pub Counts : (outermost : Bool) → (ends : List ℕ) → (first : ℕ) �
 Counts true ends first pre rest n = (ends ≡ procedure_ends (pre ++ rest)) × (n ≡ behind_inside 0 pre)
 Counts false ends first pre rest n = AreCounted ends n rest × (n ≡ behind_nested first pre)
 
-inside_one : (n : ℕ) (pre : List Decl) (d : Decl) → behind_inside n (pre ++ d ∷ []) ≡ next_inside (behind_inside n pre) (out-Decl d)
+inside_one : (n : ℕ) (pre : List Decl) (d : Decl)
+    → behind_inside n (pre ++ d ∷ []) ≡ next_inside (behind_inside n pre) (out-Decl d)
 inside_one n [] d = refl
 inside_one n (x ∷ pre) d = inside_one (next_inside n (out-Decl x)) pre d
 
-nested_one : (n : ℕ) (pre : List Decl) (d : Decl) → behind_nested n (pre ++ d ∷ []) ≡ next_nested (behind_nested n pre) (out-Decl d)
+nested_one : (n : ℕ) (pre : List Decl) (d : Decl)
+    → behind_nested n (pre ++ d ∷ []) ≡ next_nested (behind_nested n pre) (out-Decl d)
 nested_one n [] d = refl
 nested_one n (x ∷ pre) d = nested_one (next_nested n (out-Decl x)) pre d
 
@@ -126,22 +136,35 @@ module _ (ends : List ℕ) (first : ℕ) (pre : List Decl) (d : Decl) (rest : Li
   one_on : ends ≡ procedure_ends (pre ++ d ∷ rest) → ends ≡ procedure_ends ((pre ++ d ∷ []) ++ rest)
   one_on e = e ∙ ap procedure_ends (sym (append_assoc pre (d ∷ []) rest))
 
-  pub counts_other : (o : Bool) → IsNoProcedure (out-Decl d) → Counts o ends first pre (d ∷ rest) n → Counts o ends first (pre ++ d ∷ []) rest n
-  counts_other true i (e, c) = (one_on e, c ∙ sym (other_inside (behind_inside 0 pre) (out-Decl d) i) ∙ sym (inside_one 0 pre d))
-  counts_other false i (e, c) = (behind_other ends n d rest e i, c ∙ sym (other_nested (behind_nested first pre) (out-Decl d) i) ∙ sym (nested_one first pre d))
+  pub counts_other : (o : Bool) → IsNoProcedure (out-Decl d) → Counts o ends first pre (d ∷ rest) n
+      → Counts o ends first (pre ++ d ∷ []) rest n
+  counts_other true i (e, c) = (
+    one_on e,
+    c ∙ sym (other_inside (behind_inside 0 pre) (out-Decl d) i)
+        ∙ sym (inside_one 0 pre d),
+  )
+  counts_other false i (e, c) = (
+    behind_other ends n d rest e i,
+    c
+        ∙ sym (other_nested (behind_nested first pre) (out-Decl d) i) ∙ sym (nested_one first pre d),
+  )
 
   module _ (h : Heading) (c : Block) (is : out-Decl d ≡ layer.Procedure h c) where
-    pub counts_procedure : (o : Bool) → Counts o ends first pre (d ∷ rest) n → Counts o ends first (pre ++ d ∷ []) rest (next_number o n (out-Decl d))
+    pub counts_procedure : (o : Bool) → Counts o ends first pre (d ∷ rest) n
+        → Counts o ends first (pre ++ d ∷ []) rest (next_number o n (out-Decl d))
     counts_procedure true (e, k) = (one_on e, ap (λ (n : ℕ). next_inside n (out-Decl d)) k ∙ sym (inside_one 0 pre d))
     counts_procedure false (e, k) = (
-      subst (λ (n : ℕ). AreCounted ends n rest) (ap (λ (y : Decl-F Decl Block). next_nested n y) (sym is)) (blocks_counted ends n d rest h c is e).1,
+      subst (λ (n : ℕ). AreCounted ends n rest) (ap (λ (y : Decl-F Decl Block). next_nested n y) (sym is))
+          (blocks_counted ends n d rest h c is e).1,
       ap (λ (n : ℕ). next_nested n (out-Decl d)) k ∙ sym (nested_one first pre d),
     )
 
-    pub counts_inside : (o : Bool) → Counts o ends first pre (d ∷ rest) n → AreCounted ends (first_within o n) (out-Block c).decls
+    pub counts_inside : (o : Bool) → Counts o ends first pre (d ∷ rest) n
+        → AreCounted ends (first_within o n) (out-Block c).decls
     counts_inside true (e, k) =
         subst (λ (n : ℕ). AreCounted ends n (out-Block c).decls) (sym k)
-        (subst (λ (es : List ℕ). AreCounted es (behind_inside 0 pre) (out-Block c).decls) (sym e) (modules_counted pre d rest h c is))
+        (subst (λ (es : List ℕ). AreCounted es (behind_inside 0 pre) (out-Block c).decls) (sym e)
+        (modules_counted pre d rest h c is))
     counts_inside false (e, k) = (blocks_counted ends n d rest h c is e).0
 
     pub next_is : (o : Bool) → first_within o n + procedures_in c ≡ next_number o n (out-Decl d)
@@ -157,8 +180,10 @@ module _ (d : Decl) (h : Heading) (c : Block) (is : out-Decl d ≡ layer.Procedu
   heading_there [] = subst (λ (y : Decl-F Decl Block). Among h (headings_by y ++ headings_in rest)) (sym is) here
   heading_there (x ∷ pre) = among_right (headings_by (out-Decl x)) (heading_there pre)
 
-  number_here : (n : ℕ) (y : Decl-F Decl Block) → out-Decl d ≡ y → y ≡ layer.Procedure h c → Among (h, n) (nested_by n y ++ nested_numbers (next_nested n y) rest)
-  number_here n y e q = subst (λ (y : Decl-F Decl Block). Among {A = Heading × ℕ} (h, n) (nested_by n y ++ nested_numbers (next_nested n y) rest)) (sym q) here
+  number_here : (n : ℕ) (y : Decl-F Decl Block) → out-Decl d ≡ y → y ≡ layer.Procedure h c
+      → Among (h, n) (nested_by n y ++ nested_numbers (next_nested n y) rest)
+  number_here n y e q = subst (λ (y : Decl-F Decl Block). Among {A = Heading × ℕ} (h, n)
+      (nested_by n y ++ nested_numbers (next_nested n y) rest)) (sym q) here
 
   pub number_there : (n : ℕ) (pre : List Decl) → Among (h, behind_nested n pre) (nested_numbers n (pre ++ d ∷ rest))
   number_there n [] = number_here n (out-Decl d) refl is

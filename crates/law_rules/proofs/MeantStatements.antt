@@ -21,7 +21,8 @@ use Rattle.law_typed.proofs.Meant.{IfMeant, meant}
 use Rattle.law_typed.proofs.Statements.{list_so, statement_so}
 use Rattle.law_rules.proofs.Layers.{fold_agrees}
 
-module _ (g : Gathers) (j : Judges g) (lawful : Lawful g j) (exports : ℕ → Ident → Standing) (w : Site) (s : Scope g.Reported) where
+module _ (g : Gathers) (j : Judges g) (lawful : Lawful g j) (exports : ℕ → Ident → Standing) (w : Site)
+    (s : Scope g.Reported) where
   nothing : IsOne (AllMean s.types exports w []) []
   nothing = record { holds = rules.no_statement; alone = λ ys r. alone ys r }
     where
@@ -31,8 +32,10 @@ module _ (g : Gathers) (j : Judges g) (lawful : Lawful g j) (exports : ℕ → I
   listed : (a : Around g.Reported) (xs : List Stmt) → all_of g s a (map (stmt g) xs) ≡ statements g s a xs
   listed a xs = fold_agrees (with_stmt g s a) (with_written g s a) (stmt g) (λ so x. refl) (Ok []) xs
 
-  pub statements_meant : (returns : Option (Result TypeNo g.Reported)) → KnowsSite g j exports w s (record { gives = returns; in_loop = false }) → (body : Option (List Stmt))
-      → IfMeant (IsOne (AllMean s.types exports w (statements_in body))) (statements_of (elaborate_body g) s returns body)
+  pub statements_meant : (returns : Option (Result TypeNo g.Reported))
+      → KnowsSite g j exports w s (record { gives = returns; in_loop = false }) → (body : Option (List Stmt))
+      → IfMeant (IsOne (AllMean s.types exports w (statements_in body)))
+      (statements_of (elaborate_body g) s returns body)
   statements_meant returns k None = meant [] nothing
   statements_meant returns k (Some xs) =
       let a : Around g.Reported = record { gives = returns; in_loop = false } in

@@ -13,7 +13,9 @@ use Rattle.law_folds.proofs.ImportSteps.{KeepsImports}
 use Rattle.law_folds.proofs.ImportSteps as all_imports
 use Rattle.law_rules.specs.Importing.{imported_all}
 
-module _ (g : Gathers) (P : List (List ℕ × Known g.Reported) → Type 0) (more : (name : List ℕ) (k : Known g.Reported) (es : List (List ℕ × Known g.Reported)) → P es → P (enter_name name k es)) where
+module _ (g : Gathers) (P : List (List ℕ × Known g.Reported) → Type 0)
+    (more : (name : List ℕ) (k : Known g.Reported) (es : List (List ℕ × Known g.Reported)) → P es
+    → P (enter_name name k es)) where
   imports : KeepsImports g (λ s t. P s.own → P t.own)
   imports = record {
     order = fact (λ s. P s.own);
@@ -24,5 +26,6 @@ module _ (g : Gathers) (P : List (List ℕ × Known g.Reported) → Type 0) (mor
   pub imports_keep : (s : Scope g.Reported) (imports : List Import) → P s.own → P (imported_all g s imports).0.own
   imports_keep s is = all_imports.imports_keep g imports (numbered_modules s.tables).0 is (s, Ok tt)
 
-pub imports_once : (g : Gathers) (s : Scope g.Reported) (imports : List Import) → AreOnce s.own → AreOnce (imported_all g s imports).0.own
+pub imports_once : (g : Gathers) (s : Scope g.Reported) (imports : List Import) → AreOnce s.own
+    → AreOnce (imported_all g s imports).0.own
 imports_once g s imports h = imports_keep g (λ es. AreOnce es) (λ name k es o. once_more name k o) s imports h

@@ -34,13 +34,16 @@ use Rattle.law_rules.proofs.Starting.{meaning_known, meaning_headed}
 -- all of these names are declared
 data AreMeant {T : Type 0} : List (List ℕ × Known T) → Type 0 where
   no_name : AreMeant []
-  one_name : (n : List ℕ) (o : Origin) (m : Meaning) {ns : List (List ℕ × Known T)} → AreMeant ns → AreMeant ((n, Declared o (Ok m)) ∷ ns)
+  one_name : (n : List ℕ) (o : Origin) (m : Meaning) {ns : List (List ℕ × Known T)} → AreMeant ns
+      → AreMeant ((n, Declared o (Ok m)) ∷ ns)
 
-enter_by : {T : Type 0} (k n : List ℕ) (o : Origin) (w m : Meaning) {ns ms : List (List ℕ × Known T)} → AreMeant ns → AreMeant ms → (b : Bool) → AreMeant (cond b ((k, Declared Here (Ok m)) ∷ ns) ((k, Declared o (Ok w)) ∷ ms))
+enter_by : {T : Type 0} (k n : List ℕ) (o : Origin) (w m : Meaning) {ns ms : List (List ℕ × Known T)} → AreMeant ns
+    → AreMeant ms → (b : Bool) → AreMeant (cond b ((k, Declared Here (Ok m)) ∷ ns) ((k, Declared o (Ok w)) ∷ ms))
 enter_by k n o w m a c true = one_name k Here m a
 enter_by k n o w m a c false = one_name k o w c
 
-entered : {T : Type 0} (n : List ℕ) (m : Meaning) {ns : List (List ℕ × Known T)} → AreMeant ns → AreMeant (enter_name n (Declared Here (Ok m)) ns)
+entered : {T : Type 0} (n : List ℕ) (m : Meaning) {ns : List (List ℕ × Known T)} → AreMeant ns
+    → AreMeant (enter_name n (Declared Here (Ok m)) ns)
 entered n m no_name = one_name n Here m no_name
 entered n m (one_name k o w a) = enter_by k n o w m a (entered n m a) (same_name n k)
 
@@ -89,23 +92,31 @@ module _ (g : Gathers) (j : Judges g) where
   one_seen at o m true = meant_seen at m
   one_seen at o m false = nothing_seen at
 
-  slot_seen : (at : Pos) {ns : List (List ℕ × Known g.Reported)} → AreMeant ns → (p : ℕ) (b : Bool) → Seen at (means_as g at (or_outside (option_map {U = Known g.Reported × Bool} (λ e. (e.1, b)) (slice_get ns p)) None))
+  slot_seen : (at : Pos) {ns : List (List ℕ × Known g.Reported)} → AreMeant ns → (p : ℕ) (b : Bool)
+      → Seen at (means_as g at (or_outside (option_map {U = Known g.Reported × Bool} (λ e. (e.1, b)) (slice_get ns p))
+      None))
   slot_seen at no_name p b = nothing_seen at
   slot_seen at (one_name n o m a) zero b = one_seen at o m b
   slot_seen at (one_name n o m a) (suc p) b = slot_seen at a p b
 
-  place_seen : (at : Pos) (ns : List (List ℕ × Known g.Reported)) → AreMeant ns → (seen : ℕ) (p : Option ℕ) → Seen at (means_as g at (or_outside (seen_at seen ns p) None))
+  place_seen : (at : Pos) (ns : List (List ℕ × Known g.Reported)) → AreMeant ns → (seen : ℕ) (p : Option ℕ)
+      → Seen at (means_as g at (or_outside (seen_at seen ns p) None))
   place_seen at ns a seen None = nothing_seen at
   place_seen at ns a seen (Some p) = slot_seen at a p (nat_lt p seen)
 
-  name_seen : (home : ℕ) (tables : List Table) (name : Ident) → Seen name.pos (looked_up g (first_scope home tables) name)
-  name_seen home tables name = place_seen name.pos predeclared_names predeclared_meant (length (predeclared_names {T = g.Reported})) (place_of name.name (predeclared_names {T = g.Reported}))
+  name_seen : (home : ℕ) (tables : List Table) (name : Ident)
+      → Seen name.pos (looked_up g (first_scope home tables) name)
+  name_seen home tables name = place_seen name.pos predeclared_names predeclared_meant
+      (length (predeclared_names {T = g.Reported})) (place_of name.name (predeclared_names {T = g.Reported}))
 
   exports_it : (m : Option Meaning) → Exports g j (export_by m) m
   exports_it None = has_nothing
   exports_it (Some m) = has_exported m
 
-  pub taken_by : (tables : List Table) (front : List Imported) (n : List ℕ) → ((u : imports.Origin) × (m : Meaning) × Brings tables none front n u m) ⊎ ((u : imports.Origin) (m : Meaning) → Brings tables none front n u m → ⊥) → (b : Bool) × IsTaken tables front n b
+  pub taken_by : (tables : List Table) (front : List Imported) (n : List ℕ)
+      → ((u : imports.Origin) × (m : Meaning) × Brings tables none front n u m)
+      ⊎ ((u : imports.Origin) (m : Meaning) → Brings tables none front n u m → ⊥) → (b : Bool)
+      × IsTaken tables front n b
   taken_by tables front n (inl q) = (true, by_import q.0 q.1 q.2)
   taken_by tables front n (inr c) = (false, by_none c)
 
@@ -116,7 +127,11 @@ module _ (g : Gathers) (j : Judges g) where
         (λ name. (o name).0),
         (b.stand (λ name. (o name).0)).0,
         (λ n. (taken_by tables (all_imported m.imports) n (b.decided n)).0),
-        record { of_names = λ name. (o name).1; of_modules = λ k name. exports_it (exported_by name.name (slice_get tables k)) },
+        record {
+          of_names = λ name. (o name).1;
+          of_modules =
+              λ k name. exports_it (exported_by name.name (slice_get tables k));
+        },
         (λ name. ((o name).2, (o name).3)),
         (b.stand (λ name. (o name).0)).1,
         (λ n. (taken_by tables (all_imported m.imports) n (b.decided n)).1),

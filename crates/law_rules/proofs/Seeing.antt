@@ -50,30 +50,44 @@ module _ (g : Gathers) (w : Scope g.Reported) (seen : ℕ) (no_withs : w.withs �
   abbrev pub meant : Pos → Option (Known g.Reported) → Sight g.Reported → Result Meaning (Meaningless g.Reported)
   meant at k far = means_as g at (or_around k far)
 
-  pub looked_around : (name : Ident) → looked_up g w name ≡ means_as g name.pos (or_around (find_name name.name w.own) (known_outside name.name w.outer))
-  looked_around name = ap (λ (ws : List OpenedRecord). means_or (open_field w.types name.name ws) (means_as g name.pos (or_around (find_name name.name w.own) (known_outside name.name w.outer)))) no_withs
+  pub looked_around : (name : Ident) → looked_up g w name
+      ≡ means_as g name.pos (or_around (find_name name.name w.own) (known_outside name.name w.outer))
+  looked_around name = ap (λ (ws : List OpenedRecord). means_or (open_field w.types name.name ws)
+      (means_as g name.pos (or_around (find_name name.name w.own) (known_outside name.name w.outer)))) no_withs
 
-  looked_inner : (name : Ident) → looked_up g inner name ≡ means_as g name.pos (or_outside (in_block name.name around) (known_outside name.name w.outer))
-  looked_inner name = ap (λ (ws : List OpenedRecord). means_or (open_field w.types name.name ws) (means_as g name.pos (known_outside name.name (w.outer ++ around ∷ [])))) no_withs
+  looked_inner : (name : Ident) → looked_up g inner name
+      ≡ means_as g name.pos (or_outside (in_block name.name around) (known_outside name.name w.outer))
+  looked_inner name = ap (λ (ws : List OpenedRecord). means_or (open_field w.types name.name ws)
+      (means_as g name.pos (known_outside name.name (w.outer ++ around ∷ [])))) no_withs
       ∙ ap (λ (far : Sight g.Reported). means_as g name.pos far) (fold_last (nearer name.name) None w.outer around)
 
   block_none : (n : List ℕ) → find_name n w.own ≡ None → in_block n around ≡ None
   block_none n e = ap (λ (p : Option ℕ). seen_at seen w.own p) (place_none n w.own e)
 
-  block_some : (n : List ℕ) (k : Known g.Reported) → find_name n w.own ≡ Some k → in_block n around ≡ Some (k, nat_lt (index n w.own) seen)
+  block_some : (n : List ℕ) (k : Known g.Reported) → find_name n w.own ≡ Some k
+      → in_block n around ≡ Some (k, nat_lt (index n w.own) seen)
   block_some n k e = let s = stands_at n w.own k e in
       ap (λ (p : Option ℕ). seen_at seen w.own p) (place_found n w.own k e)
-      ∙ ap (λ (x : Option (List ℕ × Known g.Reported)). option_map (λ (e : List ℕ × Known g.Reported). (e.1, nat_lt (index n w.own) seen)) x) s.1
+      ∙ ap (λ (x : Option (List ℕ × Known g.Reported)). option_map
+      (λ (e : List ℕ × Known g.Reported). (e.1, nat_lt (index n w.own) seen)) x) s.1
 
   pub inner_none : (name : Ident) → find_name name.name w.own ≡ None → looked_up g inner name ≡ looked_up g w name
-  inner_none name e = looked_inner name ∙ ap (λ (b : Sight g.Reported). means_as g name.pos (or_outside b (known_outside name.name w.outer))) (block_none name.name e)
-      ∙ ap (λ (k : Option (Known g.Reported)). meant name.pos k (known_outside name.name w.outer)) (sym e) ∙ sym (looked_around name)
+  inner_none name e = looked_inner name ∙ ap
+      (λ (b : Sight g.Reported). means_as g name.pos (or_outside b (known_outside name.name w.outer)))
+      (block_none name.name e)
+      ∙ ap (λ (k : Option (Known g.Reported)). meant name.pos k (known_outside name.name w.outer)) (sym e)
+      ∙ sym (looked_around name)
 
-  pub around_some : (name : Ident) (k : Known g.Reported) → find_name name.name w.own ≡ Some k → looked_up g w name ≡ means_seen g name.pos k true
-  around_some name k e = looked_around name ∙ ap (λ (k : Option (Known g.Reported)). meant name.pos k (known_outside name.name w.outer)) e
+  pub around_some : (name : Ident) (k : Known g.Reported) → find_name name.name w.own ≡ Some k
+      → looked_up g w name ≡ means_seen g name.pos k true
+  around_some name k e = looked_around name
+      ∙ ap (λ (k : Option (Known g.Reported)). meant name.pos k (known_outside name.name w.outer)) e
 
-  pub inner_some : (name : Ident) (k : Known g.Reported) (b : Bool) → find_name name.name w.own ≡ Some k → nat_lt (index name.name w.own) seen ≡ b → looked_up g inner name ≡ means_seen g name.pos k b
-  inner_some name k b e q = looked_inner name ∙ ap (λ (b : Sight g.Reported). means_as g name.pos (or_outside b (known_outside name.name w.outer))) (block_some name.name k e)
+  pub inner_some : (name : Ident) (k : Known g.Reported) (b : Bool) → find_name name.name w.own ≡ Some k
+      → nat_lt (index name.name w.own) seen ≡ b → looked_up g inner name ≡ means_seen g name.pos k b
+  inner_some name k b e q = looked_inner name
+      ∙ ap (λ (b : Sight g.Reported). means_as g name.pos (or_outside b (known_outside name.name w.outer)))
+      (block_some name.name k e)
       ∙ ap (λ (b : Bool). means_seen g name.pos k b) q
 
 -- ---- standings of what is looked up
@@ -82,23 +96,28 @@ module _ (g : Gathers) (j : Judges g) where
   same_ok : {m n : Meaning} → ◌≡◌ {A = Result Meaning (Meaningless g.Reported)} (Ok m) (Ok n) → m ≡ n
   same_ok e = cc
 
-  pub sees_ok : {at : Pos} {s : Standing} {r : Result Meaning (Meaningless g.Reported)} (m : Meaning) → Sees g j at s r → r ≡ Ok m → s ≡ standing m
+  pub sees_ok : {at : Pos} {s : Standing} {r : Result Meaning (Meaningless g.Reported)} (m : Meaning) → Sees g j at s r
+      → r ≡ Ok m → s ≡ standing m
   sees_ok m (sees n) e = ap standing (same_ok e)
   sees_ok m sees_nothing e = absurd cc
   sees_ok m (sees_headless b r) e = absurd cc
   sees_ok m (sees_unknown r) e = absurd cc
 
-  same_nested : {b c : Bool} {r q : g.Reported} → ◌≡◌ {A = Result Meaning (Meaningless g.Reported)} (Err (meaningless.Headless b r)) (Err (meaningless.Headless c q)) → b ≡ c
+  same_nested : {b c : Bool} {r q : g.Reported}
+      → ◌≡◌ {A = Result Meaning (Meaningless g.Reported)} (Err (meaningless.Headless b r))
+      (Err (meaningless.Headless c q)) → b ≡ c
   same_nested e = cc
 
-  pub sees_headed : {at : Pos} {s : Standing} {r : Result Meaning (Meaningless g.Reported)} {b : Bool} {q : g.Reported} → Sees g j at s r → r ≡ Err (meaningless.Headless b q) → s ≡ things.Known (Headless b)
+  pub sees_headed : {at : Pos} {s : Standing} {r : Result Meaning (Meaningless g.Reported)} {b : Bool} {q : g.Reported}
+      → Sees g j at s r → r ≡ Err (meaningless.Headless b q) → s ≡ things.Known (Headless b)
   sees_headed (sees n) e = absurd cc
   sees_headed sees_nothing e = absurd cc
   sees_headed (sees_headless c r) e = ap (λ (x : Bool). things.Known (Headless x)) (same_nested e)
   sees_headed (sees_unknown r) e = absurd cc
 
   -- what stands for nothing that is known
-  pub sees_broken : {at : Pos} {s : Standing} {r : Result Meaning (Meaningless g.Reported)} {q : g.Reported} → Sees g j at s r → r ≡ Err (meaningless.Broken q) → (s ≡ Undeclared) ⊎ (s ≡ Unknown)
+  pub sees_broken : {at : Pos} {s : Standing} {r : Result Meaning (Meaningless g.Reported)} {q : g.Reported}
+      → Sees g j at s r → r ≡ Err (meaningless.Broken q) → (s ≡ Undeclared) ⊎ (s ≡ Unknown)
   sees_broken (sees n) e = absurd cc
   sees_broken sees_nothing e = inl refl
   sees_broken (sees_headless b r) e = absurd cc
@@ -109,7 +128,8 @@ module _ (g : Gathers) (j : Judges g) where
   no_procedure (inr e) p = elim (subst IsProcedure e p) [ ]
 
   -- two standings of one name
-  pub sees_two : {at : Pos} {s t : Standing} {r q : Result Meaning (Meaningless g.Reported)} → Sees g j at s r → Sees g j at t q → r ≡ q → (s ≡ Undeclared → ⊥) → (t ≡ Undeclared → ⊥) → s ≡ t
+  pub sees_two : {at : Pos} {s t : Standing} {r q : Result Meaning (Meaningless g.Reported)} → Sees g j at s r
+      → Sees g j at t q → r ≡ q → (s ≡ Undeclared → ⊥) → (t ≡ Undeclared → ⊥) → s ≡ t
   sees_two (sees m) z e a b = sym (sees_ok m z (sym e))
   sees_two sees_nothing z e a b = absurd (a refl)
   sees_two (sees_headless c r) z e a b = sym (sees_headed z (sym e))
@@ -151,36 +171,54 @@ module _ (g : Gathers) (j : Judges g) where
     -- what the scope has of a name behind the declarations, and where it stands
     pub data PlaceIs (n : List ℕ) : Option (Known g.Reported) → Type 0 where
       nowhere : (taken n ≡ false → AnyDeclares block n → ⊥) → PlaceIs n None
-      stands_in_front : (k : Known g.Reported) → (taken n ≡ false → AnyDeclares block n → AnyDeclares front n) → nat_lt (index n w.own) seen ≡ true → PlaceIs n (Some k)
-      stands_behind : (k : Known g.Reported) → taken n ≡ false → AnyDeclares block n → (AnyDeclares front n → ⊥) → nat_lt (index n w.own) seen ≡ false → Fits level k → PlaceIs n (Some k)
+      stands_in_front : (k : Known g.Reported) → (taken n ≡ false → AnyDeclares block n → AnyDeclares front n)
+          → nat_lt (index n w.own) seen ≡ true → PlaceIs n (Some k)
+      stands_behind : (k : Known g.Reported) → taken n ≡ false → AnyDeclares block n → (AnyDeclares front n → ⊥)
+          → nat_lt (index n w.own) seen ≡ false → Fits level k → PlaceIs n (Some k)
 
-    module _ (exports : ℕ → Ident → Standing) (names : Ident → Standing) (knows : Knows g j names exports w) (no_withs : w.withs ≡ []) (places : (n : List ℕ) → PlaceIs n (find_name n w.own))
-        (never_ahead : (name : Ident) → taken name.name ≡ false → AnyDeclares block name.name → names name ≡ things.Ahead → ⊥) where
+    module _ (exports : ℕ → Ident → Standing) (names : Ident → Standing) (knows : Knows g j names exports w)
+        (no_withs : w.withs ≡ []) (places : (n : List ℕ) → PlaceIs n (find_name n w.own))
+        (never_ahead : (name : Ident) → taken name.name ≡ false → AnyDeclares block name.name
+        → names name ≡ things.Ahead → ⊥) where
       abbrev pub In : Scope g.Reported
       In = inner g w seen no_withs
 
       pub data Looked (name : Ident) : Type 0 where
-        is_in_front : (taken name.name ≡ false → AnyDeclares block name.name → AnyDeclares front name.name) → looked_up g In name ≡ looked_up g w name → Looked name
+        is_in_front : (taken name.name ≡ false → AnyDeclares block name.name → AnyDeclares front name.name)
+            → looked_up g In name ≡ looked_up g w name → Looked name
         is_procedure : IsProcedure (names name) → looked_up g In name ≡ looked_up g w name → Looked name
-        is_unseen : taken name.name ≡ false → AnyDeclares block name.name → (AnyDeclares front name.name → ⊥) → (IsProcedure (names name) → ⊥) → looked_up g In name ≡ Err (meaningless.Broken (g.one (name.pos ! rule.Undeclared))) → Looked name
+        is_unseen : taken name.name ≡ false → AnyDeclares block name.name → (AnyDeclares front name.name → ⊥)
+            → (IsProcedure (names name) → ⊥) → looked_up g In name
+            ≡ Err (meaningless.Broken (g.one (name.pos ! rule.Undeclared))) → Looked name
 
       module _ (name : Ident) where
         -- a name that stands behind
-        behind_by : (k : Known g.Reported) → find_name name.name w.own ≡ Some k → taken name.name ≡ false → AnyDeclares block name.name → (AnyDeclares front name.name → ⊥) → Fits level k
-            → looked_up g In name ≡ means_seen g name.pos k false → looked_up g w name ≡ means_seen g name.pos k true → Looked name
+        behind_by : (k : Known g.Reported) → find_name name.name w.own ≡ Some k → taken name.name ≡ false
+            → AnyDeclares block name.name → (AnyDeclares front name.name → ⊥) → Fits level k
+            → looked_up g In name ≡ means_seen g name.pos k false → looked_up g w name ≡ means_seen g name.pos k true
+            → Looked name
         behind_by Later e t a c f i o = is_unseen t a c (no_procedure (sees_broken (knows.of_names name) o)) i
         behind_by Ahead e t a c f i o = absurd (never_ahead name t a (sees_ok meaning.Ahead (knows.of_names name) o))
         behind_by Begun e t a c f i o = is_unseen t a c (no_procedure (sees_broken (knows.of_names name) o)) i
-        behind_by (Headed (Ok m)) e t a c f i o = is_procedure (subst IsProcedure (sym (sees_ok m (knows.of_names name) o)) (procedure_stands m f)) (i ∙ sym o)
-        behind_by (Headed (Err (meaningless.Headless b r))) e t a c f i o = is_procedure (subst IsProcedure (sym (sees_headed (knows.of_names name) o)) bodies.headless) (i ∙ sym o)
+        behind_by (Headed (Ok m)) e t a c f i o =
+            is_procedure (subst IsProcedure (sym (sees_ok m (knows.of_names name) o)) (procedure_stands m f))
+            (i ∙ sym o)
+        behind_by (Headed (Err (meaningless.Headless b r))) e t a c f i o =
+            is_procedure (subst IsProcedure (sym (sees_headed (knows.of_names name) o)) bodies.headless) (i ∙ sym o)
         behind_by (Headed (Err (meaningless.Broken r))) e t a c f i o = absurd f
-        behind_by (Declared u (Ok m)) e t a c f i o = is_unseen t a c (λ p. fitting_procedure level m f (subst IsProcedure (sees_ok m (knows.of_names name) o) p)) i
-        behind_by (Declared u (Err r)) e t a c f i o = is_unseen t a c (no_procedure (sees_broken (knows.of_names name) o)) i
+        behind_by (Declared u (Ok m)) e t a c f i o =
+            is_unseen t a c (λ p. fitting_procedure level m f (subst IsProcedure (sees_ok m (knows.of_names name) o) p))
+            i
+        behind_by (Declared u (Err r)) e t a c f i o =
+            is_unseen t a c (no_procedure (sees_broken (knows.of_names name) o)) i
 
         looked_by : {k : Option (Known g.Reported)} → PlaceIs name.name k → find_name name.name w.own ≡ k → Looked name
         looked_by (nowhere c) e = is_in_front (λ t a. absurd (c t a)) (inner_none g w seen no_withs name e)
-        looked_by (stands_in_front k h l) e = is_in_front h (inner_some g w seen no_withs name k true e l ∙ sym (around_some g w seen no_withs name k e))
-        looked_by (stands_behind k t a c l f) e = behind_by k e t a c f (inner_some g w seen no_withs name k false e l) (around_some g w seen no_withs name k e)
+        looked_by (stands_in_front k h l) e =
+            is_in_front h (inner_some g w seen no_withs name k true e l ∙ sym (around_some g w seen no_withs name k e))
+        looked_by (stands_behind k t a c l f) e =
+            behind_by k e t a c f (inner_some g w seen no_withs name k false e l)
+            (around_some g w seen no_withs name k e)
 
         pub looked : Looked name
         looked = looked_by (places name.name) refl
@@ -197,7 +235,8 @@ module _ (g : Gathers) (j : Judges g) where
         Has s = Sees g j name.pos s (looked_up g In name)
 
         as_around : looked_up g In name ≡ looked_up g w name → Has (names name)
-        as_around e = subst (λ (r : Result Meaning (Meaningless g.Reported)). Sees g j name.pos (names name) r) (sym e) (knows.of_names name)
+        as_around e = subst (λ (r : Result Meaning (Meaningless g.Reported)). Sees g j name.pos (names name) r) (sym e)
+            (knows.of_names name)
 
         has_by : Looked name → {s : Standing} → S s → Has s
         has_by (is_in_front h e) (bodies.in_front i) = as_around e
@@ -208,9 +247,11 @@ module _ (g : Gathers) (j : Judges g) where
         has_by (is_procedure p e) (bodies.not_yet t a c n) = absurd (n p)
         has_by (is_unseen t a c n e) (bodies.in_front i) = absurd (c (i t a))
         has_by (is_unseen t a c n e) (bodies.a_procedure p) = absurd (n p)
-        has_by (is_unseen t a c n e) (bodies.not_yet u b d m) = subst (λ (r : Result Meaning (Meaningless g.Reported)). Sees g j name.pos Undeclared r) (sym e) sees_nothing
+        has_by (is_unseen t a c n e) (bodies.not_yet u b d m) =
+            subst (λ (r : Result Meaning (Meaningless g.Reported)). Sees g j name.pos Undeclared r) (sym e) sees_nothing
 
-        unknown_by : Looked name → {s : Standing} → S s → s ≡ Unknown → (names name ≡ Unknown) × (looked_up g In name ≡ looked_up g w name)
+        unknown_by : Looked name → {s : Standing} → S s → s ≡ Unknown → (names name ≡ Unknown)
+            × (looked_up g In name ≡ looked_up g w name)
         unknown_by (is_in_front h e) (bodies.in_front i) q = (q, e)
         unknown_by (is_in_front h e) (bodies.a_procedure p) q = (q, e)
         unknown_by (is_in_front h e) (bodies.not_yet t a c n) q = absurd cc
@@ -221,7 +262,8 @@ module _ (g : Gathers) (j : Judges g) where
         unknown_by (is_unseen t a c n e) (bodies.a_procedure p) q = absurd (n p)
         unknown_by (is_unseen t a c n e) (bodies.not_yet u b d m) q = absurd cc
 
-        known_by : Looked name → (r : Result Meaning (Meaningless g.Reported)) → looked_up g In name ≡ r → ((q : g.Reported) → r ≡ Err (meaningless.Broken q) → ⊥) → looked_up g w name ≡ r
+        known_by : Looked name → (r : Result Meaning (Meaningless g.Reported)) → looked_up g In name ≡ r
+            → ((q : g.Reported) → r ≡ Err (meaningless.Broken q) → ⊥) → looked_up g w name ≡ r
         known_by (is_in_front h e) r q n = sym e ∙ q
         known_by (is_procedure p e) r q n = sym e ∙ q
         known_by (is_unseen t a c m e) r q n = absurd (n (g.one (name.pos ! rule.Undeclared)) (sym q ∙ e))
@@ -231,15 +273,22 @@ module _ (g : Gathers) (j : Judges g) where
       pub seen_there : (sight : Ident → Standing) × ((name : Ident) → SeenAs taken block front names name (sight name))
       seen_there = ((λ name. (seen_by name (looked name)).0), (λ name. (seen_by name (looked name)).1))
 
-      module _ (sight : Ident → Standing) (all : (name : Ident) → SeenAs taken block front names name (sight name)) where
-        pub seen_knows : Knows g j sight exports In
-        seen_knows = record { of_names = λ name. has_by name (looked name) (all name); of_modules = λ k name. knows.of_modules k name }
+      module _ (sight : Ident → Standing) (all : (name : Ident) → SeenAs taken block front names name (sight name))
+        where
+          pub seen_knows : Knows g j sight exports In
+          seen_knows = record {
+            of_names = λ name. has_by name (looked name) (all name);
+            of_modules =
+                λ k name. knows.of_modules k name;
+          }
 
-        pub seen_repeats : (f : Breach) → Repeats g j sight In f → Repeats g j names w f
-        seen_repeats f (of_heading {name = name} {nested = b} {r = r} e q m) = let o = known_by name (looked name) (Err (meaningless.Headless b r)) q (λ z w. absurd cc) in
-            of_heading (sees_headed (knows.of_names name) o) o m
-        seen_repeats f (of_declaration {name = name} e q m) = let z = unknown_by name (looked name) (all name) e in of_declaration z.0 (sym z.1 ∙ q) m
+          pub seen_repeats : (f : Breach) → Repeats g j sight In f → Repeats g j names w f
+          seen_repeats f (of_heading {name = name} {nested = b} {r = r} e q m) = let o =
+              known_by name (looked name) (Err (meaningless.Headless b r)) q (λ z w. absurd cc) in
+              of_heading (sees_headed (knows.of_names name) o) o m
+          seen_repeats f (of_declaration {name = name} e q m) = let z = unknown_by name (looked name) (all name) e in
+              of_declaration z.0 (sym z.1 ∙ q) m
 
-        -- what is known inside is known around
-        pub known_around : (name : Ident) (m : Meaning) → looked_up g In name ≡ Ok m → looked_up g w name ≡ Ok m
-        known_around name m e = known_by name (looked name) (Ok m) e (λ z w. absurd cc)
+          -- what is known inside is known around
+          pub known_around : (name : Ident) (m : Meaning) → looked_up g In name ≡ Ok m → looked_up g w name ≡ Ok m
+          known_around name m e = known_by name (looked name) (Ok m) e (λ z w. absurd cc)

@@ -101,12 +101,16 @@ layer_marks s (def.Procedure h) = refl
 
 decls_declare : (ds : List Def) → declarations_of (map decl_of ds) ≡ all_declared ds
 decls_declare [] = refl
-decls_declare (x ∷ xs) = ap (λ (y : Decl-F Decl Block). declared_by y ++ declarations_of (map decl_of xs)) (decl_is x) ∙ ap (λ (ys : List Declaration). ys ++ declarations_of (map decl_of xs)) (layer_declares x)
+decls_declare (x ∷ xs) = ap (λ (y : Decl-F Decl Block). declared_by y ++ declarations_of (map decl_of xs)) (decl_is x)
+    ∙ ap (λ (ys : List Declaration). ys ++ declarations_of (map decl_of xs)) (layer_declares x)
     ∙ ap (λ (ys : List Declaration). declared_in x ++ ys) (decls_declare xs)
 
-decls_mark : {T : Type 0} (ds : List Def) (s : Scope T) (ns : List ℕ) → (fold (with_marks marked_decl) (s, ns) (map decl_of ds)).0 ≡ fold marked_def s ds
+decls_mark : {T : Type 0} (ds : List Def) (s : Scope T) (ns : List ℕ)
+    → (fold (with_marks marked_decl) (s, ns) (map decl_of ds)).0 ≡ fold marked_def s ds
 decls_mark [] s ns = refl
-decls_mark {T = T} (x ∷ xs) s ns = decls_mark xs (marked_decl s (decl_of x)) _ ∙ ap (λ (t : Scope T). fold marked_def t xs) (ap (λ (y : Decl-F Decl Block). marked_layer s y) (decl_is x) ∙ layer_marks s x)
+decls_mark {T = T} (x ∷ xs) s ns = decls_mark xs (marked_decl s (decl_of x)) _
+    ∙ ap (λ (t : Scope T). fold marked_def t xs)
+    (ap (λ (y : Decl-F Decl Block). marked_layer s y) (decl_is x) ∙ layer_marks s x)
 
 -- ---- no rule is broken where an imported name is declared
 
@@ -158,8 +162,12 @@ unheaded_mark T (OfProcedure h) = tt
 
 -- ---- one definition
 
-module _ (g : Gathers) (j : Judges g) (lawful : Lawful g j) (found : Finds g j) (home : ℕ) (m : Module) (tables : List Table) (exports : ℕ → Ident → Standing) (outside names : Ident → Standing) (knows : Knows g j outside exports (first_scope home tables)) (sound : AreSound outside)
-    (stands : (name : Ident) → StandsFor tables none (all_imported m.imports) outside name (names name)) (taken : List ℕ → Bool) (takes : (n : List ℕ) → IsTaken tables (all_imported m.imports) n (taken n)) (defs : List Def) where
+module _ (g : Gathers) (j : Judges g) (lawful : Lawful g j) (found : Finds g j) (home : ℕ) (m : Module)
+    (tables : List Table) (exports : ℕ → Ident → Standing) (outside names : Ident → Standing)
+    (knows : Knows g j outside exports (first_scope home tables)) (sound : AreSound outside)
+    (stands : (name : Ident) → StandsFor tables none (all_imported m.imports) outside name (names name))
+    (taken : List ℕ → Bool) (takes : (n : List ℕ) → IsTaken tables (all_imported m.imports) n (taken n))
+    (defs : List Def) where
   abbrev S : Type 0
   S = Scope g.Reported
 
@@ -183,11 +191,15 @@ module _ (g : Gathers) (j : Judges g) (lawful : Lawful g j) (found : Finds g j) 
   start = with_own (imported_all g first m.imports).0.own
 
   knows_start : Knows g j names exports start
-  knows_start = subst (λ (s : S). Knows g j names exports s) bare.rest (bare.known exports outside names knows refl stands)
+  knows_start = subst (λ (s : S). Knows g j names exports s) bare.rest
+      (bare.known exports outside names knows refl stands)
 
-  takes_by : (n : List ℕ) (b : Bool) → IsTaken tables (all_imported m.imports) n b → TakenAs g j b None (find_name n start.own)
-  takes_by n _ (by_import o w i) = subst (λ (k : Option (Known g.Reported)). TakenAs g j true None k) (sym (bare.brought n o w i)) (is_taken (origin_taken o (Ok w)))
-  takes_by n _ (by_none c) = subst (λ (k : Option (Known g.Reported)). TakenAs g j false None k) (sym (bare.other n c)) not_taken
+  takes_by : (n : List ℕ) (b : Bool) → IsTaken tables (all_imported m.imports) n b
+      → TakenAs g j b None (find_name n start.own)
+  takes_by n _ (by_import o w i) = subst (λ (k : Option (Known g.Reported)). TakenAs g j true None k)
+      (sym (bare.brought n o w i)) (is_taken (origin_taken o (Ok w)))
+  takes_by n _ (by_none c) = subst (λ (k : Option (Known g.Reported)). TakenAs g j false None k) (sym (bare.other n c))
+      not_taken
 
   takes_start : (n : List ℕ) → TakenAs g j (taken n) None (find_name n start.own)
   takes_start n = takes_by n (taken n) (takes n)
@@ -200,7 +212,8 @@ module _ (g : Gathers) (j : Judges g) (lawful : Lawful g j) (found : Finds g j) 
   marks_rest = (definition_imports g j lawful home tables defs m.imports).0
 
   kept : AreImportsExact g j none (with_own marked.own) m.imports
-  kept = subst (λ (s : S). AreImportsExact g j none s m.imports) marks_rest (definition_imports g j lawful home tables defs m.imports).1
+  kept = subst (λ (s : S). AreImportsExact g j none s m.imports) marks_rest
+      (definition_imports g j lawful home tables defs m.imports).1
 
   abbrev entered : State (Unit {0}) g.Reported
   entered = imported_all g (with_own marked.own) m.imports
@@ -214,13 +227,17 @@ module _ (g : Gathers) (j : Judges g) (lawful : Lawful g j) (found : Finds g j) 
   ThBare = rules.There first.types exports outside none none_awaited false block []
 
   marks_begin : KnowsBlock g j exports outside first none none_awaited false block [] block ThBare marked
-  marks_begin = subst (λ (s : S). KnowsBlock g j exports outside first none none_awaited false block [] block ThBare s) (decls_mark defs first []) (block_begins g j exports outside first none none_awaited false block (λ n. not_taken) (map decl_of defs) refl (decls_declare defs))
+  marks_begin = subst (λ (s : S). KnowsBlock g j exports outside first none none_awaited false block [] block ThBare s)
+      (decls_mark defs first []) (block_begins g j exports outside first none none_awaited false block (λ n. not_taken)
+      (map decl_of defs) refl (decls_declare defs))
 
-  taken_is : {n : List ℕ} {b : Bool} → IsTaken tables (all_imported m.imports) n b → (o : Origin) (w : Meaning) → There n o w → b ≡ true
+  taken_is : {n : List ℕ} {b : Bool} → IsTaken tables (all_imported m.imports) n b → (o : Origin) (w : Meaning)
+      → There n o w → b ≡ true
   taken_is (by_import u x i) o w h = refl
   taken_is (by_none c) o w h = absurd (c o w h)
 
-  free_is : {n : List ℕ} {b : Bool} → IsTaken tables (all_imported m.imports) n b → ((o : Origin) (w : Meaning) → There n o w → ⊥) → b ≡ false
+  free_is : {n : List ℕ} {b : Bool} → IsTaken tables (all_imported m.imports) n b
+      → ((o : Origin) (w : Meaning) → There n o w → ⊥) → b ≡ false
   free_is (by_import u x i) c = absurd (c u x i)
   free_is (by_none d) c = refl
 
@@ -235,18 +252,24 @@ module _ (g : Gathers) (j : Judges g) (lawful : Lawful g j) (found : Finds g j) 
   none_waits : (n : List ℕ) (t : TypeNo) → none_awaited n ≡ Some t → ⊥
   none_waits n t v = cc
 
-  not_imported : (n : List ℕ) → ((o : Origin) (w : Meaning) → There n o w → ⊥) → taken n ≡ false → {k : Option (Known g.Reported)} → KnownAs g j exports outside first none none_awaited false block [] ThBare n k → KnownAs g j exports names start taken none_awaited false block [] Th n k
-  not_imported n c t (outer h w e) = outer (λ u a. h refl a) (λ u v z. absurd (none_waits n u v)) (e ∙ sym (bare.other n c))
+  not_imported : (n : List ℕ) → ((o : Origin) (w : Meaning) → There n o w → ⊥) → taken n ≡ false
+      → {k : Option (Known g.Reported)} → KnownAs g j exports outside first none none_awaited false block [] ThBare n k
+      → KnownAs g j exports names start taken none_awaited false block [] Th n k
+  not_imported n c t (outer h w e) = outer (λ u a. h refl a) (λ u v z. absurd (none_waits n u v))
+      (e ∙ sym (bare.other n c))
   not_imported n c t (headed p a b w) = elim b.1 [ ]
   not_imported n c t (ahead d u i h w) = ahead d t i h (λ th. nothing_there t th)
   not_imported n c t (reading d u i h w q) = absurd (nothing_bare w)
   not_imported n c t (behind k u i o s) = elim i [ ]
   not_imported n c t (a_member u i o a e) = elim i [ ]
 
-  name_known : (n : List ℕ) → KnownAs g j exports names start taken none_awaited false block [] Th n (find_name n entered.0.own)
+  name_known : (n : List ℕ) → KnownAs g j exports names start taken none_awaited false block [] Th n
+      (find_name n entered.0.own)
   name_known n = elim (kept.decided n) [
-    | inl q ↦ outer (λ t a. clash (taken_is (takes n) q.0 q.1 q.2) t) (λ u v z. absurd (none_waits n u v)) (kept.brought n q.0 q.1 q.2 ∙ sym (bare.brought n q.0 q.1 q.2))
-    | inr c ↦ subst (λ (k : Option (Known g.Reported)). KnownAs g j exports names start taken none_awaited false block [] Th n k) (sym (kept.other n c)) (not_imported n c (free_is (takes n) c) (marks_begin.own n))
+    | inl q ↦ outer (λ t a. clash (taken_is (takes n) q.0 q.1 q.2) t) (λ u v z. absurd (none_waits n u v))
+        (kept.brought n q.0 q.1 q.2 ∙ sym (bare.brought n q.0 q.1 q.2))
+    | inr c ↦ subst (λ (k : Option (Known g.Reported)). KnownAs g j exports names start taken none_awaited false block
+        [] Th n k) (sym (kept.other n c)) (not_imported n c (free_is (takes n) c) (marks_begin.own n))
   ]
 
   begins : KnowsBlock g j exports names start taken none_awaited false block [] block Th entered.0
@@ -269,10 +292,12 @@ module _ (g : Gathers) (j : Judges g) (lawful : Lawful g j) (found : Finds g j) 
   entered_unheaded : AreUnheaded entered.0.own
   entered_unheaded n = elim (kept.decided n) [
     | inl q ↦ subst (λ (k : Option (Known g.Reported)). Unheaded k) (sym (kept.brought n q.0 q.1 q.2)) tt
-    | inr c ↦ subst (λ (k : Option (Known g.Reported)). Unheaded k) (sym (kept.other n c)) (mark_unheaded (marks_begin.own n))
+    | inr c ↦ subst (λ (k : Option (Known g.Reported)). Unheaded k) (sym (kept.other n c))
+        (mark_unheaded (marks_begin.own n))
   ]
     where
-      mark_unheaded : {k : Option (Known g.Reported)} → KnownAs g j exports outside first none none_awaited false block [] ThBare n k → Unheaded k
+      mark_unheaded : {k : Option (Known g.Reported)}
+          → KnownAs g j exports outside first none none_awaited false block [] ThBare n k → Unheaded k
       mark_unheaded (outer h w e) = subst (λ (k : Option (Known g.Reported)). Unheaded k) (sym e) tt
       mark_unheaded (headed p a b w) = elim b.1 [ ]
       mark_unheaded (ahead d u i h w) = unheaded_mark g.Reported d
@@ -289,7 +314,8 @@ module _ (g : Gathers) (j : Judges g) (lawful : Lawful g j) (found : Finds g j) 
   told_by (reports_nothing n) = silent n
   told_by (reports_broken r a) = tells r a
 
-  names_sound : (name : Ident) {s : Standing} → StandsFor tables none (all_imported m.imports) outside name s → (s ≡ Unknown → ⊥) × ((b : Bool) → s ≡ things.Known (Headless b) → ⊥)
+  names_sound : (name : Ident) {s : Standing} → StandsFor tables none (all_imported m.imports) outside name s
+      → (s ≡ Unknown → ⊥) × ((b : Bool) → s ≡ things.Known (Headless b) → ⊥)
   names_sound name (imported o w b) = ((λ e. meaning_known w e), (λ b e. meaning_headed w e))
   names_sound name (from_outside c) = sound name
 
@@ -310,20 +336,25 @@ module _ (g : Gathers) (j : Judges g) (lawful : Lawful g j) (found : Finds g j) 
   }
 
   all_of_it : RanAll g j lawful exports start names taken block Before entered (fold (with_def g) entered defs)
-  all_of_it = defs_ran g j lawful exports defs start names taken Before entered.0 entered.1 stands_first (told_by kept.reported) entered_unheaded
+  all_of_it = defs_ran g j lawful exports defs start names taken Before entered.0 entered.1 stands_first
+      (told_by kept.reported) entered_unheaded
 
   -- a table, or what is reported
   data Tabled (Is : Table → Type 0) (B : Breach → Type 0) : Result Table g.Reported → Type 0 where
     a_table : (t : Table) → Is t → ((f : Breach) → B f → ⊥) → Tabled Is B (Ok t)
     a_refusal : (r : g.Reported) → Accounts g j (λ f. ⊥) B r → Tabled Is B (Err r)
 
-  table_by : {Is : Table → Type 0} {B : Breach → Type 0} (modules : List (List ℕ × ℕ)) (s : S) {r : Result (Unit {0}) g.Reported} → (r ≡ Ok tt → Is (table_of m modules s)) → Tells g j lawful (λ f. ⊥) B r → Tabled Is B (table_or m modules s r)
+  table_by : {Is : Table → Type 0} {B : Breach → Type 0} (modules : List (List ℕ × ℕ)) (s : S)
+      {r : Result (Unit {0}) g.Reported} → (r ≡ Ok tt → Is (table_of m modules s)) → Tells g j lawful (λ f. ⊥) B r
+      → Tabled Is B (table_or m modules s r)
   table_by modules s i (silent n) = a_table (table_of m modules s) (i refl) n
   table_by modules s i (tells r a) = a_refusal r a
 
-  answered_by : {Is : Table → Type 0} {B : Breach → Type 0} {r : Result Table g.Reported} → ((e : g.Reported) → r ≡ Err e → (f : Breach) × j.Among e f) → Tabled Is B r → IsAnswered g j Is B r
+  answered_by : {Is : Table → Type 0} {B : Breach → Type 0} {r : Result Table g.Reported}
+      → ((e : g.Reported) → r ≡ Err e → (f : Breach) × j.Among e f) → Tabled Is B r → IsAnswered g j Is B r
   answered_by h (a_table t i n) = is_table t i n
-  answered_by h (a_refusal e a) = let x = h e refl in is_refused e a x.0 (elim (a.only x.0 x.1) [ inl b ↦ b | inr z ↦ absurd z ])
+  answered_by h (a_refusal e a) = let x = h e refl in
+      is_refused e a x.0 (elim (a.only x.0 x.1) [ inl b ↦ b | inr z ↦ absurd z ])
 
   abbrev Broken : Breach → Type 0
   Broken f = Before f ⊎ definitions.BrokenIn exports all_of_it.whole f
@@ -352,9 +383,11 @@ module _ (g : Gathers) (j : Judges g) (lawful : Lawful g j) (found : Finds g j) 
   final_once = all_of_it.stands.block.once all_of_it.stands.once
 
   -- A name that is not declared is not exported.
-  undeclared_entry : (n : List ℕ) (k : Known g.Reported) → (AnyDeclares block n → ⊥) → find_name n entered.0.own ≡ Some k → entry_of n k ≡ []
+  undeclared_entry : (n : List ℕ) (k : Known g.Reported) → (AnyDeclares block n → ⊥)
+      → find_name n entered.0.own ≡ Some k → entry_of n k ≡ []
   undeclared_entry n k c e = elim (kept.decided n) [
-    | inl q ↦ subst (λ (k : Known g.Reported). entry_of n k ≡ []) (one_known (sym (kept.brought n q.0 q.1 q.2) ∙ e)) (foreign_entry q.0 (Ok q.1))
+    | inl q ↦ subst (λ (k : Known g.Reported). entry_of n k ≡ []) (one_known (sym (kept.brought n q.0 q.1 q.2) ∙ e))
+        (foreign_entry q.0 (Ok q.1))
     | inr w ↦ absurd (no_mark (marks_begin.own n) (sym (kept.other n w) ∙ e))
   ]
     where
@@ -365,7 +398,8 @@ module _ (g : Gathers) (j : Judges g) (lawful : Lawful g j) (found : Finds g j) 
       foreign_entry (Itself k) m = refl
       foreign_entry (Exported k) m = refl
 
-      no_mark : {o : Option (Known g.Reported)} → KnownAs g j exports outside first none none_awaited false block [] ThBare n o → o ≡ Some k → ⊥
+      no_mark : {o : Option (Known g.Reported)}
+          → KnownAs g j exports outside first none none_awaited false block [] ThBare n o → o ≡ Some k → ⊥
       no_mark (outer h w e) q = let z = sym e ∙ q in absurd cc
       no_mark (headed p a b w) q = elim b.1 [ ]
       no_mark (ahead d u i h w) q = c (any_first i)
@@ -378,26 +412,40 @@ module _ (g : Gathers) (j : Judges g) (lawful : Lawful g j) (found : Finds g j) 
     listed = (all_of_it.listing.listed e).1
 
     marks_first : Begins keys_declared marked.own
-    marks_first = ([], (defs_declare g.Reported defs first (λ n. ⊥) (λ n q. clash q refl) (λ f h. listed.new f (twice_as (λ n z. absurd z) (names_all block) f h))).last ∙ sym (nil_right keys_declared))
+    marks_first = (
+      [],
+      (defs_declare g.Reported defs first (λ n. ⊥) (λ n q. clash q refl)
+          (λ f h. listed.new f (twice_as (λ n z. absurd z) (names_all block) f h))).last
+          ∙ sym (nil_right keys_declared),
+    )
 
     keys_first : Begins keys_declared final.0.own
-    keys_first = defs_keep g (λ es. Begins keys_declared es) (λ name k es b. begins_more keys_declared name k es b) defs entered (imports_keep g (λ es. Begins keys_declared es) (λ name k es b. begins_more keys_declared name k es b) (with_own marked.own) m.imports marks_first)
+    keys_first = defs_keep g (λ es. Begins keys_declared es) (λ name k es b. begins_more keys_declared name k es b) defs
+        entered (imports_keep g (λ es. Begins keys_declared es) (λ name k es b. begins_more keys_declared name k es b)
+        (with_own marked.own) m.imports marks_first)
 
     key_declared : {n : List ℕ} (xs : List Ident) → Named xs n → Among n (names_in g.Reported xs)
     key_declared [] h = elim h.1 [ ]
-    key_declared {n = n} (x ∷ xs) (_, here, q) = subst (λ (k : List ℕ). Among n (k ∷ names_in g.Reported xs)) (sym q) here
+    key_declared {n = n} (x ∷ xs) (_, here, q) =
+        subst (λ (k : List ℕ). Among n (k ∷ names_in g.Reported xs)) (sym q) here
     key_declared (x ∷ xs) (y, later i, q) = later (key_declared xs (y, i, q))
 
-    other_entry : (d : List ℕ × Known g.Reported) → Among d final.0.own → (n : List ℕ) → Among n keys_first.0 → d.0 ≡ n → entry_of d.0 d.1 ≡ []
+    other_entry : (d : List ℕ × Known g.Reported) → Among d final.0.own → (n : List ℕ) → Among n keys_first.0 → d.0 ≡ n
+        → entry_of d.0 d.1 ≡ []
     other_entry d i n w q =
-        let c : AnyDeclares block d.0 → ⊥ = (λ a. keys_apart final_once d.0 keys_declared keys_first.0 keys_first.1 (key_declared (names_all block) (any_named_all block a)) (subst (λ (k : List ℕ). Among k keys_first.0) (sym q) w)) in
+        let c : AnyDeclares block d.0 → ⊥ = (λ a. keys_apart final_once d.0 keys_declared keys_first.0 keys_first.1
+        (key_declared (names_all block) (any_named_all block a))
+        (subst (λ (k : List ℕ). Among k keys_first.0) (sym q) w)) in
         undeclared_entry d.0 d.1 c (sym (all_of_it.listing.others d.0 c) ∙ once_found final_once d i)
 
     exports_so : (table_of m modules final.0).exported ≡ listed.entries
     exports_so = exported_are final_once keys_first.0 listed.found keys_first.1 other_entry
 
     -- what is known behind all declarations
-    behind_all : (n : List ℕ) {k : Option (Known g.Reported)} → KnownAs g j exports all_of_it.next_names all_of_it.next all_of_it.next_taken all_of_it.stands.awaited false [] [] (rules.There all_of_it.next.types exports all_of_it.next_names all_of_it.next_taken all_of_it.stands.awaited false [] []) n k → k ≡ find_name n all_of_it.next.own
+    behind_all : (n : List ℕ) {k : Option (Known g.Reported)}
+        → KnownAs g j exports all_of_it.next_names all_of_it.next all_of_it.next_taken all_of_it.stands.awaited false []
+        [] (rules.There all_of_it.next.types exports all_of_it.next_names all_of_it.next_taken all_of_it.stands.awaited
+        false [] []) n k → k ≡ find_name n all_of_it.next.own
     behind_all n (outer h w e) = e
     behind_all n (headed p a b w) = elim b.1 [ ]
     behind_all n (ahead d u i h w) = elim i [ ]
@@ -411,13 +459,19 @@ module _ (g : Gathers) (j : Judges g) (lawful : Lawful g j) (found : Finds g j) 
     abbrev looked_with : Ident → Option (Known g.Reported) → Result Meaning (Meaningless g.Reported)
     looked_with x k = means_as g x.pos (or_around k (known_outside x.name all_of_it.next.outer))
 
-    looked_behind : (x : Ident) (w : Meaning) → find_name x.name final.0.own ≡ Some (known.Declared Here (Ok w)) → looked_up g all_of_it.next x ≡ Ok w
+    looked_behind : (x : Ident) (w : Meaning) → find_name x.name final.0.own ≡ Some (known.Declared Here (Ok w))
+        → looked_up g all_of_it.next x ≡ Ok w
     looked_behind x w q =
-        ap (λ (ws : List OpenedRecord). means_or (open_field all_of_it.next.types x.name ws) (looked_with x (find_name x.name all_of_it.next.own))) all_of_it.stands.no_withs
-        ∙ ap (λ (k : Option (Known g.Reported)). looked_with x k) (sym (behind_all x.name (all_of_it.stands.block.own x.name)) ∙ q)
+        ap (λ (ws : List OpenedRecord). means_or (open_field all_of_it.next.types x.name ws)
+        (looked_with x (find_name x.name all_of_it.next.own))) all_of_it.stands.no_withs
+        ∙ ap (λ (k : Option (Known g.Reported)). looked_with x k)
+        (sym (behind_all x.name (all_of_it.stands.block.own x.name)) ∙ q)
 
-    its_meanings : (x : Ident) (w : Meaning) → find_name x.name (table_of m modules final.0).exported ≡ Some w → last.names x ≡ standing w
-    its_meanings x w q = seen_as (subst (λ (r : Result Meaning (Meaningless g.Reported)). Sees g j x.pos (last.names x) r) (looked_behind x w (found_named listed.found x.name w (subst (λ (es : List Entry). find_name x.name es ≡ Some w) exports_so q))) (all_of_it.stands.knows.of_names x))
+    its_meanings : (x : Ident) (w : Meaning) → find_name x.name (table_of m modules final.0).exported ≡ Some w
+        → last.names x ≡ standing w
+    its_meanings x w q = seen_as (subst (λ (r : Result Meaning (Meaningless g.Reported)). Sees g j x.pos (last.names x)
+        r) (looked_behind x w (found_named listed.found x.name w
+        (subst (λ (es : List Entry). find_name x.name es ≡ Some w) exports_so q))) (all_of_it.stands.knows.of_names x))
 
     no_variables : length entered.0.variables ≡ 0
     no_variables = ap (λ (s : S). length s.variables) kept.rest
@@ -427,32 +481,45 @@ module _ (g : Gathers) (j : Judges g) (lawful : Lawful g j) (found : Finds g j) 
 
     its_exports : AreExported exports 0 0 all_of_it.whole (table_of m modules final.0).exported
     its_exports = subst (λ (es : List Entry). AreExported exports 0 0 all_of_it.whole es) (sym exports_so)
-        (subst (λ (ws : List Placed). AreExported exports 0 0 ws listed.entries) (nil_right all_of_it.whole) (subst (λ (es : List Entry). AreExported exports 0 0 (all_of_it.whole ++ []) es) (nil_right listed.entries)
-        (subst (λ (v : ℕ). AreExported exports v 0 (all_of_it.whole ++ []) (listed.entries ++ [])) no_variables (subst (λ (p : ℕ). AreExported exports (length entered.0.variables) p (all_of_it.whole ++ []) (listed.entries ++ [])) no_procedures (listed.lists [] [] nothing_exported)))))
+        (subst (λ (ws : List Placed). AreExported exports 0 0 ws listed.entries) (nil_right all_of_it.whole)
+        (subst (λ (es : List Entry). AreExported exports 0 0 (all_of_it.whole ++ []) es) (nil_right listed.entries)
+        (subst (λ (v : ℕ). AreExported exports v 0 (all_of_it.whole ++ []) (listed.entries ++ [])) no_variables
+        (subst (λ (p : ℕ). AreExported exports (length entered.0.variables) p (all_of_it.whole ++ [])
+        (listed.entries ++ [])) no_procedures (listed.lists [] [] nothing_exported)))))
 
   its_table : final.1 ≡ Ok tt → Is (table_of m modules final.0)
   its_table e = let k = all_of_it.stands.block.same in record {
     of_number = ap (λ (t : Types). t.home) k.types ∙ home_kept all_of_it.follow;
     of_name = refl;
-    of_imports = subst (λ (ts : List Table). AreModules tables (all_imported m.imports) (imported_modules modules ts m.imports)) (sym (k.tables ∙ all_of_it.tables)) (modules_are tables m.imports);
-    of_types = let w = types_are tables last.types (others_kept all_of_it.follow) in
-        (w.0, w.1, ap (λ (t : Types). reached_of t) k.types ∙ w.2 ∙ ap (λ (n : ℕ). w.0 ++ own_met n last.types.own) (home_kept all_of_it.follow));
+    of_imports = subst (λ (ts : List Table). AreModules tables (all_imported m.imports)
+        (imported_modules modules ts m.imports)) (sym (k.tables ∙ all_of_it.tables)) (modules_are tables m.imports);
+    of_types = let w = types_are tables last.types (others_kept all_of_it.follow) in (
+      w.0,
+      w.1,
+      ap (λ (t : Types). reached_of t) k.types ∙ w.2
+          ∙ ap (λ (n : ℕ). w.0 ++ own_met n last.types.own) (home_kept all_of_it.follow),
+    );
     of_exports = its_exports e;
     of_meanings = its_meanings e;
   }
 
   tabled : Tabled Is Broken (of_contents g home m tables (contents.Definition defs))
-  tabled = subst (λ (s : S). Tabled Is Broken (table_or m modules (from_scope s).0 (from_scope s).1)) (sym marks_rest) (table_by modules (from_scope (with_own marked.own)).0 its_table all_of_it.told)
+  tabled = subst (λ (s : S). Tabled Is Broken (table_or m modules (from_scope s).0 (from_scope s).1)) (sym marks_rest)
+      (table_by modules (from_scope (with_own marked.own)).0 its_table all_of_it.told)
 
-  pub definition_answers : (given : List Table) → tables ≡ given ++ console ∷ [] → m.contents ≡ contents.Definition defs → IsDefinitionExact g j home m given tables exports names taken defs
+  pub definition_answers : (given : List Table) → tables ≡ given ++ console ∷ [] → m.contents ≡ contents.Definition defs
+      → IsDefinitionExact g j home m given tables exports names taken defs
   definition_answers given e q = record {
     whole = all_of_it.whole;
     last = last;
     follow = all_of_it.follow;
     only = all_of_it.only;
-    answered = answered_by (λ r z. found home m given r z) (subst (λ (ts : List Table). Tabled Is Broken (of_contents g home m ts m.contents)) e (subst (λ (c : Contents). Tabled Is Broken (of_contents g home m tables c)) (sym q) tabled));
+    answered = answered_by (λ r z. found home m given r z)
+        (subst (λ (ts : List Table). Tabled Is Broken (of_contents g home m ts m.contents)) e
+        (subst (λ (c : Contents). Tabled Is Broken (of_contents g home m tables c)) (sym q) tabled));
   }
 
 pub definitions_answer : (g : Gathers) (j : Judges g) → Lawful g j → Finds g j → DefinitionsAreExact g j
 definitions_answer g j lawful found home m given tables e exports outside names knows sound stands taken takes defs q =
-    definition_answers g j lawful found home m tables exports outside names knows sound stands taken takes defs given e q
+    definition_answers g j lawful found home m tables exports outside names knows sound stands taken takes defs given e
+    q

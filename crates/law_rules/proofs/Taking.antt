@@ -43,7 +43,8 @@ use Rattle.law_rules.specs.Exports.{names_in_layer, names_with, variables_of, pr
 use Rattle.law_rules.proofs.Keys.{entered_self, entered_other}
 
 -- a name that is new in a list is not there
-pub new_of : (There : List ℕ → Type 0) (xs : List Ident) → NoTwice There xs → (x : Ident) → Among x xs → There x.name → ⊥
+pub new_of : (There : List ℕ → Type 0) (xs : List Ident) → NoTwice There xs → (x : Ident) → Among x xs → There x.name
+    → ⊥
 new_of There (y ∷ ys) n _ here h = n (y.pos ! rule.DeclaredTwice) (inl (h, refl))
 new_of There (y ∷ ys) n x (later m) h = new_of (λ k. (y.name ≡ k) ⊎ There k) ys (λ f t. n f (inr t)) x m (inr h)
 new_of There [] n x m h = elim m [ ]
@@ -79,23 +80,35 @@ module _ {T : Type 0} where
   begun_kept None = refl
   begun_kept (Some e) = refl
 
-  pub enters_begun : {bs : List (List ℕ × Member)} {before after : List (List ℕ × Known T)} (n : List ℕ) → Enters bs before after → find_name n before ≡ Some known.Begun → find_name n after ≡ Some known.Begun
-  enters_begun {bs = bs} n e q = e.found n ∙ ap (λ (k : Option (Known T)). entered (find_name n bs) k) q ∙ begun_kept (find_name n bs)
+  pub enters_begun : {bs : List (List ℕ × Member)} {before after : List (List ℕ × Known T)} (n : List ℕ)
+      → Enters bs before after → find_name n before ≡ Some known.Begun → find_name n after ≡ Some known.Begun
+  enters_begun {bs = bs} n e q = e.found n ∙ ap (λ (k : Option (Known T)). entered (find_name n bs) k) q
+      ∙ begun_kept (find_name n bs)
 
   -- ---- names that are finished
 
-  finish_is : (s : Scope T) (x : Ident) (m : Result Meaning T) → find_name x.name s.own ≡ Some known.Begun → finish_name s x m ≡ with_known x.name (known.Declared Here m) s
+  finish_is : (s : Scope T) (x : Ident) (m : Result Meaning T) → find_name x.name s.own ≡ Some known.Begun
+      → finish_name s x m ≡ with_known x.name (known.Declared Here m) s
   finish_is s x m e = ap (λ (o : Option (Known T)). cond (is_begun o) (with_known x.name (known.Declared Here m) s) s) e
 
-  finish_found : (s : Scope T) (x : Ident) (m : Result Meaning T) → find_name x.name s.own ≡ Some known.Begun → find_name x.name (finish_name s x m).own ≡ Some (known.Declared Here m)
-  finish_found s x m e = ap (λ (t : Scope T). find_name x.name t.own) (finish_is s x m e) ∙ entered_self x.name (known.Declared Here m) s.own
+  finish_found : (s : Scope T) (x : Ident) (m : Result Meaning T) → find_name x.name s.own ≡ Some known.Begun
+      → find_name x.name (finish_name s x m).own ≡ Some (known.Declared Here m)
+  finish_found s x m e = ap (λ (t : Scope T). find_name x.name t.own) (finish_is s x m e)
+      ∙ entered_self x.name (known.Declared Here m) s.own
 
-  stays_by : (s : Scope T) (y : Ident) (w : Result Meaning T) (n : List ℕ) (m : Result Meaning T) → find_name n s.own ≡ Some (known.Declared Here m) → (b : Bool) → is_begun (find_name y.name s.own) ≡ b → {t : Bool} → Decided (y.name ≡ n) t → find_name n (cond b (with_known y.name (known.Declared Here w) s) s).own ≡ Some (known.Declared Here m)
-  stays_by s y w n m e true q (holds h) = let z : is_begun (find_name n s.own) ≡ true = subst (λ (k : List ℕ). is_begun (find_name k s.own) ≡ true) h q in absurd (clash z (ap (λ (o : Option (Known T)). is_begun o) e))
+  stays_by : (s : Scope T) (y : Ident) (w : Result Meaning T) (n : List ℕ) (m : Result Meaning T)
+      → find_name n s.own ≡ Some (known.Declared Here m) → (b : Bool) → is_begun (find_name y.name s.own) ≡ b
+      → {t : Bool} → Decided (y.name ≡ n) t → find_name n (cond b (with_known y.name (known.Declared Here w) s) s).own
+      ≡ Some (known.Declared Here m)
+  stays_by s y w n m e true q (holds h) = let z : is_begun (find_name n s.own) ≡ true =
+      subst (λ (k : List ℕ). is_begun (find_name k s.own) ≡ true) h q in
+      absurd (clash z (ap (λ (o : Option (Known T)). is_begun o) e))
   stays_by s y w n m e true q (fails_it c) = entered_other y.name n (known.Declared Here w) s.own c ∙ e
   stays_by s y w n m e false q d = e
 
-  finish_stays : (s : Scope T) (y : Ident) (w : Result Meaning T) (n : List ℕ) (m : Result Meaning T) → find_name n s.own ≡ Some (known.Declared Here m) → find_name n (finish_name s y w).own ≡ Some (known.Declared Here m)
+  finish_stays : (s : Scope T) (y : Ident) (w : Result Meaning T) (n : List ℕ) (m : Result Meaning T)
+      → find_name n s.own ≡ Some (known.Declared Here m)
+      → find_name n (finish_name s y w).own ≡ Some (known.Declared Here m)
   finish_stays s y w n m e = stays_by s y w n m e (is_begun (find_name y.name s.own)) refl (name_decided y.name n)
 
   finish_variables : (s : Scope T) (x : Ident) (m : Result Meaning T) → (finish_name s x m).variables ≡ s.variables
@@ -121,36 +134,61 @@ module _ {T : Type 0} where
     abbrev each : Scope T → List Ident → Scope T
     each s xs = fold (finished_variable (Ok t)) s xs
 
-    each_stays : (xs : List Ident) (s : Scope T) (n : List ℕ) (m : Result Meaning T) → find_name n s.own ≡ Some (known.Declared Here m) → find_name n (each s xs).own ≡ Some (known.Declared Here m)
+    each_stays : (xs : List Ident) (s : Scope T) (n : List ℕ) (m : Result Meaning T)
+        → find_name n s.own ≡ Some (known.Declared Here m) → find_name n (each s xs).own ≡ Some (known.Declared Here m)
     each_stays [] s n m e = e
-    each_stays (x ∷ xs) s n m e = each_stays xs (finished_variable (Ok t) s x) n m (finish_stays (with_one s) x (Ok (meant t s.types.home (length s.variables))) n m e)
+    each_stays (x ∷ xs) s n m e = each_stays xs (finished_variable (Ok t) s x) n m
+        (finish_stays (with_one s) x (Ok (meant t s.types.home (length s.variables))) n m e)
 
     abbrev Numbered : Scope T → List Ident → Ident → Type 0
-    Numbered s xs x = (before : List Ident) × (behind : List Ident) × (xs ≡ before ++ x ∷ behind) × (find_name x.name (each s xs).own ≡ Some (known.Declared Here (Ok (meant t s.types.home (length s.variables + length before)))))
+    Numbered s xs x = (before : List Ident) × (behind : List Ident) × (xs ≡ before ++ x ∷ behind)
+        × (find_name x.name (each s xs).own ≡ Some
+        (known.Declared Here (Ok (meant t s.types.home (length s.variables + length before)))))
 
-    each_found : (xs : List Ident) (There : List ℕ → Type 0) → NoTwice There xs → (s : Scope T) → ((x : Ident) → Among x xs → find_name x.name s.own ≡ Some known.Begun) → (x : Ident) → Among x xs → Numbered s xs x
+    each_found : (xs : List Ident) (There : List ℕ → Type 0) → NoTwice There xs → (s : Scope T)
+        → ((x : Ident) → Among x xs → find_name x.name s.own ≡ Some known.Begun) → (x : Ident) → Among x xs
+        → Numbered s xs x
     each_found [] There n s b x m = elim m [ ]
     each_found (y ∷ ys) There n s b _ here = (
       [],
       ys,
       refl,
-      each_stays ys (finished_variable (Ok t) s y) y.name (Ok (meant t s.types.home (length s.variables))) (finish_found (with_one s) y (Ok (meant t s.types.home (length s.variables))) (b y here))
-          ∙ ap (λ (k : ℕ). let o : Option (Known T) = Some (known.Declared Here (Ok (meant t s.types.home k))) in o) (no_more (length s.variables)),
+      each_stays ys (finished_variable (Ok t) s y) y.name (Ok (meant t s.types.home (length s.variables)))
+          (finish_found (with_one s) y (Ok (meant t s.types.home (length s.variables))) (b y here))
+          ∙ ap (λ (k : ℕ). let o : Option (Known T) = Some (known.Declared Here (Ok (meant t s.types.home k))) in o)
+          (no_more (length s.variables)),
     )
     each_found (y ∷ ys) There n s b x (later m) =
         let u = with_known y.name (known.Declared Here (Ok (meant t s.types.home (length s.variables)))) (with_one s) in
-        let q = each_found ys (λ k. (y.name ≡ k) ⊎ There k) (λ f z. n f (inr z)) u (λ z w. entered_other y.name z.name (known.Declared Here (Ok (meant t s.types.home (length s.variables)))) s.own (λ e. new_of (λ k. (y.name ≡ k) ⊎ There k) ys (λ f z. n f (inr z)) z w (inl e)) ∙ b z (later w)) x m in
-        let is : finished_variable (Ok t) s y ≡ u = finish_is (with_one s) y (Ok (meant t s.types.home (length s.variables))) (b y here) in
-        let number : (length (s.variables ++ t ∷ [])) + length q.0 ≡ length s.variables + (length q.0 + 1) = ap (λ (k : ℕ). k + length q.0) (length-append s.variables (t ∷ [])) ∙ one_longer (length s.variables) (length q.0) in
-        (y ∷ q.0, q.1, ap (λ (xs : List Ident). y ∷ xs) q.2, ap (λ (v : Scope T). find_name x.name (each v ys).own) is ∙ q.3 ∙ ap (λ (k : ℕ). let o : Option (Known T) = Some (known.Declared Here (Ok (meant t s.types.home k))) in o) (number ∙ more_one (length s.variables) y q.0))
+        let q = each_found ys (λ k. (y.name ≡ k) ⊎ There k) (λ f z. n f (inr z)) u
+        (λ z w. entered_other y.name z.name (known.Declared Here (Ok (meant t s.types.home (length s.variables))))
+        s.own (λ e. new_of (λ k. (y.name ≡ k) ⊎ There k) ys (λ f z. n f (inr z)) z w (inl e)) ∙ b z (later w)) x m
+        in
+        let is : finished_variable (Ok t) s y ≡ u =
+        finish_is (with_one s) y (Ok (meant t s.types.home (length s.variables))) (b y here) in
+        let number : (length (s.variables ++ t ∷ [])) + length q.0 ≡ length s.variables + (length q.0 + 1) =
+        ap (λ (k : ℕ). k + length q.0) (length-append s.variables (t ∷ []))
+        ∙ one_longer (length s.variables) (length q.0) in (
+          y ∷ q.0,
+          q.1,
+          ap (λ (xs : List Ident). y ∷ xs) q.2,
+          ap (λ (v : Scope T). find_name x.name (each v ys).own) is
+              ∙ q.3 ∙ ap (λ (k : ℕ). let o : Option (Known T) =
+              Some (known.Declared Here (Ok (meant t s.types.home k))) in o)
+              (number ∙ more_one (length s.variables) y q.0),
+        )
 
     each_variables : (xs : List Ident) (s : Scope T) → length (each s xs).variables ≡ length s.variables + length xs
     each_variables [] s = no_more (length s.variables)
-    each_variables (x ∷ xs) s = each_variables xs (finished_variable (Ok t) s x) ∙ ap (λ (ts : List TypeNo). length ts + length xs) (finish_variables (with_one s) x (Ok (meant t s.types.home (length s.variables)))) ∙ ap (λ (k : ℕ). k + length xs) (length-append s.variables (t ∷ [])) ∙ suc_last (length s.variables) x xs
+    each_variables (x ∷ xs) s = each_variables xs (finished_variable (Ok t) s x)
+        ∙ ap (λ (ts : List TypeNo). length ts + length xs)
+        (finish_variables (with_one s) x (Ok (meant t s.types.home (length s.variables))))
+        ∙ ap (λ (k : ℕ). k + length xs) (length-append s.variables (t ∷ [])) ∙ suc_last (length s.variables) x xs
 
     each_procedures : (xs : List Ident) (s : Scope T) → (each s xs).procedures ≡ s.procedures
     each_procedures [] s = refl
-    each_procedures (x ∷ xs) s = each_procedures xs (finished_variable (Ok t) s x) ∙ finish_procedures (with_one s) x (Ok (meant t s.types.home (length s.variables)))
+    each_procedures (x ∷ xs) s = each_procedures xs (finished_variable (Ok t) s x)
+        ∙ finish_procedures (with_one s) x (Ok (meant t s.types.home (length s.variables)))
 
 module _ (g : Gathers) where
   abbrev S : Type 0
@@ -179,11 +217,13 @@ module _ (g : Gathers) where
   abbrev unless : Bool → S → Ident → Known g.Reported → St
   unless b s x k = cond b (with_known x.name k s, Ok tt) (s, report g x.pos rule.DeclaredTwice)
 
-  unless_found : (b : Bool) (s : S) (x : Ident) (k : Known g.Reported) → (unless b s x k).1 ≡ Ok tt → find_name x.name (unless b s x k).0.own ≡ Some k
+  unless_found : (b : Bool) (s : S) (x : Ident) (k : Known g.Reported) → (unless b s x k).1 ≡ Ok tt
+      → find_name x.name (unless b s x k).0.own ≡ Some k
   unless_found true s x k e = entered_self x.name k s.own
   unless_found false s x k e = absurd cc
 
-  unless_other : (b : Bool) (s : S) (x : Ident) (k : Known g.Reported) (n : List ℕ) → (x.name ≡ n → ⊥) → find_name n (unless b s x k).0.own ≡ find_name n s.own
+  unless_other : (b : Bool) (s : S) (x : Ident) (k : Known g.Reported) (n : List ℕ) → (x.name ≡ n → ⊥)
+      → find_name n (unless b s x k).0.own ≡ find_name n s.own
   unless_other true s x k n c = entered_other x.name n k s.own c
   unless_other false s x k n c = refl
 
@@ -191,7 +231,8 @@ module _ (g : Gathers) where
   unless_variables true s x k = refl
   unless_variables false s x k = refl
 
-  unless_procedures : (b : Bool) (s : S) (x : Ident) (k : Known g.Reported) → (unless b s x k).0.procedures ≡ s.procedures
+  unless_procedures : (b : Bool) (s : S) (x : Ident) (k : Known g.Reported)
+      → (unless b s x k).0.procedures ≡ s.procedures
   unless_procedures true s x k = refl
   unless_procedures false s x k = refl
 
@@ -206,24 +247,34 @@ module _ (g : Gathers) where
   begun_fine [] st e = e
   begun_fine (x ∷ xs) st e = left_fine st.1 (begin_name g st.0 x).1 (begun_fine xs (begun_name g st x) e)
 
-  begun_stays : (xs : List Ident) (There : List ℕ → Type 0) → NoTwice There xs → (st : St) (n : List ℕ) → There n → find_name n st.0.own ≡ Some known.Begun → find_name n (fold (begun_name g) st xs).0.own ≡ Some known.Begun
+  begun_stays : (xs : List Ident) (There : List ℕ → Type 0) → NoTwice There xs → (st : St) (n : List ℕ) → There n
+      → find_name n st.0.own ≡ Some known.Begun → find_name n (fold (begun_name g) st xs).0.own ≡ Some known.Begun
   begun_stays [] There c st n h e = e
-  begun_stays (x ∷ xs) There c st n h e = begun_stays xs (λ k. (x.name ≡ k) ⊎ There k) (λ f t. c f (inr t)) (begun_name g st x) n (inr h)
-      (unless_other (is_new st.0 x) st.0 x known.Begun n (λ q. c (x.pos ! rule.DeclaredTwice) (inl (subst There (sym q) h, refl))) ∙ e)
+  begun_stays (x ∷ xs) There c st n h e =
+      begun_stays xs (λ k. (x.name ≡ k) ⊎ There k) (λ f t. c f (inr t)) (begun_name g st x) n (inr h)
+      (unless_other (is_new st.0 x) st.0 x known.Begun n
+      (λ q. c (x.pos ! rule.DeclaredTwice) (inl (subst There (sym q) h, refl))) ∙ e)
 
-  begun_found : (xs : List Ident) (There : List ℕ → Type 0) → NoTwice There xs → (st : St) → (fold (begun_name g) st xs).1 ≡ Ok tt → (x : Ident) → Among x xs → find_name x.name (fold (begun_name g) st xs).0.own ≡ Some known.Begun
+  begun_found : (xs : List Ident) (There : List ℕ → Type 0) → NoTwice There xs → (st : St)
+      → (fold (begun_name g) st xs).1 ≡ Ok tt → (x : Ident) → Among x xs
+      → find_name x.name (fold (begun_name g) st xs).0.own ≡ Some known.Begun
   begun_found [] There c st e x m = elim m [ ]
-  begun_found (y ∷ ys) There c st e _ here = begun_stays ys (λ k. (y.name ≡ k) ⊎ There k) (λ f t. c f (inr t)) (begun_name g st y) y.name (inl refl)
-      (unless_found (is_new st.0 y) st.0 y known.Begun (right_fine st.1 (begin_name g st.0 y).1 (begun_fine ys (begun_name g st y) e)))
-  begun_found (y ∷ ys) There c st e x (later m) = begun_found ys (λ k. (y.name ≡ k) ⊎ There k) (λ f t. c f (inr t)) (begun_name g st y) e x m
+  begun_found (y ∷ ys) There c st e _ here =
+      begun_stays ys (λ k. (y.name ≡ k) ⊎ There k) (λ f t. c f (inr t)) (begun_name g st y) y.name (inl refl)
+      (unless_found (is_new st.0 y) st.0 y known.Begun
+      (right_fine st.1 (begin_name g st.0 y).1 (begun_fine ys (begun_name g st y) e)))
+  begun_found (y ∷ ys) There c st e x (later m) =
+      begun_found ys (λ k. (y.name ≡ k) ⊎ There k) (λ f t. c f (inr t)) (begun_name g st y) e x m
 
   begun_variables : (xs : List Ident) (st : St) → (fold (begun_name g) st xs).0.variables ≡ st.0.variables
   begun_variables [] st = refl
-  begun_variables (x ∷ xs) st = begun_variables xs (begun_name g st x) ∙ unless_variables (is_new st.0 x) st.0 x known.Begun
+  begun_variables (x ∷ xs) st = begun_variables xs (begun_name g st x)
+      ∙ unless_variables (is_new st.0 x) st.0 x known.Begun
 
   begun_procedures : (xs : List Ident) (st : St) → (fold (begun_name g) st xs).0.procedures ≡ st.0.procedures
   begun_procedures [] st = refl
-  begun_procedures (x ∷ xs) st = begun_procedures xs (begun_name g st x) ∙ unless_procedures (is_new st.0 x) st.0 x known.Begun
+  begun_procedures (x ∷ xs) st = begun_procedures xs (begun_name g st x)
+      ∙ unless_procedures (is_new st.0 x) st.0 x known.Begun
 
   begun_types : (xs : List Ident) (st : St) → (fold (begun_name g) st xs).0.types ≡ st.0.types
   begun_types [] st = refl
@@ -232,7 +283,9 @@ module _ (g : Gathers) where
   -- ---- what a declaration enters
 
   pub record Takes (s : S) (d : Declaration) (t : S) : Type 0 where
-    pub own : (x : Ident) → Among x (names_of d) → (m : Meaning) × (find_name x.name t.own ≡ Some (known.Declared Here (Ok m))) × IsEntry s.types.home (length s.variables) (length s.procedures) d x m
+    pub own : (x : Ident) → Among x (names_of d) → (m : Meaning)
+        × (find_name x.name t.own ≡ Some (known.Declared Here (Ok m)))
+        × IsEntry s.types.home (length s.variables) (length s.procedures) d x m
     pub variables : length t.variables ≡ length s.variables + variables_of d
     pub procedures : length t.procedures ≡ length s.procedures + procedures_of d
 
@@ -245,91 +298,156 @@ module _ (g : Gathers) where
 
   -- ---- constants
 
-  constant_by : (st : St) (c : Constant) (v : Result Value g.Reported) → let b = begin_name g st.0 c.name in beside g st.1 (beside g b.1 (nothing_reported v)) ≡ Ok tt → (st.1 ≡ Ok tt) × Takes st.0 (OfConstant c) (finish_name b.0 c.name (constant_meaning v))
+  constant_by : (st : St) (c : Constant) (v : Result Value g.Reported) → let b = begin_name g st.0 c.name in
+      beside g st.1 (beside g b.1 (nothing_reported v)) ≡ Ok tt → (st.1 ≡ Ok tt)
+      × Takes st.0 (OfConstant c) (finish_name b.0 c.name (constant_meaning v))
   constant_by st c (Ok x) e = let b = begin_name g st.0 c.name in let f = right_fine st.1 (beside g b.1 (Ok tt)) e in (
     left_fine st.1 (beside g b.1 (Ok tt)) e,
     record {
-      own = one_name (λ y. (m : Meaning) × (find_name y.name (finish_name b.0 c.name (Ok (meaning.Constant x))).own ≡ Some (known.Declared Here (Ok m))) × IsEntry st.0.types.home (length st.0.variables) (length st.0.procedures) (OfConstant c) y m)
-          (meaning.Constant x, finish_found b.0 c.name (Ok (meaning.Constant x)) (unless_found (is_new st.0 c.name) st.0 c.name known.Begun (left_fine b.1 (Ok tt) f)), a_constant);
-      variables = ap (λ (ts : List TypeNo). length ts) (finish_variables b.0 c.name (Ok (meaning.Constant x)) ∙ unless_variables (is_new st.0 c.name) st.0 c.name known.Begun) ∙ no_more (length st.0.variables);
-      procedures = ap (λ (ts : List TypeNo). length ts) (finish_procedures b.0 c.name (Ok (meaning.Constant x)) ∙ unless_procedures (is_new st.0 c.name) st.0 c.name known.Begun) ∙ no_more (length st.0.procedures);
+      own = one_name (λ y. (m : Meaning) × (find_name y.name (finish_name b.0 c.name (Ok (meaning.Constant x))).own
+          ≡ Some (known.Declared Here (Ok m)))
+          × IsEntry st.0.types.home (length st.0.variables) (length st.0.procedures) (OfConstant c) y m) (
+            meaning.Constant x,
+            finish_found b.0 c.name (Ok (meaning.Constant x))
+                (unless_found (is_new st.0 c.name) st.0 c.name known.Begun (left_fine b.1 (Ok tt) f)),
+            a_constant,
+          );
+      variables = ap (λ (ts : List TypeNo). length ts)
+          (finish_variables b.0 c.name (Ok (meaning.Constant x))
+          ∙ unless_variables (is_new st.0 c.name) st.0 c.name known.Begun) ∙ no_more (length st.0.variables);
+      procedures = ap (λ (ts : List TypeNo). length ts)
+          (finish_procedures b.0 c.name (Ok (meaning.Constant x))
+          ∙ unless_procedures (is_new st.0 c.name) st.0 c.name known.Begun) ∙ no_more (length st.0.procedures);
     },
   )
-  constant_by st c (Err f) e = let b = begin_name g st.0 c.name in let z = right_fine b.1 (Err f) (right_fine st.1 (beside g b.1 (Err f)) e) in absurd cc
+  constant_by st c (Err f) e = let b = begin_name g st.0 c.name in
+      let z = right_fine b.1 (Err f) (right_fine st.1 (beside g b.1 (Err f)) e) in absurd cc
 
   pub constant_takes : (st : St) (c : Constant) → Fine st (OfConstant c) (with_constant g st c)
   constant_takes st c e = constant_by st c (constant g (begin_name g st.0 c.name).0 (part g c.value)) e
 
   -- ---- types
 
-  module _ (st : St) (d : TypeDecl) {bs : List (List ℕ × Member)} (ms : List Made) (own : List (List ℕ × Known g.Reported)) (t : S) (is : t ≡ scope_with (begin_name g st.0 d.name).0 ms own) (enters : Enters bs (begin_name g st.0 d.name).0.own own) where
+  module _ (st : St) (d : TypeDecl) {bs : List (List ℕ × Member)} (ms : List Made)
+      (own : List (List ℕ × Known g.Reported)) (t : S) (is : t ≡ scope_with (begin_name g st.0 d.name).0 ms own)
+      (enters : Enters bs (begin_name g st.0 d.name).0.own own) where
     abbrev b : St
     b = begin_name g st.0 d.name
 
-    type_by : (r : Result TypeNo g.Reported) → beside g st.1 (beside g b.1 (nothing_of r)) ≡ Ok tt → (st.1 ≡ Ok tt) × Takes st.0 (OfType d) (finish_name t d.name (type_meaning r (brings_with d.of)))
+    type_by : (r : Result TypeNo g.Reported) → beside g st.1 (beside g b.1 (nothing_of r)) ≡ Ok tt → (st.1 ≡ Ok tt)
+        × Takes st.0 (OfType d) (finish_name t d.name (type_meaning r (brings_with d.of)))
     type_by (Ok u) e = let f = right_fine st.1 (beside g b.1 (Ok tt)) e in (
       left_fine st.1 (beside g b.1 (Ok tt)) e,
       record {
-        own = one_name (λ y. (m : Meaning) × (find_name y.name (finish_name t d.name (Ok (meaning.Type u (brings_with d.of)))).own ≡ Some (known.Declared Here (Ok m))) × IsEntry st.0.types.home (length st.0.variables) (length st.0.procedures) (OfType d) y m) (
-          meaning.Type u (names_with d.of),
-          finish_found t d.name (Ok (meaning.Type u (brings_with d.of))) (ap (λ (t : S). find_name d.name.name t.own) is ∙ enters_begun d.name.name enters (unless_found (is_new st.0 d.name) st.0 d.name known.Begun (left_fine b.1 (Ok tt) f)))
-              ∙ ap (λ (k : ℕ). let o : Option (Known g.Reported) = Some (known.Declared Here (Ok (meaning.Type u k))) in o) (names_same (out-TypeExpr d.of)),
-          a_type,
-        );
-        variables = ap (λ (ts : List TypeNo). length ts) (finish_variables t d.name (Ok (meaning.Type u (brings_with d.of))) ∙ ap (λ (t : S). t.variables) is ∙ unless_variables (is_new st.0 d.name) st.0 d.name known.Begun) ∙ no_more (length st.0.variables);
-        procedures = ap (λ (ts : List TypeNo). length ts) (finish_procedures t d.name (Ok (meaning.Type u (brings_with d.of))) ∙ ap (λ (t : S). t.procedures) is ∙ unless_procedures (is_new st.0 d.name) st.0 d.name known.Begun) ∙ no_more (length st.0.procedures);
+        own = one_name (λ y. (m : Meaning) × (find_name y.name
+            (finish_name t d.name (Ok (meaning.Type u (brings_with d.of)))).own ≡ Some (known.Declared Here (Ok m)))
+            × IsEntry st.0.types.home (length st.0.variables) (length st.0.procedures) (OfType d) y m) (
+              meaning.Type u (names_with d.of),
+              finish_found t d.name (Ok (meaning.Type u (brings_with d.of)))
+                  (ap (λ (t : S). find_name d.name.name t.own) is
+                  ∙ enters_begun d.name.name enters (unless_found (is_new st.0 d.name) st.0 d.name known.Begun
+                  (left_fine b.1 (Ok tt) f)))
+                  ∙ ap (λ (k : ℕ). let o : Option (Known g.Reported) =
+                  Some (known.Declared Here (Ok (meaning.Type u k))) in
+                  o) (names_same (out-TypeExpr d.of)),
+              a_type,
+            );
+        variables = ap (λ (ts : List TypeNo). length ts)
+            (finish_variables t d.name (Ok (meaning.Type u (brings_with d.of))) ∙ ap (λ (t : S). t.variables) is
+            ∙ unless_variables (is_new st.0 d.name) st.0 d.name known.Begun) ∙ no_more (length st.0.variables);
+        procedures = ap (λ (ts : List TypeNo). length ts)
+            (finish_procedures t d.name (Ok (meaning.Type u (brings_with d.of))) ∙ ap (λ (t : S). t.procedures) is
+            ∙ unless_procedures (is_new st.0 d.name) st.0 d.name known.Begun) ∙ no_more (length st.0.procedures);
       },
     )
     type_by (Err f) e = let z = right_fine b.1 (Err f) (right_fine st.1 (beside g b.1 (Err f)) e) in absurd cc
 
-  pub type_takes : (st : St) (d : TypeDecl) {bs : List (List ℕ × Member)} (ms : List Made) (own : List (List ℕ × Known g.Reported)) → (type_of g d.of (begin_name g st.0 d.name).0).0 ≡ scope_with (begin_name g st.0 d.name).0 ms own → Enters bs (begin_name g st.0 d.name).0.own own → Fine st (OfType d) (with_type g st d)
-  type_takes st d ms own is enters e = type_by st d ms own (type_of g d.of (begin_name g st.0 d.name).0).0 is enters (type_of g d.of (begin_name g st.0 d.name).0).1 e
+  pub type_takes : (st : St) (d : TypeDecl) {bs : List (List ℕ × Member)} (ms : List Made)
+      (own : List (List ℕ × Known g.Reported))
+      → (type_of g d.of (begin_name g st.0 d.name).0).0 ≡ scope_with (begin_name g st.0 d.name).0 ms own
+      → Enters bs (begin_name g st.0 d.name).0.own own → Fine st (OfType d) (with_type g st d)
+  type_takes st d ms own is enters e = type_by st d ms own (type_of g d.of (begin_name g st.0 d.name).0).0 is enters
+      (type_of g d.of (begin_name g st.0 d.name).0).1 e
 
   -- ---- variables
 
-  module _ (st : St) (v : Variables) (There : List ℕ → Type 0) (new : NoTwice There v.names) {bs : List (List ℕ × Member)} (ms : List Made) (own : List (List ℕ × Known g.Reported)) (t : S) (is : t ≡ scope_with (fold (begun_name g) st v.names).0 ms own) (enters : Enters bs (fold (begun_name g) st v.names).0.own own) where
+  module _ (st : St) (v : Variables) (There : List ℕ → Type 0) (new : NoTwice There v.names)
+      {bs : List (List ℕ × Member)} (ms : List Made) (own : List (List ℕ × Known g.Reported)) (t : S)
+      (is : t ≡ scope_with (fold (begun_name g) st v.names).0 ms own)
+      (enters : Enters bs (fold (begun_name g) st v.names).0.own own) where
     abbrev c : St
     c = fold (begun_name g) st v.names
 
-    variables_by : (r : Result TypeNo g.Reported) → beside g c.1 (nothing_of r) ≡ Ok tt → (st.1 ≡ Ok tt) × Takes st.0 (OfVariables v) (fold (finished_variable r) t v.names)
+    variables_by : (r : Result TypeNo g.Reported) → beside g c.1 (nothing_of r) ≡ Ok tt → (st.1 ≡ Ok tt)
+        × Takes st.0 (OfVariables v) (fold (finished_variable r) t v.names)
     variables_by (Ok u) e = let f = left_fine c.1 (Ok tt) e in (
       begun_fine v.names st f,
       record {
-        own = λ x m. let q = each_found u v.names There new t (λ x m. ap (λ (t : S). find_name x.name t.own) is ∙ enters_begun x.name enters (begun_found v.names There new st f x m)) x m in (
-          meaning.Variable (record { home = st.0.types.home; number = length st.0.variables + length q.0; of = u }),
-          q.3 ∙ ap (λ (k : ℕ). let o : Option (Known g.Reported) = Some (known.Declared Here (Ok (meaning.Variable (record { home = k; number = length t.variables + length q.0; of = u })))) in o) (ap (λ (t : S). t.types.home) is ∙ ap (λ (ts : Types). ts.home) (begun_types v.names st))
-              ∙ ap (λ (ts : List TypeNo). let o : Option (Known g.Reported) = Some (known.Declared Here (Ok (meaning.Variable (record { home = st.0.types.home; number = length ts + length q.0; of = u })))) in o) (ap (λ (t : S). t.variables) is ∙ begun_variables v.names st),
-          a_variable q.0 q.1 q.2,
-        );
-        variables = each_variables u v.names t ∙ ap (λ (ts : List TypeNo). length ts + length v.names) (ap (λ (t : S). t.variables) is ∙ begun_variables v.names st);
-        procedures = ap (λ (ts : List TypeNo). length ts) (each_procedures u v.names t ∙ ap (λ (t : S). t.procedures) is ∙ begun_procedures v.names st) ∙ no_more (length st.0.procedures);
+        own = λ x m. let q = each_found u v.names There new t
+            (λ x m. ap (λ (t : S). find_name x.name t.own) is
+            ∙ enters_begun x.name enters (begun_found v.names There new st f x m)) x m in (
+              meaning.Variable (record { home = st.0.types.home; number = length st.0.variables + length q.0; of = u }),
+              q.3 ∙ ap (λ (k : ℕ). let o : Option (Known g.Reported) =
+                  Some (known.Declared Here (Ok (meaning.Variable
+                  (record { home = k; number = length t.variables + length q.0; of = u })))) in o)
+                  (ap (λ (t : S). t.types.home) is ∙ ap (λ (ts : Types). ts.home) (begun_types v.names st))
+                  ∙ ap (λ (ts : List TypeNo). let o : Option (Known g.Reported) =
+                  Some (known.Declared Here (Ok (meaning.Variable
+                  (record { home = st.0.types.home; number = length ts + length q.0; of = u })))) in o)
+                  (ap (λ (t : S). t.variables) is ∙ begun_variables v.names st),
+              a_variable q.0 q.1 q.2,
+            );
+        variables = each_variables u v.names t
+            ∙ ap (λ (ts : List TypeNo). length ts + length v.names)
+            (ap (λ (t : S). t.variables) is ∙ begun_variables v.names st);
+        procedures = ap (λ (ts : List TypeNo). length ts)
+            (each_procedures u v.names t ∙ ap (λ (t : S). t.procedures) is ∙ begun_procedures v.names st)
+            ∙ no_more (length st.0.procedures);
       },
     )
     variables_by (Err f) e = let z = right_fine c.1 (Err f) e in absurd cc
 
-  pub variables_take : (st : St) (v : Variables) (There : List ℕ → Type 0) → NoTwice There v.names → {bs : List (List ℕ × Member)} (ms : List Made) (own : List (List ℕ × Known g.Reported)) → (type_of g v.of (fold (begun_name g) st v.names).0).0 ≡ scope_with (fold (begun_name g) st v.names).0 ms own → Enters bs (fold (begun_name g) st v.names).0.own own → Fine st (OfVariables v) (with_variables g st v)
-  variables_take st v There new ms own is enters e = variables_by st v There new ms own (type_of g v.of (fold (begun_name g) st v.names).0).0 is enters (type_of g v.of (fold (begun_name g) st v.names).0).1 e
+  pub variables_take : (st : St) (v : Variables) (There : List ℕ → Type 0) → NoTwice There v.names
+      → {bs : List (List ℕ × Member)} (ms : List Made) (own : List (List ℕ × Known g.Reported))
+      → (type_of g v.of (fold (begun_name g) st v.names).0).0 ≡ scope_with (fold (begun_name g) st v.names).0 ms own
+      → Enters bs (fold (begun_name g) st v.names).0.own own → Fine st (OfVariables v) (with_variables g st v)
+  variables_take st v There new ms own is enters e =
+      variables_by st v There new ms own (type_of g v.of (fold (begun_name g) st v.names).0).0 is enters
+      (type_of g v.of (fold (begun_name g) st v.names).0).1 e
 
   -- ---- procedures
 
-  procedure_by : (st : St) (h : Heading) (made : Result Made g.Reported) → let t = with_made st.0 made in let d = declared_procedure g t.0 h.name t.1 in beside g st.1 (beside g (formals_of g h) (beside g (nothing_of t.1) d.1)) ≡ Ok tt → (st.1 ≡ Ok tt) × Takes st.0 (OfProcedure h) d.0
+  procedure_by : (st : St) (h : Heading) (made : Result Made g.Reported) → let t = with_made st.0 made in
+      let d = declared_procedure g t.0 h.name t.1 in
+      beside g st.1 (beside g (formals_of g h) (beside g (nothing_of t.1) d.1)) ≡ Ok tt → (st.1 ≡ Ok tt)
+      × Takes st.0 (OfProcedure h) d.0
   procedure_by st h (Ok m) e =
       let u = next_type st.0 in
       let s = with_procedure_type (with_shape st.0 m) (Ok u) in
       let p = meaning.Procedure (record { home = st.0.types.home; number = length st.0.procedures; heading = u }) in
       let d = unless (is_new s h.name) s h.name (known.Declared Here (Ok p)) in
-      let f = right_fine (formals_of g h) (beside g (Ok tt) d.1) (right_fine st.1 (beside g (formals_of g h) (beside g (Ok tt) d.1)) e) in (
+      let f = right_fine (formals_of g h) (beside g (Ok tt) d.1)
+      (right_fine st.1 (beside g (formals_of g h) (beside g (Ok tt) d.1)) e) in (
         left_fine st.1 (beside g (formals_of g h) (beside g (Ok tt) d.1)) e,
         record {
-          own = one_name (λ y. (m : Meaning) × (find_name y.name d.0.own ≡ Some (known.Declared Here (Ok m))) × IsEntry st.0.types.home (length st.0.variables) (length st.0.procedures) (OfProcedure h) y m)
-              (p, unless_found (is_new s h.name) s h.name (known.Declared Here (Ok p)) (right_fine (Ok tt) d.1 f), a_procedure);
-          variables = ap (λ (ts : List TypeNo). length ts) (unless_variables (is_new s h.name) s h.name (known.Declared Here (Ok p))) ∙ no_more (length st.0.variables);
-          procedures = ap (λ (ts : List TypeNo). length ts) (unless_procedures (is_new s h.name) s h.name (known.Declared Here (Ok p))) ∙ length-append st.0.procedures (u ∷ []);
+          own = one_name (λ y. (m : Meaning) × (find_name y.name d.0.own ≡ Some (known.Declared Here (Ok m)))
+              × IsEntry st.0.types.home (length st.0.variables) (length st.0.procedures) (OfProcedure h) y m) (
+                p,
+                unless_found (is_new s h.name) s h.name (known.Declared Here (Ok p)) (right_fine (Ok tt) d.1 f),
+                a_procedure,
+              );
+          variables = ap (λ (ts : List TypeNo). length ts)
+              (unless_variables (is_new s h.name) s h.name (known.Declared Here (Ok p)))
+              ∙ no_more (length st.0.variables);
+          procedures = ap (λ (ts : List TypeNo). length ts)
+              (unless_procedures (is_new s h.name) s h.name (known.Declared Here (Ok p)))
+              ∙ length-append st.0.procedures (u ∷ []);
         },
       )
   procedure_by st h (Err f) e =
       let d = declared_procedure g st.0 h.name (Err f) in
-      let z = left_fine (Err f) d.1 (right_fine (formals_of g h) (beside g (Err f) d.1) (right_fine st.1 (beside g (formals_of g h) (beside g (Err f) d.1)) e)) in absurd cc
+      let z = left_fine (Err f) d.1 (right_fine (formals_of g h) (beside g (Err f) d.1)
+      (right_fine st.1 (beside g (formals_of g h) (beside g (Err f) d.1)) e)) in absurd cc
 
   pub procedure_takes : (st : St) (h : Heading) → Fine st (OfProcedure h) (with_procedure g st h)
   procedure_takes st h e = procedure_by st h (heading_of g st.0 h) e

@@ -5,7 +5,8 @@ use Rattle.m2_rule.specs.declared.breach.Breach.{Breach}
 use Rattle.m2_tree.specs.declared.name.Ident.{Ident}
 use Rattle.def_typing.specs.TypeExprs.{Twice}
 
-pub twice_as : {P Q : List ℕ → Type 0} → ((n : List ℕ) → P n → Q n) → (xs : List Ident) (f : Breach) → Twice P xs f → Twice Q xs f
+pub twice_as : {P Q : List ℕ → Type 0} → ((n : List ℕ) → P n → Q n) → (xs : List Ident) (f : Breach) → Twice P xs f
+    → Twice Q xs f
 twice_as h [] f t = absurd t
 twice_as h (x ∷ xs) f (inl (p, e)) = inl (h x.name p, e)
 twice_as h (x ∷ xs) f (inr t) = inr (twice_as (λ n z. elim z [ inl e ↦ inl e | inr p ↦ inr (h n p) ]) xs f t)

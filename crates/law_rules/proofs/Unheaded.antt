@@ -34,13 +34,19 @@ module _ {T : Type 0} where
       by true = tt
       by false = h
 
-  pub enters_unheaded : {bs : List (List ℕ × Member)} {before after : List (List ℕ × Known T)} → Enters bs before after → AreUnheaded before → AreUnheaded after
-  enters_unheaded {bs = bs} {before = before} e h n = subst (λ (k : Option (Known T)). Unheaded k) (sym (e.found n)) (entered_unheaded (find_name n bs) (find_name n before) (h n))
+  pub enters_unheaded : {bs : List (List ℕ × Member)} {before after : List (List ℕ × Known T)} → Enters bs before after
+      → AreUnheaded before → AreUnheaded after
+  enters_unheaded {bs = bs} {before = before} e h n =
+      subst (λ (k : Option (Known T)). Unheaded k) (sym (e.found n))
+      (entered_unheaded (find_name n bs) (find_name n before) (h n))
 
-  pub known_unheaded : (name : List ℕ) (k : Known T) (own : List (List ℕ × Known T)) (s : Scope T) → s.own ≡ own → Unheaded (Some k) → AreUnheaded own → AreUnheaded (with_known name k s).own
-  known_unheaded name k own s e h f = entered_all (λ n o. Unheaded o) name k s.own h (λ n c. subst (λ (own : List (List ℕ × Known T)). Unheaded (find_name n own)) (sym e) (f n))
+  pub known_unheaded : (name : List ℕ) (k : Known T) (own : List (List ℕ × Known T)) (s : Scope T) → s.own ≡ own
+      → Unheaded (Some k) → AreUnheaded own → AreUnheaded (with_known name k s).own
+  known_unheaded name k own s e h f = entered_all (λ n o. Unheaded o) name k s.own h
+      (λ n c. subst (λ (own : List (List ℕ × Known T)). Unheaded (find_name n own)) (sym e) (f n))
 
-  pub finish_unheaded : (s : Scope T) (x : Ident) (m : Result Meaning T) → AreUnheaded s.own → AreUnheaded (finish_name s x m).own
+  pub finish_unheaded : (s : Scope T) (x : Ident) (m : Result Meaning T) → AreUnheaded s.own
+      → AreUnheaded (finish_name s x m).own
   finish_unheaded s x m h = by (is_begun (find_name x.name s.own))
     where
       by : (b : Bool) → AreUnheaded (cond b (with_known x.name (known.Declared Here m) s) s).own
@@ -51,21 +57,27 @@ module _ {T : Type 0} where
   typed_unheaded s (Ok t) h = h
   typed_unheaded s (Err e) h = h
 
-  pub finished_unheaded : (r : Result TypeNo T) (xs : List Ident) (s : Scope T) → AreUnheaded s.own → AreUnheaded (fold (finished_variable r) s xs).own
+  pub finished_unheaded : (r : Result TypeNo T) (xs : List Ident) (s : Scope T) → AreUnheaded s.own
+      → AreUnheaded (fold (finished_variable r) s xs).own
   finished_unheaded r [] s h = h
-  finished_unheaded r (x ∷ xs) s h = finished_unheaded r xs (finished_variable r s x) (finish_unheaded (with_variable_type s r) x (variable_meaning s.types.home _ r) (typed_unheaded s r h))
+  finished_unheaded r (x ∷ xs) s h = finished_unheaded r xs (finished_variable r s x)
+      (finish_unheaded (with_variable_type s r) x (variable_meaning s.types.home _ r) (typed_unheaded s r h))
 
 module _ (g : Gathers) where
-  unless_unheaded : (s : Scope g.Reported) (x : Ident) (k : Known g.Reported) (b : Bool) → Unheaded (Some k) → AreUnheaded s.own → AreUnheaded (cond {A = State (Unit {0}) g.Reported} b (with_known x.name k s, Ok tt) (s, report g x.pos rule.DeclaredTwice)).0.own
+  unless_unheaded : (s : Scope g.Reported) (x : Ident) (k : Known g.Reported) (b : Bool) → Unheaded (Some k)
+      → AreUnheaded s.own → AreUnheaded (cond {A = State (Unit {0}) g.Reported} b (with_known x.name k s, Ok tt)
+      (s, report g x.pos rule.DeclaredTwice)).0.own
   unless_unheaded s x k true h f = entered_all (λ n o. Unheaded o) x.name k s.own h (λ n c. f n)
   unless_unheaded s x k false h f = f
 
   pub begin_unheaded : (s : Scope g.Reported) (x : Ident) → AreUnheaded s.own → AreUnheaded (begin_name g s x).0.own
   begin_unheaded s x h = unless_unheaded s x known.Begun (is_free (find_name x.name s.own)) tt h
 
-  pub declare_unheaded : (s : Scope g.Reported) (x : Ident) (m : Result Meaning g.Reported) → AreUnheaded s.own → AreUnheaded (declare_name g s x m).0.own
+  pub declare_unheaded : (s : Scope g.Reported) (x : Ident) (m : Result Meaning g.Reported) → AreUnheaded s.own
+      → AreUnheaded (declare_name g s x m).0.own
   declare_unheaded s x m h = unless_unheaded s x (known.Declared Here m) (is_free (find_name x.name s.own)) tt h
 
-  pub begun_unheaded : (xs : List Ident) (s : Scope g.Reported) (r : Result (Unit {0}) g.Reported) → AreUnheaded s.own → AreUnheaded (fold (begun_name g) (s, r) xs).0.own
+  pub begun_unheaded : (xs : List Ident) (s : Scope g.Reported) (r : Result (Unit {0}) g.Reported) → AreUnheaded s.own
+      → AreUnheaded (fold (begun_name g) (s, r) xs).0.own
   begun_unheaded [] s r h = h
   begun_unheaded (x ∷ xs) s r h = begun_unheaded xs (begin_name g s x).0 _ (begin_unheaded s x h)

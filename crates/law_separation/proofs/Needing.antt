@@ -22,10 +22,12 @@ once_among : (marked : ℕ → Bool) (xs : List ℕ) (p : ℕ) → Among (unless
 once_among marked [] p a = a
 once_among marked (x ∷ xs) p a = by (once_among marked xs p) (once_among (λ k. marked k || (x == k)) xs p) (marked x) a
   where
-    by : (Among (unless marked xs) p → Among xs p) → (Among (unless (λ k. marked k || (x == k)) xs) p → Among xs p) → (b : Bool)
+    by : (Among (unless marked xs) p → Among xs p) → (Among (unless (λ k. marked k || (x == k)) xs) p → Among xs p)
+        → (b : Bool)
         → Among (cond b (unless marked xs) (x ∷ unless (λ k. marked k || (x == k)) xs)) p → Among (x ∷ xs) p
     by out kept true a = later_among x xs p (out a)
-    by out kept false a = elim (among_cases x (unless (λ k. marked k || (x == k)) xs) p a) [ inl e ↦ (0, ap Some e) | inr more ↦ later_among x xs p (kept more) ]
+    by out kept false a = elim (among_cases x (unless (λ k. marked k || (x == k)) xs) p a)
+        [ inl e ↦ (0, ap Some e) | inr more ↦ later_among x xs p (kept more) ]
 
 both_true : (b c : Bool) → (b && c) ≡ true → (b ≡ true) × (c ≡ true)
 both_true true c e = (refl, e)
@@ -36,7 +38,8 @@ abbrev pub need : List Module → List ℕ → Option ℕ → List ℕ
 need ms order None = []
 need ms order (Some node) = unless (λ k. false) (numbers_of order (targets (needs ms) node))
 
-pub needed_at : (ms : List Module) (order nodes : List ℕ) (js : List (List ℕ)) → AllZip (IsJob ms order) nodes js → (j : ℕ) → prerequisites_of js j ≡ need ms order (slice_get nodes j)
+pub needed_at : (ms : List Module) (order nodes : List ℕ) (js : List (List ℕ)) → AllZip (IsJob ms order) nodes js
+    → (j : ℕ) → prerequisites_of js j ≡ need ms order (slice_get nodes j)
 needed_at ms order [] [] z j = refl
 needed_at ms order [] (row ∷ js) z j = absurd z
 needed_at ms order (n ∷ ns) [] z j = absurd z
@@ -52,21 +55,27 @@ module _ (ms : List Module) where
   abbrev IsFound : Module → ℕ → Type 0
   IsFound m d = (name : List ℕ) × DirectlyNeeds m name × (definition_of ms name ≡ Some d)
 
-  own_found : (m : Module) (d : ℕ) (b : Bool) (o : Option ℕ) → is_definition m ≡ b → definition_of ms m.name.name ≡ o → Among (cond b [] (option_to_list o)) d → IsFound m d
+  own_found : (m : Module) (d : ℕ) (b : Bool) (o : Option ℕ) → is_definition m ≡ b → definition_of ms m.name.name ≡ o
+      → Among (cond b [] (option_to_list o)) d → IsFound m d
   own_found m d true o k e a = absurd (none_among d a)
   own_found m d false None k e a = absurd (none_among d a)
-  own_found m d false (Some x) k e a = elim (among_cases x [] d a) [ inl s ↦ (m.name.name, inl (k, refl), e ∙ ap Some s) | inr none ↦ absurd (none_among d none) ]
+  own_found m d false (Some x) k e a = elim (among_cases x [] d a)
+      [ inl s ↦ (m.name.name, inl (k, refl), e ∙ ap Some s) | inr none ↦ absurd (none_among d none) ]
 
   needs_found : (m : Module) (d : ℕ) → Among (needs_of ms m) d → IsFound m d
   needs_found m d a = elim (among_append_cases (own_definition ms m) (links_of ms m) d a) [
     | inl own ↦ own_found m d (is_definition m) (definition_of ms m.name.name) refl refl own
-    | inr linked ↦ (let r = filtered_among (λ (i : Ident). definition_of ms i.name) (imports_of m) d linked in (r.0.name, inr (among-map (λ (i : Ident). i.name) (imports_of m) r.0 r.1), r.2))
+    | inr linked ↦ (let r = filtered_among (λ (i : Ident). definition_of ms i.name) (imports_of m) d linked in
+        (r.0.name, inr (among-map (λ (i : Ident). i.name) (imports_of m) r.0 r.1), r.2))
   ]
 
-  node_found : (node d : ℕ) → Among (targets (needs ms) node) d → (m : Module) × (slice_get ms node ≡ Some m) × IsFound m d
-  node_found node d a = by (slice_get ms node) refl (subst (λ (ts : List ℕ). Among ts d) (row_at (needs_of ms) ms node) a)
+  node_found : (node d : ℕ) → Among (targets (needs ms) node) d → (m : Module) × (slice_get ms node ≡ Some m)
+      × IsFound m d
+  node_found node d a = by (slice_get ms node) refl
+      (subst (λ (ts : List ℕ). Among ts d) (row_at (needs_of ms) ms node) a)
     where
-      by : (o : Option Module) → slice_get ms node ≡ o → Among (row (needs_of ms) o) d → (m : Module) × (slice_get ms node ≡ Some m) × IsFound m d
+      by : (o : Option Module) → slice_get ms node ≡ o → Among (row (needs_of ms) o) d → (m : Module)
+          × (slice_get ms node ≡ Some m) × IsFound m d
       by None e a = absurd (none_among d a)
       by (Some m) e a = (m, e, needs_found m d a)
 
@@ -94,7 +103,8 @@ module _ (ms : List Module) where
         user = w.0;
         user_there = w.1;
         m = m.0;
-        direct = subst (λ (name : List ℕ). DirectlyNeeds w.0 name) ((bytes_decides found.0 m.0.name.name).0 both.1) found.1;
+        direct = subst (λ (name : List ℕ). DirectlyNeeds w.0 name) ((bytes_decides found.0 m.0.name.name).0 both.1)
+            found.1;
         node = r.0;
         at = f.1 ∙ ap Some (eqb-true f.0 r.0 f.2);
         there = m.1;

@@ -18,13 +18,16 @@ abbrev pub tree_or : Module → Option Tree → Module
 tree_or t None = t
 tree_or t (Some g) = g.1
 
-zipped : {A B : Type 0} (R : A → B → Type 0) (xs : List A) (ys : List B) (k : ℕ) (x : A) → AllZip R xs ys → slice_get xs k ≡ Some x → (y : B) × (slice_get ys k ≡ Some y) × R x y
+zipped : {A B : Type 0} (R : A → B → Type 0) (xs : List A) (ys : List B) (k : ℕ) (x : A) → AllZip R xs ys
+    → slice_get xs k ≡ Some x → (y : B) × (slice_get ys k ≡ Some y) × R x y
 zipped R [] ys k x z e = absurd (none-some x e)
 zipped R (a ∷ xs) [] k x z e = absurd z
-zipped {A} {B} R (a ∷ xs) (b ∷ ys) zero x z e = let s : a ≡ x = same_Some a x e in (b, refl, subst (λ (c : A). R c b) s z.0)
+zipped {A} {B} R (a ∷ xs) (b ∷ ys) zero x z e = let s : a ≡ x = same_Some a x e in
+    (b, refl, subst (λ (c : A). R c b) s z.0)
 zipped R (a ∷ xs) (b ∷ ys) (suc k) x z e = zipped R xs ys k x z.1 e
 
-numbered_here : (n : ℕ) (fs : List Tree) (k : ℕ) (f : File) → slice_get (number_files n fs) k ≡ Some f → (f.given ≡ n + k) × ((t : Tree) × (slice_get fs k ≡ Some t) × (t.1 ≡ f.tree))
+numbered_here : (n : ℕ) (fs : List Tree) (k : ℕ) (f : File) → slice_get (number_files n fs) k ≡ Some f
+    → (f.given ≡ n + k) × ((t : Tree) × (slice_get fs k ≡ Some t) × (t.1 ≡ f.tree))
 numbered_here n [] k f e = absurd (none-some f e)
 numbered_here n (p ∷ fs) zero f e =
     let s = same_Some (record { name = p.0; tree = p.1; given = n }) f e in
@@ -41,16 +44,20 @@ module _ (others : List Tree) where
 
   -- ---- the files as they are given
 
-  pub numbered : (n : ℕ) (fs gs : List Tree) → ((i : ℕ) → slice_get others (n + i) ≡ slice_get gs i) → HaveSameHeads fs gs → put (number_files n fs) ≡ number_files n gs
+  pub numbered : (n : ℕ) (fs gs : List Tree) → ((i : ℕ) → slice_get others (n + i) ≡ slice_get gs i)
+      → HaveSameHeads fs gs → put (number_files n fs) ≡ number_files n gs
   numbered n [] [] at z = refl
   numbered n [] (g ∷ gs) at z = absurd z
   numbered n (f ∷ fs) [] at z = absurd z
   numbered n (f ∷ fs) (g ∷ gs) at z =
       let e : n ≡ n + 0 = omega arith in
       let s : slice_get others n ≡ Some g = ap (slice_get others) e ∙ at 0 in
-      let first : replace (record { name = f.0; tree = f.1; given = n }) ≡ record { name = g.0; tree = g.1; given = n } =
-      ap₂ (λ (name : List ℕ) (tree : Module). record { name = name; tree = tree; given = n }) z.0.of_name (ap (tree_or f.1) s) in
-      let more : (i : ℕ) → slice_get others (n + 1 + i) ≡ slice_get gs i = λ i. (let q : n + 1 + i ≡ n + suc i = omega arith in ap (slice_get others) q ∙ at (suc i)) in
+      let first : replace (record { name = f.0; tree = f.1; given = n })
+      ≡ record { name = g.0; tree = g.1; given = n } =
+      ap₂ (λ (name : List ℕ) (tree : Module). record { name = name; tree = tree; given = n }) z.0.of_name
+      (ap (tree_or f.1) s) in
+      let more : (i : ℕ) → slice_get others (n + 1 + i) ≡ slice_get gs i =
+      λ i. (let q : n + 1 + i ≡ n + suc i = omega arith in ap (slice_get others) q ∙ at (suc i)) in
       ap₂ (λ (x : File) (xs : List File). x ∷ xs) first (numbered (n + 1) fs gs more z.1)
 
   -- Each of them has the head of the other in its place.
@@ -63,11 +70,15 @@ module _ (others : List Tree) where
       let t = r.1 in
       let q : f.given ≡ a.0 = omega (arith, r.0) in
       let w = zipped AreAlike fs others a.0 t.0 z t.1 in
-      let other : tree_or f.tree (slice_get others f.given) ≡ w.0.1 = ap (λ (k : ℕ). tree_or f.tree (slice_get others k)) q ∙ ap (tree_or f.tree) w.1 in
-      subst (λ (n : Module). HaveSameHead f.tree n) (sym other) (subst (λ (m : Module). HaveSameHead m w.0.1) t.2 w.2.of_module)
+      let other : tree_or f.tree (slice_get others f.given) ≡ w.0.1 =
+      ap (λ (k : ℕ). tree_or f.tree (slice_get others k)) q ∙ ap (tree_or f.tree) w.1 in
+      subst (λ (n : Module). HaveSameHead f.tree n) (sym other)
+      (subst (λ (m : Module). HaveSameHead m w.0.1) t.2 w.2.of_module)
 
-  pub all_good : (fs : List Tree) (ordered : List File) → HaveSameHeads fs others → AreInOrder (number_files 0 fs) ordered → AreGood ordered
-  all_good fs ordered z o f a = given_good fs z f (among-permutation ordered (number_files 0 fs) f (IsPermutation-sym (number_files 0 fs) ordered o.same) a)
+  pub all_good : (fs : List Tree) (ordered : List File) → HaveSameHeads fs others
+      → AreInOrder (number_files 0 fs) ordered → AreGood ordered
+  all_good fs ordered z o f a = given_good fs z f
+      (among-permutation ordered (number_files 0 fs) f (IsPermutation-sym (number_files 0 fs) ordered o.same) a)
 
   -- ---- the files in order
 
@@ -81,14 +92,16 @@ module _ (others : List Tree) where
   kept z (f ∷ fs) = by (kept z fs) (ties is_before z f)
     where
       by : filter (ties is_before z) (put fs) ≡ put (filter (ties is_before z) fs) → (b : Bool)
-          → cond b (replace f ∷ filter (ties is_before z) (put fs)) (filter (ties is_before z) (put fs)) ≡ put (cond b (f ∷ filter (ties is_before z) fs) (filter (ties is_before z) fs))
+          → cond b (replace f ∷ filter (ties is_before z) (put fs)) (filter (ties is_before z) (put fs))
+          ≡ put (cond b (f ∷ filter (ties is_before z) fs) (filter (ties is_before z) fs))
       by rest true = ap (λ (xs : List File). replace f ∷ xs) rest
       by rest false = rest
 
   pub in_order : (given ordered : List File) → AreInOrder given ordered → AreInOrder (put given) (put ordered)
   in_order given ordered o = record {
     same = IsPermutation-map replace given ordered o.same;
-    sorted = λ k d l h. ap₂ (λ (x y : List ℕ). is_lt (slice_cmp nat_cmp x y)) (name_at ordered (k + 1) d) (name_at ordered k d)
+    sorted = λ k d l h. ap₂ (λ (x y : List ℕ). is_lt (slice_cmp nat_cmp x y)) (name_at ordered (k + 1) d)
+        (name_at ordered k d)
         ∙ o.sorted k d l (let n = length-map ordered replace in omega (arith, h, n));
     stable = λ z. kept z ordered ∙ ap (map replace) (o.stable z) ∙ sym (kept z given);
   }

@@ -26,7 +26,8 @@ value_plain (Field t u) h = h
 form_plain : (types : Types) → AreRanged types → (f : Formal) → IsForm (form_of types f)
 form_plain types is f = by f.is_open f.is_var
   where
-    by : (o v : Bool) → IsForm (if o then ByArray v (tree types f.of) else (if v then ByName (tree types f.of) else value_form (tree types f.of)))
+    by : (o v : Bool) → IsForm (if o then ByArray v (tree types f.of) else
+        (if v then ByName (tree types f.of) else value_form (tree types f.of)))
     by true true = tt
     by true false = tree_plain types is f.of
     by false true = tt
@@ -100,7 +101,12 @@ formals_tame types is (f ∷ fs) = (by f.is_open f.is_var, formals_tame types is
 pub frame_fits : (types : Types) → AreRanged types → (r : Routine) → IsFit (frame types r)
 unfolding IsTame
 frame_fits types is r =
-    tame_fits (frame types r) ((tt, (tt, tt)), rows_tame (map (formal_tree types) (formals_of types r.heading)) (map (tree types) r.variables) (formals_tame types is (formals_of types r.heading)) (trees_tame types is r.variables))
+    tame_fits (frame types r) (
+      (tt, (tt, tt)),
+      rows_tame (map (formal_tree types) (formals_of types r.heading))
+          (map (tree types) r.variables) (formals_tame types is (formals_of types r.heading))
+          (trees_tame types is r.variables),
+    )
 
 pub module_fits : (m : TypedModule) → AreRanged m.types → IsFit (module_row m)
 module_fits m is = tame_fits (module_row m) (trees_tame m.types is m.variables)

@@ -49,7 +49,8 @@ formed_name true v t = refl
 formed_name false true t = refl
 formed_name false false t = value_name t
 
-formed_tree : (o v : Bool) (t : Ty) → kind_tree (if o then Open t else (if v then Alias t else Kept t)) ≡ (if o then row (Hidden 4 ∷ Hidden 4 ∷ []) else (if v then Hidden 4 else t))
+formed_tree : (o v : Bool) (t : Ty) → kind_tree (if o then Open t else (if v then Alias t else Kept t))
+    ≡ (if o then row (Hidden 4 ∷ Hidden 4 ∷ []) else (if v then Hidden 4 else t))
 formed_tree true v t = refl
 formed_tree false true t = refl
 formed_tree false false t = refl
@@ -76,10 +77,12 @@ value_code top f v x (Field t u) = refl
 abbrev formed_code : (o is_var : Bool) (top : ℕ) (f : Ty) (v x : ℕ) (t : Ty) → List Instr
 formed_code o is_var top f v x t =
     if o
-    then (if is_var then word_kept f v (0 ∷ []) (LocalGet x ∷ []) ++ word_kept f v (1 ∷ []) (LocalGet (suc x) ∷ []) else open_copied top (suc top) f v x (size t))
+    then (if is_var then word_kept f v (0 ∷ []) (LocalGet x ∷ [])
+    ++ word_kept f v (1 ∷ []) (LocalGet (suc x) ∷ []) else open_copied top (suc top) f v x (size t))
     else (if is_var then word_kept f v [] (LocalGet x ∷ []) else value_kept f v x t)
 
-code_is : (o is_var : Bool) (top : ℕ) (f : Ty) (v x : ℕ) (t : Ty) → formed_code o is_var top f v x t ≡ form_kept top f v x (formed o is_var t)
+code_is : (o is_var : Bool) (top : ℕ) (f : Ty) (v x : ℕ) (t : Ty)
+    → formed_code o is_var top f v x t ≡ form_kept top f v x (formed o is_var t)
 code_is true true top f v x t = refl
 code_is true false top f v x t = refl
 code_is false true top f v x t = refl
@@ -100,14 +103,16 @@ one_row : (n : ℕ) (t : Ty) → size (row (Array n t ∷ [])) ≡ n * size t
 unfolding size
 one_row n t = omega arith
 
-value_whole : (program : Modules) (world : List Ty) (x : Location → ℕ → ℕ) (t : Ty) (l : Location) (high : ℕ) (vs : List Value) → IsPassed program world x (value_form t) (Whole l high) vs → ⊥
+value_whole : (program : Modules) (world : List Ty) (x : Location → ℕ → ℕ) (t : Ty) (l : Location) (high : ℕ)
+    (vs : List Value) → IsPassed program world x (value_form t) (Whole l high) vs → ⊥
 value_whole program world x (Cell c) l high vs h = h
 value_whole program world x (Hidden n) l high vs h = h
 value_whole program world x (Array n t) l high vs h = h
 value_whole program world x Nothing l high vs h = h
 value_whole program world x (Field t u) l high vs h = h
 
-value_text : (program : Modules) (world : List Ty) (x : Location → ℕ → ℕ) (t : Ty) (text : List ℕ) (vs : List Value) → IsPassed program world x (value_form t) (Text text) vs → ⊥
+value_text : (program : Modules) (world : List Ty) (x : Location → ℕ → ℕ) (t : Ty) (text : List ℕ) (vs : List Value)
+    → IsPassed program world x (value_form t) (Text text) vs → ⊥
 value_text program world x (Cell c) text vs h = h
 value_text program world x (Hidden n) text vs h = h
 value_text program world x (Array n t) text vs h = h
@@ -140,9 +145,12 @@ no_copy_variable false false t l = by t
     by Nothing = refl
     by (Field t u) = refl
 
-bytes_are : (program : Modules) (world : List Ty) (x : Location → ℕ → ℕ) (o v : Bool) (t : Ty) (p : Passed) (vs : List Value) → IsPassed program world x (formed o v t) p vs → size (row (copy_of (formed o v t) p)) ≡ bytes_of o v t p
+bytes_are : (program : Modules) (world : List Ty) (x : Location → ℕ → ℕ) (o v : Bool) (t : Ty) (p : Passed)
+    (vs : List Value) → IsPassed program world x (formed o v t) p vs
+    → size (row (copy_of (formed o v t) p)) ≡ bytes_of o v t p
 bytes_are program world x o v t (Number n) vs h = ap (λ (c : List Ty). size (row c)) (no_copy o v t n) ∙ no_bytes
-bytes_are program world x o v t (Variable l) vs h = ap (λ (c : List Ty). size (row c)) (no_copy_variable o v t l) ∙ no_bytes
+bytes_are program world x o v t (Variable l) vs h = ap (λ (c : List Ty). size (row c)) (no_copy_variable o v t l)
+    ∙ no_bytes
 bytes_are program world x true true t (Whole l high) vs h = no_bytes
 bytes_are program world x true false t (Whole l high) vs h = one_row (suc high) t
 bytes_are program world x false true t (Whole l high) vs h = absurd h
@@ -167,7 +175,9 @@ module _ (types : Types) where
   bytes_here a (Whole l high) = refl
   bytes_here a (Text text) = refl
 
-  pub copies_bytes : (program : Modules) (world : List Ty) (x : Location → ℕ → ℕ) (fs : List Formal) (ps : List Passed) (vs : List Value) → ArePassed program world x (map (form_of types) fs) ps vs → size (row (copies_of (map (form_of types) fs) ps)) ≡ copies_size types fs ps
+  pub copies_bytes : (program : Modules) (world : List Ty) (x : Location → ℕ → ℕ) (fs : List Formal) (ps : List Passed)
+      (vs : List Value) → ArePassed program world x (map (form_of types) fs) ps vs
+      → size (row (copies_of (map (form_of types) fs) ps)) ≡ copies_size types fs ps
   copies_bytes program world x [] _ _ none_passed = no_bytes
   copies_bytes program world x (a ∷ fs) _ _ (more_passed f gs p ps vs ws h hs) =
       let one = bytes_are program world x a.is_open a.is_var (tree types a.of) p vs h in
@@ -176,30 +186,43 @@ module _ (types : Types) where
       let both = two_rows (copy_of (form_of types a) p) (copies_of (map (form_of types) fs) ps) in
       omega (arith, one, here, more, both)
 
-  pub all_names : (root : ℕ) (fs : List Formal) (ps : List Passed) (e : Entered) → with_all root fs ps e ≡ with_forms root (map (form_of types) fs) ps e
+  pub all_names : (root : ℕ) (fs : List Formal) (ps : List Passed) (e : Entered)
+      → with_all root fs ps e ≡ with_forms root (map (form_of types) fs) ps e
   all_names root [] ps e = refl
   all_names root (a ∷ fs) [] e = refl
   all_names root (a ∷ fs) (p ∷ ps) e =
-      ap (λ (b : Bool). with_all root fs ps (with_passed b root e p)) (sym (formed_name a.is_open a.is_var (tree types a.of))) ∙ all_names root fs ps (with_passed (is_name (form_of types a)) root e p)
+      ap (λ (b : Bool). with_all root fs ps (with_passed b root e p))
+      (sym (formed_name a.is_open a.is_var (tree types a.of)))
+      ∙ all_names root fs ps (with_passed (is_name (form_of types a)) root e p)
 
   pub all_kinds : (fs : List Formal) → map kind_of (map (form_of types) fs) ≡ map (formal_kind types) fs
   all_kinds [] = refl
-  all_kinds (a ∷ fs) = ap (λ (k : Kind). k ∷ map kind_of (map (form_of types) fs)) (formed_kind a.is_open a.is_var (tree types a.of)) ∙ ap (λ (ks : Kinds). formal_kind types a ∷ ks) (all_kinds fs)
+  all_kinds (a ∷ fs) = ap (λ (k : Kind). k ∷ map kind_of (map (form_of types) fs))
+      (formed_kind a.is_open a.is_var (tree types a.of)) ∙ ap (λ (ks : Kinds). formal_kind types a ∷ ks) (all_kinds fs)
 
-  all_trees : (fs : List Formal) (vs : List TypeNo) → map kind_tree (map (formal_kind types) fs ++ map (λ t. Kept (tree types t)) vs) ≡ map (formal_tree types) fs ++ map (tree types) vs
+  all_trees : (fs : List Formal) (vs : List TypeNo)
+      → map kind_tree (map (formal_kind types) fs ++ map (λ t. Kept (tree types t)) vs) ≡ map (formal_tree types) fs
+      ++ map (tree types) vs
   all_trees [] [] = refl
   all_trees [] (t ∷ vs) = ap (λ (ts : List Ty). tree types t ∷ ts) (all_trees [] vs)
-  all_trees (a ∷ fs) vs = ap (λ (u : Ty). u ∷ map kind_tree (map (formal_kind types) fs ++ map (λ t. Kept (tree types t)) vs)) (formed_tree a.is_open a.is_var (tree types a.of)) ∙ ap (λ (ts : List Ty). formal_tree types a ∷ ts) (all_trees fs vs)
+  all_trees (a ∷ fs) vs = ap (λ (u : Ty). u
+      ∷ map kind_tree (map (formal_kind types) fs ++ map (λ t. Kept (tree types t)) vs))
+      (formed_tree a.is_open a.is_var (tree types a.of))
+      ∙ ap (λ (ts : List Ty). formal_tree types a ∷ ts) (all_trees fs vs)
 
   pub frame_is : (r : Routine) → frame types r ≡ frame_kinds (kinds_of types r)
   frame_is r = ap frame_of (sym (all_trees (formals_of types r.heading) r.variables))
 
-  pub formals_code : (top : ℕ) (f : Ty) (v x : ℕ) (fs : List Formal) → formals_kept types top (suc top) f v x fs ≡ forms_kept top f v x (map (form_of types) fs)
+  pub formals_code : (top : ℕ) (f : Ty) (v x : ℕ) (fs : List Formal)
+      → formals_kept types top (suc top) f v x fs ≡ forms_kept top f v x (map (form_of types) fs)
   formals_code top f v x [] = refl
   formals_code top f v x (a ∷ fs) =
-      ap (λ (c : List Instr). c ++ formals_kept types top (suc top) f (suc v) (x + arguments_of a) fs) (code_is a.is_open a.is_var top f v x (tree types a.of))
-      ∙ ap (λ (n : ℕ). form_kept top f v x (form_of types a) ++ formals_kept types top (suc top) f (suc v) (x + n) fs) (formed_operands a.is_open a.is_var (tree types a.of))
-      ∙ ap (λ (c : List Instr). form_kept top f v x (form_of types a) ++ c) (formals_code top f (suc v) (x + operands_of (form_of types a)) fs)
+      ap (λ (c : List Instr). c ++ formals_kept types top (suc top) f (suc v) (x + arguments_of a) fs)
+      (code_is a.is_open a.is_var top f v x (tree types a.of))
+      ∙ ap (λ (n : ℕ). form_kept top f v x (form_of types a) ++ formals_kept types top (suc top) f (suc v) (x + n) fs)
+      (formed_operands a.is_open a.is_var (tree types a.of))
+      ∙ ap (λ (c : List Instr). form_kept top f v x (form_of types a) ++ c)
+      (formals_code top f (suc v) (x + operands_of (form_of types a)) fs)
 
   abbrev pub total : Forms → ℕ
   total [] = 0
@@ -207,4 +230,5 @@ module _ (types : Types) where
 
   pub arguments_are : (fs : List Formal) → all_arguments fs ≡ total (map (form_of types) fs)
   arguments_are [] = refl
-  arguments_are (a ∷ fs) = let one = formed_operands a.is_open a.is_var (tree types a.of) in let more = arguments_are fs in omega (arith, one, more)
+  arguments_are (a ∷ fs) = let one = formed_operands a.is_open a.is_var (tree types a.of) in
+      let more = arguments_are fs in omega (arith, one, more)

@@ -38,7 +38,8 @@ unfolding size
 hidden_size n = refl
 
 module_size : (m : TypedModule) → size (module_type m) ≡ variables m + characters (module_texts m)
-module_size m = row_size (map (tree m.types) m.variables) (Hidden (characters (module_texts m))) ∙ ap (λ (n : ℕ). variables m + n) (hidden_size (characters (module_texts m)))
+module_size m = row_size (map (tree m.types) m.variables) (Hidden (characters (module_texts m)))
+    ∙ ap (λ (n : ℕ). variables m + n) (hidden_size (characters (module_texts m)))
 
 base_size : (p : Program) → size (row (map module_type p)) ≡ bytes_in p
 unfolding size
@@ -63,15 +64,19 @@ unfolding component
 nothing_cell c [] h = absurd (cc h)
 nothing_cell c (i ∷ r) h = absurd (cc h)
 
-ground_shows : (program p : Program) (a : ℕ) (bytes : List ℕ) → AllZero a p bytes → All IsSound p → Shows program (row (map module_type p)) a (fresh (row (map module_row p))) bytes
+ground_shows : (program p : Program) (a : ℕ) (bytes : List ℕ) → AllZero a p bytes → All IsSound p
+    → Shows program (row (map module_type p)) a (fresh (row (map module_row p))) bytes
 unfolding component offset fresh
 ground_shows program [] a bytes zeros sound r c h = absurd (nothing_cell c r h)
-ground_shows program (m ∷ ms) a bytes zeros sound [] c h = absurd (no_row_cell c (module_type m) (row (map module_type ms)) h)
+ground_shows program (m ∷ ms) a bytes zeros sound [] c h =
+    absurd (no_row_cell c (module_type m) (row (map module_type ms)) h)
 ground_shows program (m ∷ ms) a bytes zeros sound (zero ∷ r) c h =
     let w = trimmed (map (tree m.types) m.variables) (characters (module_texts m)) r c h in
-    subst (λ (o : ℕ). Says program c (a + o) (fresh (module_row m) r) bytes) (sym w.1) (zero_shows program (module_row m) a bytes (All-head IsSound m ms sound).fit zeros.0 r c w.0)
+    subst (λ (o : ℕ). Says program c (a + o) (fresh (module_row m) r) bytes) (sym w.1)
+    (zero_shows program (module_row m) a bytes (All-head IsSound m ms sound).fit zeros.0 r c w.0)
 ground_shows program (m ∷ ms) a bytes zeros sound (suc i ∷ r) c h =
-    subst (λ (o : ℕ). Says program c o (fresh (row (map module_row ms)) (i ∷ r)) bytes) (omega arith) (ground_shows program ms (a + size (module_type m)) bytes zeros.1 (All-tail IsSound m ms sound) (i ∷ r) c h)
+    subst (λ (o : ℕ). Says program c o (fresh (row (map module_row ms)) (i ∷ r)) bytes) (omega arith)
+    (ground_shows program ms (a + size (module_type m)) bytes zeros.1 (All-tail IsSound m ms sound) (i ∷ r) c h)
 
 -- ---- the image has these zeros
 
@@ -92,14 +97,22 @@ image_zero (m ∷ ms) front back =
     let v : List ℕ = replicate (variables m) 0 in
     let whole : List ℕ = front ++ ((v ++ (text m ++ image ms)) ++ back) in
     let parts : (front ++ (v ++ text m)) ++ (image ms ++ back) ≡ whole =
-    append_assoc front (v ++ text m) (image ms ++ back) ∙ ap (λ (xs : List ℕ). front ++ xs) (sym (append_assoc (v ++ text m) (image ms) back) ∙ ap (λ (xs : List ℕ). xs ++ back) (append_assoc v (text m) (image ms)))
+    append_assoc front (v ++ text m) (image ms ++ back)
+    ∙ ap (λ (xs : List ℕ). front ++ xs) (sym (append_assoc (v ++ text m) (image ms) back)
+    ∙ ap (λ (xs : List ℕ). xs ++ back) (append_assoc v (text m) (image ms)))
     in
     let long : length (front ++ (v ++ text m)) ≡ length front + size (module_type m) =
-    (let a = length-append front (v ++ text m) in let b = length-append v (text m) in let c : length v ≡ variables m = length-replicate (variables m) 0 in let d = text_length (module_texts m) in let e = module_size m in
+    (let a = length-append front (v ++ text m) in let b = length-append v (text m) in
+    let c : length v ≡ variables m = length-replicate (variables m) 0 in let d = text_length (module_texts m) in
+    let e = module_size m in
     omega (arith, a, b, c, d, e))
     in (
-      λ j less. byte_behind front ((v ++ (text m ++ image ms)) ++ back) j ∙ ap (byte j) (append_assoc v (text m ++ image ms) back) ∙ byte_zero (variables m) j ((text m ++ image ms) ++ back) less,
-      subst (λ (n : ℕ). AllZero n ms whole) long (subst (λ (xs : List ℕ). AllZero (length (front ++ (v ++ text m))) ms xs) parts (image_zero ms (front ++ (v ++ text m)) back)),
+      λ j less. byte_behind front ((v ++ (text m ++ image ms)) ++ back) j
+          ∙ ap (byte j) (append_assoc v (text m ++ image ms) back)
+          ∙ byte_zero (variables m) j ((text m ++ image ms) ++ back) less,
+      subst (λ (n : ℕ). AllZero n ms whole) long
+          (subst (λ (xs : List ℕ). AllZero (length (front ++ (v ++ text m))) ms xs) parts
+          (image_zero ms (front ++ (v ++ text m)) back)),
     )
 
 -- ---- all are bytes
@@ -128,18 +141,23 @@ all_small (x ∷ xs) h (suc a) = all_small xs (All-tail (λ b. b < 256) x xs h) 
 image_small : (p : Program) → All IsSound p → AreSmall (image p)
 image_small [] sound = λ a. omega arith
 image_small (m ∷ ms) sound =
-    append_small (replicate (variables m) 0) (text m ++ image ms) (zeros_small (variables m)) (append_small (text m) (image ms) (all_small (text m) (All-head IsSound m ms sound).small) (image_small ms (All-tail IsSound m ms sound)))
+    append_small (replicate (variables m) 0) (text m ++ image ms) (zeros_small (variables m))
+    (append_small (text m) (image ms) (all_small (text m) (All-head IsSound m ms sound).small)
+    (image_small ms (All-tail IsSound m ms sound)))
 
 -- ---- the first store
 
 pub top_is : (p : Program) → size (row (map module_type p)) ≡ bytes_in p
 top_is = base_size
 
-pub first_held : (p : Program) (pages : ℕ) → All IsSound p → bytes_in p ≤ 65536 * pages → IsHeld (ground p pages) (first_state p) (first_bytes p pages)
+pub first_held : (p : Program) (pages : ℕ) → All IsSound p → bytes_in p ≤ 65536 * pages
+    → IsHeld (ground p pages) (first_state p) (first_bytes p pages)
 first_held p pages sound room =
     let spare : List ℕ = replicate (65536 * pages - bytes_in p) 0 in
     let long : length (first_bytes p pages) ≡ 65536 * pages =
-    (let a = length-append (image p) spare in let b = image_length p in let c : length spare ≡ 65536 * pages - bytes_in p = length-replicate (65536 * pages - bytes_in p) 0 in omega (arith, a, b, c, room))
+    (let a = length-append (image p) spare in let b = image_length p in
+    let c : length spare ≡ 65536 * pages - bytes_in p = length-replicate (65536 * pages - bytes_in p) 0 in
+    omega (arith, a, b, c, room))
     in
     record {
       holds = record {

@@ -33,24 +33,30 @@ module _ (types : Types) where
   one_form : (f : Formal) → form_of types f ≡ form_in (passing_of f) (tree types f.of)
   one_form f = by f.is_open f.is_var
     where
-      by : (o v : Bool) → form_of types (record f { is_open = o; is_var = v }) ≡ form_in (passing_of (record f { is_open = o; is_var = v })) (tree types f.of)
+      by : (o v : Bool) → form_of types (record f { is_open = o; is_var = v })
+          ≡ form_in (passing_of (record f { is_open = o; is_var = v })) (tree types f.of)
       by true v = refl
       by false true = refl
       by false false = refl
 
-  forms_are : (fs : List Formal) (r : Option TypeNo) → map (form_of types) fs ≡ forms_in (heading_tree (known_trees types) fs r)
+  forms_are : (fs : List Formal) (r : Option TypeNo)
+      → map (form_of types) fs ≡ forms_in (heading_tree (known_trees types) fs r)
   forms_are [] None = refl
   forms_are [] (Some t) = refl
-  forms_are (f ∷ fs) r = ap (λ x. x ∷ map (form_of types) fs) (one_form f) ∙ ap (λ xs. form_in (passing_of f) (tree types f.of) ∷ xs) (forms_are fs r)
+  forms_are (f ∷ fs) r = ap (λ x. x ∷ map (form_of types) fs) (one_form f)
+      ∙ ap (λ xs. form_in (passing_of f) (tree types f.of) ∷ xs) (forms_are fs r)
 
-  result_is : (fs : List Formal) (r : Option TypeNo) → option_map (tree types) r ≡ heading_result (heading_tree (known_trees types) fs r)
+  result_is : (fs : List Formal) (r : Option TypeNo)
+      → option_map (tree types) r ≡ heading_result (heading_tree (known_trees types) fs r)
   result_is [] None = refl
   result_is [] (Some t) = refl
   result_is (f ∷ fs) r = result_is fs r
 
-  shape_forms : (s : Shape) (h : Heading) → heading_in types s ≡ Some h → (map (form_of types) (formals_in s) ≡ forms_in h) × (results_in types s ≡ heading_result h)
+  shape_forms : (s : Shape) (h : Heading) → heading_in types s ≡ Some h
+      → (map (form_of types) (formals_in s) ≡ forms_in h) × (results_in types s ≡ heading_result h)
   shape_forms (shape.Procedure p) h e =
-      let same : heading_tree (known_trees types) p.formals p.result ≡ h = same_some (heading_tree (known_trees types) p.formals p.result) h e in
+      let same : heading_tree (known_trees types) p.formals p.result ≡ h =
+      same_some (heading_tree (known_trees types) p.formals p.result) h e in
       (forms_are p.formals p.result ∙ ap forms_in same, result_is p.formals p.result ∙ ap heading_result same)
   shape_forms (shape.Scalar s) h e = absurd (none_some h e)
   shape_forms shape.Set h e = absurd (none_some h e)
@@ -58,7 +64,8 @@ module _ (types : Types) where
   shape_forms (shape.Record fs) h e = absurd (none_some h e)
   shape_forms (shape.Open x) h e = absurd (none_some h e)
 
-  made_forms : (o : Option Made) (h : Heading) → heading_made types o ≡ Some h → (map (form_of types) (formals_made o) ≡ forms_in h) × (results_made types o ≡ heading_result h)
+  made_forms : (o : Option Made) (h : Heading) → heading_made types o ≡ Some h
+      → (map (form_of types) (formals_made o) ≡ forms_in h) × (results_made types o ≡ heading_result h)
   made_forms None h e = absurd (none_some h e)
   made_forms (Some m) h e = shape_forms m.shape h e
 
@@ -70,10 +77,12 @@ module _ (types : Types) where
 
 -- ---- results
 
-shape_result : (types : Types) (s : Shape) → (result_in s ≡ is_there (results_in types s)) × (gives_result s ≡ is_there (results_in types s))
+shape_result : (types : Types) (s : Shape) → (result_in s ≡ is_there (results_in types s))
+    × (gives_result s ≡ is_there (results_in types s))
 shape_result types (shape.Procedure h) = by h.result
   where
-    by : (o : Option TypeNo) → (there_code o ≡ is_there (option_map (tree types) o)) × (is_there o ≡ is_there (option_map (tree types) o))
+    by : (o : Option TypeNo) → (there_code o ≡ is_there (option_map (tree types) o))
+        × (is_there o ≡ is_there (option_map (tree types) o))
     by None = (refl, refl)
     by (Some t) = (refl, refl)
 shape_result types (shape.Scalar s) = (refl, refl)
@@ -82,7 +91,8 @@ shape_result types (shape.Array i e) = (refl, refl)
 shape_result types (shape.Record fs) = (refl, refl)
 shape_result types (shape.Open e) = (refl, refl)
 
-made_result : (types : Types) (o : Option Made) → (result_made o ≡ is_there (results_made types o)) × (is_function_made o ≡ is_there (results_made types o))
+made_result : (types : Types) (o : Option Made) → (result_made o ≡ is_there (results_made types o))
+    × (is_function_made o ≡ is_there (results_made types o))
 made_result types None = (refl, refl)
 made_result types (Some m) = shape_result types m.shape
 
@@ -91,7 +101,8 @@ pub has_it : (types : Types) (heading : TypeNo) → has_result types heading ≡
 has_it types heading = (made_result types (made_at types heading)).0
 
 -- and in what is meant
-pub means_it : (types : Types) (heading : TypeNo) → is_function_made (made_at types heading) ≡ is_there (result_of types heading)
+pub means_it : (types : Types) (heading : TypeNo)
+    → is_function_made (made_at types heading) ≡ is_there (result_of types heading)
 means_it types heading = (made_result types (made_at types heading)).1
 
 -- ---- operands
@@ -106,17 +117,20 @@ value_operands (Field t others) = refl
 one_operand : (types : Types) (f : Formal) → operands_of (form_of types f) ≡ arguments_of f
 one_operand types f = by f.is_open f.is_var
   where
-    by : (o v : Bool) → operands_of (form_of types (record f { is_open = o; is_var = v })) ≡ arguments_of (record f { is_open = o; is_var = v })
+    by : (o v : Bool) → operands_of (form_of types (record f { is_open = o; is_var = v }))
+        ≡ arguments_of (record f { is_open = o; is_var = v })
     by true v = refl
     by false true = refl
     by false false = value_operands (tree types f.of)
 
 operands_are : (types : Types) (fs : List Formal) → all_operands (map (form_of types) fs) ≡ all_arguments fs
 operands_are types [] = refl
-operands_are types (f ∷ fs) = let one = one_operand types f in let more = operands_are types fs in omega (arith, one, more)
+operands_are types (f ∷ fs) = let one = one_operand types f in let more = operands_are types fs in
+    omega (arith, one, more)
 
 -- so many operands as the heading has arguments
-pub operands_counted : (types : Types) (heading : TypeNo) → all_operands (forms_of types heading) ≡ all_arguments (formals_of types heading)
+pub operands_counted : (types : Types) (heading : TypeNo)
+    → all_operands (forms_of types heading) ≡ all_arguments (formals_of types heading)
 operands_counted types heading = operands_are types (formals_of types heading)
 
 -- ---- types of functions
@@ -138,7 +152,10 @@ pub agrees_itself : (t : FuncType) → agree (Some t) (Some t) ≡ true
 agrees_itself t = ap (λ (b : Bool). b && are_same t.results t.results) (same_list t.params) ∙ same_list t.results
 
 -- the type of the functions with a heading
-pub type_same : (types : Types) (t : TypeNo) (h : Heading) → heading_at types t ≡ Some h → type_of (of_heading types t) ≡ type_of (signature (all_operands (forms_in h)) (is_there (heading_result h)))
+pub type_same : (types : Types) (t : TypeNo) (h : Heading) → heading_at types t ≡ Some h
+    → type_of (of_heading types t) ≡ type_of (signature (all_operands (forms_in h)) (is_there (heading_result h)))
 type_same types t h e =
-    ap (λ (n : ℕ). type_of (signature n (has_result types t))) (sym (operands_counted types t) ∙ ap all_operands (forms_same types t h e))
-    ∙ ap (λ (b : Bool). type_of (signature (all_operands (forms_in h)) b)) (has_it types t ∙ ap (λ r. is_there r) (result_same types t h e))
+    ap (λ (n : ℕ). type_of (signature n (has_result types t)))
+    (sym (operands_counted types t) ∙ ap all_operands (forms_same types t h e))
+    ∙ ap (λ (b : Bool). type_of (signature (all_operands (forms_in h)) b))
+    (has_it types t ∙ ap (λ r. is_there r) (result_same types t h e))

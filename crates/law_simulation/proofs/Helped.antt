@@ -25,7 +25,9 @@ use Rattle.law_simulation.proofs.LinkedPlaces.{own, module_there, callee_there, 
 -- a function of a module, with its type
 abbrev pub function_in : (f : ℕ) → Option WModule → Option Typed
 function_in f o =
-    option_and_then (λ (tree : WModule). option_and_then (λ (function : Function). option_and_then (λ t. Some (record { type = t; function = function })) (slice_get tree.types function.type_index)) (slice_get tree.functions f)) o
+    option_and_then (λ (tree : WModule). option_and_then
+    (λ (function : Function). option_and_then (λ t. Some (record { type = t; function = function }))
+    (slice_get tree.types function.type_index)) (slice_get tree.functions f)) o
 
 serves_five : (k f : ℕ) → f < 5 → serving (suc k) f ≡ true
 serves_five k f h = lt-ltb f 5 h
@@ -44,19 +46,25 @@ module _ (p : Program) (pages : ℕ) (before rest : Program) (m : TypedModule) (
   five : 5 < count m
   five = let h = enough m in omega (arith, h)
 
-  at : (bytes : List ℕ) (j : ℕ) → j < 5 → callee_at (store_of (fixtures_of p pages) bytes) me (suc (suc j)) ≡ Some (Own me j)
+  at : (bytes : List ℕ) (j : ℕ) → j < 5 → callee_at (store_of (fixtures_of p pages) bytes) me (suc (suc j))
+      ≡ Some (Own me j)
   at bytes j h = callee_there p pages before rest m is bytes j (let few = five in omega (arith, h, few))
 
   module _ (base : List Ty) (texts : Location → ℕ → ℕ) (place n d : ℕ) where
     abbrev pub here : Scene
     here = core (all p pages) (fixtures_of p pages) serving more_turns n (65536 * pages) p base texts me place m d
 
-    serve : (e : ℕ) (f : ℕ) → f < 5 → (t : Typed) (args : List Value) (bytes out : List ℕ) → nest_calls (all p pages) (fixtures_of p pages) serving more_turns n e me f t args bytes out ≡ calling (all p pages) (fixtures_of p pages) more_turns n (suc (suc n)) me f t args bytes out
+    serve : (e : ℕ) (f : ℕ) → f < 5 → (t : Typed) (args : List Value) (bytes out : List ℕ)
+        → nest_calls (all p pages) (fixtures_of p pages) serving more_turns n e me f t args bytes out
+        ≡ calling (all p pages) (fixtures_of p pages) more_turns n (suc (suc n)) me f t args bytes out
     unfolding nest_calls
-    serve zero f h t args bytes out = ap (λ (b : Bool). if b then calling (all p pages) (fixtures_of p pages) more_turns n (suc (suc n)) me f t args bytes out else StillRunning out) (serves_five (length before) f h)
+    serve zero f h t args bytes out = ap (λ (b : Bool). if b then calling (all p pages) (fixtures_of p pages) more_turns
+        n (suc (suc n)) me f t args bytes out else StillRunning out) (serves_five (length before) f h)
     serve (suc e) f h t args bytes out =
         let start : Target = record { locals = (enter_function me t args).locals; bytes = bytes; out = out } in
-        ap (λ (b : Bool). if b then calling (all p pages) (fixtures_of p pages) more_turns n (suc (suc n)) me f t args bytes out else effect (all p pages) (fixtures_of p pages) (n + more_turns me f) (nest_calls (all p pages) (fixtures_of p pages) serving more_turns n e) me t.function.body.code start [])
+        ap (λ (b : Bool). if b then calling (all p pages) (fixtures_of p pages) more_turns n (suc (suc n)) me f t args
+        bytes out else effect (all p pages) (fixtures_of p pages) (n + more_turns me f)
+        (nest_calls (all p pages) (fixtures_of p pages) serving more_turns n e) me t.function.body.code start [])
         (serves_five (length before) f h)
 
     pub has_helpers : HasHelpers here

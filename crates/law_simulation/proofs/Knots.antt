@@ -14,30 +14,41 @@ use Rattle.law_simulation.specs.Begun.{calling}
 use Rattle.law_simulation.proofs.Routines.{routine_does}
 use Rattle.law_simulation.specs.Knot.{Part, core, Knot}
 
-module _ (modules : List WModule) (fx : Fixed) (serves : (k f : ℕ) → Bool) (extra : (k f : ℕ) → ℕ) (n limit : ℕ) (p : Modules) (base : List Ty) (texts : Location → ℕ → ℕ) where
+module _ (modules : List WModule) (fx : Fixed) (serves : (k f : ℕ) → Bool) (extra : (k f : ℕ) → ℕ) (n limit : ℕ)
+    (p : Modules) (base : List Ty) (texts : Location → ℕ → ℕ) where
   -- calls that nest no deeper still run
-  none_left : (k f : ℕ) (t : Typed) (args : List Value) (bytes out : List ℕ) → serves k f ≡ false → nest_calls modules fx serves extra n 0 k f t args bytes out ≡ StillRunning out
+  none_left : (k f : ℕ) (t : Typed) (args : List Value) (bytes out : List ℕ) → serves k f ≡ false
+      → nest_calls modules fx serves extra n 0 k f t args bytes out ≡ StillRunning out
   unfolding nest_calls
-  none_left k f t args bytes out e = ap (λ (b : Bool). if b then helping modules fx extra n (suc (suc n)) k f t args bytes out else StillRunning out) e
+  none_left k f t args bytes out e = ap (λ (b : Bool). if b then helping modules fx extra n (suc (suc n)) k f t args
+      bytes out else StillRunning out) e
 
   pub one_more : (d k f : ℕ) (t : Typed) (args : List Value) (bytes out : List ℕ) → serves k f ≡ false → extra k f ≡ 0
-      → nest_calls modules fx serves extra n (suc d) k f t args bytes out ≡ effect modules fx n (nest_calls modules fx serves extra n d) k t.function.body.code (record { locals = args ++ flat_map zeros t.function.body.locals; bytes = bytes; out = out }) []
+      → nest_calls modules fx serves extra n (suc d) k f t args bytes out
+      ≡ effect modules fx n (nest_calls modules fx serves extra n d) k t.function.body.code
+      (record { locals = args ++ flat_map zeros t.function.body.locals; bytes = bytes; out = out }) []
   unfolding nest_calls
   one_more d k f t args bytes out e bound =
-      let start : Target = record { locals = args ++ flat_map zeros t.function.body.locals; bytes = bytes; out = out } in
+      let start : Target = record { locals = args ++ flat_map zeros t.function.body.locals; bytes = bytes; out = out }
+      in
       let same : n + extra k f ≡ n = omega (arith, bound) in
-      ap (λ (b : Bool). if b then helping modules fx extra n (suc (suc n)) k f t args bytes out else effect modules fx (n + extra k f) (nest_calls modules fx serves extra n d) k t.function.body.code start []) e
-      ∙ ap (λ (j : ℕ). effect modules fx j (nest_calls modules fx serves extra n d) k t.function.body.code start []) same
+      ap (λ (b : Bool). if b then helping modules fx extra n (suc (suc n)) k f t args bytes out else effect modules fx
+      (n + extra k f) (nest_calls modules fx serves extra n d) k t.function.body.code start []) e
+      ∙ ap (λ (j : ℕ). effect modules fx j (nest_calls modules fx serves extra n d) k t.function.body.code start [])
+      same
 
   module _ (Index : Type 0) (part : Index → Part) where
     pub knot : Knot modules fx serves extra n limit p base texts Index part
     unfolding calling_with
     knot are zero i nss = λ world x based roots chain s bytes holds long vs values passed left whole locals below.
-        ap (back (length (part i).typed.type.results) locals below) (none_left (part i).own (part i).function (part i).typed _ bytes s.out (are i).ours)
+        ap (back (length (part i).typed.type.results) locals below)
+        (none_left (part i).own (part i).function (part i).typed _ bytes s.out (are i).ours)
     knot are (suc d) i nss =
         let o : Part = part i in
         let is = are i in
-        routine_does (core modules fx serves extra n limit p base texts o.own o.place o.home d) p (calling p n d) (calling p n (suc d)) (nest_calls modules fx serves extra n (suc d)) (numbering_of o.home) o.home o.place o.routine o.outer o.text o.kinds base texts o.function o.typed
+        routine_does (core modules fx serves extra n limit p base texts o.own o.place o.home d) p (calling p n d)
+        (calling p n (suc d)) (nest_calls modules fx serves extra n (suc d)) (numbering_of o.home) o.home o.place
+        o.routine o.outer o.text o.kinds base texts o.function o.typed
         (is.procedure d) is.function (is.body d (knot are d))
         (λ args bytes out. one_more d o.own o.function o.typed args bytes out is.ours is.bound) nss
         (λ vs next left s. refl)

@@ -40,7 +40,8 @@ use Rattle.law_simulation.proofs.LinkedSlots.{room_there, room_at, room_byte, sl
 use Rattle.law_simulation.proofs.Functions.{count_is, procedure_there, local_there}
 use Rattle.law_simulation.proofs.LinkedTables.{slot_callee}
 
-module _ (p : Program) (pages : ℕ) (distinct : AreDistinct (names p)) (few : 1 + slots_in p < 2 ^ 32) (coherent : (place : ℕ) (m : TypedModule) → slice_get p place ≡ Some m → IsCoherent p place m)
+module _ (p : Program) (pages : ℕ) (distinct : AreDistinct (names p)) (few : 1 + slots_in p < 2 ^ 32)
+    (coherent : (place : ℕ) (m : TypedModule) → slice_get p place ≡ Some m → IsCoherent p place m)
     (place : ℕ) (m : TypedModule) (there : slice_get p place ≡ Some m) where
   abbrev is_coherent : IsCoherent p place m
   is_coherent = coherent place m there
@@ -56,31 +57,47 @@ module _ (p : Program) (pages : ℕ) (distinct : AreDistinct (names p)) (few : 1
   within t (u ∷ ts) zero e = omega arith
   within t (u ∷ ts) (suc j) e = let less = within t ts j e in omega (arith, less)
 
-  variable_known : (v : Variable) (t : Ty) → component (variables_row m v.home) (v.number ∷ []) ≡ Some t → v.number < length (known_variables m v.home)
+  variable_known : (v : Variable) (t : Ty) → component (variables_row m v.home) (v.number ∷ []) ≡ Some t
+      → v.number < length (known_variables m v.home)
   unfolding component
   variable_known v t is = by (is_own m v.home) refl
     where
-      some_of : (o : Option Imported) → component (imported_row m.types o) (v.number ∷ []) ≡ Some t → v.number < length (imported_variables o)
+      some_of : (o : Option Imported) → component (imported_row m.types o) (v.number ∷ []) ≡ Some t
+          → v.number < length (imported_variables o)
       some_of None e = absurd cc
-      some_of (Some i) e = let less = within t (map (tree m.types) i.variables) v.number e in let long = length_mapped p pages place distinct m is_coherent (tree m.types) i.variables in omega (arith, less, long)
+      some_of (Some i) e = let less = within t (map (tree m.types) i.variables) v.number e in
+          let long = length_mapped p pages place distinct m is_coherent (tree m.types) i.variables in
+          omega (arith, less, long)
 
       by : (b : Bool) → is_own m v.home ≡ b → v.number < length (known_variables m v.home)
       by true e =
-          let type : component (module_row m) (v.number ∷ []) ≡ Some t = subst (λ (b : Bool). component (if b then module_row m else imported_row m.types (slice_get m.imports (import_place m v.home))) (v.number ∷ []) ≡ Some t) e is in
+          let type : component (module_row m) (v.number ∷ []) ≡ Some t =
+          subst (λ (b : Bool). component (if b then module_row m else imported_row m.types
+          (slice_get m.imports (import_place m v.home))) (v.number ∷ []) ≡ Some t) e is in
           let less = within t (map (tree m.types) m.variables) v.number type in
           let long = length_mapped p pages place distinct m is_coherent (tree m.types) m.variables in
-          subst (λ (b : Bool). v.number < length (if b then m.variables else imported_variables (slice_get m.imports (import_place m v.home)))) (sym e) (omega (arith, less, long))
+          subst (λ (b : Bool). v.number < length
+          (if b then m.variables else imported_variables (slice_get m.imports (import_place m v.home)))) (sym e)
+          (omega (arith, less, long))
       by false e =
-          let type : component (imported_row m.types (slice_get m.imports (import_place m v.home))) (v.number ∷ []) ≡ Some t = subst (λ (b : Bool). component (if b then module_row m else imported_row m.types (slice_get m.imports (import_place m v.home))) (v.number ∷ []) ≡ Some t) e is in
-          subst (λ (b : Bool). v.number < length (if b then m.variables else imported_variables (slice_get m.imports (import_place m v.home)))) (sym e) (some_of (slice_get m.imports (import_place m v.home)) type)
+          let type : component (imported_row m.types (slice_get m.imports (import_place m v.home))) (v.number ∷ [])
+          ≡ Some t = subst (λ (b : Bool). component
+          (if b then module_row m else imported_row m.types (slice_get m.imports (import_place m v.home)))
+          (v.number ∷ []) ≡ Some t) e is in
+          subst (λ (b : Bool). v.number < length
+          (if b then m.variables else imported_variables (slice_get m.imports (import_place m v.home)))) (sym e)
+          (some_of (slice_get m.imports (import_place m v.home)) type)
 
-  has_variable : (v : Variable) (t : Ty) → IsVariable (context p (ground p pages).base (ground p pages).texts place m []) v t → HasVariable p (ground p pages).base (ground p pages).texts (all p pages) (fixtures_of p pages) place m v
+  has_variable : (v : Variable) (t : Ty) →
+      IsVariable (context p (ground p pages).base (ground p pages).texts place m []) v t
+      → HasVariable p (ground p pages).base (ground p pages).texts (all p pages) (fixtures_of p pages) place m v
   has_variable v t is = by (is_own m v.home) refl
     where
       less : v.number < length (known_variables m v.home)
       less = variable_known v t is.type
 
-      by : (b : Bool) → is_own m v.home ≡ b → HasVariable p (ground p pages).base (ground p pages).texts (all p pages) (fixtures_of p pages) place m v
+      by : (b : Bool) → is_own m v.home ≡ b →
+          HasVariable p (ground p pages).base (ground p pages).texts (all p pages) (fixtures_of p pages) place m v
       by true e = record {
         address = bytes_in h.before;
         there = λ bytes. base_own p pages place distinct m is_coherent bytes v.home e;
@@ -97,7 +114,8 @@ module _ (p : Program) (pages : ℕ) (distinct : AreDistinct (names p)) (few : 1
   has_texts : HasTexts p (ground p pages).base (ground p pages).texts (all p pages) (fixtures_of p pages) place m
   has_texts = record {
     address = bytes_in h.before + variables m;
-    there = λ bytes. global_at_place p pages place distinct m is_coherent bytes 2 (text_at p m.name) (I32 (bytes_in h.before + variables m)) refl (text_value p pages distinct h.before h.rest m h.is);
+    there = λ bytes. global_at_place p pages place distinct m is_coherent bytes 2 (text_at p m.name)
+        (I32 (bytes_in h.before + variables m)) refl (text_value p pages distinct h.before h.rest m h.is);
     number = length (map (tree m.types) m.variables);
     bytes = characters (module_texts m);
     type = room_there p pages place distinct m is_coherent;
@@ -108,7 +126,8 @@ module _ (p : Program) (pages : ℕ) (distinct : AreDistinct (names p)) (few : 1
 
   -- ---- slots of procedures
 
-  module _ (to : ℕ) (home : TypedModule) (number : ℕ) (r : Routine) (found : slice_get p to ≡ Some home) (is : slice_get home.procedures number ≡ Some r) where
+  module _ (to : ℕ) (home : TypedModule) (number : ℕ) (r : Routine) (found : slice_get p to ≡ Some home)
+      (is : slice_get home.procedures number ≡ Some r) where
     abbrev at : Split p to home
     at = here p pages to distinct home (coherent to home found)
 
@@ -119,13 +138,15 @@ module _ (p : Program) (pages : ℕ) (distinct : AreDistinct (names p)) (few : 1
         let some_slots = slots_within at.before at.rest home in
         omega (arith, inside, whole, some_slots, few)
 
-    slot_filled : (bytes : List ℕ) → callee_in (store_of (fixtures_of p pages) bytes) (suc place) (suc (slots_in at.before + suc number)) ≡ Some (Own (suc to) (6 + number))
+    slot_filled : (bytes : List ℕ) → callee_in (store_of (fixtures_of p pages) bytes) (suc place)
+        (suc (slots_in at.before + suc number)) ≡ Some (Own (suc to) (6 + number))
     slot_filled bytes =
         let inside = slice_get_within home.procedures number r is in
         let many = count_is home in
         let less : suc number < slots home = omega (arith, inside) in
         let fewer : 5 + suc number < count home = omega (arith, inside, many) in
-        ap (λ (k : ℕ). callee_in (store_of (fixtures_of p pages) bytes) (suc k) (suc (slots_in at.before + suc number))) (sym h.long)
+        ap (λ (k : ℕ). callee_in (store_of (fixtures_of p pages) bytes) (suc k) (suc (slots_in at.before + suc number)))
+        (sym h.long)
         ∙ slot_callee p pages h.before h.rest m h.is at.before at.rest home at.is bytes (suc number) less fewer
         ∙ ap (λ (k : ℕ). Some (Own (suc k) (5 + suc number))) at.long
         ∙ ap (λ (k : ℕ). Some (Own (suc to) k)) (let j : 5 + suc number ≡ 6 + number = omega arith in j)
@@ -134,10 +155,12 @@ module _ (p : Program) (pages : ℕ) (distinct : AreDistinct (names p)) (few : 1
     value_slot : value_number p to number ≡ suc (slots_in at.before + suc number)
     value_slot = let entry = entry_value p to home at in omega (arith, entry)
 
-    has_entry : HasEntry p (ground p pages).base (ground p pages).texts (all p pages) (fixtures_of p pages) place m to number
+    has_entry : HasEntry p (ground p pages).base (ground p pages).texts (all p pages) (fixtures_of p pages) place m to
+        number
     has_entry = record {
       small = subst (λ (n : ℕ). n < 2 ^ 32) (sym value_slot) slot_small;
-      filled = λ bytes. ap (callee_in (store_of (fixtures_of p pages) bytes) (suc place)) value_slot ∙ slot_filled bytes;
+      filled = λ bytes. ap (callee_in (store_of (fixtures_of p pages) bytes) (suc place)) value_slot
+          ∙ slot_filled bytes;
     }
 
   -- ---- procedures
@@ -152,16 +175,23 @@ module _ (p : Program) (pages : ℕ) (distinct : AreDistinct (names p)) (few : 1
     abbrev s : Split p to is.home
     s = here p pages to distinct is.home (coherent to is.home is.there)
 
-    tab_there : (bytes : List ℕ) → global_at (store_of (fixtures_of p pages) bytes) (suc place) (slots_global m f.home) ≡ Some (I32 (1 + slots_in s.before))
+    tab_there : (bytes : List ℕ) → global_at (store_of (fixtures_of p pages) bytes) (suc place) (slots_global m f.home)
+        ≡ Some (I32 (1 + slots_in s.before))
     tab_there bytes = by (is_own m f.home) refl
       where
-        by : (b : Bool) → is_own m f.home ≡ b → global_at (store_of (fixtures_of p pages) bytes) (suc place) (slots_global m f.home) ≡ Some (I32 (1 + slots_in s.before))
+        by : (b : Bool) → is_own m f.home ≡ b
+            → global_at (store_of (fixtures_of p pages) bytes) (suc place) (slots_global m f.home)
+            ≡ Some (I32 (1 + slots_in s.before))
         by true e =
             tab_own p pages place distinct m is_coherent bytes f.home e
-            ∙ ap (λ (n : ℕ). Some (I32 (1 + n))) (entry_value p place m h ∙ ap (λ (j : ℕ). entries_before j p) (sym (own_to f.home e)) ∙ sym (entry_value p to is.home s))
-        by false e = tab_elsewhere p pages place distinct m is_coherent bytes f.home e (import_of m f.home e is.known) is.home is.there (coherent to is.home is.there)
+            ∙ ap (λ (n : ℕ). Some (I32 (1 + n)))
+            (entry_value p place m h ∙ ap (λ (j : ℕ). entries_before j p) (sym (own_to f.home e))
+            ∙ sym (entry_value p to is.home s))
+        by false e = tab_elsewhere p pages place distinct m is_coherent bytes f.home e (import_of m f.home e is.known)
+            is.home is.there (coherent to is.home is.there)
 
-    has_procedure : HasProcedure p (ground p pages).base (ground p pages).texts (all p pages) (fixtures_of p pages) place m f
+    has_procedure : HasProcedure p (ground p pages).base (ground p pages).texts (all p pages) (fixtures_of p pages)
+        place m f
     has_procedure =
         let entry = entry_value p to is.home s in
         let small = slot_small to is.home f.number is.routine is.there is.is in record {
@@ -169,30 +199,42 @@ module _ (p : Program) (pages : ℕ) (distinct : AreDistinct (names p)) (few : 1
           there = tab_there;
           is = ap (λ (n : ℕ). pos n) (omega (arith, entry));
           small = omega (arith, small);
-          filled = λ bytes. ap (callee_in (store_of (fixtures_of p pages) bytes) (suc place)) (let j : 1 + slots_in s.before + suc f.number ≡ suc (slots_in s.before + suc f.number) = omega arith in j) ∙ slot_filled to is.home f.number is.routine is.there is.is bytes;
+          filled = λ bytes. ap (callee_in (store_of (fixtures_of p pages) bytes) (suc place))
+              (let j : 1 + slots_in s.before + suc f.number ≡ suc (slots_in s.before + suc f.number) = omega arith in j)
+              ∙ slot_filled to is.home f.number is.routine is.there is.is bytes;
         }
 
   -- ---- functions
 
-  own_callee : (bytes : List ℕ) (j : ℕ) → j < count m → callee_at (store_of (fixtures_of p pages) bytes) (suc place) (suc (suc j)) ≡ Some (Own (suc place) j)
-  own_callee bytes j less = subst (λ (i : ℕ). callee_at (store_of (fixtures_of p pages) bytes) (suc i) (suc (suc j)) ≡ Some (Own (suc i) j)) h.long (callee_there p pages h.before h.rest m h.is bytes j less)
+  own_callee : (bytes : List ℕ) (j : ℕ) → j < count m
+      → callee_at (store_of (fixtures_of p pages) bytes) (suc place) (suc (suc j)) ≡ Some (Own (suc place) j)
+  own_callee bytes j less = subst (λ (i : ℕ). callee_at (store_of (fixtures_of p pages) bytes) (suc i) (suc (suc j))
+      ≡ Some (Own (suc i) j)) h.long (callee_there p pages h.before h.rest m h.is bytes j less)
 
-  called : (w : Which) (r : Routine) → routine_of m w ≡ Some r → (bytes : List ℕ) → callee_at (store_of (fixtures_of p pages) bytes) (suc place) (called_by m w) ≡ Some (Own (suc place) (function_of m w))
+  called : (w : Which) (r : Routine) → routine_of m w ≡ Some r → (bytes : List ℕ)
+      → callee_at (store_of (fixtures_of p pages) bytes) (suc place) (called_by m w)
+      ≡ Some (Own (suc place) (function_of m w))
   called (which.Module j) r e bytes =
       let inside = slice_get_within m.procedures j r e in let many = count_is m in
       let next : suc body_index + j ≡ suc (suc (6 + j)) = omega arith in
-      ap (callee_at (store_of (fixtures_of p pages) bytes) (suc place)) next ∙ own_callee bytes (6 + j) (omega (arith, inside, many))
+      ap (callee_at (store_of (fixtures_of p pages) bytes) (suc place)) next
+      ∙ own_callee bytes (6 + j) (omega (arith, inside, many))
   called (which.Local j) r e bytes =
       let inside = slice_get_within m.locals j r e in let many = count_is m in
       let next : suc body_index + (length m.procedures + j) ≡ suc (suc (6 + (length m.procedures + j))) = omega arith in
-      ap (callee_at (store_of (fixtures_of p pages) bytes) (suc place)) next ∙ own_callee bytes (6 + (length m.procedures + j)) (omega (arith, inside, many))
+      ap (callee_at (store_of (fixtures_of p pages) bytes) (suc place)) next
+      ∙ own_callee bytes (6 + (length m.procedures + j)) (omega (arith, inside, many))
 
-  functions : (w : Which) (r : Routine) → routine_of m w ≡ Some r → own_function (all p pages) (suc place) (function_of m w) ≡ Some (routine_typed m w r)
-  functions (which.Module j) r e = subst (λ (i : ℕ). own_function (all p pages) (suc i) (6 + j) ≡ Some (routine_typed m (which.Module j) r)) h.long (procedure_there p pages h.before h.rest m h.is j r e)
-  functions (which.Local j) r e = subst (λ (i : ℕ). own_function (all p pages) (suc i) (6 + (length m.procedures + j)) ≡ Some (routine_typed m (which.Local j) r)) h.long (local_there p pages h.before h.rest m h.is j r e)
+  functions : (w : Which) (r : Routine) → routine_of m w ≡ Some r
+      → own_function (all p pages) (suc place) (function_of m w) ≡ Some (routine_typed m w r)
+  functions (which.Module j) r e = subst (λ (i : ℕ). own_function (all p pages) (suc i) (6 + j)
+      ≡ Some (routine_typed m (which.Module j) r)) h.long (procedure_there p pages h.before h.rest m h.is j r e)
+  functions (which.Local j) r e = subst (λ (i : ℕ). own_function (all p pages) (suc i) (6 + (length m.procedures + j))
+      ≡ Some (routine_typed m (which.Local j) r)) h.long (local_there p pages h.before h.rest m h.is j r e)
 
   module_here : slice_get (all p pages) (suc place) ≡ Some (typed_module m)
-  module_here = subst (λ (i : ℕ). slice_get (all p pages) (suc i) ≡ Some (typed_module m)) h.long (module_there p pages h.before h.rest m h.is)
+  module_here = subst (λ (i : ℕ). slice_get (all p pages) (suc i) ≡ Some (typed_module m)) h.long
+      (module_there p pages h.before h.rest m h.is)
 
   -- all of it
   pub is_linked : IsLinked p (ground p pages).base (ground p pages).texts (all p pages) (fixtures_of p pages) place m
@@ -203,7 +245,9 @@ module _ (p : Program) (pages : ℕ) (distinct : AreDistinct (names p)) (few : 1
     procedures = has_procedure;
     entries = λ to home number r found is. has_entry to home number r found is;
     characters = has_texts;
-    types = λ s e. ap (λ (o : Option WModule). option_and_then (λ (tree : WModule). slice_get tree.types (numbering_of m s.arguments s.result)) o) module_here ∙ typed_in m s e;
+    types = λ s e. ap (λ (o : Option WModule). option_and_then
+        (λ (tree : WModule). slice_get tree.types (numbering_of m s.arguments s.result)) o) module_here
+        ∙ typed_in m s e;
     called = called;
     functions = functions;
   }

@@ -26,13 +26,17 @@ frame_bytes = refl
 all_sound : (before rest p : Program) → p ≡ before ++ rest → AreModules p → All IsSound rest
 all_sound before [] p is modules = All-nil IsSound
 all_sound before (m ∷ rest) p is modules =
-    let one = modules (length before) m (ap (λ (q : Program). slice_get q (length before)) is ∙ at_seam before rest m) in
-    All-cons IsSound m rest (record { fit = module_fits m one.ranged; small = one.texts }) (all_sound (before ++ m ∷ []) rest p (is ∙ sym (append_assoc before (m ∷ []) rest)) modules)
+    let one = modules (length before) m (ap (λ (q : Program). slice_get q (length before)) is ∙ at_seam before rest m)
+    in
+    All-cons IsSound m rest (record { fit = module_fits m one.ranged; small = one.texts })
+    (all_sound (before ++ m ∷ []) rest p (is ∙ sym (append_assoc before (m ∷ []) rest)) modules)
 
 pub typed_behave : TypedBehave
 typed_behave p pages linkable room most few modules typed =
-    typed_programs p pages linkable (all_sound [] p p refl modules) (let c = frame_bytes in omega (arith, c, room)) (λ n. record {
-      linked = λ place m there. is_linked p pages linkable.distinct few (λ place m there. (modules place m there).coherent) place m there;
+    typed_programs p pages linkable (all_sound [] p p refl modules) (let c = frame_bytes in omega (arith, c, room))
+    (λ n. record {
+      linked = λ place m there. is_linked p pages linkable.distinct few
+          (λ place m there. (modules place m there).coherent) place m there;
       procedures = λ o. typed_routine p pages most linkable.distinct modules n typed o;
       bodies = λ place m there. typed_main p pages most linkable.distinct modules n typed place m there;
     })

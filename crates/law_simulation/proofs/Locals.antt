@@ -20,7 +20,8 @@ get_set [] i v h = absurd (omega (arith, h))
 get_set (x ∷ xs) zero v h = refl
 get_set (x ∷ xs) (suc i) v h = get_set xs i v (omega (arith, h))
 
-pub get_other : {A : Type 0} (xs : List A) (i j : ℕ) (v : A) → (i ≡ j → ⊥) → slice_get (slice_set xs i v) j ≡ slice_get xs j
+pub get_other : {A : Type 0} (xs : List A) (i j : ℕ) (v : A) → (i ≡ j → ⊥)
+    → slice_get (slice_set xs i v) j ≡ slice_get xs j
 get_other [] i j v ne = refl
 get_other (x ∷ xs) zero zero v ne = absurd (ne refl)
 get_other (x ∷ xs) zero (suc j) v ne = refl
@@ -37,7 +38,8 @@ module _ (k : Scene) (n : ℕ) (v : Value) where
   if_kept b o = if b then Some v else o
 
   -- what is set is kept
-  pub set_keeps : k.kept n ≡ None → n < k.locals → (s : Source) (st : Target) → Stands k s st → Stands (keeping k n v) s (record st { locals = slice_set st.locals n v })
+  pub set_keeps : k.kept n ≡ None → n < k.locals → (s : Source) (st : Target) → Stands k s st
+      → Stands (keeping k n v) s (record st { locals = slice_set st.locals n v })
   set_keeps new within s st h = record {
     holds = h.holds;
     long = h.long;
@@ -72,16 +74,21 @@ module _ (k : Scene) (n : ℕ) (v : Value) where
   pub kept_there : (s : Source) (st : Target) → Stands (keeping k n v) s st → slice_get st.locals n ≡ Some v
   kept_there s st h = h.kept n v (ap (λ (b : Bool). if_kept b (k.kept n)) (eq-eqb n n refl))
 
-  pub kept_runs : (rest : List Instr) (s : Source) (st : Target) (stack : List Value) → Stands (keeping k n v) s st → runs k (instr.LocalGet n ∷ rest) st stack ≡ runs k rest st (stack ++ v ∷ [])
+  pub kept_runs : (rest : List Instr) (s : Source) (st : Target) (stack : List Value) → Stands (keeping k n v) s st
+      → runs k (instr.LocalGet n ∷ rest) st stack ≡ runs k rest st (stack ++ v ∷ [])
   kept_runs rest s st stack h = get_runs k.modules k.fixed k.turns (calls k) k.own rest st n v stack (kept_there s st h)
 
   pub set_runs_here : (rest : List Instr) (s : Source) (st : Target) (stack : List Value) → n < k.locals → Stands k s st
-      → runs k (instr.LocalSet n ∷ rest) st (stack ++ v ∷ []) ≡ runs k rest (record st { locals = slice_set st.locals n v }) stack
-  set_runs_here rest s st stack within h = set_runs k.modules k.fixed k.turns (calls k) k.own rest st n v stack (omega (arith, within, h.count))
+      → runs k (instr.LocalSet n ∷ rest) st (stack ++ v ∷ [])
+      ≡ runs k rest (record st { locals = slice_set st.locals n v }) stack
+  set_runs_here rest s st stack within h =
+      set_runs k.modules k.fixed k.turns (calls k) k.own rest st n v stack (omega (arith, within, h.count))
 
 -- code that asks for a local for a number
 module _ (k : Scene) where
-  pub number_goes : (t u : TypeNo) (list : ℕ → List Instr) (value : ℤ → Gives ℤ) → ((n : ℕ) → n < k.locals → k.kept n ≡ None → Goes k t u (list n) (λ v s. value v k.around s)) → GoesOn k t u (with_number (λ n. plain (list n))) value
+  pub number_goes : (t u : TypeNo) (list : ℕ → List Instr) (value : ℤ → Gives ℤ)
+      → ((n : ℕ) → n < k.locals → k.kept n ≡ None → Goes k t u (list n) (λ v s. value v k.around s))
+      → GoesOn k t u (with_number (λ n. plain (list n))) value
   number_goes t u list value go = record {
     grows = λ e c. record { numbers = omega arith; addresses = omega arith };
     gives = λ e c free full v is s st h rest stack.
@@ -91,17 +98,24 @@ module _ (k : Scene) where
   }
 
   -- what a number is kept beside stays free
-  pub free_beside : (n : ℕ) (v : Value) (c : Counts) → n ≡ number_local k.setting c.numbers → IsFree k c → IsFree (keeping k n v) (record c { numbers = suc c.numbers })
+  pub free_beside : (n : ℕ) (v : Value) (c : Counts) → n ≡ number_local k.setting c.numbers → IsFree k c
+      → IsFree (keeping k n v) (record c { numbers = suc c.numbers })
   free_beside n v c at free = record {
-    numbers = λ w l. ap (λ (b : Bool). if_kept k n v b (k.kept w)) (ne_eqb w n (λ same. omega (arith, l, at, same))) ∙ free.numbers w (omega (arith, l));
-    addresses = λ w l m. ap (λ (b : Bool). if_kept k n v b (k.kept w)) (ne_eqb w n (λ same. omega (arith, l, m, at, same))) ∙ free.addresses w l m;
+    numbers = λ w l. ap (λ (b : Bool). if_kept k n v b (k.kept w)) (ne_eqb w n (λ same. omega (arith, l, at, same)))
+        ∙ free.numbers w (omega (arith, l));
+    addresses = λ w l m. ap (λ (b : Bool). if_kept k n v b (k.kept w))
+        (ne_eqb w n (λ same. omega (arith, l, m, at, same))) ∙ free.addresses w l m;
   }
 
   -- and what an address is kept beside
-  pub address_beside : (n : ℕ) (v : Value) (c : Counts) → n ≡ address_local k.setting c.addresses → c.addresses < k.setting.addresses → IsFree k c → IsFree (keeping k n v) (record c { addresses = suc c.addresses })
+  pub address_beside : (n : ℕ) (v : Value) (c : Counts) → n ≡ address_local k.setting c.addresses
+      → c.addresses < k.setting.addresses → IsFree k c
+      → IsFree (keeping k n v) (record c { addresses = suc c.addresses })
   address_beside n v c at less free = record {
-    numbers = λ w l. ap (λ (b : Bool). if_kept k n v b (k.kept w)) (ne_eqb w n (λ same. omega (arith, l, at, less, same))) ∙ free.numbers w l;
-    addresses = λ w l m. ap (λ (b : Bool). if_kept k n v b (k.kept w)) (ne_eqb w n (λ same. omega (arith, l, m, at, same))) ∙ free.addresses w (omega (arith, l)) m;
+    numbers = λ w l. ap (λ (b : Bool). if_kept k n v b (k.kept w))
+        (ne_eqb w n (λ same. omega (arith, l, at, less, same))) ∙ free.numbers w l;
+    addresses = λ w l m. ap (λ (b : Bool). if_kept k n v b (k.kept w))
+        (ne_eqb w n (λ same. omega (arith, l, m, at, same))) ∙ free.addresses w (omega (arith, l)) m;
   }
 
   pub has_beside : (n : ℕ) (v : Value) (c : Counts) → HasLocals k c → HasLocals (keeping k n v) c
@@ -133,17 +147,23 @@ module _ (k : Scene) where
   }
 
   -- a number is kept while the code of an operand runs
-  module _ (u w : TypeNo) (y : Coded) (list : ℕ → List Instr) (second : Gives ℤ) (f : ℤ → Source → Answer ℤ) (x : ℤ) (hy : Agrees k u y second) (beside : AgreesBeside k u y second) where
+  module _ (u w : TypeNo) (y : Coded) (list : ℕ → List Instr) (second : Gives ℤ) (f : ℤ → Source → Answer ℤ) (x : ℤ)
+      (hy : Agrees k u y second) (beside : AgreesBeside k u y second) where
     abbrev kept_code : Coded
     kept_code = with_number (λ n. plain (instr.LocalSet n ∷ []) ⨾ y ⨾ plain (list n))
 
     pub kept_grows : (e : ℕ) (c : Counts) → Grows c (kept_code (inside k e) c).1
-    kept_grows e c = let g = hy.grows e (record c { numbers = suc c.numbers }) in record { numbers = omega (arith, g.numbers); addresses = omega (arith, g.addresses) }
+    kept_grows e c = let g = hy.grows e (record c { numbers = suc c.numbers }) in
+        record { numbers = omega (arith, g.numbers); addresses = omega (arith, g.addresses) }
 
-    pub kept_gives : ((n : ℕ) → k.kept n ≡ None → (y : ℤ) → IsValue k.setting.home.types u y → (s : Source) (st : Target) → Stands (keeping k n (I64 (word x))) s st → (rest : List Instr) (stack : List Value)
+    pub kept_gives : ((n : ℕ) → k.kept n ≡ None → (y : ℤ) → IsValue k.setting.home.types u y
+        → (s : Source) (st : Target) → Stands (keeping k n (I64 (word x))) s st
+        → (rest : List Instr) (stack : List Value)
         → Into (GivesNumber k w (runs k rest) stack) (runs k (list n ++ rest) st (stack ++ I64 (word y) ∷ [])) (f y s))
-        → (e : ℕ) (c : Counts) → IsFree k c → HasLocals k (kept_code (inside k e) c).1 → (s : Source) (st : Target) → Stands k s st → (rest : List Instr) (stack : List Value)
-        → Into (GivesNumber k w (runs k rest) stack) (runs k ((kept_code (inside k e) c).0 ++ rest) st (stack ++ I64 (word x) ∷ [])) (second k.around s ▷ f)
+        → (e : ℕ) (c : Counts) → IsFree k c → HasLocals k (kept_code (inside k e) c).1 → (s : Source) (st : Target)
+        → Stands k s st → (rest : List Instr) (stack : List Value)
+        → Into (GivesNumber k w (runs k rest) stack)
+        (runs k ((kept_code (inside k e) c).0 ++ rest) st (stack ++ I64 (word x) ∷ [])) (second k.around s ▷ f)
     kept_gives after e c free full s st h rest stack =
         let n : ℕ = number_local k.setting c.numbers in
         let more_numbers : Counts = record c { numbers = suc c.numbers } in
@@ -154,8 +174,14 @@ module _ (k : Scene) where
         let new : k.kept n ≡ None = free.numbers n (omega arith) in
         let set : Target = record st { locals = slice_set st.locals n v } in
         let kept : Stands (keeping k n v) s set = set_keeps k n v new less s st h in
-        subst (λ (c : List Instr). Into (GivesNumber k w (runs k rest) stack) (runs k (instr.LocalSet n ∷ c) st (stack ++ v ∷ [])) (second k.around s ▷ f)) (sym (append_assoc code (list n) rest))
-        (subst (λ (r : Effect). Into (GivesNumber k w (runs k rest) stack) r (second k.around s ▷ f)) (sym (set_runs_here k n v (code ++ (list n ++ rest)) s st stack less h))
-        (into_then (GivesNumber (keeping k n v) u (runs k (list n ++ rest)) stack) (GivesNumber k w (runs k rest) stack) (runs k (code ++ (list n ++ rest)) set stack) (second k.around s) f
-        ((beside n v new).gives e more_numbers (free_beside n v c refl free) (has_beside n v (y (inside k e) more_numbers).1 full) s set kept (list n ++ rest) stack)
-        (λ y s' p. subst (λ (r : Effect). Into (GivesNumber k w (runs k rest) stack) r (f y s')) (sym p.run) (after n new y p.is s' p.st p.stands rest stack))))
+        subst (λ (c : List Instr). Into (GivesNumber k w (runs k rest) stack)
+        (runs k (instr.LocalSet n ∷ c) st (stack ++ v ∷ [])) (second k.around s ▷ f))
+        (sym (append_assoc code (list n) rest))
+        (subst (λ (r : Effect). Into (GivesNumber k w (runs k rest) stack) r (second k.around s ▷ f))
+        (sym (set_runs_here k n v (code ++ (list n ++ rest)) s st stack less h))
+        (into_then (GivesNumber (keeping k n v) u (runs k (list n ++ rest)) stack) (GivesNumber k w (runs k rest) stack)
+        (runs k (code ++ (list n ++ rest)) set stack) (second k.around s) f
+        ((beside n v new).gives e more_numbers (free_beside n v c refl free)
+        (has_beside n v (y (inside k e) more_numbers).1 full) s set kept (list n ++ rest) stack)
+        (λ y s' p. subst (λ (r : Effect). Into (GivesNumber k w (runs k rest) stack) r (f y s')) (sym p.run)
+        (after n new y p.is s' p.st p.stands rest stack))))

@@ -42,8 +42,10 @@ held_loads k set p ask t h d found is hd = record {
   gives = λ e c free full s st stands rest stack.
       let first = d (inside k e) c in
       let list : List Instr = load_code k.setting.home.types t in
-      subst (λ (code : List Instr). Into (GivesHeld k h (runs k rest) stack) (runs k code st stack) (found k.around s ▷ λ l s. answer.Value (s.store l) s)) (sym (append_assoc first.0 list rest))
-      (into_then (GivesPlace k (Cell (Callable h)) (runs k (list ++ rest)) stack) (GivesHeld k h (runs k rest) stack) (runs k (first.0 ++ (list ++ rest)) st stack) (found k.around s) (λ l s. answer.Value (s.store l) s)
+      subst (λ (code : List Instr). Into (GivesHeld k h (runs k rest) stack) (runs k code st stack)
+      (found k.around s ▷ λ l s. answer.Value (s.store l) s)) (sym (append_assoc first.0 list rest))
+      (into_then (GivesPlace k (Cell (Callable h)) (runs k (list ++ rest)) stack) (GivesHeld k h (runs k rest) stack)
+      (runs k (first.0 ++ (list ++ rest)) st stack) (found k.around s) (λ l s. answer.Value (s.store l) s)
       (hd.gives e c free full s st stands (list ++ rest) stack)
       (λ l s' q.
       let says = q.stands.holds.cells l (Callable h) q.type in
@@ -52,7 +54,8 @@ held_loads k set p ask t h d found is hd = record {
         stands = q.stands;
         within = says.within;
         held = says.means;
-        run = q.run ∙ cell_runs k set.helpers set.small set.room t (Callable h) is (callable_scalar h) l s' q.st q.stands q.type rest stack;
+        run = q.run ∙ cell_runs k set.helpers set.small set.room t (Callable h) is (callable_scalar h) l s' q.st
+            q.stands q.type rest stack;
       }));
 }
 
@@ -73,11 +76,15 @@ held_procedures k set ask f h has names = record {
 pub held_results : HeldResults
 held_results k h code value hc = record {
   grows = hc.grows;
-  gives = λ e c free full s st stands rest stack. turn (value k.around s) rest stack (runs k ((code (inside k e) c).0 ++ rest) st stack) (hc.gives e c free full s st stands rest stack);
+  gives = λ e c free full s st stands rest stack. turn (value k.around s) rest stack
+      (runs k ((code (inside k e) c).0 ++ rest) st stack) (hc.gives e c free full s st stands rest stack);
 }
   where
-    turn : (a : Answer ℤ) (rest : List Instr) (stack : List Value) (r : Effect) → Into (GivesResult k (Some (Cell (Callable h))) (runs k rest) stack) r a → Into (GivesHeld k h (runs k rest) stack) r a
-    turn (answer.Value v s) rest stack r p = let is = p.is (Callable h) refl in record { st = p.st; stands = p.stands; within = is.0; held = is.1; run = p.run }
+    turn : (a : Answer ℤ) (rest : List Instr) (stack : List Value) (r : Effect)
+        → Into (GivesResult k (Some (Cell (Callable h))) (runs k rest) stack) r a
+        → Into (GivesHeld k h (runs k rest) stack) r a
+    turn (answer.Value v s) rest stack r p = let is = p.is (Callable h) refl in
+        record { st = p.st; stands = p.stands; within = is.0; held = is.1; run = p.run }
     turn (Ended n out) rest stack r p = p
     turn (StillRunning out) rest stack r p = p
 
@@ -89,16 +96,26 @@ number_results k t r code value cell hc = call_agrees k t r code value cell hc
 pub held_numbers : HeldNumbers
 held_numbers k t h code value none ha = record {
   grows = ha.grows;
-  gives = λ e c free full s st stands rest stack. turn (value k.around s) rest stack (runs k ((code (inside k e) c).0 ++ rest) st stack) (ha.gives e c free full s st stands rest stack);
+  gives = λ e c free full s st stands rest stack. turn (value k.around s) rest stack
+      (runs k ((code (inside k e) c).0 ++ rest) st stack) (ha.gives e c free full s st stands rest stack);
 }
   where
-    turn : (a : Answer ℤ) (rest : List Instr) (stack : List Value) (r : Effect) → Into (GivesHeld k h (runs k rest) stack) r a → Into (GivesNumber k t (runs k rest) stack) r a
-    turn (answer.Value v s) rest stack r p = record { st = p.st; stands = p.stands; is = subst (λ (o : Option Range). IsIn o v) (sym none) (p.within.low, p.within.high); run = p.run }
+    turn : (a : Answer ℤ) (rest : List Instr) (stack : List Value) (r : Effect)
+        → Into (GivesHeld k h (runs k rest) stack) r a → Into (GivesNumber k t (runs k rest) stack) r a
+    turn (answer.Value v s) rest stack r p =
+        record {
+          st = p.st;
+          stands = p.stands;
+          is =
+              subst (λ (o : Option Range). IsIn o v) (sym none) (p.within.low, p.within.high);
+          run = p.run;
+        }
     turn (Ended n out) rest stack r p = p
     turn (StillRunning out) rest stack r p = p
 
 -- no check is made
-nothing_checked : (types : Types) (t : TypeNo) (constant : Bool) (of : TypeNo) → scalar_at types t ≡ None → check_taken types t constant of ≡ []
+nothing_checked : (types : Types) (t : TypeNo) (constant : Bool) (of : TypeNo) → scalar_at types t ≡ None
+    → check_taken types t constant of ≡ []
 nothing_checked types t constant of none = by (is_free types t constant of)
   where
     by : (b : Bool) → (if b then [] else in_type types t 1) ≡ []
@@ -111,30 +128,49 @@ held_taken k set t h x value none ha = record {
   gives = λ e c free full s st stands rest stack.
       let first = x.code (inside k e) c in
       let next : ℤ → Source → Answer ℤ = λ v s. as_type k.around.types t v s in
-      subst (λ (list : List Instr). Into (GivesHeld k h (runs k rest) stack) (runs k ((first.0 ++ list) ++ rest) st stack) (value k.around s ▷ next)) (sym (nothing_checked k.setting.home.types t x.constant x.of none))
-      (subst (λ (list : List Instr). Into (GivesHeld k h (runs k rest) stack) (runs k (list ++ rest) st stack) (value k.around s ▷ next)) (sym (append-nil first.0))
-      (into_then (GivesHeld k h (runs k rest) stack) (GivesHeld k h (runs k rest) stack) (runs k (first.0 ++ rest) st stack) (value k.around s) next
+      subst (λ (list : List Instr). Into (GivesHeld k h (runs k rest) stack)
+      (runs k ((first.0 ++ list) ++ rest) st stack) (value k.around s ▷ next))
+      (sym (nothing_checked k.setting.home.types t x.constant x.of none))
+      (subst (λ (list : List Instr). Into (GivesHeld k h (runs k rest) stack) (runs k (list ++ rest) st stack)
+      (value k.around s ▷ next)) (sym (append-nil first.0))
+      (into_then (GivesHeld k h (runs k rest) stack) (GivesHeld k h (runs k rest) stack)
+      (runs k (first.0 ++ rest) st stack) (value k.around s) next
       (ha.gives e c free full s st stands rest stack)
-      (λ v s' q. subst (Into (GivesHeld k h (runs k rest) stack) (runs k (first.0 ++ rest) st stack)) (sym (stays v s')) q)));
+      (λ v s' q. subst (Into (GivesHeld k h (runs k rest) stack) (runs k (first.0 ++ rest) st stack)) (sym (stays v s'))
+      q)));
 }
   where
     stays : (v : ℤ) (s : Source) → as_type k.around.types t v s ≡ answer.Value v s
-    stays v s = ap (λ (types : Types). within_range (scalar_at types t) range_fault v s) set.types ∙ ap (λ (o : Option Range). within_range o range_fault v s) none
+    stays v s = ap (λ (types : Types). within_range (scalar_at types t) range_fault v s) set.types
+        ∙ ap (λ (o : Option Range). within_range o range_fault v s) none
 
 pub held_passes : HeldPasses
 held_passes k h code value ha = record {
   grows = ha.grows;
   gives = λ e c free full s st stands rest stack.
-      into_then (GivesHeld k h (runs k rest) stack) (GivesPassed k (ByNumber (Callable h)) (runs k rest) stack) (runs k ((code (inside k e) c).0 ++ rest) st stack) (value k.around s) (λ v s. answer.Value (Number v) s)
+      into_then (GivesHeld k h (runs k rest) stack) (GivesPassed k (ByNumber (Callable h)) (runs k rest) stack)
+      (runs k ((code (inside k e) c).0 ++ rest) st stack) (value k.around s) (λ v s. answer.Value (Number v) s)
       (ha.gives e c free full s st stands rest stack)
-      (λ v s' q. record { st = q.st; stands = q.stands; values = I64 (word v) ∷ []; is = (q.within, q.held, refl); run = q.run });
+      (λ v s' q. record {
+        st = q.st;
+        stands = q.stands;
+        values = I64 (word v) ∷ [];
+        is = (q.within, q.held, refl);
+        run =
+            q.run;
+      });
 }
 
 module _ (k : Scene) (function : Bool) (h : Heading) where
   -- a value first
-  ends_held : (exit : ℕ) (stack below : List Value) (on : Target → Effect) (go : Effects) (r : Effect) (a : Answer ℤ) (next : ℤ → Source → Outcome) → Into (GivesHeld k h go below) r a
-      → ((v : ℤ) → IsOf (Callable h) v → IsProcedureValue k.program h v → (s : Source) (st : Target) → Stands k s st → Ends k function exit stack on (go st (below ++ I64 (word v) ∷ [])) (next v s)) → Ends k function exit stack on r (a ▷ next)
-  ends_held exit stack below on go r (answer.Value v s) next p on_it = subst (λ (e : Effect). Ends k function exit stack on e (next v s)) (sym p.run) (on_it v p.within p.held s p.st p.stands)
+  ends_held : (exit : ℕ) (stack below : List Value) (on : Target → Effect) (go : Effects) (r : Effect) (a : Answer ℤ)
+      (next : ℤ → Source → Outcome) → Into (GivesHeld k h go below) r a
+      → ((v : ℤ) → IsOf (Callable h) v → IsProcedureValue k.program h v → (s : Source) (st : Target) → Stands k s st
+      → Ends k function exit stack on (go st (below ++ I64 (word v) ∷ [])) (next v s))
+      → Ends k function exit stack on r (a ▷ next)
+  ends_held exit stack below on go r (answer.Value v s) next p on_it =
+      subst (λ (e : Effect). Ends k function exit stack on e (next v s)) (sym p.run)
+      (on_it v p.within p.held s p.st p.stands)
   ends_held exit stack below on go r (Ended j out) next p on_it = p
   ends_held exit stack below on go r (StillRunning out) next p on_it = p
 
@@ -144,19 +180,28 @@ held_gives k h code value typed ha = record {
   goes = λ e c free full s st stands rest stack.
       let first = code (inside k e) c in
       let next : ℤ → Source → Outcome = λ v s. answer.Value (Returned v) s in
-      subst (λ (list : List Instr). Ends k true e stack (λ st. runs k rest st stack) (runs k list st stack) (value k.around s ▷ next)) (sym (append_assoc first.0 (instr.Return ∷ []) rest))
-      (ends_held k true h e stack stack (λ st. runs k rest st stack) (runs k (instr.Return ∷ rest)) (runs k (first.0 ++ (instr.Return ∷ rest)) st stack) (value k.around s) next
+      subst (λ (list : List Instr). Ends k true e stack (λ st. runs k rest st stack) (runs k list st stack)
+      (value k.around s ▷ next)) (sym (append_assoc first.0 (instr.Return ∷ []) rest))
+      (ends_held k true h e stack stack (λ st. runs k rest st stack) (runs k (instr.Return ∷ rest))
+      (runs k (first.0 ++ (instr.Return ∷ rest)) st stack) (value k.around s) next
       (ha.gives e c free full s st stands (instr.Return ∷ rest) stack)
       (λ v within held s' st' stands'. record {
         below = stack;
         st = st';
-        stands = (stands', λ gives. subst (λ (o : Option Ty). IsResult k.program o v) (sym typed) (λ d same. subst (λ (d : Scalar). IsOf d v × Means k.program d v) (same_cell (Callable h) d (ap Some same)) (within, held)));
+        stands = (
+          stands',
+          λ gives. subst (λ (o : Option Ty). IsResult k.program o v) (sym typed)
+              (λ d same. subst (λ (d : Scalar). IsOf d v × Means k.program d v)
+              (same_cell (Callable h) d (ap Some same))
+              (within, held)),
+        );
         run = return_runs k.modules k.fixed k.turns (calls k) k.own rest st' (stack ++ I64 (word v) ∷ []);
       }));
 }
 
 wide_value : (h : Heading) (v : ℤ) → IsOf (Callable h) v → IsWide v
-wide_value h v is = let low = is.low in let high = is.high in record { low = omega (arith, ints, low); high = omega (arith, ints, high) }
+wide_value h v is = let low = is.low in let high = is.high in
+    record { low = omega (arith, ints, low); high = omega (arith, ints, high) }
 
 pub held_assigns : HeldAssigns
 held_assigns k set function t h d e found value is hd he = record {
@@ -165,14 +210,23 @@ held_assigns k set function t h d e found value is hd he = record {
       let first = d (inside k x) counts in
       let second = e (inside k x) first.1 in
       let list : List Instr = store_code k.setting.home.types t in
-      let next : Location → Source → Outcome = λ l s. (value k.around s ▷ (λ v s. answer.Value Normal (stores l v s))) in
-      subst (λ (code : List Instr). Ends k function x stack (λ st. runs k rest st stack) (runs k code st stack) (found k.around s ▷ next)) (sym (append_assoc first.0 (second.0 ++ list) rest ∙ ap (λ (c : List Instr). first.0 ++ c) (append_assoc second.0 list rest)))
-      (ends_at k set.helpers set.small set.room function x stack (λ st. runs k rest st stack) (Cell (Callable h)) (runs k (second.0 ++ (list ++ rest))) (runs k (first.0 ++ (second.0 ++ (list ++ rest))) st stack) (found k.around s) next
+      let next : Location → Source → Outcome =
+      λ l s. (value k.around s ▷ (λ v s. answer.Value Normal (stores l v s))) in
+      subst (λ (code : List Instr). Ends k function x stack (λ st. runs k rest st stack) (runs k code st stack)
+      (found k.around s ▷ next)) (sym (append_assoc first.0 (second.0 ++ list) rest
+      ∙ ap (λ (c : List Instr). first.0 ++ c) (append_assoc second.0 list rest)))
+      (ends_at k set.helpers set.small set.room function x stack (λ st. runs k rest st stack) (Cell (Callable h))
+      (runs k (second.0 ++ (list ++ rest))) (runs k (first.0 ++ (second.0 ++ (list ++ rest))) st stack)
+      (found k.around s) next
       (hd.gives x counts free (has_before k (he.grows x first.1) full) s st stands (second.0 ++ (list ++ rest)) stack)
       (λ l type s' st' stands'.
-      ends_held k function h x stack (stack ++ I32 (place k l) ∷ []) (λ st. runs k rest st stack) (runs k (list ++ rest)) (runs k (second.0 ++ (list ++ rest)) st' (stack ++ I32 (place k l) ∷ [])) (value k.around s') (λ v s. answer.Value Normal (stores l v s))
-      (he.gives x first.1 (free_after k (hd.grows x counts) free) full s' st' stands' (list ++ rest) (stack ++ I32 (place k l) ∷ []))
+      ends_held k function h x stack (stack ++ I32 (place k l) ∷ []) (λ st. runs k rest st stack)
+      (runs k (list ++ rest)) (runs k (second.0 ++ (list ++ rest)) st' (stack ++ I32 (place k l) ∷ []))
+      (value k.around s') (λ v s. answer.Value Normal (stores l v s))
+      (he.gives x first.1 (free_after k (hd.grows x counts) free) full s' st' stands' (list ++ rest)
+      (stack ++ I32 (place k l) ∷ []))
       (λ v within held s'' st'' stands''.
-      let p = cell_stores k set.helpers set.small set.room t (Callable h) is (callable_scalar h) l v within held (wide_value h v within) type s'' st'' stands'' rest stack in
+      let p = cell_stores k set.helpers set.small set.room t (Callable h) is (callable_scalar h) l v within held
+      (wide_value h v within) type s'' st'' stands'' rest stack in
       record { st = p.st; stands = p.stands; run = p.run })));
 }

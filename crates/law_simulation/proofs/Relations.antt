@@ -53,7 +53,8 @@ equal_is x y hx hy = by (int_le x y && int_le y x) refl
     by true e = eq-eqb (word x) (word y) (ap word (both_ways x y e))
     by false e = ne_eqb (word x) (word y) (apart e)
 
-pub compared_is : (o : Comparison) (x y : ℤ) → IsWide x → IsWide y → compares w64 (relation_of o) (word x) (word y) ≡ comparison_holds o x y
+pub compared_is : (o : Comparison) (x y : ℤ) → IsWide x → IsWide y
+    → compares w64 (relation_of o) (word x) (word y) ≡ comparison_holds o x y
 compared_is compare.Equal x y hx hy = equal_is x y hx hy
 compared_is compare.Unequal x y hx hy = ap not (equal_is x y hx hy)
 compared_is compare.Less x y hx hy = less_is x y hx hy
@@ -74,7 +75,9 @@ module _ (k : Scene) (has : HasHelpers k) (small : AreSmall k.setting.home.types
   Numbers u rest stack = GivesNumber k u (runs k rest) stack
 
   -- a truth value on top of the operands
-  pub truth_gives : (b : Bool) (s : Source) (st : Target) → Stands k s st → (rest : List Instr) (stack : List Value) (r : Effect) → r ≡ runs k rest st (stack ++ I64 (truth b) ∷ []) → Numbers boolean rest stack (of.truth b) s r
+  pub truth_gives : (b : Bool) (s : Source) (st : Target) → Stands k s st
+      → (rest : List Instr) (stack : List Value) (r : Effect) → r ≡ runs k rest st (stack ++ I64 (truth b) ∷ [])
+      → Numbers boolean rest stack (of.truth b) s r
   truth_gives b s st h rest stack r e = record {
     st = st;
     stands = h;
@@ -82,19 +85,27 @@ module _ (k : Scene) (has : HasHelpers k) (small : AreSmall k.setting.home.types
     run = e ∙ ap (λ (n : ℕ). runs k rest st (stack ++ I64 n ∷ [])) (truth_word b);
   }
 
-  pub extended_runs : (n : ℕ) (rest : List Instr) (st : Target) (stack : List Value) → runs k (extend_word ∷ rest) st (stack ++ I32 n ∷ []) ≡ runs k rest st (stack ++ I64 n ∷ [])
-  extended_runs n rest st stack = number_runs k.modules k.fixed k.turns (calls k) k.own rest st numeric.I64ExtendI32U (stack ++ I32 n ∷ []) stack (I64 n) (one_32 stack n I64)
+  pub extended_runs : (n : ℕ) (rest : List Instr) (st : Target) (stack : List Value)
+      → runs k (extend_word ∷ rest) st (stack ++ I32 n ∷ []) ≡ runs k rest st (stack ++ I64 n ∷ [])
+  extended_runs n rest st stack = number_runs k.modules k.fixed k.turns (calls k) k.own rest st numeric.I64ExtendI32U
+      (stack ++ I32 n ∷ []) stack (I64 n) (one_32 stack n I64)
 
-  pub wrapped_runs : (n : ℕ) (rest : List Instr) (st : Target) (stack : List Value) → runs k (wrap_word ∷ rest) st (stack ++ I64 n ∷ []) ≡ runs k rest st (stack ++ I32 (n % 2 ^ 32) ∷ [])
-  wrapped_runs n rest st stack = number_runs k.modules k.fixed k.turns (calls k) k.own rest st numeric.I32WrapI64 (stack ++ I64 n ∷ []) stack (I32 (n % 2 ^ 32)) (one_64 stack n (λ i. I32 (i % 2 ^ 32)))
+  pub wrapped_runs : (n : ℕ) (rest : List Instr) (st : Target) (stack : List Value)
+      → runs k (wrap_word ∷ rest) st (stack ++ I64 n ∷ []) ≡ runs k rest st (stack ++ I32 (n % 2 ^ 32) ∷ [])
+  wrapped_runs n rest st stack = number_runs k.modules k.fixed k.turns (calls k) k.own rest st numeric.I32WrapI64
+      (stack ++ I64 n ∷ []) stack (I32 (n % 2 ^ 32)) (one_64 stack n (λ i. I32 (i % 2 ^ 32)))
 
   pub relation_runs : (r : Relation) (i j : ℕ) (rest : List Instr) (st : Target) (stack : List Value)
-      → runs k (relation r ∷ rest) st ((stack ++ I64 i ∷ []) ++ I64 j ∷ []) ≡ runs k rest st (stack ++ I32 (truth (compares w64 r i j)) ∷ [])
+      → runs k (relation r ∷ rest) st ((stack ++ I64 i ∷ []) ++ I64 j ∷ [])
+      ≡ runs k rest st (stack ++ I32 (truth (compares w64 r i j)) ∷ [])
   relation_runs r i j rest st stack =
-      number_runs k.modules k.fixed k.turns (calls k) k.own rest st (numeric.I64Relation r) ((stack ++ I64 i ∷ []) ++ I64 j ∷ []) stack (I32 (truth (compares w64 r i j)))
+      number_runs k.modules k.fixed k.turns (calls k) k.own rest st (numeric.I64Relation r)
+      ((stack ++ I64 i ∷ []) ++ I64 j ∷ []) stack (I32 (truth (compares w64 r i j)))
       (two_64 stack i j (λ n m. Some (I32 (truth (compares w64 r n m)))))
 
-  pub compare_makes : (t u : TypeNo) (o : Comparison) → Makes k has small t u boolean (relation (relation_of o) ∷ extend_word ∷ []) (λ x y s. answer.Value (of.truth (comparison_holds o x y)) s)
+  pub compare_makes : (t u : TypeNo) (o : Comparison)
+      → Makes k has small t u boolean (relation (relation_of o) ∷ extend_word ∷ [])
+      (λ x y s. answer.Value (of.truth (comparison_holds o x y)) s)
   compare_makes t u o x hx y hy s st h rest stack =
       let nx = narrow k has small t x hx in let ny = narrow k has small u y hy in
       truth_gives (comparison_holds o x y) s st h rest stack _
@@ -106,17 +117,22 @@ module _ (k : Scene) (has : HasHelpers k) (small : AreSmall k.setting.home.types
 
   pub is_zero_true : (v : ℤ) → pos 0 ≤ℤ v → IsWide v → (word v == 0) ≡ not (is_true v)
   is_zero_true (pos zero) h w = refl
-  is_zero_true (pos (suc n)) h w = let t = w.high in let ne : word (pos (suc n)) ≡ 0 → ⊥ = (λ e. omega (arith, ints, e)) in ne_eqb (word (pos (suc n))) 0 ne ∙ grind arith
+  is_zero_true (pos (suc n)) h w = let t = w.high in
+      let ne : word (pos (suc n)) ≡ 0 → ⊥ = (λ e. omega (arith, ints, e)) in
+      ne_eqb (word (pos (suc n))) 0 ne ∙ grind arith
   is_zero_true (negsuc n) h w = absurd (omega (arith, ints))
 
-  pub zero_runs : (n : ℕ) (rest : List Instr) (st : Target) (stack : List Value) → runs k (is_zero ∷ rest) st (stack ++ I64 n ∷ []) ≡ runs k rest st (stack ++ I32 (truth (n == 0)) ∷ [])
-  zero_runs n rest st stack = number_runs k.modules k.fixed k.turns (calls k) k.own rest st numeric.I64Eqz (stack ++ I64 n ∷ []) stack (I32 (truth (n == 0))) (one_64 stack n (λ i. I32 (truth (i == 0))))
+  pub zero_runs : (n : ℕ) (rest : List Instr) (st : Target) (stack : List Value)
+      → runs k (is_zero ∷ rest) st (stack ++ I64 n ∷ []) ≡ runs k rest st (stack ++ I32 (truth (n == 0)) ∷ [])
+  zero_runs n rest st stack = number_runs k.modules k.fixed k.turns (calls k) k.own rest st numeric.I64Eqz
+      (stack ++ I64 n ∷ []) stack (I32 (truth (n == 0))) (one_64 stack n (λ i. I32 (truth (i == 0))))
 
   pub not_goes : Goes k boolean boolean empty_code (λ v s. answer.Value (of.truth (not (is_true v))) s)
   not_goes v is s st h rest stack =
       truth_gives (not (is_true v)) s st h rest stack _
       (zero_runs (word v) (extend_word ∷ rest) st stack ∙ extended_runs (truth (word v == 0)) rest st stack
-      ∙ ap (λ (b : Bool). runs k rest st (stack ++ I64 (truth b) ∷ [])) (is_zero_true v is.0 (wide v (narrow k has small boolean v is))))
+      ∙ ap (λ (b : Bool). runs k rest st (stack ++ I64 (truth b) ∷ []))
+      (is_zero_true v is.0 (wide v (narrow k has small boolean v is))))
 
   -- ---- AND and OR: the second operand stands in one side of an if
 
@@ -124,11 +140,13 @@ module _ (k : Scene) (has : HasHelpers k) (small : AreSmall k.setting.home.types
   abbrev leaves_block : List Value → Effect → Effect
   leaves_block s e = out_of 1 (length s) e
 
-  pub left_number : (st : Target) (stack : List Value) (n : ℕ) → leaves_block stack (FellThrough st (stack ++ I64 n ∷ [])) ≡ FellThrough st (stack ++ I64 n ∷ [])
+  pub left_number : (st : Target) (stack : List Value) (n : ℕ)
+      → leaves_block stack (FellThrough st (stack ++ I64 n ∷ [])) ≡ FellThrough st (stack ++ I64 n ∷ [])
   left_number st stack n = refl
 
   -- what a side of the if leaves, with the rest behind it
-  pub side : (u : TypeNo) (rest : List Instr) (stack : List Value) (r : Effect) (a : Answer ℤ) → Into (Numbers u [] stack) r a → Into (Numbers u rest stack) (then_run (leaves_block stack r) (runs k rest)) a
+  pub side : (u : TypeNo) (rest : List Instr) (stack : List Value) (r : Effect) (a : Answer ℤ)
+      → Into (Numbers u [] stack) r a → Into (Numbers u rest stack) (then_run (leaves_block stack r) (runs k rest)) a
   side u rest stack r (answer.Value v s) p = record {
     st = p.st;
     stands = p.stands;
@@ -143,15 +161,23 @@ module _ (k : Scene) (has : HasHelpers k) (small : AreSmall k.setting.home.types
     chooses = chosen_number first second
 
     -- the condition decides which side runs
-    pub picks_first : (n : ℕ) → (n == 0) ≡ false → runs k (chooses ∷ rest) st (stack ++ I32 n ∷ []) ≡ then_run (leaves_block stack (runs k first st stack)) (runs k rest)
+    pub picks_first : (n : ℕ) → (n == 0) ≡ false
+        → runs k (chooses ∷ rest) st (stack ++ I32 n ∷ [])
+        ≡ then_run (leaves_block stack (runs k first st stack)) (runs k rest)
     picks_first n e =
         if_runs k.modules k.fixed k.turns (calls k) k.own rest st (Some kind.I64) first second stack n
-        ∙ ap (λ (b : Bool). then_run (leaves_block stack (exec (if b then map (effects.does k.modules k.fixed k.turns (calls k) k.own) second else map (effects.does k.modules k.fixed k.turns (calls k) k.own) first) st stack)) (runs k rest)) e
+        ∙ ap (λ (b : Bool). then_run (leaves_block stack
+        (exec (if b then map (effects.does k.modules k.fixed k.turns (calls k) k.own) second else map
+        (effects.does k.modules k.fixed k.turns (calls k) k.own) first) st stack)) (runs k rest)) e
 
-    pub picks_second : (n : ℕ) → (n == 0) ≡ true → runs k (chooses ∷ rest) st (stack ++ I32 n ∷ []) ≡ then_run (leaves_block stack (runs k second st stack)) (runs k rest)
+    pub picks_second : (n : ℕ) → (n == 0) ≡ true
+        → runs k (chooses ∷ rest) st (stack ++ I32 n ∷ [])
+        ≡ then_run (leaves_block stack (runs k second st stack)) (runs k rest)
     picks_second n e =
         if_runs k.modules k.fixed k.turns (calls k) k.own rest st (Some kind.I64) first second stack n
-        ∙ ap (λ (b : Bool). then_run (leaves_block stack (exec (if b then map (effects.does k.modules k.fixed k.turns (calls k) k.own) second else map (effects.does k.modules k.fixed k.turns (calls k) k.own) first) st stack)) (runs k rest)) e
+        ∙ ap (λ (b : Bool). then_run (leaves_block stack
+        (exec (if b then map (effects.does k.modules k.fixed k.turns (calls k) k.own) second else map
+        (effects.does k.modules k.fixed k.turns (calls k) k.own) first) st stack)) (runs k rest)) e
 
   pub chosen_by : (v : ℤ) → pos 0 ≤ℤ v → v ≤ℤ pos 1 → (word v % 2 ^ 32 == 0) ≡ not (is_true v)
   chosen_by (pos zero) l h = refl
@@ -161,10 +187,12 @@ module _ (k : Scene) (has : HasHelpers k) (small : AreSmall k.setting.home.types
 
   module _ (y : Coded) (value : Gives ℤ) (agrees : Agrees k boolean y value) where
     -- the second operand's code, with nothing behind it
-    alone : (ex : ℕ) (c : Counts) → IsFree k c → HasLocals k (y (inside k ex) c).1 → (s : Source) (st : Target) → Stands k s st → (stack : List Value)
+    alone : (ex : ℕ) (c : Counts) → IsFree k c → HasLocals k (y (inside k ex) c).1 → (s : Source) (st : Target)
+        → Stands k s st → (stack : List Value)
         → Into (Numbers boolean [] stack) (runs k (y (inside k ex) c).0 st stack) (value k.around s)
     alone ex c free full s st h stack =
-        subst (λ (code : List Instr). Into (Numbers boolean [] stack) (runs k code st stack) (value k.around s)) (append-nil (y (inside k ex) c).0) (agrees.gives ex c free full s st h [] stack)
+        subst (λ (code : List Instr). Into (Numbers boolean [] stack) (runs k code st stack) (value k.around s))
+        (append-nil (y (inside k ex) c).0) (agrees.gives ex c free full s st h [] stack)
 
     abbrev conjunction : ℤ → Gives ℤ
     conjunction v a s = if is_true v then value a s else answer.Value (of.truth false) s
@@ -176,21 +204,29 @@ module _ (k : Scene) (has : HasHelpers k) (small : AreSmall k.setting.home.types
           by ex c free full v is s st h rest stack (is_true v) refl;
     }
       where
-        by : (ex : ℕ) (c : Counts) → IsFree k c → HasLocals k (y (inside k (ex + 1)) c).1 → (v : ℤ) → IsValue k.setting.home.types boolean v
-            → (s : Source) (st : Target) → Stands k s st → (rest : List Instr) (stack : List Value) (b : Bool) → is_true v ≡ b
-            → Into (Numbers boolean rest stack) (runs k (wrap_word ∷ chosen_number (y (inside k (ex + 1)) c).0 (instr.I64Const 0 ∷ []) ∷ rest) st (stack ++ I64 (word v) ∷ [])) (if b then value k.around s else answer.Value (of.truth false) s)
+        by : (ex : ℕ) (c : Counts) → IsFree k c → HasLocals k (y (inside k (ex + 1)) c).1 → (v : ℤ)
+            → IsValue k.setting.home.types boolean v
+            → (s : Source) (st : Target) → Stands k s st → (rest : List Instr) (stack : List Value) (b : Bool)
+            → is_true v ≡ b
+            → Into (Numbers boolean rest stack) (runs k
+            (wrap_word ∷ chosen_number (y (inside k (ex + 1)) c).0 (instr.I64Const 0 ∷ []) ∷ rest) st
+            (stack ++ I64 (word v) ∷ [])) (if b then value k.around s else answer.Value (of.truth false) s)
         by ex c free full v is s st h rest stack true e =
             let code : List Instr = (y (inside k (ex + 1)) c).0 in
             let other : List Instr = instr.I64Const 0 ∷ [] in
-            let path = wrapped_runs (word v) (chosen_number code other ∷ rest) st stack ∙ picks_first code other rest st stack (word v % 2 ^ 32) (chosen_by v is.0 is.1 ∙ ap not e) in
+            let path = wrapped_runs (word v) (chosen_number code other ∷ rest) st stack
+            ∙ picks_first code other rest st stack (word v % 2 ^ 32) (chosen_by v is.0 is.1 ∙ ap not e) in
             subst (λ (r : Effect). Into (Numbers boolean rest stack) r (value k.around s)) (sym path)
-            (side boolean rest stack (runs k code st stack) (value k.around s) (alone (ex + 1) c free full s st h stack))
+            (side boolean rest stack (runs k code st stack) (value k.around s)
+            (alone (ex + 1) c free full s st h stack))
         by ex c free full v is s st h rest stack false e =
             let code : List Instr = (y (inside k (ex + 1)) c).0 in
             let other : List Instr = instr.I64Const 0 ∷ [] in
             truth_gives false s st h rest stack _
-            (wrapped_runs (word v) (chosen_number code other ∷ rest) st stack ∙ picks_second code other rest st stack (word v % 2 ^ 32) (chosen_by v is.0 is.1 ∙ ap not e)
-            ∙ ap (λ (e : Effect). then_run (leaves_block stack e) (runs k rest)) (i64_runs k.modules k.fixed k.turns (calls k) k.own [] st 0 stack))
+            (wrapped_runs (word v) (chosen_number code other ∷ rest) st stack
+            ∙ picks_second code other rest st stack (word v % 2 ^ 32) (chosen_by v is.0 is.1 ∙ ap not e)
+            ∙ ap (λ (e : Effect). then_run (leaves_block stack e) (runs k rest))
+            (i64_runs k.modules k.fixed k.turns (calls k) k.own [] st 0 stack))
 
     abbrev disjunction : ℤ → Gives ℤ
     disjunction v a s = if is_true v then answer.Value (of.truth true) s else value a s
@@ -201,18 +237,26 @@ module _ (k : Scene) (has : HasHelpers k) (small : AreSmall k.setting.home.types
       gives = λ ex c free full v is s st h rest stack. by ex c free full v is s st h rest stack (is_true v) refl;
     }
       where
-        by : (ex : ℕ) (c : Counts) → IsFree k c → HasLocals k (y (inside k (ex + 1)) c).1 → (v : ℤ) → IsValue k.setting.home.types boolean v
-            → (s : Source) (st : Target) → Stands k s st → (rest : List Instr) (stack : List Value) (b : Bool) → is_true v ≡ b
-            → Into (Numbers boolean rest stack) (runs k (wrap_word ∷ chosen_number (instr.I64Const 1 ∷ []) (y (inside k (ex + 1)) c).0 ∷ rest) st (stack ++ I64 (word v) ∷ [])) (if b then answer.Value (of.truth true) s else value k.around s)
+        by : (ex : ℕ) (c : Counts) → IsFree k c → HasLocals k (y (inside k (ex + 1)) c).1 → (v : ℤ)
+            → IsValue k.setting.home.types boolean v
+            → (s : Source) (st : Target) → Stands k s st → (rest : List Instr) (stack : List Value) (b : Bool)
+            → is_true v ≡ b
+            → Into (Numbers boolean rest stack) (runs k
+            (wrap_word ∷ chosen_number (instr.I64Const 1 ∷ []) (y (inside k (ex + 1)) c).0 ∷ rest) st
+            (stack ++ I64 (word v) ∷ [])) (if b then answer.Value (of.truth true) s else value k.around s)
         by ex c free full v is s st h rest stack true e =
             let code : List Instr = (y (inside k (ex + 1)) c).0 in
             let other : List Instr = instr.I64Const 1 ∷ [] in
             truth_gives true s st h rest stack _
-            (wrapped_runs (word v) (chosen_number other code ∷ rest) st stack ∙ picks_first other code rest st stack (word v % 2 ^ 32) (chosen_by v is.0 is.1 ∙ ap not e)
-            ∙ ap (λ (e : Effect). then_run (leaves_block stack e) (runs k rest)) (i64_runs k.modules k.fixed k.turns (calls k) k.own [] st 1 stack))
+            (wrapped_runs (word v) (chosen_number other code ∷ rest) st stack
+            ∙ picks_first other code rest st stack (word v % 2 ^ 32) (chosen_by v is.0 is.1 ∙ ap not e)
+            ∙ ap (λ (e : Effect). then_run (leaves_block stack e) (runs k rest))
+            (i64_runs k.modules k.fixed k.turns (calls k) k.own [] st 1 stack))
         by ex c free full v is s st h rest stack false e =
             let code : List Instr = (y (inside k (ex + 1)) c).0 in
             let other : List Instr = instr.I64Const 1 ∷ [] in
-            let path = wrapped_runs (word v) (chosen_number other code ∷ rest) st stack ∙ picks_second other code rest st stack (word v % 2 ^ 32) (chosen_by v is.0 is.1 ∙ ap not e) in
+            let path = wrapped_runs (word v) (chosen_number other code ∷ rest) st stack
+            ∙ picks_second other code rest st stack (word v % 2 ^ 32) (chosen_by v is.0 is.1 ∙ ap not e) in
             subst (λ (r : Effect). Into (Numbers boolean rest stack) r (value k.around s)) (sym path)
-            (side boolean rest stack (runs k code st stack) (value k.around s) (alone (ex + 1) c free full s st h stack))
+            (side boolean rest stack (runs k code st stack) (value k.around s)
+            (alone (ex + 1) c free full s st h stack))

@@ -16,20 +16,25 @@ use Rattle.law_simulation.proofs.Tabled.{link_calls, bodies_there}
 
 -- where link's run begins
 abbrev begins : Program → (pages : ℕ) → Config
-begins p pages = Going (store_of (fixtures_of p pages) (first_bytes p pages)) (enter_function 0 (run_typed 0 (size (row (ground p pages).base)) 1 (bodies_at 3 1 1 p)) []) []
+begins p pages = Going (store_of (fixtures_of p pages) (first_bytes p pages))
+    (enter_function 0 (run_typed 0 (size (row (ground p pages).base)) 1 (bodies_at 3 1 1 p)) []) []
 
 with_code : Program → (pages : ℕ) → List Instr → Config
-with_code p pages code = Going (store_of (fixtures_of p pages) (first_bytes p pages)) (record (begin p) { rest = code }) []
+with_code p pages code = Going (store_of (fixtures_of p pages) (first_bytes p pages)) (record (begin p) { rest = code })
+    []
 
 begins_is : (p : Program) (pages : ℕ) → ◌≡◌ {A = Config} (Going (linked_store p pages) (begin p) []) (begins p pages)
 unfolding with_code
 begins_is p pages =
-    ap (λ (n : ℕ). Going (record (linked_store p pages) { memories = record { bytes = image p ++ replicate n 0; max = Some pages } ∷ [] }) (begin p) []) (omega arith)
-    ∙ ap (with_code p pages) (link_calls (bytes_in p) p ∙ ap (λ (top : ℕ). bodies_code top 1 (bodies_at 3 1 1 p)) (sym (top_is p)))
+    ap (λ (n : ℕ). Going (record (linked_store p pages)
+    { memories = record { bytes = image p ++ replicate n 0; max = Some pages } ∷ [] }) (begin p) []) (omega arith)
+    ∙ ap (with_code p pages) (link_calls (bytes_in p) p
+    ∙ ap (λ (top : ℕ). bodies_code top 1 (bodies_at 3 1 1 p)) (sym (top_is p)))
 
 pub program_behaves : ProgramBehaves
 program_behaves p pages linkable sound serves extra none does = (
   begins p pages,
   modules_link p pages linkable ∙ ap (λ (c : Config). Ok c) (begins_is p pages),
-  bodies_behave p pages (ground p pages) (all p pages) (fixtures_of p pages) serves extra 0 0 0 1 (bodies_at 3 1 1 p) none (bodies_there p pages) does (first_bytes p pages) (first_held p pages sound linkable.room),
+  bodies_behave p pages (ground p pages) (all p pages) (fixtures_of p pages) serves extra 0 0 0 1 (bodies_at 3 1 1 p)
+      none (bodies_there p pages) does (first_bytes p pages) (first_held p pages sound linkable.room),
 )

@@ -5,10 +5,12 @@ use Rattle.law_simulation.proofs.Staying.{is_left}
 use Rattle.law_simulation.proofs.Stmts.{rows_made}
 
 pub bodies : Bodies
-bodies x ask result n a b body h = let m = rows_made x ask result n [] false a b body h in (m.placed, m.pins, m.executes)
+bodies x ask result n a b body h = let m = rows_made x ask result n [] false a b body h in
+    (m.placed, m.pins, m.executes)
 
 true_false : true ≡ false → ⊥
 true_false e = cc e
 
 pub stays : Stays
-stays x ask result n a b body h around s t e = let m = rows_made x ask result n [] false a b body h in true_false (sym (ap is_left e) ∙ m.stays refl around s)
+stays x ask result n a b body h around s t e = let m = rows_made x ask result n [] false a b body h in
+    true_false (sym (ap is_left e) ∙ m.stays refl around s)

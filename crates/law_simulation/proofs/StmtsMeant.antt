@@ -18,10 +18,14 @@ module _ (p : Modules) (ask : Asks) (n : ℕ) where
   abbrev pub arm_meant : TypedArm-F TypedStmt TypedArm → TypedArm-F Does Arm
   arm_meant x = map-TypedArm TypedStmt TypedArm Does Arm (does p ask n) arm_does x
 
-  pub step_means : (e : TypedStmt) (x : TypedStmt-F TypedStmt TypedArm) → out-TypedStmt e ≡ x → does p ask n e ≡ step_layer p ask n (step_meant x)
+  pub step_means : (e : TypedStmt) (x : TypedStmt-F TypedStmt TypedArm) → out-TypedStmt e ≡ x
+      → does p ask n e ≡ step_layer p ask n (step_meant x)
   unfolding does_with arm_does
-  step_means e x h = fold_out-TypedStmt Does Arm (step_layer p ask n) (arm_layer p ask n) e ∙ ap (λ (y : TypedStmt-F TypedStmt TypedArm). step_layer p ask n (step_meant y)) h
+  step_means e x h = fold_out-TypedStmt Does Arm (step_layer p ask n) (arm_layer p ask n) e
+      ∙ ap (λ (y : TypedStmt-F TypedStmt TypedArm). step_layer p ask n (step_meant y)) h
 
-  pub arm_means : (e : TypedArm) (x : TypedArm-F TypedStmt TypedArm) → out-TypedArm e ≡ x → arm_does e ≡ arm_layer p ask n (arm_meant x)
+  pub arm_means : (e : TypedArm) (x : TypedArm-F TypedStmt TypedArm) → out-TypedArm e ≡ x
+      → arm_does e ≡ arm_layer p ask n (arm_meant x)
   unfolding does_with arm_does
-  arm_means e x h = fold_out-TypedArm Does Arm (step_layer p ask n) (arm_layer p ask n) e ∙ ap (λ (y : TypedArm-F TypedStmt TypedArm). arm_layer p ask n (arm_meant y)) h
+  arm_means e x h = fold_out-TypedArm Does Arm (step_layer p ask n) (arm_layer p ask n) e
+      ∙ ap (λ (y : TypedArm-F TypedStmt TypedArm). arm_layer p ask n (arm_meant y)) h

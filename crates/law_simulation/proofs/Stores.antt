@@ -33,11 +33,16 @@ module _ (k : Scene) (has : HasHelpers k) (small : AreSmall k.setting.home.types
   with_bytes st bytes = record st { bytes = bytes }
 
   -- so many bytes of a number
-  store_one : (r : Room) (a n : ℕ) (rest : List Instr) (st : Target) (stack : List Value) → a + bytes_in r ≤ length st.bytes
-      → runs k (instr.Store (width_room r) ∷ rest) st ((stack ++ I32 a ∷ []) ++ I64 n ∷ []) ≡ runs k rest (with_bytes st (paste_items st.bytes a (cells.stored_in r n))) stack
-  store_one One a n rest st stack h = store_runs k.modules k.fixed k.turns (calls k) k.own rest st (width_room One) a n stack (has.memory st.bytes) h
-  store_one Two a n rest st stack h = store_runs k.modules k.fixed k.turns (calls k) k.own rest st (width_room Two) a n stack (has.memory st.bytes) h
-  store_one Four a n rest st stack h = store_runs k.modules k.fixed k.turns (calls k) k.own rest st (width_room Four) a n stack (has.memory st.bytes) h
+  store_one : (r : Room) (a n : ℕ) (rest : List Instr) (st : Target) (stack : List Value)
+      → a + bytes_in r ≤ length st.bytes
+      → runs k (instr.Store (width_room r) ∷ rest) st ((stack ++ I32 a ∷ []) ++ I64 n ∷ [])
+      ≡ runs k rest (with_bytes st (paste_items st.bytes a (cells.stored_in r n))) stack
+  store_one One a n rest st stack h = store_runs k.modules k.fixed k.turns (calls k) k.own rest st (width_room One) a n
+      stack (has.memory st.bytes) h
+  store_one Two a n rest st stack h = store_runs k.modules k.fixed k.turns (calls k) k.own rest st (width_room Two) a n
+      stack (has.memory st.bytes) h
+  store_one Four a n rest st stack h = store_runs k.modules k.fixed k.turns (calls k) k.own rest st (width_room Four) a
+      n stack (has.memory st.bytes) h
 
   abbrev put : Scalar → ℕ → ℤ → Target → Target
   put c a v st = with_bytes st (cells.put c a (word v) st.bytes)
@@ -45,19 +50,28 @@ module _ (k : Scene) (has : HasHelpers k) (small : AreSmall k.setting.home.types
   nothing_less : (v : ℤ) → IsWide v → word v ≡ (word v + (2 ^ 64 - word (pos 0))) % 2 ^ 64
   nothing_less v w = let l = w.low in let h = w.high in omega (arith, ints)
 
-  between_stores : (l g v : ℤ) (a : ℕ) (rest : List Instr) (st : Target) (stack : List Value) → IsWide v → a + width (Between l g) ≤ length st.bytes → (b : Bool) → is_nought l ≡ b
-      → runs k (((if b then [] else number l ∷ operation Sub ∷ []) ++ instr.Store (width_room (room_of (Between l g))) ∷ []) ++ rest) st ((stack ++ I32 a ∷ []) ++ I64 (word v) ∷ []) ≡ runs k rest (put (Between l g) a v st) stack
+  between_stores : (l g v : ℤ) (a : ℕ) (rest : List Instr) (st : Target) (stack : List Value) → IsWide v
+      → a + width (Between l g) ≤ length st.bytes → (b : Bool) → is_nought l ≡ b
+      → runs k (((if b then [] else number l ∷ operation Sub ∷ []) ++ instr.Store (width_room (room_of (Between l g)))
+      ∷ []) ++ rest) st ((stack ++ I32 a ∷ []) ++ I64 (word v) ∷ []) ≡ runs k rest (put (Between l g) a v st) stack
   between_stores l g v a rest st stack w fits true e =
-      let same : word v ≡ cells.lower_cell (Between l g) (word v) = nothing_less v w ∙ ap (λ (z : ℤ). (word v + (2 ^ 64 - word z)) % 2 ^ 64) (sym (nought_word k has small room l e)) in
+      let same : word v ≡ cells.lower_cell (Between l g) (word v) = nothing_less v w
+      ∙ ap (λ (z : ℤ). (word v + (2 ^ 64 - word z)) % 2 ^ 64) (sym (nought_word k has small room l e)) in
       store_one (room_of (Between l g)) a (word v) rest st stack fits
-      ∙ ap (λ (n : ℕ). runs k rest (with_bytes st (paste_items st.bytes a (cells.stored_in (room_of (Between l g)) n))) stack) same
+      ∙ ap (λ (n : ℕ). runs k rest (with_bytes st (paste_items st.bytes a (cells.stored_in (room_of (Between l g)) n)))
+      stack) same
   between_stores l g v a rest st stack w fits false e =
-      i64_runs k.modules k.fixed k.turns (calls k) k.own (operation Sub ∷ instr.Store (width_room (room_of (Between l g))) ∷ rest) st (word l) ((stack ++ I32 a ∷ []) ++ I64 (word v) ∷ [])
-      ∙ operation_runs k has small Sub (word v) (word l) (cells.lower_cell (Between l g) (word v)) (instr.Store (width_room (room_of (Between l g))) ∷ rest) st (stack ++ I32 a ∷ []) refl
+      i64_runs k.modules k.fixed k.turns (calls k) k.own
+      (operation Sub ∷ instr.Store (width_room (room_of (Between l g))) ∷ rest) st (word l)
+      ((stack ++ I32 a ∷ []) ++ I64 (word v) ∷ [])
+      ∙ operation_runs k has small Sub (word v) (word l) (cells.lower_cell (Between l g) (word v))
+      (instr.Store (width_room (room_of (Between l g))) ∷ rest) st (stack ++ I32 a ∷ []) refl
       ∙ store_one (room_of (Between l g)) a (cells.lower_cell (Between l g) (word v)) rest st stack fits
 
-  pub scalar_stores : (c : Scalar) (v : ℤ) (a : ℕ) (rest : List Instr) (st : Target) (stack : List Value) → IsWide v → a + width c ≤ length st.bytes
-      → runs k (store_scalar c ++ rest) st ((stack ++ I32 a ∷ []) ++ I64 (word v) ∷ []) ≡ runs k rest (put c a v st) stack
+  pub scalar_stores : (c : Scalar) (v : ℤ) (a : ℕ) (rest : List Instr) (st : Target) (stack : List Value) → IsWide v
+      → a + width c ≤ length st.bytes
+      → runs k (store_scalar c ++ rest) st ((stack ++ I32 a ∷ []) ++ I64 (word v) ∷ [])
+      ≡ runs k rest (put c a v st) stack
   scalar_stores (Natural g) v a rest st stack w fits = store_one (room_of (Natural g)) a (word v) rest st stack fits
   scalar_stores Integer v a rest st stack w fits = store_one (room_of Integer) a (word v) rest st stack fits
   scalar_stores (Between l g) v a rest st stack w fits = between_stores l g v a rest st stack w fits (is_nought l) refl
@@ -69,9 +83,11 @@ module _ (k : Scene) (has : HasHelpers k) (small : AreSmall k.setting.home.types
     pub stands : Stands k s st
     pub run : r ≡ runs k rest st stack
 
-  pub cell_stores : (t : TypeNo) (c : Scalar) → tree k.setting.home.types t ≡ Cell c → IsScalar c → (l : Location) (v : ℤ) → IsOf c v → Means k.program c v → IsWide v → component (row k.world) l ≡ Some (Cell c)
+  pub cell_stores : (t : TypeNo) (c : Scalar) → tree k.setting.home.types t ≡ Cell c → IsScalar c
+      → (l : Location) (v : ℤ) → IsOf c v → Means k.program c v → IsWide v → component (row k.world) l ≡ Some (Cell c)
       → (s : Source) (st : Target) → Stands k s st → (rest : List Instr) (stack : List Value)
-      → IsStored rest stack (stores l v s) (runs k (store_code k.setting.home.types t ++ rest) st ((stack ++ I32 (place k l) ∷ []) ++ I64 (word v) ∷ []))
+      → IsStored rest stack (stores l v s) (runs k (store_code k.setting.home.types t ++ rest) st
+      ((stack ++ I32 (place k l) ∷ []) ++ I64 (word v) ∷ []))
   unfolding size
   cell_stores t c is scalar l v within means w type s st h rest stack =
       let fits = lies k.program k.world k.hidden s.store st.bytes h.holds l (Cell c) type in
@@ -84,10 +100,14 @@ module _ (k : Scene) (has : HasHelpers k) (small : AreSmall k.setting.home.types
           kept = h.kept;
           out = h.out;
         };
-        run = ap (λ (u : Ty). runs k (store_tree u ++ rest) st ((stack ++ I32 (place k l) ∷ []) ++ I64 (word v) ∷ [])) is ∙ scalar_stores c v (place k l) rest st stack w fits;
+        run = ap (λ (u : Ty). runs k (store_tree u ++ rest) st ((stack ++ I32 (place k l) ∷ []) ++ I64 (word v) ∷ []))
+            is ∙ scalar_stores c v (place k l) rest st stack w fits;
       }
 
-  pub stored_goes : (t : TypeNo) (c : Scalar) → IsCell k.setting.home.types t c → (l : Location) (v : ℤ) → IsValue k.setting.home.types t v → component (row k.world) l ≡ Some (Cell c)
+  pub stored_goes : (t : TypeNo) (c : Scalar) → IsCell k.setting.home.types t c → (l : Location) (v : ℤ)
+      → IsValue k.setting.home.types t v → component (row k.world) l ≡ Some (Cell c)
       → (s : Source) (st : Target) → Stands k s st → (rest : List Instr) (stack : List Value)
-      → IsStored rest stack (stores l v s) (runs k (store_code k.setting.home.types t ++ rest) st ((stack ++ I32 (place k l) ∷ []) ++ I64 (word v) ∷ []))
-  stored_goes t c cell l v is type = cell_stores t c cell.is cell.scalar l v (cell.bounds v is) (number_means k.program c v cell.number) (wide v (narrow k has small t v is)) type
+      → IsStored rest stack (stores l v s) (runs k (store_code k.setting.home.types t ++ rest) st
+      ((stack ++ I32 (place k l) ∷ []) ++ I64 (word v) ∷ []))
+  stored_goes t c cell l v is type = cell_stores t c cell.is cell.scalar l v (cell.bounds v is)
+      (number_means k.program c v cell.number) (wide v (narrow k has small t v is)) type

@@ -1,4 +1,5 @@
--- Which arm a value leads to: no label is below the least or above the greatest, and the table has one arm for each value.
+-- Which arm a value leads to: no label is below the least or above the greatest, and the table has one arm for each
+-- value.
 use Rattle.std.proofs.Common.{◌≡◌, ℕ, suc, ◌<◌, ℤ, pos, negsuc, ◌+ℤ◌, ◌≤ℤ◌, ◌<ℤ◌, Bool, true, false, List, [], ◌∷◌, ◌++◌, length, if◌then◌else◌, refl, ap, ◌∙◌, arith}
 use Rattle.std.specs.Prelude.{◌||◌, int_le, slice_index_or}
 use Rattle.std.specs.List.{fold, list_any}
@@ -48,15 +49,19 @@ least_is : (so : ℤ) (ys : List Label) → (least_from so ys ≤ℤ so) × AllF
 least_is so [] = (grind arith, tt)
 least_is so (y ∷ ys) =
     let l = lesser_is so y.low in
-    let rest = least_is (lesser so y.low) ys in
-    (through (least_from so (y ∷ ys)) (lesser so y.low) so rest.0 l.0, (through (least_from so (y ∷ ys)) (lesser so y.low) y.low rest.0 l.1, rest.1))
+    let rest = least_is (lesser so y.low) ys in (
+      through (least_from so (y ∷ ys)) (lesser so y.low) so rest.0 l.0,
+      (through (least_from so (y ∷ ys)) (lesser so y.low) y.low rest.0 l.1, rest.1),
+    )
 
 greatest_is : (so : ℤ) (ys : List Label) → (so ≤ℤ greatest_from so ys) × AllTo (greatest_from so ys) ys
 greatest_is so [] = (grind arith, tt)
 greatest_is so (y ∷ ys) =
     let l = greater_is so y.high in
-    let rest = greatest_is (greater so y.high) ys in
-    (through so (greater so y.high) (greatest_from so (y ∷ ys)) l.0 rest.0, (through y.high (greater so y.high) (greatest_from so (y ∷ ys)) l.1 rest.0, rest.1))
+    let rest = greatest_is (greater so y.high) ys in (
+      through so (greater so y.high) (greatest_from so (y ∷ ys)) l.0 rest.0,
+      (through y.high (greater so y.high) (greatest_from so (y ∷ ys)) l.1 rest.0, rest.1),
+    )
 
 all_from : (ls : List Label) → AllFrom (least_of ls) ls
 all_from [] = tt
@@ -68,7 +73,8 @@ all_to (x ∷ xs) = greatest_is x.high xs
 
 -- ---- the least label is not above the greatest, and both are numbers of 32 bits
 
-least_high : (low so : ℤ) (ys : List Label) → AreLabels ys → negsuc 2147483647 ≤ℤ so → negsuc 2147483647 ≤ℤ least_from so ys
+least_high : (low so : ℤ) (ys : List Label) → AreLabels ys → negsuc 2147483647 ≤ℤ so
+    → negsuc 2147483647 ≤ℤ least_from so ys
 least_high low so [] are h = h
 least_high low so (y ∷ ys) are h = least_high low (lesser so y.low) ys are.1 (by (int_le so y.low))
   where
@@ -90,10 +96,16 @@ pub record IsSpan (low high : ℤ) : Type 0 where
   pub high_small : high ≤ℤ pos 4294967295
 
 pub labels_span : (ls : List Label) → AreLabels ls → IsSpan (least_of ls) (greatest_of ls)
-labels_span [] are = record { low_small = omega (arith, ints); order = omega (arith, ints); high_small = omega (arith, ints) }
+labels_span [] are = record {
+  low_small = omega (arith, ints);
+  order = omega (arith, ints);
+  high_small =
+      omega (arith, ints);
+}
 labels_span (x ∷ xs) are = record {
   low_small = least_high x.low x.low xs are.1 are.0.low;
-  order = through (least_from x.low xs) x.low (greatest_from x.high xs) (least_is x.low xs).0 (through x.low x.high (greatest_from x.high xs) are.0.order (greatest_is x.high xs).0);
+  order = through (least_from x.low xs) x.low (greatest_from x.high xs) (least_is x.low xs).0
+      (through x.low x.high (greatest_from x.high xs) are.0.order (greatest_is x.high xs).0);
   high_small = greatest_low x.high xs are.1 are.0.high;
 }
 
@@ -136,12 +148,16 @@ no_target v (x ∷ xs) h =
     ∙ ap suc (no_target v xs (second_part v x.labels (all_labels xs) h))
 
 pub target_below : (v : ℤ) (xs : List code.Arm) → v <ℤ least_of (all_labels xs) → target xs v ≡ length xs
-target_below v xs h = no_target v xs (none_below v (least_of (all_labels xs)) (all_labels xs) h (all_from (all_labels xs)))
+target_below v xs h = no_target v xs (none_below v (least_of (all_labels xs)) (all_labels xs) h
+    (all_from (all_labels xs)))
 
 pub target_above : (v : ℤ) (xs : List code.Arm) → greatest_of (all_labels xs) <ℤ v → target xs v ≡ length xs
-target_above v xs h = no_target v xs (none_above v (greatest_of (all_labels xs)) (all_labels xs) h (all_to (all_labels xs)))
+target_above v xs h = no_target v xs (none_above v (greatest_of (all_labels xs)) (all_labels xs) h
+    (all_to (all_labels xs)))
 
 -- ---- the table
 
-pub target_at : (xs : List code.Arm) (low : ℤ) (span k otherwise : ℕ) → k < span → slice_index_or (targets xs low span) k otherwise ≡ target xs (low +ℤ pos k)
-target_at xs low span k otherwise h = get_or-map-range_with_len (λ (j : ℕ). target xs (low +ℤ pos j)) 0 span k k otherwise h (omega arith)
+pub target_at : (xs : List code.Arm) (low : ℤ) (span k otherwise : ℕ) → k < span
+    → slice_index_or (targets xs low span) k otherwise ≡ target xs (low +ℤ pos k)
+target_at xs low span k otherwise h = get_or-map-range_with_len (λ (j : ℕ). target xs (low +ℤ pos j)) 0 span k k
+    otherwise h (omega arith)

@@ -7,7 +7,8 @@ use Rattle.law_simulation.specs.TreesLaws.{Exprs, ProcedureExprs, Places, CallsO
 use Rattle.law_simulation.proofs.Exprs.{expr_made, held_made, place_made, call_made}
 
 pub exprs : Exprs
-exprs x ask ws a b e t h = let m = expr_made x ask ws a b e t h in (m.placed, m.pins, λ k fit. subst (λ (t : TypeNo). Agrees k t m.placed (value x.p ask e)) m.of (m.agrees k fit))
+exprs x ask ws a b e t h = let m = expr_made x ask ws a b e t h in
+    (m.placed, m.pins, λ k fit. subst (λ (t : TypeNo). Agrees k t m.placed (value x.p ask e)) m.of (m.agrees k fit))
 
 pub procedure_exprs : ProcedureExprs
 procedure_exprs x ask ws a b e h is = let m = held_made x ask ws a b e h is in (m.placed, m.pins, m.agrees)

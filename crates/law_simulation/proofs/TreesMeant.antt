@@ -12,52 +12,99 @@ use Rattle.def_meaning.specs.Expressions.{Asks, Gives, Reaches, Continues, argum
 
 module _ (p : Modules) (ask : Asks) where
   unfoldable pub argument_value : Argument → Gives Passed
-  argument_value = fold-Argument (Gives Passed) (Gives ℤ) Reaches Continues (Gives ℤ) (Gives Location) (argument_layer p ask) (call_layer p ask) (component_layer p ask) (link_layer p ask) (expr_layer p ask) (place_layer p ask)
+  argument_value = fold-Argument (Gives Passed) (Gives ℤ) Reaches Continues (Gives ℤ) (Gives Location)
+      (argument_layer p ask) (call_layer p ask) (component_layer p ask) (link_layer p ask) (expr_layer p ask)
+      (place_layer p ask)
 
   unfoldable pub component_value : Component → Reaches
-  component_value = fold-Component (Gives Passed) (Gives ℤ) Reaches Continues (Gives ℤ) (Gives Location) (argument_layer p ask) (call_layer p ask) (component_layer p ask) (link_layer p ask) (expr_layer p ask) (place_layer p ask)
+  component_value = fold-Component (Gives Passed) (Gives ℤ) Reaches Continues (Gives ℤ) (Gives Location)
+      (argument_layer p ask) (call_layer p ask) (component_layer p ask) (link_layer p ask) (expr_layer p ask)
+      (place_layer p ask)
 
   unfoldable pub link_value : Link → Continues
-  link_value = fold-Link (Gives Passed) (Gives ℤ) Reaches Continues (Gives ℤ) (Gives Location) (argument_layer p ask) (call_layer p ask) (component_layer p ask) (link_layer p ask) (expr_layer p ask) (place_layer p ask)
+  link_value = fold-Link (Gives Passed) (Gives ℤ) Reaches Continues (Gives ℤ) (Gives Location) (argument_layer p ask)
+      (call_layer p ask) (component_layer p ask) (link_layer p ask) (expr_layer p ask) (place_layer p ask)
 
-  abbrev pub argument_meant : Argument-F Argument Call Component Link TypedExpr Place → Argument-F (Gives Passed) (Gives ℤ) Reaches Continues (Gives ℤ) (Gives Location)
-  argument_meant x = map-Argument Argument Call Component Link TypedExpr Place (Gives Passed) (Gives ℤ) Reaches Continues (Gives ℤ) (Gives Location) argument_value (call_value p ask) component_value link_value (value p ask) (locate p ask) x
+  abbrev pub argument_meant : Argument-F Argument Call Component Link TypedExpr Place
+      → Argument-F (Gives Passed) (Gives ℤ) Reaches Continues (Gives ℤ) (Gives Location)
+  argument_meant x = map-Argument Argument Call Component Link TypedExpr Place (Gives Passed) (Gives ℤ) Reaches
+      Continues (Gives ℤ) (Gives Location) argument_value (call_value p ask) component_value link_value (value p ask)
+      (locate p ask) x
 
-  pub argument_means : (e : Argument) (x : Argument-F Argument Call Component Link TypedExpr Place) → out-Argument e ≡ x → argument_value e ≡ argument_layer p ask (argument_meant x)
+  pub argument_means : (e : Argument) (x : Argument-F Argument Call Component Link TypedExpr Place) → out-Argument e ≡ x
+      → argument_value e ≡ argument_layer p ask (argument_meant x)
   unfolding value locate call_value argument_value component_value link_value
-  argument_means e x h = fold_out-Argument (Gives Passed) (Gives ℤ) Reaches Continues (Gives ℤ) (Gives Location) (argument_layer p ask) (call_layer p ask) (component_layer p ask) (link_layer p ask) (expr_layer p ask) (place_layer p ask) e ∙ ap (λ (y : Argument-F Argument Call Component Link TypedExpr Place). argument_layer p ask (argument_meant y)) h
+  argument_means e x h = fold_out-Argument (Gives Passed) (Gives ℤ) Reaches Continues (Gives ℤ) (Gives Location)
+      (argument_layer p ask) (call_layer p ask) (component_layer p ask) (link_layer p ask) (expr_layer p ask)
+      (place_layer p ask) e ∙ ap (λ (y : Argument-F Argument Call Component Link TypedExpr Place). argument_layer p ask
+      (argument_meant y)) h
 
-  abbrev pub call_meant : Call-F Argument Call Component Link TypedExpr Place → Call-F (Gives Passed) (Gives ℤ) Reaches Continues (Gives ℤ) (Gives Location)
-  call_meant x = map-Call Argument Call Component Link TypedExpr Place (Gives Passed) (Gives ℤ) Reaches Continues (Gives ℤ) (Gives Location) argument_value (call_value p ask) component_value link_value (value p ask) (locate p ask) x
+  abbrev pub call_meant : Call-F Argument Call Component Link TypedExpr Place
+      → Call-F (Gives Passed) (Gives ℤ) Reaches Continues (Gives ℤ) (Gives Location)
+  call_meant x = map-Call Argument Call Component Link TypedExpr Place (Gives Passed) (Gives ℤ) Reaches Continues
+      (Gives ℤ) (Gives Location) argument_value (call_value p ask) component_value link_value (value p ask)
+      (locate p ask) x
 
-  pub call_means : (e : Call) (x : Call-F Argument Call Component Link TypedExpr Place) → out-Call e ≡ x → (call_value p ask) e ≡ call_layer p ask (call_meant x)
+  pub call_means : (e : Call) (x : Call-F Argument Call Component Link TypedExpr Place) → out-Call e ≡ x
+      → (call_value p ask) e ≡ call_layer p ask (call_meant x)
   unfolding value locate call_value argument_value component_value link_value
-  call_means e x h = fold_out-Call (Gives Passed) (Gives ℤ) Reaches Continues (Gives ℤ) (Gives Location) (argument_layer p ask) (call_layer p ask) (component_layer p ask) (link_layer p ask) (expr_layer p ask) (place_layer p ask) e ∙ ap (λ (y : Call-F Argument Call Component Link TypedExpr Place). call_layer p ask (call_meant y)) h
+  call_means e x h = fold_out-Call (Gives Passed) (Gives ℤ) Reaches Continues (Gives ℤ) (Gives Location)
+      (argument_layer p ask) (call_layer p ask) (component_layer p ask) (link_layer p ask) (expr_layer p ask)
+      (place_layer p ask) e ∙ ap (λ (y : Call-F Argument Call Component Link TypedExpr Place). call_layer p ask
+      (call_meant y)) h
 
-  abbrev pub component_meant : Component-F Argument Call Component Link TypedExpr Place → Component-F (Gives Passed) (Gives ℤ) Reaches Continues (Gives ℤ) (Gives Location)
-  component_meant x = map-Component Argument Call Component Link TypedExpr Place (Gives Passed) (Gives ℤ) Reaches Continues (Gives ℤ) (Gives Location) argument_value (call_value p ask) component_value link_value (value p ask) (locate p ask) x
+  abbrev pub component_meant : Component-F Argument Call Component Link TypedExpr Place
+      → Component-F (Gives Passed) (Gives ℤ) Reaches Continues (Gives ℤ) (Gives Location)
+  component_meant x = map-Component Argument Call Component Link TypedExpr Place (Gives Passed) (Gives ℤ) Reaches
+      Continues (Gives ℤ) (Gives Location) argument_value (call_value p ask) component_value link_value (value p ask)
+      (locate p ask) x
 
-  pub component_means : (e : Component) (x : Component-F Argument Call Component Link TypedExpr Place) → out-Component e ≡ x → component_value e ≡ component_layer p ask (component_meant x)
+  pub component_means : (e : Component) (x : Component-F Argument Call Component Link TypedExpr Place)
+      → out-Component e ≡ x → component_value e ≡ component_layer p ask (component_meant x)
   unfolding value locate call_value argument_value component_value link_value
-  component_means e x h = fold_out-Component (Gives Passed) (Gives ℤ) Reaches Continues (Gives ℤ) (Gives Location) (argument_layer p ask) (call_layer p ask) (component_layer p ask) (link_layer p ask) (expr_layer p ask) (place_layer p ask) e ∙ ap (λ (y : Component-F Argument Call Component Link TypedExpr Place). component_layer p ask (component_meant y)) h
+  component_means e x h = fold_out-Component (Gives Passed) (Gives ℤ) Reaches Continues (Gives ℤ) (Gives Location)
+      (argument_layer p ask) (call_layer p ask) (component_layer p ask) (link_layer p ask) (expr_layer p ask)
+      (place_layer p ask) e ∙ ap (λ (y : Component-F Argument Call Component Link TypedExpr Place). component_layer p
+      ask (component_meant y)) h
 
-  abbrev pub link_meant : Link-F Argument Call Component Link TypedExpr Place → Link-F (Gives Passed) (Gives ℤ) Reaches Continues (Gives ℤ) (Gives Location)
-  link_meant x = map-Link Argument Call Component Link TypedExpr Place (Gives Passed) (Gives ℤ) Reaches Continues (Gives ℤ) (Gives Location) argument_value (call_value p ask) component_value link_value (value p ask) (locate p ask) x
+  abbrev pub link_meant : Link-F Argument Call Component Link TypedExpr Place
+      → Link-F (Gives Passed) (Gives ℤ) Reaches Continues (Gives ℤ) (Gives Location)
+  link_meant x = map-Link Argument Call Component Link TypedExpr Place (Gives Passed) (Gives ℤ) Reaches Continues
+      (Gives ℤ) (Gives Location) argument_value (call_value p ask) component_value link_value (value p ask)
+      (locate p ask) x
 
-  pub link_means : (e : Link) (x : Link-F Argument Call Component Link TypedExpr Place) → out-Link e ≡ x → link_value e ≡ link_layer p ask (link_meant x)
+  pub link_means : (e : Link) (x : Link-F Argument Call Component Link TypedExpr Place) → out-Link e ≡ x
+      → link_value e ≡ link_layer p ask (link_meant x)
   unfolding value locate call_value argument_value component_value link_value
-  link_means e x h = fold_out-Link (Gives Passed) (Gives ℤ) Reaches Continues (Gives ℤ) (Gives Location) (argument_layer p ask) (call_layer p ask) (component_layer p ask) (link_layer p ask) (expr_layer p ask) (place_layer p ask) e ∙ ap (λ (y : Link-F Argument Call Component Link TypedExpr Place). link_layer p ask (link_meant y)) h
+  link_means e x h = fold_out-Link (Gives Passed) (Gives ℤ) Reaches Continues (Gives ℤ) (Gives Location)
+      (argument_layer p ask) (call_layer p ask) (component_layer p ask) (link_layer p ask) (expr_layer p ask)
+      (place_layer p ask) e ∙ ap (λ (y : Link-F Argument Call Component Link TypedExpr Place). link_layer p ask
+      (link_meant y)) h
 
-  abbrev pub expr_meant : TypedExpr-F Argument Call Component Link TypedExpr Place → TypedExpr-F (Gives Passed) (Gives ℤ) Reaches Continues (Gives ℤ) (Gives Location)
-  expr_meant x = map-TypedExpr Argument Call Component Link TypedExpr Place (Gives Passed) (Gives ℤ) Reaches Continues (Gives ℤ) (Gives Location) argument_value (call_value p ask) component_value link_value (value p ask) (locate p ask) x
+  abbrev pub expr_meant : TypedExpr-F Argument Call Component Link TypedExpr Place
+      → TypedExpr-F (Gives Passed) (Gives ℤ) Reaches Continues (Gives ℤ) (Gives Location)
+  expr_meant x = map-TypedExpr Argument Call Component Link TypedExpr Place (Gives Passed) (Gives ℤ) Reaches Continues
+      (Gives ℤ) (Gives Location) argument_value (call_value p ask) component_value link_value (value p ask)
+      (locate p ask) x
 
-  pub expr_means : (e : TypedExpr) (x : TypedExpr-F Argument Call Component Link TypedExpr Place) → out-TypedExpr e ≡ x → (value p ask) e ≡ expr_layer p ask (expr_meant x)
+  pub expr_means : (e : TypedExpr) (x : TypedExpr-F Argument Call Component Link TypedExpr Place) → out-TypedExpr e ≡ x
+      → (value p ask) e ≡ expr_layer p ask (expr_meant x)
   unfolding value locate call_value argument_value component_value link_value
-  expr_means e x h = fold_out-TypedExpr (Gives Passed) (Gives ℤ) Reaches Continues (Gives ℤ) (Gives Location) (argument_layer p ask) (call_layer p ask) (component_layer p ask) (link_layer p ask) (expr_layer p ask) (place_layer p ask) e ∙ ap (λ (y : TypedExpr-F Argument Call Component Link TypedExpr Place). expr_layer p ask (expr_meant y)) h
+  expr_means e x h = fold_out-TypedExpr (Gives Passed) (Gives ℤ) Reaches Continues (Gives ℤ) (Gives Location)
+      (argument_layer p ask) (call_layer p ask) (component_layer p ask) (link_layer p ask) (expr_layer p ask)
+      (place_layer p ask) e ∙ ap (λ (y : TypedExpr-F Argument Call Component Link TypedExpr Place). expr_layer p ask
+      (expr_meant y)) h
 
-  abbrev pub place_meant : Place-F Argument Call Component Link TypedExpr Place → Place-F (Gives Passed) (Gives ℤ) Reaches Continues (Gives ℤ) (Gives Location)
-  place_meant x = map-Place Argument Call Component Link TypedExpr Place (Gives Passed) (Gives ℤ) Reaches Continues (Gives ℤ) (Gives Location) argument_value (call_value p ask) component_value link_value (value p ask) (locate p ask) x
+  abbrev pub place_meant : Place-F Argument Call Component Link TypedExpr Place
+      → Place-F (Gives Passed) (Gives ℤ) Reaches Continues (Gives ℤ) (Gives Location)
+  place_meant x = map-Place Argument Call Component Link TypedExpr Place (Gives Passed) (Gives ℤ) Reaches Continues
+      (Gives ℤ) (Gives Location) argument_value (call_value p ask) component_value link_value (value p ask)
+      (locate p ask) x
 
-  pub place_means : (e : Place) (x : Place-F Argument Call Component Link TypedExpr Place) → out-Place e ≡ x → (locate p ask) e ≡ place_layer p ask (place_meant x)
+  pub place_means : (e : Place) (x : Place-F Argument Call Component Link TypedExpr Place) → out-Place e ≡ x
+      → (locate p ask) e ≡ place_layer p ask (place_meant x)
   unfolding value locate call_value argument_value component_value link_value
-  place_means e x h = fold_out-Place (Gives Passed) (Gives ℤ) Reaches Continues (Gives ℤ) (Gives Location) (argument_layer p ask) (call_layer p ask) (component_layer p ask) (link_layer p ask) (expr_layer p ask) (place_layer p ask) e ∙ ap (λ (y : Place-F Argument Call Component Link TypedExpr Place). place_layer p ask (place_meant y)) h
+  place_means e x h = fold_out-Place (Gives Passed) (Gives ℤ) Reaches Continues (Gives ℤ) (Gives Location)
+      (argument_layer p ask) (call_layer p ask) (component_layer p ask) (link_layer p ask) (expr_layer p ask)
+      (place_layer p ask) e ∙ ap (λ (y : Place-F Argument Call Component Link TypedExpr Place). place_layer p ask
+      (place_meant y)) h

@@ -54,5 +54,6 @@ between_is low v high = grind arith
 pub sum_word : (x y : ℤ) → IsWide x → IsWide y → IsWide (x +ℤ y) → (word x + word y) % 2 ^ 64 ≡ word (x +ℤ y)
 sum_word x y hx hy h = omega (arith, ints)
 
-pub difference_word : (x y : ℤ) → IsWide x → IsWide y → IsWide (x -ℤ y) → (word x + (2 ^ 64 - word y)) % 2 ^ 64 ≡ word (x -ℤ y)
+pub difference_word : (x y : ℤ) → IsWide x → IsWide y → IsWide (x -ℤ y)
+    → (word x + (2 ^ 64 - word y)) % 2 ^ 64 ≡ word (x -ℤ y)
 difference_word x y hx hy h = omega (arith, ints)

@@ -14,10 +14,15 @@ use Rattle.law_texts.specs.Laws.{IsParsed, TokensAreParsed}
 refusal_at : GrammarRule → List Token → ParseRefusal
 refusal_at broken at = record { pos = place_of at; number = number_of broken at }
 
-answer_of : (ts : List Token) (o : Outcome Module) → outcome_of ts ≡ o → (r : Result Module ParseRefusal) × IsParsed ts r
+answer_of : (ts : List Token) (o : Outcome Module) → outcome_of ts ≡ o → (r : Result Module ParseRefusal)
+    × IsParsed ts r
 unfolding refusal_at
 answer_of ts (Ok (m, [])) e = (Ok m, is_tree ts m e)
-answer_of ts (Ok (m, t ∷ us)) e = (Err (refusal_at Unfit (t ∷ us)), reported_rest ts (t ∷ us) m (refusal_at Unfit (t ∷ us)) e (λ d. cc) refl refl)
+answer_of ts (Ok (m, t ∷ us)) e = (
+  Err (refusal_at Unfit (t ∷ us)),
+  reported_rest ts (t ∷ us) m
+      (refusal_at Unfit (t ∷ us)) e (λ d. cc) refl refl,
+)
 answer_of ts (Err (at, f)) e = (Err (refusal_at f at), reported ts at f (refusal_at f at) e refl refl)
 
 one_answer : (ts : List Token) (r q : Result Module ParseRefusal) → IsParsed ts r → IsParsed ts q → q ≡ r

@@ -24,7 +24,9 @@ use Rattle.def_typed.specs.Named.{named, named_by, Senses}
 use Rattle.def_typed.specs.Statements.{field_meaning, field_or, with_fields}
 use Rattle.law_typed.specs.Typed.{Grasps}
 
-module _ (g : Gathers) (senses : Senses) (s : Scope g.Reported) (t : TypeNo) (fields : List (List ℕ × TypeNo)) (made : IsMade s.types t (shape.Record fields)) (grasps : Grasps g senses s) (withs : ℕ) (counted : withs ≡ length s.withs) where
+module _ (g : Gathers) (senses : Senses) (s : Scope g.Reported) (t : TypeNo) (fields : List (List ℕ × TypeNo))
+    (made : IsMade s.types t (shape.Record fields)) (grasps : Grasps g senses s) (withs : ℕ)
+    (counted : withs ≡ length s.withs) where
   abbrev r : OpenedRecord
   r = record { number = length s.withs; of = t }
 
@@ -36,7 +38,8 @@ module _ (g : Gathers) (senses : Senses) (s : Scope g.Reported) (t : TypeNo) (fi
 
   -- what is looked up at this place among the fields
   abbrev Meant : Ident → Meaning → Option ℕ → Type 0
-  Meant name m p = seen name (field_numbered r fields p) ≡ Ok m → named s.level (field_or withs t fields p (senses.of_names name)) ≡ named_by s.level m
+  Meant name m p = seen name (field_numbered r fields p) ≡ Ok m
+      → named s.level (field_or withs t fields p (senses.of_names name)) ≡ named_by s.level m
 
   abbrev numbered : ℕ → ℕ → List ℕ × TypeNo → Meaning
   numbered k i e = meaning.Field (record { with = k; whole = t; number = i; of = e.1 })
@@ -44,18 +47,26 @@ module _ (g : Gathers) (senses : Senses) (s : Scope g.Reported) (t : TypeNo) (fi
   one_meaning : (a b : Meaning) → ◌≡◌ {A = Result Meaning (Meaningless g.Reported)} (Ok a) (Ok b) → a ≡ b
   one_meaning a b e = cc e
 
-  at_field : (name : Ident) (m : Meaning) (i : ℕ) (x : Option (List ℕ × TypeNo)) (u : List ℕ × TypeNo) → x ≡ Some u → seen name (option_map (λ (e : List ℕ × TypeNo). let f : OpenedField = record { with = r.number; whole = r.of; number = i; of = e.1 } in f) x) ≡ Ok m → named s.level (field_meaning withs t i x) ≡ named_by s.level m
+  at_field : (name : Ident) (m : Meaning) (i : ℕ) (x : Option (List ℕ × TypeNo)) (u : List ℕ × TypeNo) → x ≡ Some u
+      → seen name (option_map (λ (e : List ℕ × TypeNo). let f : OpenedField =
+      record { with = r.number; whole = r.of; number = i; of = e.1 } in f) x) ≡ Ok m
+      → named s.level (field_meaning withs t i x) ≡ named_by s.level m
   at_field name m i None u q h = absurd cc
-  at_field name m i (Some e) u q h = ap (λ (k : ℕ). named_by s.level (numbered k i e)) counted ∙ ap (named_by s.level) (one_meaning (numbered (length s.withs) i e) m h)
+  at_field name m i (Some e) u q h = ap (λ (k : ℕ). named_by s.level (numbered k i e)) counted
+      ∙ ap (named_by s.level) (one_meaning (numbered (length s.withs) i e) m h)
 
-  at_name : (name : Ident) (m : Meaning) (o : Option TypeNo) → find_name name.name fields ≡ o → Meant name m (place_of name.name fields)
+  at_name : (name : Ident) (m : Meaning) (o : Option TypeNo) → find_name name.name fields ≡ o
+      → Meant name m (place_of name.name fields)
   at_name name m None e = subst (Meant name m) (sym (place_none name.name fields e)) (λ h. grasps.of_names name m h)
-  at_name name m (Some u) e = subst (Meant name m) (sym (place_found name.name fields u e)) (λ h. let q = stands_at name.name fields u e in at_field name m (index name.name fields) (slice_get fields (index name.name fields)) (q.0, u) q.1 h)
+  at_name name m (Some u) e = subst (Meant name m) (sym (place_found name.name fields u e))
+      (λ h. let q = stands_at name.name fields u e in
+      at_field name m (index name.name fields) (slice_get fields (index name.name fields)) (q.0, u) q.1 h)
 
   fields_there : fields_at s.types t ≡ Some fields
   fields_there = fields_is s.types t ∙ ap fields_of made
 
-  names_inside : (name : Ident) (m : Meaning) → looked_up g (into_record s t) name ≡ Ok m → named s.level ((with_fields withs t fields senses).of_names name) ≡ named_by s.level m
+  names_inside : (name : Ident) (m : Meaning) → looked_up g (into_record s t) name ≡ Ok m
+      → named s.level ((with_fields withs t fields senses).of_names name) ≡ named_by s.level m
   names_inside name m h = at_name name m (find_name name.name fields) refl
       (subst (λ (fs : Option (List (List ℕ × TypeNo))). seen name (field_among r name.name fs) ≡ Ok m) fields_there
       (subst (λ (o : Option OpenedField). means_or o (rest name) ≡ Ok m) (last_opened s.types name.name s.withs r) h))

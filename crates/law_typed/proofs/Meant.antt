@@ -18,11 +18,13 @@ module _ {R : Type 0} where
   if_as h (meant a p) = meant a (h a p)
   if_as h (not_meant r) = not_meant r
 
-  pub if_also : {A : Type 0} {P Q : A → Type 0} {r : Result A R} → IfMeant P r → IfMeant Q r → IfMeant (λ a. P a × Q a) r
+  pub if_also : {A : Type 0} {P Q : A → Type 0} {r : Result A R} → IfMeant P r → IfMeant Q r
+      → IfMeant (λ a. P a × Q a) r
   if_also (meant a p) (meant _ q) = meant a (p, q)
   if_also (not_meant r) q = not_meant r
 
-  pub if_then : {A B : Type 0} {P : A → Type 0} {Q : B → Type 0} {r : Result A R} {f : A → Result B R} → IfMeant P r → ((a : A) → P a → IfMeant Q (f a)) → IfMeant Q (r ▷ f)
+  pub if_then : {A B : Type 0} {P : A → Type 0} {Q : B → Type 0} {r : Result A R} {f : A → Result B R} → IfMeant P r
+      → ((a : A) → P a → IfMeant Q (f a)) → IfMeant Q (r ▷ f)
   if_then (meant a p) h = h a p
   if_then (not_meant r) h = not_meant r
 
@@ -53,52 +55,64 @@ module _ {R : Type 0} where
   if_one h e = if_answered h e
 
 module _ (g : Gathers) where
-  pub if_both : {A B : Type 0} {P : A → Type 0} {Q : B → Type 0} {r : Result A g.Reported} {q : Result B g.Reported} → IfMeant P r → IfMeant Q q → IfMeant (λ (p : A × B). P p.0 × Q p.1) (both g r q)
+  pub if_both : {A B : Type 0} {P : A → Type 0} {Q : B → Type 0} {r : Result A g.Reported} {q : Result B g.Reported}
+      → IfMeant P r → IfMeant Q q → IfMeant (λ (p : A × B). P p.0 × Q p.1) (both g r q)
   if_both (meant a p) (meant b q) = meant (a, b) (p, q)
   if_both (meant a p) (not_meant q) = not_meant q
   if_both (not_meant r) (meant b q) = not_meant r
   if_both (not_meant r) (not_meant q) = not_meant (g.join r q)
 
   -- beside a first part that is answered
-  pub if_right : {A B D : Type 0} {P : B → Type 0} {Q : D → Type 0} {q : Result B g.Reported} (f : A × B → Result D g.Reported) (a : A) → IfMeant P q → ((b : B) → P b → IfMeant Q (f (a, b))) → IfMeant Q (both g (Ok a) q ▷ f)
+  pub if_right : {A B D : Type 0} {P : B → Type 0} {Q : D → Type 0} {q : Result B g.Reported}
+      (f : A × B → Result D g.Reported) (a : A) → IfMeant P q → ((b : B) → P b → IfMeant Q (f (a, b)))
+      → IfMeant Q (both g (Ok a) q ▷ f)
   if_right f a (meant b p) h = h b p
   if_right f a (not_meant q) h = not_meant q
 
   -- the same, by what looks at the second part
-  pub if_second : {A B D E : Type 0} {P : D → Type 0} {Q : E → Type 0} (k : B → Result D g.Reported) (f : A × B → Result E g.Reported) (a : A) (q : Result B g.Reported) → IfMeant P (q ▷ k) → ((b : B) → IfMeant P (k b) → IfMeant Q (f (a, b))) → IfMeant Q (both g (Ok a) q ▷ f)
+  pub if_second : {A B D E : Type 0} {P : D → Type 0} {Q : E → Type 0} (k : B → Result D g.Reported)
+      (f : A × B → Result E g.Reported) (a : A) (q : Result B g.Reported) → IfMeant P (q ▷ k)
+      → ((b : B) → IfMeant P (k b) → IfMeant Q (f (a, b))) → IfMeant Q (both g (Ok a) q ▷ f)
   if_second k f a (Ok b) m n = n b m
   if_second k f a (Err q) m n = not_meant q
 
   -- beside a first part that is refused
-  pub if_left : {A B D : Type 0} {Q : D → Type 0} (f : A × B → Result D g.Reported) (b : Breach) (q : Result B g.Reported) → IfMeant Q (both g (Err (g.one b)) q ▷ f)
+  pub if_left : {A B D : Type 0} {Q : D → Type 0} (f : A × B → Result D g.Reported) (b : Breach)
+      (q : Result B g.Reported) → IfMeant Q (both g (Err (g.one b)) q ▷ f)
   if_left f b (Ok x) = not_meant (g.one b)
   if_left f b (Err q) = not_meant (g.join (g.one b) q)
 
   pub if_reported : {A : Type 0} {P : A → Type 0} (at : Pos) (broken : Rule) → IfMeant P (report g {A = A} at broken)
   if_reported at broken = not_meant _
 
-  pub if_where : {A : Type 0} {P : A → Type 0} {r : Result A g.Reported} (b : Bool) (at : Pos) (broken : Rule) → (b ≡ false → IfMeant P r) → IfMeant P (reported_where g b at broken r)
+  pub if_where : {A : Type 0} {P : A → Type 0} {r : Result A g.Reported} (b : Bool) (at : Pos) (broken : Rule)
+      → (b ≡ false → IfMeant P r) → IfMeant P (reported_where g b at broken r)
   if_where true at broken h = not_meant _
   if_where false at broken h = h refl
 
-  pub if_sorted : {A : Type 0} {P : A → Type 0} {r : Result A (Meaningless g.Reported)} (at : Pos) (broken : Rule) → IfMeant P r → IfMeant P (of_sort g at broken r)
+  pub if_sorted : {A : Type 0} {P : A → Type 0} {r : Result A (Meaningless g.Reported)} (at : Pos) (broken : Rule)
+      → IfMeant P r → IfMeant P (of_sort g at broken r)
   if_sorted at broken (meant a p) = meant a p
   if_sorted at broken (not_meant (meaningless.Broken e)) = not_meant e
   if_sorted at broken (not_meant (meaningless.Headless b e)) = not_meant _
 
-  pub if_value : {A : Type 0} {P : A → Type 0} {r : Result A (Meaningless g.Reported)} (at : Pos) → IfMeant P r → IfMeant P (of_value g at r)
+  pub if_value : {A : Type 0} {P : A → Type 0} {r : Result A (Meaningless g.Reported)} (at : Pos) → IfMeant P r
+      → IfMeant P (of_value g at r)
   if_value at (meant a p) = meant a p
   if_value at (not_meant (meaningless.Broken e)) = not_meant e
   if_value at (not_meant (meaningless.Headless true e)) = not_meant _
   if_value at (not_meant (meaningless.Headless false e)) = not_meant e
 
-  pub if_sorted_value : {A : Type 0} {P : A → Type 0} {r : Result A (Meaningless g.Reported)} (at : Pos) (broken : Rule) → IfMeant P r → IfMeant P (of_sort_of_value g at broken r)
+  pub if_sorted_value : {A : Type 0} {P : A → Type 0} {r : Result A (Meaningless g.Reported)} (at : Pos) (broken : Rule)
+      → IfMeant P r → IfMeant P (of_sort_of_value g at broken r)
   if_sorted_value at broken (meant a p) = meant a p
   if_sorted_value at broken (not_meant (meaningless.Broken e)) = not_meant e
   if_sorted_value at broken (not_meant (meaningless.Headless true e)) = not_meant _
   if_sorted_value at broken (not_meant (meaningless.Headless false e)) = not_meant _
 
-  pub if_ahead : {A B : Type 0} {P : A → Type 0} {Q : B → Type 0} {r : Result A g.Reported} {f : A → Result B g.Reported} (rest : Result (Unit {0}) g.Reported) → IfMeant P r → ((a : A) → P a → IfMeant Q (f a)) → IfMeant Q (ahead g r rest f)
+  pub if_ahead : {A B : Type 0} {P : A → Type 0} {Q : B → Type 0} {r : Result A g.Reported}
+      {f : A → Result B g.Reported} (rest : Result (Unit {0}) g.Reported) → IfMeant P r
+      → ((a : A) → P a → IfMeant Q (f a)) → IfMeant Q (ahead g r rest f)
   if_ahead rest (meant a p) h = h a p
   if_ahead (Ok u) (not_meant r) h = not_meant r
   if_ahead (Err q) (not_meant r) h = not_meant (g.join r q)
@@ -111,6 +125,7 @@ pub record IsExactly {A K : Type 0} (Is : A → K → Type 0) (Means : K → Typ
   pub one : (l : K) → Means l → l ≡ kind
 
 module _ (g : Gathers) (j : Judges g) {O : Breach → Type 0} where
-  pub of_answers : {A K : Type 0} {Is : A → K → Type 0} {M : K → Type 0} {B : Breach → Type 0} {r : Result A g.Reported} → Answers g j O Is M B r → IfMeant (IsExactly Is M) r
+  pub of_answers : {A K : Type 0} {Is : A → K → Type 0} {M : K → Type 0} {B : Breach → Type 0} {r : Result A g.Reported}
+      → Answers g j O Is M B r → IfMeant (IsExactly Is M) r
   of_answers (means a k i m u n) = meant a (record { kind = k; is = i; has = m; one = u })
   of_answers (refuses r a n) = not_meant r

@@ -43,7 +43,8 @@ use Rattle.law_typing.proofs.Routines.{Heads, heading_of, made_of, not_headless,
 use Rattle.law_typing.proofs.Changing.{ActsSo, refused_action, standard_acts}
 use Rattle.law_typing.proofs.Expressing.{expression_found, designator_found}
 
-module _ (g : Gathers) (j : Judges g) (lawful : Lawful g j) (names : Ident → Standing) (exports : ℕ → Ident → Standing) (s : Scope g.Reported) where
+module _ (g : Gathers) (j : Judges g) (lawful : Lawful g j) (names : Ident → Standing) (exports : ℕ → Ident → Standing)
+    (s : Scope g.Reported) where
   abbrev E : Breach → Type 0
   E = Elsewhere g j lawful names exports s
 
@@ -65,12 +66,14 @@ module _ (g : Gathers) (j : Judges g) (lawful : Lawful g j) (names : Ident → S
   abbrev So : Pos → Thing → List Expr → Result TypedStmt g.Reported → Type 0
   So = ActsSo g j lawful names exports s
 
-  proper_count : {x : Thing} {h : TypeNo} {n : ℕ} {p : Signature} → Heads s.types x h → IsMade s.types h (shape.Procedure p) → IsProper s.types x n → (n ≡ length p.formals) × (p.result ≡ None)
+  proper_count : {x : Thing} {h : TypeNo} {n : ℕ} {p : Signature} → Heads s.types x h
+      → IsMade s.types h (shape.Procedure p) → IsProper s.types x n → (n ≡ length p.formals) × (p.result ≡ None)
   proper_count {h = h} w m (proper {s = q} d e) = let same = one_signature s.types h (made_of s.types w d) m in
       (ap (λ (p : Signature). length p.formals) same, ap (λ (p : Signature). p.result) (sym same) ∙ e)
   proper_count w m (standard c) = absurd (no_standard s.types w)
 
-  unproper : {x : Thing} {h : TypeNo} {n : ℕ} → Heads s.types x h → ((p : Signature) → IsMade s.types h (shape.Procedure p) → ⊥) → IsProper s.types x n → ⊥
+  unproper : {x : Thing} {h : TypeNo} {n : ℕ} → Heads s.types x h
+      → ((p : Signature) → IsMade s.types h (shape.Procedure p) → ⊥) → IsProper s.types x n → ⊥
   unproper w n (proper {s = q} d e) = n q (made_of s.types w d)
   unproper w n (standard c) = no_standard s.types w
 
@@ -81,7 +84,8 @@ module _ (g : Gathers) (j : Judges g) (lawful : Lawful g j) (names : Ident → S
   acts_proper w halts = absurd (no_standard s.types w)
   acts_proper w (puts h a) = absurd (no_standard s.types w)
 
-  none_only : {x : Thing} {h : TypeNo} {xs : List Expr} (at : Pos) (f : Breach) → Heads s.types x h → ((n : ℕ) → IsProper s.types x n → ⊥) → M at x xs f → f ≡ at ! rule.WrongType
+  none_only : {x : Thing} {h : TypeNo} {xs : List Expr} (at : Pos) (f : Breach) → Heads s.types x h
+      → ((n : ℕ) → IsProper s.types x n → ⊥) → M at x xs f → f ≡ at ! rule.WrongType
   none_only at _ w n (rules.no_procedure q z) = refl
   none_only at _ w n (rules.wrong_count i z) = absurd (n _ i)
   none_only at f w n (rules.mispassed d e c b z y) = absurd (n _ (proper d e))
@@ -90,32 +94,58 @@ module _ (g : Gathers) (j : Judges g) (lawful : Lawful g j) (names : Ident → S
   none_only at f w n (rules.misamounts t z y) = absurd (no_standard s.types w)
   none_only at f w n (rules.no_character z y) = absurd (no_standard s.types w)
 
-  no_action : {x : Thing} {h : TypeNo} {xs : List Expr} (at : Pos) → Heads s.types x h → ((n : ℕ) → IsProper s.types x n → ⊥) → ((y : Expr) → Among y xs → Found y) → So at x xs (reported_beside g at rule.WrongType (breaches_in_all g s (map (meanings_of g) xs)))
-  no_action at w n h = refused_action g j lawful names exports s at rule.WrongType (λ a. let q = acts_proper w a in n q.0 q.1) (rules.no_procedure (not_headless s.types w) n) (λ f m. none_only at f w n m) h
+  no_action : {x : Thing} {h : TypeNo} {xs : List Expr} (at : Pos) → Heads s.types x h
+      → ((n : ℕ) → IsProper s.types x n → ⊥) → ((y : Expr) → Among y xs → Found y)
+      → So at x xs (reported_beside g at rule.WrongType (breaches_in_all g s (map (meanings_of g) xs)))
+  no_action at w n h = refused_action g j lawful names exports s at rule.WrongType
+      (λ a. let q = acts_proper w a in n q.0 q.1) (rules.no_procedure (not_headless s.types w) n)
+      (λ f m. none_only at f w n m) h
 
-  count_wrong : {x : Thing} {h : TypeNo} {p : Signature} {xs : List Expr} (at : Pos) (f : Breach) → Heads s.types x h → IsMade s.types h (shape.Procedure p) → p.result ≡ None → (length p.formals ≡ length xs → ⊥) → M at x xs f → f ≡ at ! rule.ArgumentCount
-  count_wrong {p = p} at _ w m r n (rules.no_procedure q z) = absurd (z (length p.formals) (proper (heading_of s.types w m) r))
+  count_wrong : {x : Thing} {h : TypeNo} {p : Signature} {xs : List Expr} (at : Pos) (f : Breach) → Heads s.types x h
+      → IsMade s.types h (shape.Procedure p) → p.result ≡ None → (length p.formals ≡ length xs → ⊥) → M at x xs f
+      → f ≡ at ! rule.ArgumentCount
+  count_wrong {p = p} at _ w m r n (rules.no_procedure q z) =
+      absurd (z (length p.formals) (proper (heading_of s.types w m) r))
   count_wrong at _ w m r n (rules.wrong_count i z) = refl
-  count_wrong {h = h} {xs = xs} at f w m r n (rules.mispassed d e c b z y) = absurd (n (subst (λ (p : Signature). length p.formals ≡ length xs) (one_signature s.types h (made_of s.types w d) m) c))
+  count_wrong {h = h} {xs = xs} at f w m r n (rules.mispassed d e c b z y) =
+      absurd (n (subst (λ (p : Signature). length p.formals ≡ length xs)
+      (one_signature s.types h (made_of s.types w d) m) c))
   count_wrong at _ w m r n (rules.no_variable t z y) = absurd (no_standard s.types w)
   count_wrong at f w m r n (rules.no_value t z y) = absurd (no_standard s.types w)
   count_wrong at f w m r n (rules.misamounts t z y) = absurd (no_standard s.types w)
   count_wrong at f w m r n (rules.no_character z y) = absurd (no_standard s.types w)
 
-  count_right : {x : Thing} {h : TypeNo} {p : Signature} {xs : List Expr} (at : Pos) (f : Breach) → Heads s.types x h → IsMade s.types h (shape.Procedure p) → p.result ≡ None → length p.formals ≡ length xs → M at x xs f → W p.formals xs f
-  count_right {p = p} at _ w m r e (rules.no_procedure q z) = absurd (z (length p.formals) (proper (heading_of s.types w m) r))
-  count_right {x = x} at _ w m r e (rules.wrong_count i z) = absurd (z (subst (IsProper s.types x) e (proper (heading_of s.types w m) r)))
-  count_right {h = h} {xs = xs} at f w m r e (rules.mispassed {y = y} {formal = formal} {e = a} d v c b z u) = (formal, a, y, subst (λ (p : Signature). Beside formal a p.formals xs) (one_signature s.types h (made_of s.types w d) m) b, z, u)
+  count_right : {x : Thing} {h : TypeNo} {p : Signature} {xs : List Expr} (at : Pos) (f : Breach) → Heads s.types x h
+      → IsMade s.types h (shape.Procedure p) → p.result ≡ None → length p.formals ≡ length xs → M at x xs f
+      → W p.formals xs f
+  count_right {p = p} at _ w m r e (rules.no_procedure q z) =
+      absurd (z (length p.formals) (proper (heading_of s.types w m) r))
+  count_right {x = x} at _ w m r e (rules.wrong_count i z) =
+      absurd (z (subst (IsProper s.types x) e (proper (heading_of s.types w m) r)))
+  count_right {h = h} {xs = xs} at f w m r e (rules.mispassed {y = y} {formal = formal} {e = a} d v c b z u) = (
+    formal,
+    a,
+    y,
+    subst (λ (p : Signature). Beside formal a p.formals xs)
+        (one_signature s.types h (made_of s.types w d) m) b,
+    z,
+    u,
+  )
   count_right at _ w m r e (rules.no_variable t z y) = absurd (no_standard s.types w)
   count_right at f w m r e (rules.no_value t z y) = absurd (no_standard s.types w)
   count_right at f w m r e (rules.misamounts t z y) = absurd (no_standard s.types w)
   count_right at f w m r e (rules.no_character z y) = absurd (no_standard s.types w)
 
-  wrong_right : {x : Thing} {h : TypeNo} {p : Signature} {xs : List Expr} (at : Pos) (f : Breach) → Heads s.types x h → IsMade s.types h (shape.Procedure p) → p.result ≡ None → length p.formals ≡ length xs → W p.formals xs f → M at x xs f
+  wrong_right : {x : Thing} {h : TypeNo} {p : Signature} {xs : List Expr} (at : Pos) (f : Breach) → Heads s.types x h
+      → IsMade s.types h (shape.Procedure p) → p.result ≡ None → length p.formals ≡ length xs → W p.formals xs f
+      → M at x xs f
   wrong_right at f w m r e (formal, a, y, b, z, u) = rules.mispassed (heading_of s.types w m) r e b z u
 
-  passed_by : {x : Thing} {h : TypeNo} {p : Signature} {xs : List Expr} → Heads s.types x h → IsMade s.types h (shape.Procedure p) → A x xs → ArePassed s.types names exports p.formals xs
-  passed_by {h = h} {xs = xs} w m (acts d e a) = subst (λ (p : Signature). ArePassed s.types names exports p.formals xs) (one_signature s.types h (made_of s.types w d) m) a
+  passed_by : {x : Thing} {h : TypeNo} {p : Signature} {xs : List Expr} → Heads s.types x h
+      → IsMade s.types h (shape.Procedure p) → A x xs → ArePassed s.types names exports p.formals xs
+  passed_by {h = h} {xs = xs} w m (acts d e a) =
+      subst (λ (p : Signature). ArePassed s.types names exports p.formals xs)
+      (one_signature s.types h (made_of s.types w d) m) a
   passed_by w m (counts i z c) = absurd (no_standard s.types w)
   passed_by w m (changes z c q a) = absurd (no_standard s.types w)
   passed_by w m halts = absurd (no_standard s.types w)
@@ -125,20 +155,37 @@ module _ (g : Gathers) (j : Judges g) (lawful : Lawful g j) (names : Ident → S
   passed_length no_more = refl
   passed_length (one_more m p r) = ap suc (passed_length r)
 
-  counted_by : {x : Thing} {h : TypeNo} {p : Signature} (at : Pos) (xs : List Expr) (c : Callee) (b : Bool) → (length p.formals == length (map (meanings_of g) xs)) ≡ b → Heads s.types x h → IsMade s.types h (shape.Procedure p) → p.result ≡ None
+  counted_by : {x : Thing} {h : TypeNo} {p : Signature} (at : Pos) (xs : List Expr) (c : Callee) (b : Bool)
+      → (length p.formals == length (map (meanings_of g) xs)) ≡ b → Heads s.types x h
+      → IsMade s.types h (shape.Procedure p) → p.result ≡ None
       → ((y : Expr) → Among y xs → Found y)
-      → So at x xs (ahead g (reported_where g (not b) at rule.ArgumentCount (Ok tt)) (breaches_in_all g s (map (meanings_of g) xs)) (λ (u : Unit {0}). call_done c (actuals g s p.formals (map (meanings_of g) xs))))
-  counted_by {x = x} {p = p} at xs c false e w m r h = refused_action g j lawful names exports s at rule.ArgumentCount (λ a. not_equal (passed_length (passed_by w m a))) (rules.wrong_count (proper (heading_of s.types w m) r) (λ i. not_equal (sym (proper_count w m i).0))) (λ f z. count_wrong at f w m r not_equal z) h
+      → So at x xs (ahead g (reported_where g (not b) at rule.ArgumentCount (Ok tt))
+      (breaches_in_all g s (map (meanings_of g) xs))
+      (λ (u : Unit {0}). call_done c (actuals g s p.formals (map (meanings_of g) xs))))
+  counted_by {x = x} {p = p} at xs c false e w m r h =
+      refused_action g j lawful names exports s at rule.ArgumentCount (λ a. not_equal (passed_length (passed_by w m a)))
+      (rules.wrong_count (proper (heading_of s.types w m) r) (λ i. not_equal (sym (proper_count w m i).0)))
+      (λ f z. count_wrong at f w m r not_equal z) h
     where
       differ : (a b : ℕ) → (a == b) ≡ false → a ≡ b → ⊥
       differ a b e q = absurd (grind (arith, nat_tests))
 
       not_equal : length p.formals ≡ length xs → ⊥
-      not_equal q = differ (length p.formals) (length (map (meanings_of g) xs)) e (q ∙ sym (length-map xs (meanings_of g)))
-  counted_by {x = x} {p = p} at xs c true e w m r h = exact g j lawful E {M = λ u. Unit {0} × ArePassed s.types names exports p.formals xs} {B = λ f. ⊥ ⊎ (Any xs f ⊎ W p.formals xs f)}
-      (λ u z. acts (heading_of s.types w m) r z.1) (λ u z. (tt, passed_by w m z)) (λ f z. elim z [ inl b ↦ absurd b | inr v ↦ elim v [ inl a ↦ inr a | inr q ↦ inl (wrong_right at f w m r equal q) ] ])
+      not_equal q = differ (length p.formals) (length (map (meanings_of g) xs)) e
+          (q ∙ sym (length-map xs (meanings_of g)))
+  counted_by {x = x} {p = p} at xs c true e w m r h =
+      exact g j lawful E {M = λ u. Unit {0} × ArePassed s.types names exports p.formals xs}
+      {B = λ f. ⊥ ⊎ (Any xs f ⊎ W p.formals xs f)}
+      (λ u z. acts (heading_of s.types w m) r z.1) (λ u z. (tt, passed_by w m z))
+      (λ f z. elim z [
+        | inl b ↦ absurd b
+        | inr v ↦ elim v
+            [ inl a ↦ inr a | inr q ↦ inl (wrong_right at f w m r equal q) ]
+      ])
       (λ f z. elim z [ inl q ↦ inr (inr (count_right at f w m r equal q)) | inr a ↦ inr (inl a) ])
-      (checks_answer g j lawful E (map_checks g j lawful E (λ v. statement.Call (call_by v c)) (all_pass g j lawful names exports s p.formals xs {P = Unit {0}} {B = λ f. ⊥} (Ok []) equal h (passes [] tt (λ f b. b)))))
+      (checks_answer g j lawful E (map_checks g j lawful E (λ v. statement.Call (call_by v c))
+      (all_pass g j lawful names exports s p.formals xs {P = Unit {0}} {B = λ f. ⊥} (Ok []) equal h
+      (passes [] tt (λ f b. b)))))
     where
       same : (a b : ℕ) → (a == b) ≡ true → a ≡ b
       same a b e = grind (arith, nat_tests)
@@ -146,14 +193,21 @@ module _ (g : Gathers) (j : Judges g) (lawful : Lawful g j) (names : Ident → S
       equal : length p.formals ≡ length xs
       equal = same (length p.formals) (length (map (meanings_of g) xs)) e ∙ length-map xs (meanings_of g)
 
-  result_by : {x : Thing} {h : TypeNo} {p : Signature} (at : Pos) (xs : List Expr) (c : Callee) (r : Option TypeNo) → p.result ≡ r → Heads s.types x h → IsMade s.types h (shape.Procedure p)
+  result_by : {x : Thing} {h : TypeNo} {p : Signature} (at : Pos) (xs : List Expr) (c : Callee) (r : Option TypeNo)
+      → p.result ≡ r → Heads s.types x h → IsMade s.types h (shape.Procedure p)
       → ((y : Expr) → Among y xs → Found y)
-      → So at x xs (ahead g (proper_with g at (length p.formals) (length (map (meanings_of g) xs)) r) (breaches_in_all g s (map (meanings_of g) xs)) (λ (u : Unit {0}). call_done c (actuals g s p.formals (map (meanings_of g) xs))))
+      → So at x xs (ahead g (proper_with g at (length p.formals) (length (map (meanings_of g) xs)) r)
+      (breaches_in_all g s (map (meanings_of g) xs))
+      (λ (u : Unit {0}). call_done c (actuals g s p.formals (map (meanings_of g) xs))))
   result_by at xs c None e w m h = counted_by at xs c _ refl w m e h
-  result_by at xs c (Some t) e w m h = no_action at w (λ n q. none_is_some g j lawful names exports s (proper_count w m q).1 e) h
+  result_by at xs c (Some t) e w m h = no_action at w
+      (λ n q. none_is_some g j lawful names exports s (proper_count w m q).1 e) h
 
-  routine_by : {x : Thing} {h : TypeNo} (at : Pos) (xs : List Expr) (c : Callee) (o : Option Signature) → SignatureIs s.types h o → Heads s.types x h → ((y : Expr) → Among y xs → Found y)
-      → So at x xs (ahead g (proper_of g at o (length (map (meanings_of g) xs))) (breaches_in_all g s (map (meanings_of g) xs)) (λ (u : Unit {0}). call_done c (actuals g s (formals_of o) (map (meanings_of g) xs))))
+  routine_by : {x : Thing} {h : TypeNo} (at : Pos) (xs : List Expr) (c : Callee) (o : Option Signature)
+      → SignatureIs s.types h o → Heads s.types x h → ((y : Expr) → Among y xs → Found y)
+      → So at x xs (ahead g (proper_of g at o (length (map (meanings_of g) xs)))
+      (breaches_in_all g s (map (meanings_of g) xs))
+      (λ (u : Unit {0}). call_done c (actuals g s (formals_of o) (map (meanings_of g) xs))))
   routine_by at xs c _ (no_signature n) w h = no_action at w (λ k q. unproper w n q) h
   routine_by at xs c _ (has_signature p m) w h = result_by at xs c p.result refl w m h
 
@@ -173,7 +227,8 @@ module _ (g : Gathers) (j : Judges g) (lawful : Lawful g j) (names : Ident → S
   proper_may (proper d e) = headed_may g j lawful names exports s d
   proper_may (standard {p = p} c) = may_standard p
 
-  inactive : {x : Thing} {xs : List Expr} (at : Pos) (f : Breach) → (May x → ⊥) → M at x xs f → NoCall g j lawful names exports s at x f
+  inactive : {x : Thing} {xs : List Expr} (at : Pos) (f : Breach) → (May x → ⊥) → M at x xs f
+      → NoCall g j lawful names exports s at x f
   inactive at _ n (rules.no_procedure q z) = (n, (q, refl))
   inactive at _ n (rules.wrong_count i z) = absurd (n (proper_may i))
   inactive at f n (rules.mispassed d e c b z y) = absurd (n (headed_may g j lawful names exports s d))
@@ -182,8 +237,10 @@ module _ (g : Gathers) (j : Judges g) (lawful : Lawful g j) (names : Ident → S
   inactive at f n (rules.misamounts {p = p} t z y) = absurd (n (may_standard p))
   inactive at f n (rules.no_character z y) = absurd (n (may_standard _))
 
-  act : (at : Pos) (xs : List Expr) (c : Called) (x : Thing) → IsCallee g j lawful names exports s c x → ((y : Expr) → Among y xs → Found y) → So at x xs (callee_statement g s at (map (meanings_of g) xs) c)
-  act at xs _ x (callee_routine {h = h} c w) q = routine_by at xs c (signature_at s.types h) (signature_there s.types h) w q
+  act : (at : Pos) (xs : List Expr) (c : Called) (x : Thing) → IsCallee g j lawful names exports s c x
+      → ((y : Expr) → Among y xs → Found y) → So at x xs (callee_statement g s at (map (meanings_of g) xs) c)
+  act at xs _ x (callee_routine {h = h} c w) q =
+      routine_by at xs c (signature_at s.types h) (signature_there s.types h) w q
   act at xs _ _ (callee_standard p) q = standard_acts g j lawful names exports s p at xs q
 
   -- ---- calls of designators
@@ -199,16 +256,30 @@ module _ (g : Gathers) (j : Judges g) (lawful : Lawful g j) (names : Ident → S
     IsCalled d y = (x : Thing) × D d x × (May x × (y ≡ x))
 
     abbrev Fails : Designator → List Expr → Breach → Type 0
-    Fails d xs f = ((BD d f ⊎ ((x : Thing) × D d x × NoCall g j lawful names exports s (out-Designator d).name.pos x f)) ⊎ ((y : Thing) × IsCalled d y × M (out-Designator d).name.pos y xs f)) ⊎ Any xs f
+    Fails d xs f = ((BD d f ⊎ ((x : Thing) × D d x × NoCall g j lawful names exports s (out-Designator d).name.pos x f))
+        ⊎ ((y : Thing) × IsCalled d y × M (out-Designator d).name.pos y xs f)) ⊎ Any xs f
 
     pub action_answers : (d : Designator) (xs : List Expr)
-        → Answers g j E {A = TypedStmt} {K = Unit {0}} (λ v u. Unit {0}) (λ u. IsAction s.types names exports d xs) (BrokenAction s.types names exports d xs) (call_statement g s (head g d) (map (meanings_of g) xs))
-    action_answers d xs = subst (λ (t : Pos). Answers g j E {A = TypedStmt} {K = Unit {0}} (λ v u. Unit {0}) (λ u. IsAction s.types names exports d xs) (BrokenAction s.types names exports d xs) (ahead g (of_heading ((head g d).means s) ▷ callee_of g s.types t) (breaches_in_all g s (map (meanings_of g) xs)) (callee_statement g s t (map (meanings_of g) xs)))) (sym (head_at g d))
-        (exact g j lawful E {M = λ u. (y : Thing) × IsCalled d y × A y xs} {B = Fails d xs} (λ u z. is_action (subst (D d) (sym z.1.2.1) z.1.1) z.2) (λ u z. parted z) (λ f z. into f z) (λ f z. out f z)
+        → Answers g j E {A = TypedStmt} {K = Unit {0}} (λ v u. Unit {0}) (λ u. IsAction s.types names exports d xs)
+        (BrokenAction s.types names exports d xs) (call_statement g s (head g d) (map (meanings_of g) xs))
+    action_answers d xs = subst (λ (t : Pos). Answers g j E {A = TypedStmt} {K = Unit {0}} (λ v u. Unit {0})
+        (λ u. IsAction s.types names exports d xs) (BrokenAction s.types names exports d xs)
+        (ahead g (of_heading ((head g d).means s) ▷ callee_of g s.types t)
+        (breaches_in_all g s (map (meanings_of g) xs)) (callee_statement g s t (map (meanings_of g) xs))))
+        (sym (head_at g d))
+        (exact g j lawful E {M = λ u. (y : Thing) × IsCalled d y × A y xs} {B = Fails d xs}
+        (λ u z. is_action (subst (D d) (sym z.1.2.1) z.1.1) z.2) (λ u z. parted z) (λ f z. into f z)
+        (λ f z. out f z)
         (ahead_answers g j lawful E {N = λ y u. A y xs} {D = λ y f. M (out-Designator d).name.pos y xs f}
-        (heading_answers g j lawful E {N = λ x y. May x × (y ≡ x)} {D = λ x f. NoCall g j lawful names exports s (out-Designator d).name.pos x f} (designator_found g j lawful names exports s knows d) (callee_answers g j lawful names exports s (out-Designator d).name.pos) (λ b y m. no_call_of g j lawful names exports s (λ h w. elim w [ ]) (λ p q. absurd cc) m.0) (λ b f z. z.1.0 b refl))
+        (heading_answers g j lawful E {N = λ x y. May x × (y ≡ x)}
+        {D = λ x f. NoCall g j lawful names exports s (out-Designator d).name.pos x f}
+        (designator_found g j lawful names exports s knows d)
+        (callee_answers g j lawful names exports s (out-Designator d).name.pos)
+        (λ b y m. no_call_of g j lawful names exports s (λ h w. elim w [ ]) (λ p q. absurd cc) m.0)
+        (λ b f z. z.1.0 b refl))
         (look_tells g j lawful names exports s xs (λ x m. expression_found g j lawful names exports s knows x))
-        (λ c y e m. act (out-Designator d).name.pos xs c y e (λ x m. expression_found g j lawful names exports s knows x))))
+        (λ c y e m. act (out-Designator d).name.pos xs c y e
+        (λ x m. expression_found g j lawful names exports s knows x))))
       where
         parted : IsAction s.types names exports d xs → (y : Thing) × IsCalled d y × A y xs
         parted (is_action {x = x} m z) = (x, (x, m, (acts_may z, refl)), z)
@@ -216,7 +287,9 @@ module _ (g : Gathers) (j : Judges g) (lawful : Lawful g j) (names : Ident → S
         into : (f : Breach) → Fails d xs f → BrokenAction s.types names exports d xs f
         into f (inl (inl (inl (inl z)))) = in_procedure (at_designator z)
         into f (inl (inl (inl (inr (x, m, b))))) = in_procedure (in_designator m b)
-        into f (inl (inl (inr (x, m, (c, (q, e)))))) = at_action m (subst (M (out-Designator d).name.pos x xs) (sym e) (rules.no_procedure q (λ k z. c (proper_may z))))
+        into f (inl (inl (inr (x, m, (c, (q, e)))))) =
+            at_action m (subst (M (out-Designator d).name.pos x xs) (sym e)
+            (rules.no_procedure q (λ k z. c (proper_may z))))
         into f (inl (inr (y, (x, m, (c, e)), z))) = at_action (subst (D d) (sym e) m) z
         into f (inr (x, m, b)) = in_argument m b
 
@@ -224,7 +297,8 @@ module _ (g : Gathers) (j : Judges g) (lawful : Lawful g j) (names : Ident → S
         left (at_designator z) = inl z
         left (in_designator {x = x} m b) = inr (x, m, b)
 
-        by : (f : Breach) (x : Thing) → D d x → M (out-Designator d).name.pos x xs f → May x ⊎ (May x → ⊥) → Fails d xs f
+        by : (f : Breach) (x : Thing) → D d x → M (out-Designator d).name.pos x xs f → May x ⊎ (May x → ⊥)
+            → Fails d xs f
         by f x m z (inl c) = inl (inr (x, (x, m, (c, refl)), z))
         by f x m z (inr c) = inl (inl (inr (x, m, inactive (out-Designator d).name.pos f c z)))
 

@@ -26,7 +26,8 @@ one_alike false true = refl
 one_alike false false = refl
 
 all_three : {a b p q : Bool} (c : Bool) → a ≡ p → b ≡ q → (a && b) && c ≡ p && (q && c)
-all_three {a = a} {b = b} {q = q} c e h = left a ∙ ap (λ (y : Bool). a && (y && c)) h ∙ ap (λ (x : Bool). x && (q && c)) e
+all_three {a = a} {b = b} {q = q} c e h = left a ∙ ap (λ (y : Bool). a && (y && c)) h
+    ∙ ap (λ (x : Bool). x && (q && c)) e
   where
     left : (x : Bool) → (x && b) && c ≡ x && (b && c)
     left true = refl
@@ -39,7 +40,8 @@ all_formals : (fs ks : List Formal) → formals_agree fs ks ≡ pointwise same_f
 all_formals [] [] = refl
 all_formals [] (k ∷ ks) = refl
 all_formals (f ∷ fs) [] = refl
-all_formals (f ∷ fs) (k ∷ ks) = ap (λ (x : Bool). x && formals_agree fs ks) (one_formal f k) ∙ ap (λ (x : Bool). same_formal f k && x) (all_formals fs ks)
+all_formals (f ∷ fs) (k ∷ ks) = ap (λ (x : Bool). x && formals_agree fs ks) (one_formal f k)
+    ∙ ap (λ (x : Bool). same_formal f k && x) (all_formals fs ks)
 
 one_result : (t u : Option TypeNo) → result_agrees t u ≡ same_result t u
 one_result None None = refl
@@ -48,7 +50,8 @@ one_result (Some t) None = refl
 one_result (Some t) (Some u) = refl
 
 one_heading : (h k : Signature) → formals_agree h.formals k.formals && result_agrees h.result k.result ≡ agrees h k
-one_heading h k = ap (λ (x : Bool). x && result_agrees h.result k.result) (all_formals h.formals k.formals) ∙ ap (λ (x : Bool). pointwise same_formal h.formals k.formals && x) (one_result h.result k.result)
+one_heading h k = ap (λ (x : Bool). x && result_agrees h.result k.result) (all_formals h.formals k.formals)
+    ∙ ap (λ (x : Bool). pointwise same_formal h.formals k.formals && x) (one_result h.result k.result)
 
 one_shape : (s : Shape) → signature_shape s ≡ signature_in s
 one_shape (shape.Procedure p) = refl
@@ -65,9 +68,12 @@ one_made (Some m) = one_shape m.shape
 -- ---- the one that awaits it
 
 module _ (types : Types) (t : TypeNo) (s : Signature) where
-  awaited_by : {k : Option Signature} → SignatureIs types t k → Decided (IsMade types t (shape.Procedure s)) (agree (Some s) k)
+  awaited_by : {k : Option Signature} → SignatureIs types t k
+      → Decided (IsMade types t (shape.Procedure s)) (agree (Some s) k)
   awaited_by (no_signature n) = fails_it (n s)
-  awaited_by (has_signature h q) = decided_as (λ e. subst (λ (h : Signature). IsMade types t (shape.Procedure h)) (sym e) q) (λ m. one_signature types t m q) (subst (Decided (s ≡ h)) (one_heading s h) (signatures_decided s h))
+  awaited_by (has_signature h q) = decided_as
+      (λ e. subst (λ (h : Signature). IsMade types t (shape.Procedure h)) (sym e) q) (λ m. one_signature types t m q)
+      (subst (Decided (s ≡ h)) (one_heading s h) (signatures_decided s h))
 
   pub agreement_decided : Decided (IsMade types t (shape.Procedure s)) (agree (Some s) (signature_of (made_at types t)))
   agreement_decided = awaited_by (subst (SignatureIs types t) (one_made (made_at types t)) (signature_there types t))

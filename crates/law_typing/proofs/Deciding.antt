@@ -59,12 +59,18 @@ both_true false b e f = e
 pub same_itself : (t : TypeNo) → are_same t t ≡ true
 same_itself t = both_true (is_one_home t.home t.home) (t.number == t.number) (home_itself t.home) (same_number t.number)
 
-type_of_parts : (h h' : Home) (n n' : ℕ) → h ≡ h' → n ≡ n' → ◌≡◌ {A = TypeNo} (record { home = h; number = n }) (record { home = h'; number = n' })
-type_of_parts h h' n n' p q = ap (λ (x : Home). let t : TypeNo = record { home = x; number = n } in t) p ∙ ap (λ (x : ℕ). let t : TypeNo = record { home = h'; number = x } in t) q
+type_of_parts : (h h' : Home) (n n' : ℕ) → h ≡ h' → n ≡ n'
+    → ◌≡◌ {A = TypeNo} (record { home = h; number = n }) (record { home = h'; number = n' })
+type_of_parts h h' n n' p q = ap (λ (x : Home). let t : TypeNo = record { home = x; number = n } in t) p
+    ∙ ap (λ (x : ℕ). let t : TypeNo = record { home = h'; number = x } in t) q
 
 same_as : (t u : TypeNo) (b : Bool) → are_same t u ≡ b → Decided (t ≡ u) b
-same_as t u true e = holds (type_of_parts t.home u.home t.number u.number (one_home t.home u.home (and_left (is_one_home t.home u.home) (t.number == u.number) e)) (equal_numbers t.number u.number (and_right (is_one_home t.home u.home) (t.number == u.number) e)))
-same_as t u false e = fails_it (λ p. let same : are_same t u ≡ true = subst (λ (x : TypeNo). are_same t x ≡ true) p (same_itself t) in let clash : true ≡ false = sym same ∙ e in absurd cc)
+same_as t u true e = holds (type_of_parts t.home u.home t.number u.number
+    (one_home t.home u.home (and_left (is_one_home t.home u.home) (t.number == u.number) e))
+    (equal_numbers t.number u.number (and_right (is_one_home t.home u.home) (t.number == u.number) e)))
+same_as t u false e = fails_it (λ p. let same : are_same t u ≡ true =
+    subst (λ (x : TypeNo). are_same t x ≡ true) p (same_itself t) in let clash : true ≡ false = sym same ∙ e in
+    absurd cc)
 
 pub same_decided : (t u : TypeNo) → Decided (t ≡ u) (are_same t u)
 same_decided t u = same_as t u (are_same t u) refl
@@ -102,7 +108,8 @@ truth_decided (Some t) = decided_as (λ e. ap Some e) (some_same t boolean) (sam
 -- ---- ranges
 
 pub within_decided : (low n high : ℤ) → Decided (Within low n high) (is_between low n high)
-within_decided low n high = decided_as (λ p. record { from_low = p.0; to_high = p.1 }) (λ w. (w.from_low, w.to_high)) (both_decided (decided_itself _) (decided_itself _))
+within_decided low n high = decided_as (λ p. record { from_low = p.0; to_high = p.1 }) (λ w. (w.from_low, w.to_high))
+    (both_decided (decided_itself _) (decided_itself _))
 
 pub range_decided : {sort : Option TypeNo} (n : ℤ) → IsNumber sort → Decided (InRange sort n) (fits sort n)
 range_decided n k.number = decided_as in_numbers low (within_decided _ n _)
@@ -121,7 +128,8 @@ range_decided n (k.whole k.is_cardinal) = decided_as in_cardinal low (within_dec
 -- ---- two scalars
 
 pub data TogetherIs (a b : Option TypeNo) : Option (Option TypeNo) → Type 0 where
-  together : (sort : Option TypeNo) → GoTogether a b sort → ((s : Option TypeNo) → GoTogether a b s → s ≡ sort) → TogetherIs a b (Some sort)
+  together : (sort : Option TypeNo) → GoTogether a b sort → ((s : Option TypeNo) → GoTogether a b s → s ≡ sort)
+      → TogetherIs a b (Some sort)
   apart : ((s : Option TypeNo) → GoTogether a b s → ⊥) → TogetherIs a b None
 
 only_none : (s : Option TypeNo) → GoTogether None None s → s ≡ None
@@ -136,7 +144,8 @@ only_left t _ (number_right w) = (w, refl)
 only_same : (t u : TypeNo) (s : Option TypeNo) → GoTogether (Some t) (Some u) s → (t ≡ u) × (s ≡ Some t)
 only_same t _ _ same_type = (refl, refl)
 
-together_right : (t : TypeNo) {b : Bool} → Decided (IsWhole t) b → TogetherIs None (Some t) (cond b (Some (Some t)) None)
+together_right : (t : TypeNo) {b : Bool} → Decided (IsWhole t) b
+    → TogetherIs None (Some t) (cond b (Some (Some t)) None)
 together_right t (holds w) = together (Some t) (number_left w) (λ s p. (only_right t s p).1)
 together_right t (fails_it n) = apart (λ s p. n (only_right t s p).0)
 
@@ -144,8 +153,10 @@ together_left : (t : TypeNo) {b : Bool} → Decided (IsWhole t) b → TogetherIs
 together_left t (holds w) = together (Some t) (number_right w) (λ s p. (only_left t s p).1)
 together_left t (fails_it n) = apart (λ s p. n (only_left t s p).0)
 
-together_both : (t u : TypeNo) {b : Bool} → Decided (t ≡ u) b → TogetherIs (Some t) (Some u) (cond b (Some (Some t)) None)
-together_both t u (holds e) = together (Some t) (subst (λ (u : TypeNo). GoTogether (Some t) (Some u) (Some t)) e same_type) (λ s p. (only_same t u s p).1)
+together_both : (t u : TypeNo) {b : Bool} → Decided (t ≡ u) b
+    → TogetherIs (Some t) (Some u) (cond b (Some (Some t)) None)
+together_both t u (holds e) = together (Some t)
+    (subst (λ (u : TypeNo). GoTogether (Some t) (Some u) (Some t)) e same_type) (λ s p. (only_same t u s p).1)
 together_both t u (fails_it n) = apart (λ s p. n (only_same t u s p).0)
 
 pub common_is : (a b : Option TypeNo) → TogetherIs a b (common a b)
@@ -184,7 +195,8 @@ takes_truth l (arithmetic b n) = absurd (not_both b l)
 takes_truth l (logical m) = refl
 takes_truth l (comparison c) = absurd (logical_apart l c)
 
-pub takes_nothing : {op : BinaryOp} {sort : Option TypeNo} → (IsArithmetic op → ⊥) → (IsLogical op → ⊥) → (IsComparison op → ⊥) → Takes op sort → ⊥
+pub takes_nothing : {op : BinaryOp} {sort : Option TypeNo} → (IsArithmetic op → ⊥) → (IsLogical op → ⊥)
+    → (IsComparison op → ⊥) → Takes op sort → ⊥
 takes_nothing a l c (arithmetic b n) = a b
 takes_nothing a l c (logical m) = l m
 takes_nothing a l c (comparison d) = c d
@@ -193,7 +205,8 @@ arithmetic_decided : {op : BinaryOp} (sort : Option TypeNo) → IsArithmetic op 
 arithmetic_decided sort a = decided_as (arithmetic a) (takes_number a) (number_decided sort)
 
 logical_decided : {op : BinaryOp} (sort : Option TypeNo) → IsLogical op → Decided (Takes op sort) (is_truth sort)
-logical_decided {op = op} sort l = decided_as (λ e. subst (Takes op) (sym e) (logical l)) (takes_truth l) (truth_decided sort)
+logical_decided {op = op} sort l = decided_as (λ e. subst (Takes op) (sym e) (logical l)) (takes_truth l)
+    (truth_decided sort)
 
 pub takes_decided : (op : BinaryOp) (sort : Option TypeNo) → Decided (Takes op sort) (takes op sort)
 takes_decided Plus sort = arithmetic_decided sort k.plus

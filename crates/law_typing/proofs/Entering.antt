@@ -26,44 +26,54 @@ pub compared : (a b : List ℕ) → Compared a b
 compared a b = compared_by a b (same_name a b) refl
 
 decided_name : {a b : List ℕ} → Compared a b → Decided (a ≡ b) (same_name a b)
-decided_name {a = a} {b = b} (are_one e) = subst (λ (t : Bool). Decided (a ≡ b) t) (sym ((bytes_decides a b).1 e)) (holds e)
+decided_name {a = a} {b = b} (are_one e) =
+    subst (λ (t : Bool). Decided (a ≡ b) t) (sym ((bytes_decides a b).1 e)) (holds e)
 decided_name {a = a} {b = b} (are_two c h) = subst (λ (t : Bool). Decided (a ≡ b) t) (sym h) (fails_it c)
 
 pub name_decided : (a b : List ℕ) → Decided (a ≡ b) (same_name a b)
 name_decided a b = decided_name (compared a b)
 
 module _ {V : Type 0} where
-  found_cond : (other : List ℕ) (b : Bool) (xs ys : List (List ℕ × V)) → find_name other (cond b xs ys) ≡ cond b (find_name other xs) (find_name other ys)
+  found_cond : (other : List ℕ) (b : Bool) (xs ys : List (List ℕ × V))
+      → find_name other (cond b xs ys) ≡ cond b (find_name other xs) (find_name other ys)
   found_cond other true xs ys = refl
   found_cond other false xs ys = refl
 
-  self_at : (v old : V) (b : Bool) (there rest : Option V) → rest ≡ Some v → cond b (cond b (Some v) there) (cond b (Some old) rest) ≡ Some v
+  self_at : (v old : V) (b : Bool) (there rest : Option V) → rest ≡ Some v
+      → cond b (cond b (Some v) there) (cond b (Some old) rest) ≡ Some v
   self_at v old true there rest k = refl
   self_at v old false there rest k = k
 
   found_self : (name : List ℕ) (v : V) (es : List (List ℕ × V)) → find_name name (enter_name name v es) ≡ Some v
   found_self name v [] = ap (λ (b : Bool). cond b (Some v) None) (same_refl name)
   found_self name v (e ∷ es) = found_cond name (same_name name e.0) ((e.0, v) ∷ es) (e ∷ enter_name name v es)
-      ∙ self_at v e.1 (same_name name e.0) (find_name name es) (find_name name (enter_name name v es)) (found_self name v es)
+      ∙ self_at v e.1 (same_name name e.0) (find_name name es) (find_name name (enter_name name v es))
+      (found_self name v es)
 
-  other_at : (v old : V) (b c : Bool) (there new : Option V) → (b ≡ true → c ≡ false) → new ≡ there → cond b (cond c (Some v) there) (cond c (Some old) new) ≡ cond c (Some old) there
+  other_at : (v old : V) (b c : Bool) (there new : Option V) → (b ≡ true → c ≡ false) → new ≡ there
+      → cond b (cond c (Some v) there) (cond c (Some old) new) ≡ cond c (Some old) there
   other_at v old true true there new n k = let e : true ≡ false = n refl in absurd cc
   other_at v old true false there new n k = refl
   other_at v old false true there new n k = refl
   other_at v old false false there new n k = k
 
-  found_other : (name other : List ℕ) (v : V) (es : List (List ℕ × V)) → same_name other name ≡ false → find_name other (enter_name name v es) ≡ find_name other es
+  found_other : (name other : List ℕ) (v : V) (es : List (List ℕ × V)) → same_name other name ≡ false
+      → find_name other (enter_name name v es) ≡ find_name other es
   found_other name other v [] h = ap (λ (b : Bool). cond b (Some v) None) h
   found_other name other v (e ∷ es) h = found_cond other (same_name name e.0) ((e.0, v) ∷ es) (e ∷ enter_name name v es)
-      ∙ other_at v e.1 (same_name name e.0) (same_name other e.0) (find_name other es) (find_name other (enter_name name v es))
-      (λ q. ap (λ (n : List ℕ). same_name other n) (sym ((bytes_decides name e.0).0 q)) ∙ h) (found_other name other v es h)
+      ∙ other_at v e.1 (same_name name e.0) (same_name other e.0) (find_name other es)
+      (find_name other (enter_name name v es))
+      (λ q. ap (λ (n : List ℕ). same_name other n) (sym ((bytes_decides name e.0).0 q)) ∙ h)
+      (found_other name other v es h)
 
   -- what holds of the name that is entered, and of all others
-  pub entered_all : (P : List ℕ → Option V → Type 0) (name : List ℕ) (v : V) (es : List (List ℕ × V)) → P name (Some v) → ((n : List ℕ) → (name ≡ n → ⊥) → P n (find_name n es)) → (n : List ℕ) → P n (find_name n (enter_name name v es))
+  pub entered_all : (P : List ℕ → Option V → Type 0) (name : List ℕ) (v : V) (es : List (List ℕ × V)) → P name (Some v)
+      → ((n : List ℕ) → (name ≡ n → ⊥) → P n (find_name n es)) → (n : List ℕ) → P n (find_name n (enter_name name v es))
   entered_all P name v es h k n = by (compared n name)
     where
       by : Compared n name → P n (find_name n (enter_name name v es))
-      by (are_one e) = subst (λ (m : List ℕ). P m (find_name m (enter_name name v es))) (sym e) (subst (λ (o : Option V). P name o) (sym (found_self name v es)) h)
+      by (are_one e) = subst (λ (m : List ℕ). P m (find_name m (enter_name name v es))) (sym e)
+          (subst (λ (o : Option V). P name o) (sym (found_self name v es)) h)
       by (are_two c t) = subst (λ (o : Option V). P n o) (sym (found_other name n v es t)) (k n (λ e. c (sym e)))
 
   -- ---- names that are there once
@@ -72,9 +82,11 @@ module _ {V : Type 0} where
   once_more name v no_names = one_name refl no_names
   once_more name v (one_name {e = e} {es = es} n o) = by (name_decided name e.0) (once_more name v o)
     where
-      by : {b : Bool} → Decided (name ≡ e.0) b → AreOnce (enter_name name v es) → AreOnce (cond b ((e.0, v) ∷ es) (e ∷ enter_name name v es))
+      by : {b : Bool} → Decided (name ≡ e.0) b → AreOnce (enter_name name v es)
+          → AreOnce (cond b ((e.0, v) ∷ es) (e ∷ enter_name name v es))
       by (holds q) more = one_name n o
-      by (fails_it c) more = one_name (entered_all (λ m r. m ≡ e.0 → r ≡ None) name v es (λ q. absurd (c q)) (λ m w q. subst (λ (k : List ℕ). find_name k es ≡ None) (sym q) n) e.0 refl) more
+      by (fails_it c) more = one_name (entered_all (λ m r. m ≡ e.0 → r ≡ None) name v es (λ q. absurd (c q))
+          (λ m w q. subst (λ (k : List ℕ). find_name k es ≡ None) (sym q) n) e.0 refl) more
 
 -- ---- names in lists
 
@@ -102,7 +114,8 @@ named_split xs h = elim (among_split xs h.1) [ inl m ↦ inl (h.0, m, h.2) | inr
 
 pub among_decided : (xs : List Ident) (n : List ℕ) → Decided (Named xs n) (list_any (λ x. same_name x.name n) xs)
 among_decided [] n = fails_it (λ z. elim z.1 [ ])
-among_decided (x ∷ xs) n = decided_as (λ z. more z) (λ z. parts z) (either_decided (name_decided x.name n) (among_decided xs n))
+among_decided (x ∷ xs) n = decided_as (λ z. more z) (λ z. parts z)
+    (either_decided (name_decided x.name n) (among_decided xs n))
   where
     more : (x.name ≡ n) ⊎ Named xs n → Named (x ∷ xs) n
     more (inl e) = (x, here, e)

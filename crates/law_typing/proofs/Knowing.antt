@@ -37,12 +37,19 @@ module _ (g : Gathers) (j : Judges g) where
   exports_it None = has_nothing
   exports_it (Some m) = has_exported m
 
-  standings_there : (s : Scope g.Reported) → (names : Ident → Standing) × (exports : ℕ → Ident → Standing) × Knows g j names exports s
+  standings_there : (s : Scope g.Reported) → (names : Ident → Standing) × (exports : ℕ → Ident → Standing)
+      × Knows g j names exports s
   standings_there s = (
     (λ name. standing_by (looked_up g s name)),
     (λ k name. export_by (exported_by name.name (slice_get s.tables k))),
-    record { of_names = λ name. sees_it name.pos (looked_up g s name); of_modules = λ k name. exports_it (exported_by name.name (slice_get s.tables k)) },
+    record {
+      of_names = λ name. sees_it name.pos (looked_up g s name);
+      of_modules =
+          λ k name. exports_it (exported_by name.name (slice_get s.tables k));
+    },
   )
 
-  pub names_there : (s : Scope g.Reported) → ((names : Ident → Standing) × (exports : ℕ → Ident → Standing) × Knows g j names exports s) × ((own : Ident → Bool) × KnowsOwn g j own s)
+  pub names_there : (s : Scope g.Reported)
+      → ((names : Ident → Standing) × (exports : ℕ → Ident → Standing) × Knows g j names exports s)
+      × ((own : Ident → Bool) × KnowsOwn g j own s)
   names_there s = (standings_there s, ((λ name. own_by s (looked_up g s name)), (λ name m e. ap (own_by s) e)))

@@ -20,25 +20,33 @@ module _ {T : Type 0} where
   abbrev pub AnyAwaits : List (List ℕ × Known T) → Type 0
   AnyAwaits own = (n : List ℕ) × Awaits (find_name n own)
 
-  waits_first : (e : List ℕ × Known T) (r : Option (Known T)) {b : Bool} → Decided (e.0 ≡ e.0) b → is_awaited (standing_known e.1) ≡ true → Awaits (cond b (Some e.1) r)
+  waits_first : (e : List ℕ × Known T) (r : Option (Known T)) {b : Bool} → Decided (e.0 ≡ e.0) b
+      → is_awaited (standing_known e.1) ≡ true → Awaits (cond b (Some e.1) r)
   waits_first e r (holds q) w = w
   waits_first e r (fails_it c) w = absurd (c refl)
 
   module _ (e : List ℕ × Known T) (es : List (List ℕ × Known T)) (new : find_name e.0 es ≡ None) (m : List ℕ) where
-    waits_later : {b : Bool} → Decided (m ≡ e.0) b → Awaits (find_name m es) → Awaits (cond b (Some e.1) (find_name m es))
-    waits_later (holds q) w = let z : find_name m es ≡ None = subst (λ (n : List ℕ). find_name n es ≡ None) (sym q) new in let y : false ≡ true = subst (λ (o : Option (Known T)). Awaits o) z w in absurd cc
+    waits_later : {b : Bool} → Decided (m ≡ e.0) b → Awaits (find_name m es)
+        → Awaits (cond b (Some e.1) (find_name m es))
+    waits_later (holds q) w = let z : find_name m es ≡ None =
+        subst (λ (n : List ℕ). find_name n es ≡ None) (sym q) new in
+        let y : false ≡ true = subst (λ (o : Option (Known T)). Awaits o) z w in absurd cc
     waits_later (fails_it c) w = w
 
-    waits_in : {b : Bool} → Decided (m ≡ e.0) b → Awaits (cond b (Some e.1) (find_name m es)) → (is_awaited (standing_known e.1) ≡ true) ⊎ AnyAwaits es
+    waits_in : {b : Bool} → Decided (m ≡ e.0) b → Awaits (cond b (Some e.1) (find_name m es))
+        → (is_awaited (standing_known e.1) ≡ true) ⊎ AnyAwaits es
     waits_in (holds q) w = inl w
     waits_in (fails_it c) w = inr (m, w)
 
-  lacks_by : {P : Type 0} {own : List (List ℕ × Known T)} (b : Bool) → AreOnce own → Decided P b → Decided (P ⊎ AnyAwaits own) (fold or_awaited b own)
+  lacks_by : {P : Type 0} {own : List (List ℕ × Known T)} (b : Bool) → AreOnce own → Decided P b
+      → Decided (P ⊎ AnyAwaits own) (fold or_awaited b own)
   lacks_by {P = P} b no_names d = decided_as (λ p. inl p) (λ z. elim z [ inl p ↦ p | inr a ↦ none a ]) d
     where
       none : AnyAwaits [] → P
       none a = let z : false ≡ true = a.1 in absurd cc
-  lacks_by {P = P} b (one_name {e = e} {es = es} n o) d = decided_as (λ z. to z) (λ z. from z) (lacks_by {P = P ⊎ (is_awaited (standing_known e.1) ≡ true)} (b || is_awaited (standing_known e.1)) o (either_decided d (decided_itself (is_awaited (standing_known e.1)))))
+  lacks_by {P = P} b (one_name {e = e} {es = es} n o) d =
+      decided_as (λ z. to z) (λ z. from z) (lacks_by {P = P ⊎ (is_awaited (standing_known e.1) ≡ true)}
+      (b || is_awaited (standing_known e.1)) o (either_decided d (decided_itself (is_awaited (standing_known e.1)))))
     where
       to : (P ⊎ (is_awaited (standing_known e.1) ≡ true)) ⊎ AnyAwaits es → P ⊎ AnyAwaits (e ∷ es)
       to (inl (inl p)) = inl p
@@ -50,4 +58,5 @@ module _ {T : Type 0} where
       from (inr (m, w)) = elim (waits_in e es n m (name_decided m e.0) w) [ inl y ↦ inl (inr y) | inr a ↦ inr a ]
 
   pub lacks_decided : {own : List (List ℕ × Known T)} → AreOnce own → Decided (AnyAwaits own) (lacks own)
-  lacks_decided o = decided_as (λ z. elim z [ inl y ↦ absurd y | inr a ↦ a ]) (λ a. inr a) (lacks_by {P = ⊥} false o (fails_it (λ z. z)))
+  lacks_decided o = decided_as (λ z. elim z [ inl y ↦ absurd y | inr a ↦ a ]) (λ a. inr a)
+      (lacks_by {P = ⊥} false o (fails_it (λ z. z)))

@@ -33,7 +33,8 @@ abbrev type_cmp : TypeNo → TypeNo → Ordering
 type_cmp t u = ordering_then (option_cmp nat_cmp (module_of t.home) (module_of u.home)) (nat_cmp t.number u.number)
 
 types_total : IsTotalOrder type_cmp
-types_total = then_total (on_total (λ (t : TypeNo). module_of t.home) (options_total nat_cmp_total)) (on_total (λ (t : TypeNo). t.number) nat_cmp_total)
+types_total = then_total (on_total (λ (t : TypeNo). module_of t.home) (options_total nat_cmp_total))
+    (on_total (λ (t : TypeNo). t.number) nat_cmp_total)
 
 tied_first : (a b : Ordering) → ordering_then a b ≡ Equal → a ≡ Equal
 tied_first Less b e = e
@@ -61,10 +62,13 @@ one_module (Module n) Predeclared e = absurd cc
 one_module (Module n) (Module m) e = let same : n ≡ m = cc in ap Module same
 
 same_parts : (t : TypeNo) (h : Home) (n : ℕ) → t.home ≡ h → t.number ≡ n → t ≡ record { home = h; number = n }
-same_parts t h n e f = ap (λ (x : Home). let u : TypeNo = record { home = x; number = t.number } in u) e ∙ ap (λ (m : ℕ). let u : TypeNo = record { home = h; number = m } in u) f
+same_parts t h n e f = ap (λ (x : Home). let u : TypeNo = record { home = x; number = t.number } in u) e
+    ∙ ap (λ (m : ℕ). let u : TypeNo = record { home = h; number = m } in u) f
 
 tied_types : (t u : TypeNo) → type_cmp t u ≡ Equal → t ≡ u
-tied_types t u e = same_parts t u.home u.number (one_module t.home u.home (tied_options (module_of t.home) (module_of u.home) (tied_first _ _ e))) (tied_numbers t.number u.number (tied_second _ _ e))
+tied_types t u e = same_parts t u.home u.number
+    (one_module t.home u.home (tied_options (module_of t.home) (module_of u.home) (tied_first _ _ e)))
+    (tied_numbers t.number u.number (tied_second _ _ e))
 
 at_most_first : (a b : Ordering) → is_le (ordering_then a b) ≡ true → is_le a ≡ true
 at_most_first Less b h = refl
@@ -142,17 +146,22 @@ first_two Greater b c = refl
 
 -- Points are in the order of their types, and then of their numbers.
 point_is : (a b : Number) → point_cmp (place a) (place b) ≡ compared (base_of a.0) (base_of b.0) a.1 b.1
-point_is a b = first_two (option_cmp nat_cmp (place a).home (place b).home) (nat_cmp (place a).place (place b).place) (int_cmp a.1 b.1)
+point_is a b = first_two (option_cmp nat_cmp (place a).home (place b).home) (nat_cmp (place a).place (place b).place)
+    (int_cmp a.1 b.1)
 
 by_numbers : (t : TypeNo) (n m : ℤ) → compared t t n m ≡ int_cmp n m
 by_numbers t n m = ap (λ (o : Ordering). ordering_then o (int_cmp n m)) (tied_itself types_total t)
 
 -- Bounds of one base stand as their numbers do.
 at_most_is : (a b : Number) → base_of a.0 ≡ base_of b.0 → is_at_most (place a) (place b) ≡ int_le a.1 b.1
-at_most_is a b e = ap is_le (point_is a b) ∙ subst (λ (u : TypeNo). is_le (compared (base_of a.0) u a.1 b.1) ≡ int_le a.1 b.1) e (ap is_le (by_numbers (base_of a.0) a.1 b.1) ∙ le_by a.1 b.1 (int_cmp a.1 b.1) (int_ranks a.1 b.1))
+at_most_is a b e = ap is_le (point_is a b)
+    ∙ subst (λ (u : TypeNo). is_le (compared (base_of a.0) u a.1 b.1) ≡ int_le a.1 b.1) e
+    (ap is_le (by_numbers (base_of a.0) a.1 b.1) ∙ le_by a.1 b.1 (int_cmp a.1 b.1) (int_ranks a.1 b.1))
 
 pub below_is : (a b : Number) → base_of a.0 ≡ base_of b.0 → is_below (place a) (place b) ≡ int_lt a.1 b.1
-below_is a b e = ap is_lt (point_is a b) ∙ subst (λ (u : TypeNo). is_lt (compared (base_of a.0) u a.1 b.1) ≡ int_lt a.1 b.1) e (ap is_lt (by_numbers (base_of a.0) a.1 b.1) ∙ lt_by a.1 b.1 (int_cmp a.1 b.1) (int_ranks a.1 b.1))
+below_is a b e = ap is_lt (point_is a b)
+    ∙ subst (λ (u : TypeNo). is_lt (compared (base_of a.0) u a.1 b.1) ≡ int_lt a.1 b.1) e
+    (ap is_lt (by_numbers (base_of a.0) a.1 b.1) ∙ lt_by a.1 b.1 (int_cmp a.1 b.1) (int_ranks a.1 b.1))
 
 pub turned : {s t : Option TypeNo} → AreOfOneBase s t → base_of t ≡ base_of s
 turned w = sym (same_base w)
@@ -172,10 +181,15 @@ meets_touches {a = a} {b = b} m =
       to_high = at_most_is a.0 b.1 (one ∙ same_base m.second_base) ∙ m.to_high;
     }
 
-pub touches_meets : (a b : Number × Number) → AreOfOneBase a.0.0 a.1.0 → AreOfOneBase b.0.0 b.1.0 → int_lt a.1.1 a.0.1 ≡ false → Touches (span a) b → ShareValues a b
+pub touches_meets : (a b : Number × Number) → AreOfOneBase a.0.0 a.1.0 → AreOfOneBase b.0.0 b.1.0
+    → int_lt a.1.1 a.0.1 ≡ false → Touches (span a) b → ShareValues a b
 touches_meets a b v w h t =
-    let down = subst (λ (u : TypeNo). is_le (type_cmp (base_of b.0.0) u) ≡ true) (sym (same_base v)) (at_most_first (type_cmp (base_of b.0.0) (base_of a.1.0)) (int_cmp b.0.1 a.1.1) (sym (ap is_le (point_is b.0 a.1)) ∙ t.from_low)) in
-    let up = subst (λ (u : TypeNo). is_le (type_cmp (base_of a.0.0) u) ≡ true) (sym (same_base w)) (at_most_first (type_cmp (base_of a.0.0) (base_of b.1.0)) (int_cmp a.0.1 b.1.1) (sym (ap is_le (point_is a.0 b.1)) ∙ t.to_high)) in
+    let down = subst (λ (u : TypeNo). is_le (type_cmp (base_of b.0.0) u) ≡ true) (sym (same_base v))
+    (at_most_first (type_cmp (base_of b.0.0) (base_of a.1.0)) (int_cmp b.0.1 a.1.1)
+    (sym (ap is_le (point_is b.0 a.1)) ∙ t.from_low)) in
+    let up = subst (λ (u : TypeNo). is_le (type_cmp (base_of a.0.0) u) ≡ true) (sym (same_base w))
+    (at_most_first (type_cmp (base_of a.0.0) (base_of b.1.0)) (int_cmp a.0.1 b.1.1)
+    (sym (ap is_le (point_is a.0 b.1)) ∙ t.to_high)) in
     let one : base_of a.0.0 ≡ base_of b.0.0 = tied (base_of a.0.0) (base_of b.0.0) up down in
     record {
       first_base = v;
@@ -195,7 +209,8 @@ abbrev pub Filled : List Range → Type 0
 Filled rs = (r : Range) → Among r rs → is_at_most r.0 r.1 ≡ true
 
 touches_decided : (b : Number × Number) (r : Range) → Decided (Touches r b) (meets (place b.0) (place b.1) r)
-touches_decided b r = decided_as (λ p. record { from_low = p.0; to_high = p.1 }) (λ t. (t.from_low, t.to_high)) (both_decided (decided_itself (is_at_most (place b.0) r.1)) (decided_itself (is_at_most r.0 (place b.1))))
+touches_decided b r = decided_as (λ p. record { from_low = p.0; to_high = p.1 }) (λ t. (t.from_low, t.to_high))
+    (both_decided (decided_itself (is_at_most (place b.0) r.1)) (decided_itself (is_at_most r.0 (place b.1))))
 
 met_first : {b : Number × Number} {r : Range} {rs : List Range} → Touches r b ⊎ Met rs b → Met (r ∷ rs) b
 met_first {r = r} (inl t) = (r, here, t)
@@ -232,7 +247,8 @@ later_part : {q b r : Range} {rs : List Range} → Parts q b rs → Parts q b (r
 later_part (inl e) = inl e
 later_part (inr a) = inr (later a)
 
-placed_parts : (o : Ordering) (q b r : Range) (rs : List Range) → point_cmp b.0 r.0 ≡ o → NewStart b (r ∷ rs) → (Among q (inserted b rs) → Parts q b rs) → Among q (placed o b r rs) → Parts q b (r ∷ rs)
+placed_parts : (o : Ordering) (q b r : Range) (rs : List Range) → point_cmp b.0 r.0 ≡ o → NewStart b (r ∷ rs)
+    → (Among q (inserted b rs) → Parts q b rs) → Among q (placed o b r rs) → Parts q b (r ∷ rs)
 placed_parts Less q b r rs k n h a = first_part a
 placed_parts Equal q b r rs k n h a = absurd (n r here k)
 placed_parts Greater q b r rs k n h here = inr here
@@ -240,28 +256,41 @@ placed_parts Greater q b r rs k n h (later a) = later_part (h a)
 
 pub insert_parts : (q b : Range) (rs : List Range) → NewStart b rs → Among q (inserted b rs) → Parts q b rs
 insert_parts q b [] n a = first_part a
-insert_parts q b (r ∷ rs) n a = placed_parts (point_cmp b.0 r.0) q b r rs refl n (insert_parts q b rs (λ x m. n x (later m))) a
+insert_parts q b (r ∷ rs) n a = placed_parts (point_cmp b.0 r.0) q b r rs refl n
+    (insert_parts q b rs (λ x m. n x (later m))) a
 
 part_first : {q b : Range} {rs : List Range} → Parts q b rs → Among q (b ∷ rs)
 part_first {q = q} {rs = rs} (inl e) = subst (λ (x : Range). Among q (x ∷ rs)) e here
 part_first (inr a) = later a
 
-part_behind : {q b r : Range} {rs all : List Range} → (Parts q b rs → Among q all) → Parts q b (r ∷ rs) → Among q (r ∷ all)
+part_behind : {q b r : Range} {rs all : List Range} → (Parts q b rs → Among q all) → Parts q b (r ∷ rs)
+    → Among q (r ∷ all)
 part_behind h (inl e) = later (h (inl e))
 part_behind h (inr here) = here
 part_behind h (inr (later a)) = later (h (inr a))
 
-parts_placed : (o : Ordering) (q b r : Range) (rs : List Range) → point_cmp b.0 r.0 ≡ o → NewStart b (r ∷ rs) → (Parts q b rs → Among q (inserted b rs)) → Parts q b (r ∷ rs) → Among q (placed o b r rs)
+parts_placed : (o : Ordering) (q b r : Range) (rs : List Range) → point_cmp b.0 r.0 ≡ o → NewStart b (r ∷ rs)
+    → (Parts q b rs → Among q (inserted b rs)) → Parts q b (r ∷ rs) → Among q (placed o b r rs)
 parts_placed Less q b r rs k n h p = part_first p
 parts_placed Equal q b r rs k n h p = absurd (n r here k)
 parts_placed Greater q b r rs k n h p = part_behind h p
 
 pub parts_insert : (q b : Range) (rs : List Range) → NewStart b rs → Parts q b rs → Among q (inserted b rs)
 parts_insert q b [] n p = part_first p
-parts_insert q b (r ∷ rs) n p = parts_placed (point_cmp b.0 r.0) q b r rs refl n (parts_insert q b rs (λ x m. n x (later m))) p
+parts_insert q b (r ∷ rs) n p = parts_placed (point_cmp b.0 r.0) q b r rs refl n
+    (parts_insert q b rs (λ x m. n x (later m))) p
 
 -- A label that is not met begins where no range begins.
-pub new_start : (b : Number × Number) (rs : List Range) → is_at_most (place b.0) (place b.1) ≡ true → Filled rs → (Met rs b → ⊥) → NewStart (span b) rs
+pub new_start : (b : Number × Number) (rs : List Range) → is_at_most (place b.0) (place b.1) ≡ true → Filled rs
+    → (Met rs b → ⊥) → NewStart (span b) rs
 new_start b rs h f n r a e =
     let back : point_cmp r.0 (place b.0) ≡ Equal = points_total.antisymm r.0 (place b.0) ∙ ap ordering_reverse e in
-    n (r, a, record { from_low = at_most (place b.0) r.0 r.1 (ap is_le e) (f r a); to_high = at_most r.0 (place b.0) (place b.1) (ap is_le back) h })
+    n (
+      r,
+      a,
+      record {
+        from_low = at_most (place b.0) r.0 r.1 (ap is_le e) (f r a);
+        to_high =
+            at_most r.0 (place b.0) (place b.1) (ap is_le back) h;
+      },
+    )

@@ -16,23 +16,39 @@ use Rattle.law_typing.proofs.Trees.{tree, IsTree, tree_number, tree_character, t
 -- ---- the layers of the elaboration
 
 module _ (g : Gathers) where
-  abbrev pub opened : Expr-F Expr Selector Designator Item → Expr-F (Meant g.Reported) (Picks g.Reported) (Meant g.Reported) (Adds g.Reported)
-  opened x = map-Expr Expr Selector Designator Item (Meant g.Reported) (Picks g.Reported) (Meant g.Reported) (Adds g.Reported) (meanings_of g) (picks g) (head g) (item g) x
+  abbrev pub opened : Expr-F Expr Selector Designator Item
+      → Expr-F (Meant g.Reported) (Picks g.Reported) (Meant g.Reported) (Adds g.Reported)
+  opened x = map-Expr Expr Selector Designator Item (Meant g.Reported) (Picks g.Reported) (Meant g.Reported)
+      (Adds g.Reported) (meanings_of g) (picks g) (head g) (item g) x
 
-  abbrev pub opened_selector : Selector-F Expr Selector Designator Item → Selector-F (Meant g.Reported) (Picks g.Reported) (Meant g.Reported) (Adds g.Reported)
-  opened_selector x = map-Selector Expr Selector Designator Item (Meant g.Reported) (Picks g.Reported) (Meant g.Reported) (Adds g.Reported) (meanings_of g) (picks g) (head g) (item g) x
+  abbrev pub opened_selector : Selector-F Expr Selector Designator Item
+      → Selector-F (Meant g.Reported) (Picks g.Reported) (Meant g.Reported) (Adds g.Reported)
+  opened_selector x = map-Selector Expr Selector Designator Item (Meant g.Reported) (Picks g.Reported)
+      (Meant g.Reported) (Adds g.Reported) (meanings_of g) (picks g) (head g) (item g) x
 
-  pub meant_is : (e : Expr) (y : Expr-F Expr Selector Designator Item) → out-Expr e ≡ y → meanings_of g e ≡ expr_layer g (opened y)
+  pub meant_is : (e : Expr) (y : Expr-F Expr Selector Designator Item) → out-Expr e ≡ y
+      → meanings_of g e ≡ expr_layer g (opened y)
   unfolding meanings_of picks head item
-  meant_is e y h = fold_out-Expr (Meant g.Reported) (Picks g.Reported) (Meant g.Reported) (Adds g.Reported) (expr_layer g) (selector_layer g) (designator_layer g) (item_layer g) e ∙ ap (λ (y : Expr-F Expr Selector Designator Item). expr_layer g (opened y)) h
+  meant_is e y h = fold_out-Expr (Meant g.Reported) (Picks g.Reported) (Meant g.Reported) (Adds g.Reported)
+      (expr_layer g) (selector_layer g) (designator_layer g) (item_layer g) e
+      ∙ ap (λ (y : Expr-F Expr Selector Designator Item). expr_layer g (opened y)) h
 
-  pub picks_is : (x : Selector) (y : Selector-F Expr Selector Designator Item) → out-Selector x ≡ y → picks g x ≡ selector_layer g (opened_selector y)
+  pub picks_is : (x : Selector) (y : Selector-F Expr Selector Designator Item) → out-Selector x ≡ y
+      → picks g x ≡ selector_layer g (opened_selector y)
   unfolding meanings_of picks head item
-  picks_is x y h = fold_out-Selector (Meant g.Reported) (Picks g.Reported) (Meant g.Reported) (Adds g.Reported) (expr_layer g) (selector_layer g) (designator_layer g) (item_layer g) x ∙ ap (λ (y : Selector-F Expr Selector Designator Item). selector_layer g (opened_selector y)) h
+  picks_is x y h = fold_out-Selector (Meant g.Reported) (Picks g.Reported) (Meant g.Reported) (Adds g.Reported)
+      (expr_layer g) (selector_layer g) (designator_layer g) (item_layer g) x
+      ∙ ap (λ (y : Selector-F Expr Selector Designator Item). selector_layer g (opened_selector y)) h
 
-  pub head_is : (d : Designator) → head g d ≡ designator_layer g (record { name = (out-Designator d).name; selectors = map (picks g) (out-Designator d).selectors })
+  pub head_is : (d : Designator) → head g d
+      ≡ designator_layer g (record {
+        name = (out-Designator d).name;
+        selectors =
+            map (picks g) (out-Designator d).selectors;
+      })
   unfolding meanings_of picks head item
-  head_is d = fold_out-Designator (Meant g.Reported) (Picks g.Reported) (Meant g.Reported) (Adds g.Reported) (expr_layer g) (selector_layer g) (designator_layer g) (item_layer g) d
+  head_is d = fold_out-Designator (Meant g.Reported) (Picks g.Reported) (Meant g.Reported) (Adds g.Reported)
+      (expr_layer g) (selector_layer g) (designator_layer g) (item_layer g) d
 
 -- ---- first tokens
 
@@ -57,12 +73,17 @@ head_first_is : (d : Designator) → head_first d ≡ (out-Designator d).name.po
 unfolding head_first
 head_first_is d = fold_out-Designator Pos (Unit {0}) Pos (Unit {0}) first_layer (λ s. tt) (λ d. d.name.pos) (λ i. tt) d
 
-first_by : (y : Expr-F Expr Selector Designator Item) (e : Expr) → out-Expr e ≡ y → first e ≡ first_layer (map-Expr Expr Selector Designator Item Pos (Unit {0}) Pos (Unit {0}) first (λ s. tt) head_first (λ i. tt) y)
+first_by : (y : Expr-F Expr Selector Designator Item) (e : Expr) → out-Expr e ≡ y
+    → first e ≡ first_layer (map-Expr Expr Selector Designator Item Pos (Unit {0}) Pos (Unit {0}) first (λ s. tt)
+    head_first (λ i. tt) y)
 unfolding first head_first
 first_by y e h = fold_out-Expr Pos (Unit {0}) Pos (Unit {0}) first_layer (λ s. tt) (λ d. d.name.pos) (λ i. tt) e
-    ∙ ap (λ (y : Expr-F Expr Selector Designator Item). first_layer (map-Expr Expr Selector Designator Item Pos (Unit {0}) Pos (Unit {0}) first (λ s. tt) head_first (λ i. tt) y)) h
+    ∙ ap (λ (y : Expr-F Expr Selector Designator Item). first_layer
+    (map-Expr Expr Selector Designator Item Pos (Unit {0}) Pos (Unit {0}) first (λ s. tt) head_first (λ i. tt) y)) h
 
-layer_same : (y : Expr-F Expr Selector Designator Item) → first_layer (map-Expr Expr Selector Designator Item Pos (Unit {0}) Pos (Unit {0}) first (λ s. tt) head_first (λ i. tt) y) ≡ first_of y
+layer_same : (y : Expr-F Expr Selector Designator Item)
+    → first_layer (map-Expr Expr Selector Designator Item Pos (Unit {0}) Pos (Unit {0}) first (λ s. tt) head_first
+    (λ i. tt) y) ≡ first_of y
 layer_same (layer.Number at n) = refl
 layer_same (layer.Char at c) = refl
 layer_same (layer.Text at t) = refl
@@ -81,7 +102,8 @@ pub first_is : (e : Expr) (y : Expr-F Expr Selector Designator Item) → out-Exp
 first_is e y h = first_by y e h ∙ layer_same y
 
 module _ (g : Gathers) where
-  layer_at : (e : Expr) (y : Expr-F Expr Selector Designator Item) → out-Expr e ≡ y → (expr_layer g (opened g y)).fixed.at ≡ first_of y → (meanings_of g e).fixed.at ≡ first e
+  layer_at : (e : Expr) (y : Expr-F Expr Selector Designator Item) → out-Expr e ≡ y
+      → (expr_layer g (opened g y)).fixed.at ≡ first_of y → (meanings_of g e).fixed.at ≡ first e
   layer_at e y h p = ap (λ (m : Meant g.Reported). m.fixed.at) (meant_is g e y h) ∙ p ∙ sym (first_is e y h)
 
   pub head_at : (d : Designator) → (head g d).fixed.at ≡ (out-Designator d).name.pos
@@ -92,14 +114,17 @@ module _ (g : Gathers) where
   at_part {e = e} (tree_character {at = at} {c = c} h) = layer_at e (layer.Char at c) h refl
   at_part {e = e} (tree_string {at = at} {text = text} h) = layer_at e (layer.Text at text) h refl
   at_part {e = e} (tree_set {name = None} {at = at} {items = items} h i) = layer_at e (layer.Set None at items) h refl
-  at_part {e = e} (tree_set {name = Some name} {at = at} {items = items} h i) = layer_at e (layer.Set (Some name) at items) h refl
+  at_part {e = e} (tree_set {name = Some name} {at = at} {items = items} h i) =
+      layer_at e (layer.Set (Some name) at items) h refl
   at_part {e = e} (tree_name {d = d} h s) = layer_at e (layer.Use d None) h (head_at d)
   at_part {e = e} (tree_call {d = d} {args = args} h s a) = layer_at e (layer.Use d (Some args)) h (head_at d)
   at_part {e = e} (tree_not {at = at} {x = x} h i) = layer_at e (layer.Not at x) h refl
   at_part {e = e} (tree_brackets {at = at} {x = x} h i) = layer_at e (layer.Bracketed at x) h refl
   at_part {e = e} (tree_term {x = x} {rest = rest} h i o) = layer_at e (layer.Term x rest) h (at_part i)
-  at_part {e = e} (tree_sum {sign = None} {x = x} {rest = rest} h i o) = layer_at e (layer.Sum None x rest) h (at_part i)
-  at_part {e = e} (tree_sum {sign = Some sign} {x = x} {rest = rest} h i o) = layer_at e (layer.Sum (Some sign) x rest) h refl
+  at_part {e = e} (tree_sum {sign = None} {x = x} {rest = rest} h i o) =
+      layer_at e (layer.Sum None x rest) h (at_part i)
+  at_part {e = e} (tree_sum {sign = Some sign} {x = x} {rest = rest} h i o) =
+      layer_at e (layer.Sum (Some sign) x rest) h refl
   at_part {e = e} (tree_relation {a = a} {b = b} {o = o} h i k) = layer_at e (layer.Relation a o b) h (at_part i)
 
   -- the elaboration has the same places

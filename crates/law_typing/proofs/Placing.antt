@@ -61,7 +61,8 @@ pub whole_base : {t : TypeNo} → SuitsBase t None → IsWhole t
 whole_base (a_number w) = w
 
 pub bases_decided : (t u : TypeNo) → Decided (SuitsBase t (Some u)) (bases_suit t u)
-bases_decided t u = decided_as of_base base_of (either_decided (same_decided t u) (both_decided (whole_decided t) (whole_decided u)))
+bases_decided t u = decided_as of_base base_of
+    (either_decided (same_decided t u) (both_decided (whole_decided t) (whole_decided u)))
 
 pub base_decided : (t : TypeNo) (sort : Option TypeNo) → Decided (SuitsBase t sort) (sort_suits t sort)
 base_decided t None = decided_as a_number whole_base (whole_decided t)
@@ -85,10 +86,12 @@ range_in r other = r
 
 module _ (types : Types) (t : TypeNo) where
   pub goes_made : {c : Kind} {s : Shape} → Compatible types t c → IsMade types t s → Goes types t s c
-  goes_made {c = c} (things.scalar m b) e = subst (λ (s : Shape). Goes types t s c) (one_made types t m e) (goes_scalar b)
+  goes_made {c = c} (things.scalar m b) e =
+      subst (λ (s : Shape). Goes types t s c) (one_made types t m e) (goes_scalar b)
   goes_made {c = c} (things.set m) e = subst (λ (s : Shape). Goes types t s c) (one_made types t m e) goes_set
   goes_made {c = c} (things.routine m) e = subst (λ (s : Shape). Goes types t s c) (one_made types t m e) goes_routine
-  goes_made {c = c} (things.procedure (agree m n)) e = subst (λ (s : Shape). Goes types t s c) (one_made types t m e) (goes_procedure (agree m n))
+  goes_made {c = c} (things.procedure (agree m n)) e =
+      subst (λ (s : Shape). Goes types t s c) (one_made types t m e) (goes_procedure (agree m n))
 
   pub unmade_none : {c : Kind} → shape_at types t ≡ None → Compatible types t c → ⊥
   unmade_none e (things.scalar m b) = some_made types t e m
@@ -96,8 +99,10 @@ module _ (types : Types) (t : TypeNo) where
   unmade_none e (things.routine m) = some_made types t e m
   unmade_none e (things.procedure (agree m n)) = some_made types t e m
 
-  in_type_by : {r : Range} {sort : Option TypeNo} {n : ℤ} → IsMade types t (shape.Scalar r) → OutOfType types t (Scalar (Constant sort n)) → Within r.low n r.high → ⊥
-  in_type_by {r = r} {n = n} m (out_of_type {r = q} e o) w = o (subst (λ (x : Range). Within x.low n x.high) (ap (range_in r) (one_made types t m e)) w)
+  in_type_by : {r : Range} {sort : Option TypeNo} {n : ℤ} → IsMade types t (shape.Scalar r)
+      → OutOfType types t (Scalar (Constant sort n)) → Within r.low n r.high → ⊥
+  in_type_by {r = r} {n = n} m (out_of_type {r = q} e o) w =
+      o (subst (λ (x : Range). Within x.low n x.high) (ap (range_in r) (one_made types t m e)) w)
 
   -- ---- the answers
 
@@ -120,47 +125,59 @@ module _ (types : Types) (t : TypeNo) where
         none (out_of_range i o) = n o
 
     suits_beyond : {c : Kind} → Compatible types t c → OutOfType types t c → Suited c (report g at rule.OutOfRange)
-    suits_beyond {c = c} m o = stopped g j lawful O at rule.OutOfRange (λ a. a.in_type o) (out_of_range m o) (λ f x. one x)
+    suits_beyond {c = c} m o = stopped g j lawful O at rule.OutOfRange (λ a. a.in_type o) (out_of_range m o)
+        (λ f x. one x)
       where
         one : {f : Breach} → Misassigned types t at broken c f → f ≡ at ! rule.OutOfRange
         one (incompatible i) = absurd (i m)
         one (out_of_range i q) = refl
 
-    where_suited : {P : Type 0} {c : Kind} {r : Result TypedExpr g.Reported} (b : Bool) → Decided P b → (Compatible types t c → P) → (P → Suited c r) → Suited c (reported_where g (not b) at broken r)
+    where_suited : {P : Type 0} {c : Kind} {r : Result TypedExpr g.Reported} (b : Bool) → Decided P b
+        → (Compatible types t c → P) → (P → Suited c r) → Suited c (reported_where g (not b) at broken r)
     where_suited _ (holds p) f h = h p
     where_suited _ (fails_it n) f h = suits_not (λ m. n (f m))
 
-    where_in_type : {r : Range} {sort : Option TypeNo} {n : ℤ} (e : TypedExpr) (b : Bool) → IsMade types t (shape.Scalar r) → Compatible types t (Scalar (Constant sort n)) → Decided (Within r.low n r.high) b
+    where_in_type : {r : Range} {sort : Option TypeNo} {n : ℤ} (e : TypedExpr) (b : Bool)
+        → IsMade types t (shape.Scalar r) → Compatible types t (Scalar (Constant sort n))
+        → Decided (Within r.low n r.high) b
         → Suited (Scalar (Constant sort n)) (reported_where g (not b) at rule.OutOfRange (Ok e))
     where_in_type e _ m c (holds w) = suits_well e c (λ o. in_type_by m o w)
     where_in_type e _ m c (fails_it n) = suits_beyond c (out_of_type m n)
 
-    scalar_goes : {r : Range} {a : Amount} → IsMade types t (shape.Scalar r) → Compatible types t (Scalar a) → SuitsBase r.base (sort_of a)
+    scalar_goes : {r : Range} {a : Amount} → IsMade types t (shape.Scalar r) → Compatible types t (Scalar a)
+        → SuitsBase r.base (sort_of a)
     scalar_goes {r = r} {a = a} m c = based (goes_made c m)
       where
         based : Goes types t (shape.Scalar r) (Scalar a) → SuitsBase r.base (sort_of a)
         based (goes_scalar b) = b
 
-    routine_goes : {h : Signature} {u : TypeNo} → IsMade types t (shape.Procedure h) → Compatible types t (Routine u) → u ≡ t
+    routine_goes : {h : Signature} {u : TypeNo} → IsMade types t (shape.Procedure h) → Compatible types t (Routine u)
+        → u ≡ t
     routine_goes {h = h} {u = u} m c = same (goes_made c m)
       where
         same : {v : TypeNo} → Goes types t (shape.Procedure h) (Routine v) → v ≡ t
         same goes_routine = refl
 
-    procedure_goes : {h : Signature} {u : TypeNo} → IsMade types t (shape.Procedure h) → Compatible types t (Procedure u) → Agree types t u
+    procedure_goes : {h : Signature} {u : TypeNo} → IsMade types t (shape.Procedure h)
+        → Compatible types t (Procedure u) → Agree types t u
     procedure_goes {h = h} m c = agreeing (goes_made c m)
       where
         agreeing : {v : TypeNo} → Goes types t (shape.Procedure h) (Procedure v) → Agree types t v
         agreeing (goes_procedure a) = a
 
-    suited_by : {p : Option Side} {c : Kind} (s : Option Shape) → shape_at types t ≡ s → IsSide p c → Suited c (value_in g broken types t at p (class_of s))
+    suited_by : {p : Option Side} {c : Kind} (s : Option Shape) → shape_at types t ≡ s → IsSide p c
+        → Suited c (value_in g broken types t at p (class_of s))
     suited_by None e x = suits_not (λ m. unmade_none e m)
     suited_by (Some (shape.Array i u)) e x = suits_not (λ m. elim (goes_made m e) [ ])
     suited_by (Some (shape.Record fs)) e x = suits_not (λ m. elim (goes_made m e) [ ])
     suited_by (Some (shape.Open u)) e x = suits_not (λ m. elim (goes_made m e) [ ])
-    suited_by (Some (shape.Scalar r)) e (side_scalar (Known a)) = where_suited (sort_suits r.base a.sort) (base_decided r.base a.sort) (scalar_goes e)
-        (λ b. where_in_type _ (is_between r.low a.number r.high) e (things.scalar e b) (within_decided r.low a.number r.high))
-    suited_by (Some (shape.Scalar r)) e (side_scalar (Run b d)) = where_suited (bases_suit r.base b) (bases_decided r.base b) (scalar_goes e) (λ w. suits_well d (things.scalar e w) (λ o. elim o [ ]))
+    suited_by (Some (shape.Scalar r)) e (side_scalar (Known a)) =
+        where_suited (sort_suits r.base a.sort) (base_decided r.base a.sort) (scalar_goes e)
+        (λ b. where_in_type _ (is_between r.low a.number r.high) e (things.scalar e b)
+        (within_decided r.low a.number r.high))
+    suited_by (Some (shape.Scalar r)) e (side_scalar (Run b d)) =
+        where_suited (bases_suit r.base b) (bases_decided r.base b) (scalar_goes e)
+        (λ w. suits_well d (things.scalar e w) (λ o. elim o [ ]))
     suited_by (Some (shape.Scalar r)) e (side_set m d) = suits_not (λ m. elim (goes_made m e) [ ])
     suited_by (Some (shape.Scalar r)) e (side_routine u d) = suits_not (λ m. elim (goes_made m e) [ ])
     suited_by (Some (shape.Scalar r)) e (side_procedure q) = suits_not (λ m. elim (goes_made m e) [ ])
@@ -174,9 +191,13 @@ module _ (types : Types) (t : TypeNo) where
     suited_by (Some shape.Set) e (side_text text) = suits_not (λ m. elim (goes_made m e) [ ])
     suited_by (Some shape.Set) e (side_whole u) = suits_not (λ m. elim (goes_made m e) [ ])
     suited_by (Some shape.Set) e side_untaken = suits_not (λ m. elim (goes_made m e) [ ])
-    suited_by (Some (shape.Procedure h)) e (side_routine u d) = where_suited (are_same u t) (same_decided u t) (routine_goes e)
-        (λ q. suits_well d (subst (λ (u : TypeNo). Compatible types t (Routine u)) (sym q) (things.routine e)) (λ o. elim o [ ]))
-    suited_by (Some (shape.Procedure h)) e (side_procedure q) = where_suited (headings_agree types t q.heading) (agree_decided types t q.heading) (procedure_goes e) (λ a. suits_well _ (things.procedure a) (λ o. elim o [ ]))
+    suited_by (Some (shape.Procedure h)) e (side_routine u d) =
+        where_suited (are_same u t) (same_decided u t) (routine_goes e)
+        (λ q. suits_well d (subst (λ (u : TypeNo). Compatible types t (Routine u)) (sym q) (things.routine e))
+        (λ o. elim o [ ]))
+    suited_by (Some (shape.Procedure h)) e (side_procedure q) =
+        where_suited (headings_agree types t q.heading) (agree_decided types t q.heading) (procedure_goes e)
+        (λ a. suits_well _ (things.procedure a) (λ o. elim o [ ]))
     suited_by (Some (shape.Procedure h)) e (side_scalar q) = suits_not (λ m. elim (goes_made m e) [ ])
     suited_by (Some (shape.Procedure h)) e (side_set m d) = suits_not (λ m. elim (goes_made m e) [ ])
     suited_by (Some (shape.Procedure h)) e (side_text text) = suits_not (λ m. elim (goes_made m e) [ ])
@@ -185,7 +206,9 @@ module _ (types : Types) (t : TypeNo) where
 
     -- a value at a place of this type
     pub value_suits : {x : Computed} {c : Kind} → IsKind x c → Suited (operand c) (value_suited g broken types t at x)
-    value_suits {x = x} {c = c} i = subst (λ (s : Class). Suited (operand c) (value_in g broken types t at (side_of x) s)) (sym (class_is types t)) (suited_by (shape_at types t) refl (side_is i))
+    value_suits {x = x} {c = c} i = subst (λ (s : Class). Suited (operand c)
+        (value_in g broken types t at (side_of x) s)) (sym (class_is types t))
+        (suited_by (shape_at types t) refl (side_is i))
 
 -- ---- what is taken as a value
 
@@ -199,7 +222,8 @@ loaded_by t d (Some (shape.Procedure h)) = kind_routine t _
 loaded_by t d (Some (shape.Open e)) = kind_whole t d
 
 pub loaded_is : (types : Types) (t : TypeNo) (d : Place) → IsKind (loaded_as t d (class_at types t)) (content types t)
-loaded_is types t d = subst (λ (s : Class). IsKind (loaded_as t d s) (content types t)) (sym (class_is types t)) (loaded_by t d (shape_at types t))
+loaded_is types t d = subst (λ (s : Class). IsKind (loaded_as t d s) (content types t)) (sym (class_is types t))
+    (loaded_by t d (shape_at types t))
 
 given_by : (t : TypeNo) (e : TypedExpr) (s : Option Shape) → IsKind (given_as t e (class_of s)) (result_of t s)
 given_by t e None = kind_untaken
@@ -211,19 +235,26 @@ given_by t e (Some (shape.Procedure h)) = kind_routine t e
 given_by t e (Some (shape.Open u)) = kind_untaken
 
 pub given_is : (types : Types) (t : TypeNo) (e : TypedExpr) → IsKind (elaborated_given types t e) (result_kind types t)
-given_is types t e = subst (λ (s : Class). IsKind (given_as t e s) (result_kind types t)) (sym (class_is types t)) (given_by t e (shape_at types t))
+given_is types t e = subst (λ (s : Class). IsKind (given_as t e s) (result_kind types t)) (sym (class_is types t))
+    (given_by t e (shape_at types t))
 
 module _ (g : Gathers) (j : Judges g) (lawful : Lawful g j) (O : Breach → Type 0) (types : Types) (at : Pos) where
-  pub taken_answers : (a : Designated) (x : Thing) → IsThing a x → Answers g j O IsKind (Taken types x) (Mistaken at x) (value_at_place g types at a)
+  pub taken_answers : (a : Designated) (x : Thing) → IsThing a x
+      → Answers g j O IsKind (Taken types x) (Mistaken at x) (value_at_place g types at a)
   taken_answers _ _ (thing_value {v = v} {k = k} i) = means v k i refl (λ l e. e) (λ f m. m)
-  taken_answers _ _ (thing_variable t d) = means (loaded_as t d (class_at types t)) (content types t) (loaded_is types t d) refl (λ l e. e) (λ f m. m)
+  taken_answers _ _ (thing_variable t d) =
+      means (loaded_as t d (class_at types t)) (content types t) (loaded_is types t d) refl (λ l e. e) (λ f m. m)
   taken_answers _ _ (thing_open t s) = means computed.Untaken Untaken kind_untaken refl (λ l e. e) (λ f m. m)
   taken_answers _ _ (thing_type t) = declined g j lawful O at rule.WrongType (λ k m. m) refl (λ f m. m)
-  taken_answers _ _ (thing_procedure p) = means (computed.Procedure p) (Procedure p.heading) (kind_procedure p) refl (λ l e. e) (λ f m. m)
+  taken_answers _ _ (thing_procedure p) =
+      means (computed.Procedure p) (Procedure p.heading) (kind_procedure p) refl (λ l e. e) (λ f m. m)
   taken_answers _ _ (thing_nested p) = declined g j lawful O at rule.NoProcedureValue (λ k m. m) refl (λ f m. m)
   taken_answers _ _ (thing_standard p) = declined g j lawful O at rule.NoProcedureValue (λ k m. m) refl (λ f m. m)
   taken_answers _ _ (thing_module k) = declined g j lawful O at rule.WrongType (λ k m. m) refl (λ f m. m)
 
-  pub value_answers : {S : Thing → Type 0} {B : Breach → Type 0} {d : Result Designated (Meaningless g.Reported)} → Finds g j lawful O S B d
-      → Answers g j O IsKind (λ k. (x : Thing) × S x × Taken types x k) (λ f. B f ⊎ ((x : Thing) × S x × Mistaken at x f)) (value_standing g types at d)
-  value_answers h = found_value g j lawful O at h taken_answers (λ k m. m) (λ f m. m) (declined g j lawful O at rule.NoProcedureValue (λ k m. m) refl (λ f m. m))
+  pub value_answers : {S : Thing → Type 0} {B : Breach → Type 0} {d : Result Designated (Meaningless g.Reported)}
+      → Finds g j lawful O S B d
+      → Answers g j O IsKind (λ k. (x : Thing) × S x × Taken types x k)
+      (λ f. B f ⊎ ((x : Thing) × S x × Mistaken at x f)) (value_standing g types at d)
+  value_answers h = found_value g j lawful O at h taken_answers (λ k m. m) (λ f m. m)
+      (declined g j lawful O at rule.NoProcedureValue (λ k m. m) refl (λ f m. m))

@@ -89,33 +89,44 @@ module _ (g : Gathers) (j : Judges g) (lawful : Lawful g j) (O : Breach → Type
   designated_answers (meaning.Standard f) = names_it (thing_standard f)
   designated_answers (meaning.Module k) = names_it (thing_module k)
 
-  pub exported_answers : (s : Standing) (m : Option Meaning) → Exports g j s m → Named s (export_of g at m ▷ designated_by g level at)
+  pub exported_answers : (s : Standing) (m : Option Meaning) → Exports g j s m
+      → Named s (export_of g at m ▷ designated_by g level at)
   exported_answers _ _ (has_exported m) = designated_answers m
-  exported_answers _ _ has_nothing = declined g j lawful O at rule.NotExported (λ x e. absurd cc) not_exported only_not_exported
+  exported_answers _ _ has_nothing = declined g j lawful O at rule.NotExported (λ x e. absurd cc) not_exported
+      only_not_exported
 
-module _ (g : Gathers) (j : Judges g) (lawful : Lawful g j) (names : Ident → Standing) (exports : ℕ → Ident → Standing) (s : Scope g.Reported) (knows : Knows g j names exports s) where
+module _ (g : Gathers) (j : Judges g) (lawful : Lawful g j) (names : Ident → Standing) (exports : ℕ → Ident → Standing)
+    (s : Scope g.Reported) (knows : Knows g j names exports s) where
   abbrev R : Breach → Type 0
   R = Repeats g j names s
 
   abbrev FindsIt : Standing → Pos → Result Designated (Meaningless g.Reported) → Type 0
   FindsIt st at d = Finds g j lawful R (λ x. st ≡ Known x) (Misnamed at st) d
 
-  seen_finds : (name : Ident) (st : Standing) (r : Result Meaning (Meaningless g.Reported)) → names name ≡ st → looked_up g s name ≡ r → Sees g j name.pos st r
+  seen_finds : (name : Ident) (st : Standing) (r : Result Meaning (Meaningless g.Reported)) → names name ≡ st
+      → looked_up g s name ≡ r → Sees g j name.pos st r
       → FindsIt st name.pos (r ▷ λ m. plain (designated_by g s.level name.pos m))
   seen_finds name _ _ e q (sees m) = plain_finds g j lawful R (designated_answers g j lawful R s.level name.pos m)
-  seen_finds name _ _ e q sees_nothing = finds_nothing (g.one (name.pos ! rule.Undeclared)) (accounts_as g j lawful R (λ f x. subst (Misnamed name.pos Undeclared) (sym x) undeclared) (only_undeclared g j lawful R s.level name.pos) (accounts_one g j lawful R (name.pos ! rule.Undeclared))) (λ y x. absurd cc)
-  seen_finds name _ _ e q (sees_headless b r) = finds_headless b r (λ f m. of_heading e q m) refl (λ y x. sym (known_one x)) (λ f m. elim m [ ])
-  seen_finds name _ _ e q (sees_unknown r) = finds_nothing r (record { only = λ f m. inr (of_declaration e q m); each = λ f m. elim m [ ] }) (λ y x. absurd cc)
+  seen_finds name _ _ e q sees_nothing = finds_nothing (g.one (name.pos ! rule.Undeclared))
+      (accounts_as g j lawful R (λ f x. subst (Misnamed name.pos Undeclared) (sym x) undeclared)
+      (only_undeclared g j lawful R s.level name.pos) (accounts_one g j lawful R (name.pos ! rule.Undeclared)))
+      (λ y x. absurd cc)
+  seen_finds name _ _ e q (sees_headless b r) =
+      finds_headless b r (λ f m. of_heading e q m) refl (λ y x. sym (known_one x)) (λ f m. elim m [ ])
+  seen_finds name _ _ e q (sees_unknown r) =
+      finds_nothing r (record { only = λ f m. inr (of_declaration e q m); each = λ f m. elim m [ ] }) (λ y x. absurd cc)
 
   pub named_finds : (name : Ident) → FindsIt (names name) name.pos (first_name g s name)
   named_finds name = seen_finds name (names name) (looked_up g s name) refl refl (knows.of_names name)
 
   -- A name in front of these components.
-  abbrev pub Begins : (Thing → Type 0) → (Breach → Type 0) → List Selector → Result Designated (Meaningless g.Reported) → Type 0
+  abbrev pub Begins : (Thing → Type 0) → (Breach → Type 0) → List Selector → Result Designated (Meaningless g.Reported)
+      → Type 0
   Begins S B [] d = Finds g j lawful R S B d
   Begins S B (y ∷ ys) d = Leads g j lawful R S B d
 
-  pub begins : {S : Thing → Type 0} {B : Breach → Type 0} {d : Result Designated (Meaningless g.Reported)} (ys : List Selector) → Finds g j lawful R S B d → Begins S B ys d
+  pub begins : {S : Thing → Type 0} {B : Breach → Type 0} {d : Result Designated (Meaningless g.Reported)}
+      (ys : List Selector) → Finds g j lawful R S B d → Begins S B ys d
   begins [] a = a
   begins (y ∷ ys) a = leads a
 
@@ -124,30 +135,45 @@ module _ (g : Gathers) (j : Judges g) (lawful : Lawful g j) (names : Ident → S
     LeadsIt st d = Leads g j lawful R (λ x. leading (y ∷ ys) st ≡ Known x) (Misnamed name.pos (leading (y ∷ ys) st)) d
 
     local_leads : (v : LocalVariable) (k : LocalKind) → LeadsIt (of_local v.of k) (Ok (local_by s.level v k))
-    local_leads v local.Variable = leads (plain_finds g j lawful R (local_answers g j lawful R s.level name.pos v local.Variable))
-    local_leads v local.Value = leads (plain_finds g j lawful R (local_answers g j lawful R s.level name.pos v local.Value))
-    local_leads v local.Alias = leads (plain_finds g j lawful R (local_answers g j lawful R s.level name.pos v local.Alias))
-    local_leads v local.Open = leads (plain_finds g j lawful R (local_answers g j lawful R s.level name.pos v local.Open))
+    local_leads v local.Variable = leads (plain_finds g j lawful R
+        (local_answers g j lawful R s.level name.pos v local.Variable))
+    local_leads v local.Value = leads (plain_finds g j lawful R
+        (local_answers g j lawful R s.level name.pos v local.Value))
+    local_leads v local.Alias = leads (plain_finds g j lawful R
+        (local_answers g j lawful R s.level name.pos v local.Alias))
+    local_leads v local.Open = leads (plain_finds g j lawful R
+        (local_answers g j lawful R s.level name.pos v local.Open))
 
     meaning_leads : (m : Meaning) → LeadsIt (standing m) (leading_meaning g s.level name.pos m)
-    meaning_leads (meaning.Constant v) = leads (plain_finds g j lawful R (designated_answers g j lawful R s.level name.pos (meaning.Constant v)))
-    meaning_leads (meaning.Type t n) = leads (plain_finds g j lawful R (designated_answers g j lawful R s.level name.pos (meaning.Type t n)))
-    meaning_leads (meaning.Variable v) = leads (plain_finds g j lawful R (designated_answers g j lawful R s.level name.pos (meaning.Variable v)))
+    meaning_leads (meaning.Constant v) = leads
+        (plain_finds g j lawful R (designated_answers g j lawful R s.level name.pos (meaning.Constant v)))
+    meaning_leads (meaning.Type t n) = leads
+        (plain_finds g j lawful R (designated_answers g j lawful R s.level name.pos (meaning.Type t n)))
+    meaning_leads (meaning.Variable v) = leads
+        (plain_finds g j lawful R (designated_answers g j lawful R s.level name.pos (meaning.Variable v)))
     meaning_leads (meaning.Local v) = local_leads v v.kind
-    meaning_leads (meaning.Field f) = leads (plain_finds g j lawful R (designated_answers g j lawful R s.level name.pos (meaning.Field f)))
-    meaning_leads (meaning.Procedure p) = leads (plain_finds g j lawful R (designated_answers g j lawful R s.level name.pos (meaning.Procedure p)))
-    meaning_leads (meaning.LocalProcedure p) = leads (plain_finds g j lawful R (designated_answers g j lawful R s.level name.pos (meaning.LocalProcedure p)))
+    meaning_leads (meaning.Field f) = leads
+        (plain_finds g j lawful R (designated_answers g j lawful R s.level name.pos (meaning.Field f)))
+    meaning_leads (meaning.Procedure p) = leads
+        (plain_finds g j lawful R (designated_answers g j lawful R s.level name.pos (meaning.Procedure p)))
+    meaning_leads (meaning.LocalProcedure p) =
+        leads (plain_finds g j lawful R (designated_answers g j lawful R s.level name.pos (meaning.LocalProcedure p)))
     meaning_leads meaning.Ahead = leads_headless false _ refl (λ x e. sym (known_one e)) (λ f m. elim m [ ])
-    meaning_leads (meaning.Standard f) = leads (plain_finds g j lawful R (designated_answers g j lawful R s.level name.pos (meaning.Standard f)))
-    meaning_leads (meaning.Module k) = leads (plain_finds g j lawful R (designated_answers g j lawful R s.level name.pos (meaning.Module k)))
+    meaning_leads (meaning.Standard f) = leads
+        (plain_finds g j lawful R (designated_answers g j lawful R s.level name.pos (meaning.Standard f)))
+    meaning_leads (meaning.Module k) = leads
+        (plain_finds g j lawful R (designated_answers g j lawful R s.level name.pos (meaning.Module k)))
 
-    seen_leads : (st : Standing) (r : Result Meaning (Meaningless g.Reported)) → names name ≡ st → looked_up g s name ≡ r → Sees g j name.pos st r → LeadsIt st (r ▷ leading_meaning g s.level name.pos)
+    seen_leads : (st : Standing) (r : Result Meaning (Meaningless g.Reported)) → names name ≡ st
+        → looked_up g s name ≡ r → Sees g j name.pos st r → LeadsIt st (r ▷ leading_meaning g s.level name.pos)
     seen_leads _ _ e q (sees m) = meaning_leads m
     seen_leads _ _ e q sees_nothing = leads (seen_finds name _ _ e q sees_nothing)
     seen_leads _ _ e q (sees_headless b r) = leads (seen_finds name _ _ e q (sees_headless b r))
     seen_leads _ _ e q (sees_unknown r) = leads (seen_finds name _ _ e q (sees_unknown r))
 
-  pub name_begins : (name : Ident) (ys : List Selector) → Begins (λ x. leading ys (names name) ≡ Known x) (Misnamed name.pos (leading ys (names name))) ys (leading_name g s name ys)
+  pub name_begins : (name : Ident) (ys : List Selector)
+      → Begins (λ x. leading ys (names name) ≡ Known x) (Misnamed name.pos (leading ys (names name))) ys
+      (leading_name g s name ys)
   name_begins name [] = named_finds name
   name_begins name (y ∷ ys) = seen_leads name y ys (names name) (looked_up g s name) refl refl (knows.of_names name)
 
@@ -158,18 +184,28 @@ module _ (g : Gathers) (j : Judges g) (lawful : Lawful g j) (names : Ident → S
     PicksIt x y = Picks s.types exports name x (Known y)
 
     abbrev pub FieldFails : Thing → Breach → Type 0
-    FieldFails x f = (((st : Standing) → Picks s.types exports name x st → ⊥) × (f ≡ at ! rule.WrongType)) ⊎ ((st : Standing) × Picks s.types exports name x st × Misnamed name.pos st f)
+    FieldFails x f = (((st : Standing) → Picks s.types exports name x st → ⊥) × (f ≡ at ! rule.WrongType))
+        ⊎ ((st : Standing) × Picks s.types exports name x st × Misnamed name.pos st f)
 
     abbrev PicksSo : Thing → Result Designated g.Reported → Type 0
     PicksSo x r = Answers g j R IsThing (PicksIt x) (FieldFails x) r
 
-    no_field : {x : Thing} → ((st : Standing) → Picks s.types exports name x st → ⊥) → PicksSo x (report g at rule.WrongType)
-    no_field n = declined g j lawful R at rule.WrongType (λ y p. n (Known y) p) (inl (n, refl)) (λ f z. elim z [ inl w ↦ w.1 | inr w ↦ absurd (n w.0 w.1) ])
+    no_field : {x : Thing} → ((st : Standing) → Picks s.types exports name x st → ⊥)
+        → PicksSo x (report g at rule.WrongType)
+    no_field n = declined g j lawful R at rule.WrongType (λ y p. n (Known y) p) (inl (n, refl))
+        (λ f z. elim z [ inl w ↦ w.1 | inr w ↦ absurd (n w.0 w.1) ])
 
     -- if one standing is picked
-    picks_one : {x : Thing} {r : Result Designated g.Reported} (st : Standing) → Picks s.types exports name x st → ((u : Standing) → Picks s.types exports name x u → u ≡ st) → Answers g j R IsThing (λ y. st ≡ Known y) (Misnamed name.pos st) r → PicksSo x r
-    picks_one {x = x} st p one h = exact g j lawful R (λ y e. subst (Picks s.types exports name x) e p) (λ y q. sym (one (Known y) q)) (λ f m. inr (st, p, m))
-        (λ f z. elim z [ inl w ↦ absurd (w.0 st p) | inr w ↦ subst (λ (u : Standing). Misnamed name.pos u f) (one w.0 w.1) w.2 ]) h
+    picks_one : {x : Thing} {r : Result Designated g.Reported} (st : Standing) → Picks s.types exports name x st
+        → ((u : Standing) → Picks s.types exports name x u → u ≡ st)
+        → Answers g j R IsThing (λ y. st ≡ Known y) (Misnamed name.pos st) r → PicksSo x r
+    picks_one {x = x} st p one h = exact g j lawful R (λ y e. subst (Picks s.types exports name x) e p)
+        (λ y q. sym (one (Known y) q)) (λ f m. inr (st, p, m))
+        (λ f z. elim z [
+          | inl w ↦ absurd (w.0 st p)
+          | inr w ↦ subst (λ (u : Standing). Misnamed name.pos u f)
+              (one w.0 w.1) w.2
+        ]) h
 
     module_one : {k : ℕ} (u : Standing) → Picks s.types exports name (AModule k) u → u ≡ exports k name
     module_one _ of_module = refl
@@ -178,22 +214,38 @@ module _ (g : Gathers) (j : Judges g) (lawful : Lawful g j) (names : Ident → S
     fields_in fs (shape.Record hs) = hs
     fields_in fs other = fs
 
-    record_one : {t : TypeNo} {fs : List (List ℕ × TypeNo)} → IsMade s.types t (shape.Record fs) → (u : Standing) → Picks s.types exports name (AVariable t) u → u ≡ things.field_standing (find_name name.name fs)
-    record_one {t = t} {fs = fs} m _ (of_record q) = ap (λ (hs : List (List ℕ × TypeNo)). things.field_standing (find_name name.name hs)) (ap (fields_in fs) (one_made s.types t q m))
+    record_one : {t : TypeNo} {fs : List (List ℕ × TypeNo)} → IsMade s.types t (shape.Record fs) → (u : Standing)
+        → Picks s.types exports name (AVariable t) u → u ≡ things.field_standing (find_name name.name fs)
+    record_one {t = t} {fs = fs} m _ (of_record q) =
+        ap (λ (hs : List (List ℕ × TypeNo)). things.field_standing (find_name name.name hs))
+        (ap (fields_in fs) (one_made s.types t q m))
 
-    not_record : {t : TypeNo} (z : Option Shape) → shape_at s.types t ≡ z → ((fs : List (List ℕ × TypeNo)) → z ≡ Some (shape.Record fs) → ⊥) → (st : Standing) → Picks s.types exports name (AVariable t) st → ⊥
+    not_record : {t : TypeNo} (z : Option Shape) → shape_at s.types t ≡ z
+        → ((fs : List (List ℕ × TypeNo)) → z ≡ Some (shape.Record fs) → ⊥) → (st : Standing)
+        → Picks s.types exports name (AVariable t) st → ⊥
     not_record z e n _ (of_record m) = n _ (sym e ∙ m)
 
     field_by : (t : TypeNo) (d : Place) (fs : List (List ℕ × TypeNo)) (o : Option (ℕ × TypeNo)) → FieldIs name.name fs o
-        → Answers g j R IsThing (λ y. things.field_standing (find_name name.name fs) ≡ Known y) (Misnamed name.pos (things.field_standing (find_name name.name fs))) (field_named g name.pos o ▷ λ f. Ok (designated.Variable f.1 (behind d (part.Field t f.0))))
-    field_by t d fs _ (field_there n u e) = subst (λ (o : Option TypeNo). Answers g j R IsThing (λ y. things.field_standing o ≡ Known y) (Misnamed name.pos (things.field_standing o)) (Ok (designated.Variable u (behind d (part.Field t n))))) (sym e)
+        → Answers g j R IsThing (λ y. things.field_standing (find_name name.name fs) ≡ Known y)
+        (Misnamed name.pos (things.field_standing (find_name name.name fs)))
+        (field_named g name.pos o ▷ λ f. Ok (designated.Variable f.1 (behind d (part.Field t f.0))))
+    field_by t d fs _ (field_there n u e) =
+        subst (λ (o : Option TypeNo). Answers g j R IsThing (λ y. things.field_standing o ≡ Known y)
+        (Misnamed name.pos (things.field_standing o)) (Ok (designated.Variable u (behind d (part.Field t n))))) (sym e)
         (names_it g j lawful R s.level name.pos (thing_variable u _))
-    field_by t d fs _ (field_nowhere e) = subst (λ (o : Option TypeNo). Answers g j R IsThing (λ y. things.field_standing o ≡ Known y) (Misnamed name.pos (things.field_standing o)) (report g name.pos rule.Undeclared)) (sym e)
-        (declined g j lawful R name.pos rule.Undeclared (λ x q. absurd cc) undeclared (only_undeclared g j lawful R s.level name.pos))
+    field_by t d fs _ (field_nowhere e) = subst
+        (λ (o : Option TypeNo). Answers g j R IsThing (λ y. things.field_standing o ≡ Known y)
+        (Misnamed name.pos (things.field_standing o)) (report g name.pos rule.Undeclared)) (sym e)
+        (declined g j lawful R name.pos rule.Undeclared (λ x q. absurd cc) undeclared
+        (only_undeclared g j lawful R s.level name.pos))
 
-    component_by : (t : TypeNo) (d : Place) (z : Option Shape) → shape_at s.types t ≡ z → PicksSo (AVariable t) (record_field g at name (fields_of z) ▷ λ f. Ok (designated.Variable f.1 (behind d (part.Field t f.0))))
+    component_by : (t : TypeNo) (d : Place) (z : Option Shape) → shape_at s.types t ≡ z
+        → PicksSo (AVariable t) (record_field g at name (fields_of z) ▷ λ f. Ok
+        (designated.Variable f.1 (behind d (part.Field t f.0))))
     component_by t d None e = no_field (not_record None e (λ fs q. absurd cc))
-    component_by t d (Some (shape.Record fs)) e = picks_one (things.field_standing (find_name name.name fs)) (of_record e) (record_one e) (field_by t d fs (numbered_field name.name fs) (field_is name.name fs))
+    component_by t d (Some (shape.Record fs)) e =
+        picks_one (things.field_standing (find_name name.name fs)) (of_record e) (record_one e)
+        (field_by t d fs (numbered_field name.name fs) (field_is name.name fs))
     component_by t d (Some (shape.Scalar r)) e = no_field (not_record _ e (λ fs q. absurd cc))
     component_by t d (Some shape.Set) e = no_field (not_record _ e (λ fs q. absurd cc))
     component_by t d (Some (shape.Array i u)) e = no_field (not_record _ e (λ fs q. absurd cc))
@@ -201,7 +253,9 @@ module _ (g : Gathers) (j : Judges g) (lawful : Lawful g j) (names : Ident → S
     component_by t d (Some (shape.Open u)) e = no_field (not_record _ e (λ fs q. absurd cc))
 
     component_answers : (t : TypeNo) (d : Place) → PicksSo (AVariable t) (component g s.types at name t d)
-    component_answers t d = subst (λ (fs : Option (List (List ℕ × TypeNo))). PicksSo (AVariable t) (record_field g at name fs ▷ λ f. Ok (designated.Variable f.1 (behind d (part.Field t f.0))))) (sym (fields_is s.types t)) (component_by t d (shape_at s.types t) refl)
+    component_answers t d = subst (λ (fs : Option (List (List ℕ × TypeNo))). PicksSo (AVariable t)
+        (record_field g at name fs ▷ λ f. Ok (designated.Variable f.1 (behind d (part.Field t f.0)))))
+        (sym (fields_is s.types t)) (component_by t d (shape_at s.types t) refl)
 
     pub field_answers : (a : Designated) (x : Thing) → IsThing a x → PicksSo x (field_of g s at name a)
     field_answers _ _ (thing_value i) = no_field (λ st p. elim p [ ])
@@ -211,11 +265,16 @@ module _ (g : Gathers) (j : Judges g) (lawful : Lawful g j) (names : Ident → S
     field_answers _ _ (thing_procedure p) = no_field (λ st p. elim p [ ])
     field_answers _ _ (thing_nested p) = no_field (λ st p. elim p [ ])
     field_answers _ _ (thing_standard p) = no_field (λ st p. elim p [ ])
-    field_answers _ _ (thing_module k) = picks_one (exports k name) of_module module_one (exported_answers g j lawful R s.level name.pos (exports k name) (exported_by name.name (slice_get s.tables k)) (knows.of_modules k name))
+    field_answers _ _ (thing_module k) = picks_one (exports k name) of_module module_one
+        (exported_answers g j lawful R s.level name.pos (exports k name) (exported_by name.name (slice_get s.tables k))
+        (knows.of_modules k name))
 
-    pub field_finds : {S : Thing → Type 0} {B : Breach → Type 0} {d : Result Designated (Meaningless g.Reported)} → Leads g j lawful R S B d
-        → Finds g j lawful R (λ y. (x : Thing) × S x × Picks s.types exports name x (Known y)) (λ f. B f ⊎ ((x : Thing) × S x × FieldFails x f)) (field_at g s at name d)
-    field_finds h = plain_finds g j lawful R (leading_answers g j lawful R at rule.WrongType h field_answers (λ b. no_field (λ st p. elim p [ ])))
+    pub field_finds : {S : Thing → Type 0} {B : Breach → Type 0} {d : Result Designated (Meaningless g.Reported)}
+        → Leads g j lawful R S B d
+        → Finds g j lawful R (λ y. (x : Thing) × S x × Picks s.types exports name x (Known y))
+        (λ f. B f ⊎ ((x : Thing) × S x × FieldFails x f)) (field_at g s at name d)
+    field_finds h = plain_finds g j lawful R
+        (leading_answers g j lawful R at rule.WrongType h field_answers (λ b. no_field (λ st p. elim p [ ])))
 
   -- ---- elements
 
@@ -238,18 +297,22 @@ module _ (g : Gathers) (j : Judges g) (lawful : Lawful g j) (names : Ident → S
     index_in p (shape.Array i e) = (i, e)
     index_in p other = p
 
-    array_one : {t i e k u : TypeNo} → IsMade s.types t (shape.Array i e) → Indexes s.types (AVariable t) k u → ◌≡◌ {A = TypeNo × TypeNo} (k, u) (i, e)
+    array_one : {t i e k u : TypeNo} → IsMade s.types t (shape.Array i e) → Indexes s.types (AVariable t) k u
+        → ◌≡◌ {A = TypeNo × TypeNo} (k, u) (i, e)
     array_one {t = t} {i = i} {e = e} m (of_array q) = ap (index_in (i, e)) (one_made s.types t q m)
 
     open_one : {t k u : TypeNo} → Indexes s.types (AnOpenArray t) k u → ◌≡◌ {A = TypeNo × TypeNo} (k, u) (cardinal, t)
     open_one of_open = refl
 
-    not_array : {t : TypeNo} (z : Option Shape) → shape_at s.types t ≡ z → ((i e : TypeNo) → z ≡ Some (shape.Array i e) → ⊥) → (i e : TypeNo) → Indexes s.types (AVariable t) i e → ⊥
+    not_array : {t : TypeNo} (z : Option Shape) → shape_at s.types t ≡ z
+        → ((i e : TypeNo) → z ≡ Some (shape.Array i e) → ⊥) → (i e : TypeNo) → Indexes s.types (AVariable t) i e → ⊥
     not_array z e n i u (of_array m) = n i u (sym e ∙ m)
 
-    array_by : (t : TypeNo) (d : Place) (z : Option Shape) → shape_at s.types t ≡ z → IndexesSo (AVariable t) (array_indexed g at t d (array_of z))
+    array_by : (t : TypeNo) (d : Place) (z : Option Shape) → shape_at s.types t ≡ z
+        → IndexesSo (AVariable t) (array_indexed g at t d (array_of z))
     array_by t d None e = no_elements (not_array None e (λ i u q. absurd cc))
-    array_by t d (Some (shape.Array i u)) e = means _ (i, u) (indexed_array t i u d) (of_array e) (λ p q. array_one e q) (λ f x. x.0 i u (of_array e))
+    array_by t d (Some (shape.Array i u)) e =
+        means _ (i, u) (indexed_array t i u d) (of_array e) (λ p q. array_one e q) (λ f x. x.0 i u (of_array e))
     array_by t d (Some (shape.Scalar r)) e = no_elements (not_array _ e (λ i u q. absurd cc))
     array_by t d (Some shape.Set) e = no_elements (not_array _ e (λ i u q. absurd cc))
     array_by t d (Some (shape.Record fs)) e = no_elements (not_array _ e (λ i u q. absurd cc))
@@ -258,15 +321,19 @@ module _ (g : Gathers) (j : Judges g) (lawful : Lawful g j) (names : Ident → S
 
     indices_answers : (a : Designated) (x : Thing) → IsThing a x → IndexesSo x (indices g s.types at a)
     indices_answers _ _ (thing_value i) = no_elements (λ i t q. elim q [ ])
-    indices_answers _ _ (thing_variable t d) = subst (λ (o : Option (TypeNo × TypeNo)). IndexesSo (AVariable t) (array_indexed g at t d o)) (sym (array_is s.types t)) (array_by t d (shape_at s.types t) refl)
-    indices_answers _ _ (thing_open t u) = means _ (cardinal, t) (indexed_open t u) of_open (λ p q. open_one q) (λ f x. x.0 cardinal t of_open)
+    indices_answers _ _ (thing_variable t d) =
+        subst (λ (o : Option (TypeNo × TypeNo)). IndexesSo (AVariable t) (array_indexed g at t d o))
+        (sym (array_is s.types t)) (array_by t d (shape_at s.types t) refl)
+    indices_answers _ _ (thing_open t u) =
+        means _ (cardinal, t) (indexed_open t u) of_open (λ p q. open_one q) (λ f x. x.0 cardinal t of_open)
     indices_answers _ _ (thing_type t) = no_elements (λ i t q. elim q [ ])
     indices_answers _ _ (thing_procedure p) = no_elements (λ i t q. elim q [ ])
     indices_answers _ _ (thing_nested p) = no_elements (λ i t q. elim q [ ])
     indices_answers _ _ (thing_standard p) = no_elements (λ i t q. elim q [ ])
     indices_answers _ _ (thing_module k) = no_elements (λ i t q. elim q [ ])
 
-    picked_is : {a : Subscripted} {p : TypeNo × TypeNo} (x : TypedExpr) → IsIndexed a p → IsThing (element_of_array x a) (AVariable p.1)
+    picked_is : {a : Subscripted} {p : TypeNo × TypeNo} (x : TypedExpr) → IsIndexed a p
+        → IsThing (element_of_array x a) (AVariable p.1)
     picked_is x (indexed_array t i e d) = thing_variable e _
     picked_is x (indexed_open e u) = thing_variable e _
 
@@ -281,16 +348,34 @@ module _ (g : Gathers) (j : Judges g) (lawful : Lawful g j) (names : Ident → S
     abbrev pub IndexFails : Pos → (TypeNo × TypeNo) × Kind → Breach → Type 0
     IndexFails spot p f = Misassigned s.types p.0.0 spot rule.NotAssignable (operand p.1) f
 
-    index_answers : (spot : Pos) (a : Subscripted) (p : TypeNo × TypeNo) (x : Computed) (c : Kind) → IsIndexed a p → IsKind x c → Answers g j R IsThing (ElementOf (p, c)) (IndexFails spot (p, c)) (with_index g s.types spot a x)
-    index_answers spot a p x c i k = exact g j lawful R {M = λ y. IsAssignable s.types (index_type a) (operand c) × (y ≡ AVariable p.1)} {B = λ f. Misassigned s.types (index_type a) spot rule.NotAssignable (operand c) f ⊎ (IsAssignable s.types (index_type a) (operand c) × ⊥)}
-        (λ y m. (subst (λ (t : TypeNo). IsAssignable s.types t (operand c)) (sym (asked_is i)) m.0, m.1)) (λ y m. (subst (λ (t : TypeNo). IsAssignable s.types t (operand c)) (asked_is i) m.0, m.1))
-        (λ f z. elim z [ inl w ↦ subst (λ (t : TypeNo). Misassigned s.types t spot rule.NotAssignable (operand c) f) (sym (asked_is i)) w | inr w ↦ absurd w.1 ])
-        (λ f w. inl (subst (λ (t : TypeNo). Misassigned s.types t spot rule.NotAssignable (operand c) f) (asked_is i) w))
-        (then_checked g j lawful R (value_suits s.types (index_type a) g j lawful R rule.NotAssignable spot k) (λ e m. means (element_of_array e a) (AVariable p.1) (picked_is e i) refl (λ y q. q) (λ f b. b)))
+    index_answers : (spot : Pos) (a : Subscripted) (p : TypeNo × TypeNo) (x : Computed) (c : Kind) → IsIndexed a p
+        → IsKind x c → Answers g j R IsThing (ElementOf (p, c)) (IndexFails spot (p, c)) (with_index g s.types spot a x)
+    index_answers spot a p x c i k = exact g j lawful R
+        {M = λ y. IsAssignable s.types (index_type a) (operand c) × (y ≡ AVariable p.1)}
+        {B = λ f. Misassigned s.types (index_type a) spot rule.NotAssignable (operand c) f
+        ⊎ (IsAssignable s.types (index_type a) (operand c) × ⊥)}
+        (λ y m. (subst (λ (t : TypeNo). IsAssignable s.types t (operand c)) (sym (asked_is i)) m.0, m.1))
+        (λ y m. (subst (λ (t : TypeNo). IsAssignable s.types t (operand c)) (asked_is i) m.0, m.1))
+        (λ f z. elim z [
+          | inl w ↦ subst (λ (t : TypeNo). Misassigned s.types t spot rule.NotAssignable (operand c) f)
+              (sym (asked_is i)) w
+          | inr w ↦ absurd w.1
+        ])
+        (λ f w. inl (subst (λ (t : TypeNo). Misassigned s.types t spot rule.NotAssignable (operand c) f) (asked_is i)
+        w))
+        (then_checked g j lawful R (value_suits s.types (index_type a) g j lawful R rule.NotAssignable spot k)
+        (λ e m. means (element_of_array e a) (AVariable p.1) (picked_is e i) refl (λ y q. q) (λ f b. b)))
 
-    pub index_finds : {S : Thing → Type 0} {B : Breach → Type 0} {M : Kind → Type 0} {C : Breach → Type 0} {d : Result Designated (Meaningless g.Reported)} {x : Result Computed g.Reported} (spot : Pos) → Leads g j lawful R S B d → Answers g j R IsKind M C x
-        → Finds g j lawful R (λ y. (p : (TypeNo × TypeNo) × Kind) × (((z : Thing) × S z × Indexes s.types z p.0.0 p.0.1) × M p.1) × ElementOf p y)
-        (λ f. ((B f ⊎ ((z : Thing) × S z × NoElements z f)) ⊎ C f) ⊎ ((p : (TypeNo × TypeNo) × Kind) × (((z : Thing) × S z × Indexes s.types z p.0.0 p.0.1) × M p.1) × IndexFails spot p f)) (index_at g s.types at d spot x)
-    index_finds spot h a = plain_finds g j lawful R (then_answer g j lawful R {N = λ p y. ElementOf p y} {D = λ p f. IndexFails spot p f}
-        (both_answer g j lawful R (leading_answers g j lawful R {N = λ z p. Indexes s.types z p.0 p.1} {D = NoElements} at rule.WrongType h indices_answers (λ b. no_elements (λ i t q. elim q [ ]))) a)
+    pub index_finds : {S : Thing → Type 0} {B : Breach → Type 0} {M : Kind → Type 0} {C : Breach → Type 0}
+        {d : Result Designated (Meaningless g.Reported)} {x : Result Computed g.Reported} (spot : Pos)
+        → Leads g j lawful R S B d → Answers g j R IsKind M C x
+        → Finds g j lawful R (λ y. (p : (TypeNo × TypeNo) × Kind)
+        × (((z : Thing) × S z × Indexes s.types z p.0.0 p.0.1) × M p.1) × ElementOf p y)
+        (λ f. ((B f ⊎ ((z : Thing) × S z × NoElements z f)) ⊎ C f)
+        ⊎ ((p : (TypeNo × TypeNo) × Kind) × (((z : Thing) × S z × Indexes s.types z p.0.0 p.0.1) × M p.1)
+        × IndexFails spot p f)) (index_at g s.types at d spot x)
+    index_finds spot h a = plain_finds g j lawful R
+        (then_answer g j lawful R {N = λ p y. ElementOf p y} {D = λ p f. IndexFails spot p f}
+        (both_answer g j lawful R (leading_answers g j lawful R {N = λ z p. Indexes s.types z p.0 p.1} {D = NoElements}
+        at rule.WrongType h indices_answers (λ b. no_elements (λ i t q. elim q [ ]))) a)
         (λ p k i. index_answers spot p.0 k.0 p.1 k.1 i.0 i.1))

@@ -64,10 +64,12 @@ module _ (g : Gathers) (j : Judges g) (lawful : Lawful g j) (O : Breach → Type
   no_selector n = declined g j lawful O at rule.WrongType (λ t m. n m.0 m.1) (n, refl) (λ f z. z.1)
 
   a_selector : (a : Amount) (v : TypeNo × TypedExpr) → SelectsIn a v.0 → SelectorSo (Scalar a) (Ok v)
-  a_selector a v m = means v v.0 refl (a, refl, m) (λ t q. one_base m (subst (λ (b : Amount). SelectsIn b t) (sym (ap (amount_in a) q.1)) q.2)) (λ f z. z.0 a refl)
+  a_selector a v m = means v v.0 refl (a, refl, m)
+      (λ t q. one_base m (subst (λ (b : Amount). SelectsIn b t) (sym (ap (amount_in a) q.1)) q.2)) (λ f z. z.0 a refl)
 
   side_selects : {p : Option Side} {c : Kind} → IsSide p c → SelectorSo c (selector_of g at p)
-  side_selects (side_scalar (KnownSide a)) = a_selector (Constant a.sort a.number) (selector_amount (KnownSide a)) (constant_in a.number a.sort)
+  side_selects (side_scalar (KnownSide a)) =
+      a_selector (Constant a.sort a.number) (selector_amount (KnownSide a)) (constant_in a.number a.sort)
   side_selects (side_scalar (Run b e)) = a_selector (Value b) (b, e) value_type
   side_selects (side_set m e) = no_selector (λ a q. absurd cc)
   side_selects (side_routine t e) = no_selector (λ a q. absurd cc)
@@ -76,22 +78,33 @@ module _ (g : Gathers) (j : Judges g) (lawful : Lawful g j) (O : Breach → Type
   side_selects (side_whole t) = no_selector (λ a q. absurd cc)
   side_selects side_untaken = no_selector (λ a q. absurd cc)
 
-module _ (g : Gathers) (j : Judges g) (lawful : Lawful g j) (names : Ident → Standing) (exports : ℕ → Ident → Standing) (s : Scope g.Reported) (knows : Knows g j names exports s) where
+module _ (g : Gathers) (j : Judges g) (lawful : Lawful g j) (names : Ident → Standing) (exports : ℕ → Ident → Standing)
+    (s : Scope g.Reported) (knows : Knows g j names exports s) where
   abbrev E : Breach → Type 0
   E = Repeats g j names s
 
-  pub selector_answers : (e : Expr) → Answers g j E (λ (v : TypeNo × TypedExpr) (t : TypeNo). v.0 ≡ t) (IsSelector s.types names exports e) (BrokenSelector s.types names exports e) (case_selector g s (meanings_of g e))
-  selector_answers e = subst (λ (at : Pos). Answers g j E (λ (v : TypeNo × TypedExpr) (t : TypeNo). v.0 ≡ t) (IsSelector s.types names exports e) (BrokenSelector s.types names exports e) (value_of g s (meanings_of g e) ▷ λ v. selector_of g at (side_of v))) (sym (at_is g e))
+  pub selector_answers : (e : Expr) → Answers g j E (λ (v : TypeNo × TypedExpr) (t : TypeNo). v.0 ≡ t)
+      (IsSelector s.types names exports e) (BrokenSelector s.types names exports e)
+      (case_selector g s (meanings_of g e))
+  selector_answers e = subst (λ (at : Pos). Answers g j E (λ (v : TypeNo × TypedExpr) (t : TypeNo). v.0 ≡ t)
+      (IsSelector s.types names exports e) (BrokenSelector s.types names exports e)
+      (value_of g s (meanings_of g e) ▷ λ v. selector_of g at (side_of v))) (sym (at_is g e))
       (exact g j lawful E (λ t m. is_selector m.1 m.2.1 m.2.2) parts into out
-      (then_answer g j lawful E {N = λ k t. Selecting g j lawful E (first e) (operand k) t} {D = λ k f. NoScalar g j lawful E (first e) (operand k) f} (exactly g j lawful names exports s knows e) (λ v k q. side_selects g j lawful E (first e) (side_is q))))
+      (then_answer g j lawful E {N = λ k t. Selecting g j lawful E (first e) (operand k) t}
+      {D = λ k f. NoScalar g j lawful E (first e) (operand k) f} (exactly g j lawful names exports s knows e)
+      (λ v k q. side_selects g j lawful E (first e) (side_is q))))
     where
-      parts : (t : TypeNo) → IsSelector s.types names exports e t → (k : Kind) × Has s.types names exports e k × Selecting g j lawful E (first e) (operand k) t
+      parts : (t : TypeNo) → IsSelector s.types names exports e t → (k : Kind) × Has s.types names exports e k
+          × Selecting g j lawful E (first e) (operand k) t
       parts t (is_selector {k = k} {a = a} h q m) = (k, h, (a, q, m))
 
-      into : (f : Breach) → BrokenAsValue s.types names exports e f ⊎ ((k : Kind) × Has s.types names exports e k × NoScalar g j lawful E (first e) (operand k) f) → BrokenSelector s.types names exports e f
+      into : (f : Breach) → BrokenAsValue s.types names exports e f
+          ⊎ ((k : Kind) × Has s.types names exports e k × NoScalar g j lawful E (first e) (operand k) f)
+          → BrokenSelector s.types names exports e f
       into f (inl b) = in_selector b
       into f (inr (k, h, (n, q))) = subst (BrokenSelector s.types names exports e) (sym q) (no_scalar h n)
 
-      out : (f : Breach) → BrokenSelector s.types names exports e f → BrokenAsValue s.types names exports e f ⊎ ((k : Kind) × Has s.types names exports e k × NoScalar g j lawful E (first e) (operand k) f)
+      out : (f : Breach) → BrokenSelector s.types names exports e f → BrokenAsValue s.types names exports e f
+          ⊎ ((k : Kind) × Has s.types names exports e k × NoScalar g j lawful E (first e) (operand k) f)
       out f (in_selector b) = inl b
       out _ (no_scalar {k = k} h n) = inr (k, h, (n, refl))

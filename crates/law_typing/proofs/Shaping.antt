@@ -48,7 +48,8 @@ class_predeclared : (r : Option Range) → class_range r ≡ class_of (Some (pre
 class_predeclared None = refl
 class_predeclared (Some r) = refl
 
-none_predeclared : {A : Type 0} (h : Shape → Option A) → ((r : Range) → h (shape.Scalar r) ≡ None) → h shape.Set ≡ None → (r : Option Range) → None ≡ h (predeclared_shape r)
+none_predeclared : {A : Type 0} (h : Shape → Option A) → ((r : Range) → h (shape.Scalar r) ≡ None) → h shape.Set ≡ None
+    → (r : Option Range) → None ≡ h (predeclared_shape r)
 none_predeclared h a b None = sym b
 none_predeclared h a b (Some r) = sym (a r)
 
@@ -80,11 +81,13 @@ scalar_module None = refl
 scalar_module (Some m) = refl
 
 module _ (types : Types) where
-  class_in : (home : Home) (n : ℕ) → class_from types (record { home = home; number = n }) home ≡ class_of (shape_from types n home)
+  class_in : (home : Home) (n : ℕ) → class_from types (record { home = home; number = n }) home
+      ≡ class_of (shape_from types n home)
   class_in Predeclared n = class_predeclared (predeclared_scalar n)
   class_in (Module home) n = class_module (made_in types home n)
 
-  signature_in : (home : Home) (n : ℕ) → signature_made (made_from types home n) ≡ signature_of (shape_from types n home)
+  signature_in : (home : Home) (n : ℕ) → signature_made (made_from types home n)
+      ≡ signature_of (shape_from types n home)
   signature_in Predeclared n = none_predeclared signature_shape (λ r. refl) refl (predeclared_scalar n)
   signature_in (Module home) n = signature_module (made_in types home n)
 
@@ -126,7 +129,8 @@ pub data SignatureIs (types : Types) (t : TypeNo) : Option Signature → Type 0 
   has_signature : (s : Signature) → IsMade types t (shape.Procedure s) → SignatureIs types t (Some s)
   no_signature : ((s : Signature) → IsMade types t (shape.Procedure s) → ⊥) → SignatureIs types t None
 
-signature_by : (types : Types) (t : TypeNo) (s : Option Shape) → shape_at types t ≡ s → SignatureIs types t (signature_of s)
+signature_by : (types : Types) (t : TypeNo) (s : Option Shape) → shape_at types t ≡ s
+    → SignatureIs types t (signature_of s)
 signature_by types t None e = no_signature (λ s m. let x = sym e ∙ m in absurd cc)
 signature_by types t (Some (shape.Procedure p)) e = has_signature p e
 signature_by types t (Some (shape.Scalar r)) e = no_signature (λ s m. let x = some_same _ _ (sym e ∙ m) in absurd cc)
@@ -136,7 +140,8 @@ signature_by types t (Some (shape.Record fs)) e = no_signature (λ s m. let x = 
 signature_by types t (Some (shape.Open u)) e = no_signature (λ s m. let x = some_same _ _ (sym e ∙ m) in absurd cc)
 
 pub signature_there : (types : Types) (t : TypeNo) → SignatureIs types t (signature_at types t)
-signature_there types t = subst (SignatureIs types t) (sym (signature_is types t)) (signature_by types t (shape_at types t) refl)
+signature_there types t = subst (SignatureIs types t) (sym (signature_is types t))
+    (signature_by types t (shape_at types t) refl)
 
 -- ---- headings that agree
 
@@ -146,14 +151,18 @@ alike_decided true false = fails_it (λ e. absurd cc)
 alike_decided false true = fails_it (λ e. absurd cc)
 alike_decided false false = holds refl
 
-formal_same : {a b c d : Bool} {t u : TypeNo} → a ≡ b → c ≡ d → t ≡ u → ◌≡◌ {A = Formal} (record { is_var = a; is_open = c; of = t }) (record { is_var = b; is_open = d; of = u })
+formal_same : {a b c d : Bool} {t u : TypeNo} → a ≡ b → c ≡ d → t ≡ u
+    → ◌≡◌ {A = Formal} (record { is_var = a; is_open = c; of = t }) (record { is_var = b; is_open = d; of = u })
 formal_same {a = a} {b = b} {c = c} {d = d} {t = t} {u = u} p q r =
-    ap (λ (x : Bool). let f : Formal = record { is_var = x; is_open = c; of = t } in f) p ∙ ap (λ (x : Bool). let f : Formal = record { is_var = b; is_open = x; of = t } in f) q
+    ap (λ (x : Bool). let f : Formal = record { is_var = x; is_open = c; of = t } in f) p
+    ∙ ap (λ (x : Bool). let f : Formal = record { is_var = b; is_open = x; of = t } in f) q
     ∙ ap (λ (x : TypeNo). let f : Formal = record { is_var = b; is_open = d; of = x } in f) r
 
 formal_decided : (f h : Formal) → Decided (f ≡ h) (formal_agrees f h)
-formal_decided f h = decided_as (λ p. formal_same p.0.0 p.0.1 p.1) (λ e. ((ap (λ (f : Formal). f.is_var) e, ap (λ (f : Formal). f.is_open) e), ap (λ (f : Formal). f.of) e))
-    (both_decided (both_decided (alike_decided f.is_var h.is_var) (alike_decided f.is_open h.is_open)) (same_decided f.of h.of))
+formal_decided f h = decided_as (λ p. formal_same p.0.0 p.0.1 p.1)
+    (λ e. ((ap (λ (f : Formal). f.is_var) e, ap (λ (f : Formal). f.is_open) e), ap (λ (f : Formal). f.of) e))
+    (both_decided (both_decided (alike_decided f.is_var h.is_var) (alike_decided f.is_open h.is_open))
+    (same_decided f.of h.of))
 
 cons_same : {x y : Formal} {xs ys : List Formal} → x ≡ y → xs ≡ ys → (x ∷ xs) ≡ (y ∷ ys)
 cons_same {x = x} {y = y} {xs = xs} {ys = ys} p q = ap (λ (z : Formal). z ∷ xs) p ∙ ap (λ (zs : List Formal). y ∷ zs) q
@@ -170,7 +179,8 @@ formals_decided : (fs hs : List Formal) → Decided (fs ≡ hs) (formals_agree f
 formals_decided [] [] = holds refl
 formals_decided [] (h ∷ hs) = fails_it (λ e. absurd cc)
 formals_decided (f ∷ fs) [] = fails_it (λ e. absurd cc)
-formals_decided (f ∷ fs) (h ∷ hs) = decided_as (λ p. cons_same p.0 p.1) (λ e. (ap (first_formal f) e, ap rest_formals e)) (both_decided (formal_decided f h) (formals_decided fs hs))
+formals_decided (f ∷ fs) (h ∷ hs) = decided_as (λ p. cons_same p.0 p.1)
+    (λ e. (ap (first_formal f) e, ap rest_formals e)) (both_decided (formal_decided f h) (formals_decided fs hs))
 
 result_decided : (t u : Option TypeNo) → Decided (t ≡ u) (result_agrees t u)
 result_decided None None = holds refl
@@ -178,11 +188,17 @@ result_decided None (Some u) = fails_it (λ e. absurd cc)
 result_decided (Some t) None = fails_it (λ e. absurd cc)
 result_decided (Some t) (Some u) = decided_as (λ e. ap Some e) (some_same t u) (same_decided t u)
 
-signature_same : {fs hs : List Formal} {t u : Option TypeNo} → fs ≡ hs → t ≡ u → ◌≡◌ {A = Signature} (record { formals = fs; result = t }) (record { formals = hs; result = u })
-signature_same {fs = fs} {hs = hs} {t = t} {u = u} p q = ap (λ (x : List Formal). let s : Signature = record { formals = x; result = t } in s) p ∙ ap (λ (x : Option TypeNo). let s : Signature = record { formals = hs; result = x } in s) q
+signature_same : {fs hs : List Formal} {t u : Option TypeNo} → fs ≡ hs → t ≡ u
+    → ◌≡◌ {A = Signature} (record { formals = fs; result = t }) (record { formals = hs; result = u })
+signature_same {fs = fs} {hs = hs} {t = t} {u = u} p q =
+    ap (λ (x : List Formal). let s : Signature = record { formals = x; result = t } in s) p
+    ∙ ap (λ (x : Option TypeNo). let s : Signature = record { formals = hs; result = x } in s) q
 
-pub signatures_decided : (s h : Signature) → Decided (s ≡ h) (formals_agree s.formals h.formals && result_agrees s.result h.result)
-signatures_decided s h = decided_as (λ p. signature_same p.0 p.1) (λ e. (ap (λ (s : Signature). s.formals) e, ap (λ (s : Signature). s.result) e)) (both_decided (formals_decided s.formals h.formals) (result_decided s.result h.result))
+pub signatures_decided : (s h : Signature)
+    → Decided (s ≡ h) (formals_agree s.formals h.formals && result_agrees s.result h.result)
+signatures_decided s h = decided_as (λ p. signature_same p.0 p.1)
+    (λ e. (ap (λ (s : Signature). s.formals) e, ap (λ (s : Signature). s.result) e))
+    (both_decided (formals_decided s.formals h.formals) (result_decided s.result h.result))
 
 abbrev signature_in_shape : Signature → Shape → Signature
 signature_in_shape s (shape.Procedure p) = p
@@ -192,7 +208,8 @@ signature_in_shape s (shape.Array i e) = s
 signature_in_shape s (shape.Record fs) = s
 signature_in_shape s (shape.Open e) = s
 
-pub one_signature : (types : Types) (t : TypeNo) {a b : Signature} → IsMade types t (shape.Procedure a) → IsMade types t (shape.Procedure b) → a ≡ b
+pub one_signature : (types : Types) (t : TypeNo) {a b : Signature} → IsMade types t (shape.Procedure a)
+    → IsMade types t (shape.Procedure b) → a ≡ b
 one_signature types t {a = a} p q = ap (signature_in_shape a) (one_made types t p q)
 
 agrees_left : {types : Types} {t u : TypeNo} → Agree types t u → (s : Signature) × IsMade types t (shape.Procedure s)
@@ -201,13 +218,17 @@ agrees_left (agree {s = s} p q) = (s, p)
 agrees_right : {types : Types} {t u : TypeNo} → Agree types t u → (s : Signature) × IsMade types u (shape.Procedure s)
 agrees_right (agree {s = s} p q) = (s, q)
 
-agreed : (types : Types) (t u : TypeNo) {a b : Signature} → IsMade types t (shape.Procedure a) → IsMade types u (shape.Procedure b) → Agree types t u → a ≡ b
+agreed : (types : Types) (t u : TypeNo) {a b : Signature} → IsMade types t (shape.Procedure a)
+    → IsMade types u (shape.Procedure b) → Agree types t u → a ≡ b
 agreed types t u p q (agree x y) = one_signature types t p x ∙ one_signature types u y q
 
-agree_by : (types : Types) (t u : TypeNo) {a b : Option Signature} → SignatureIs types t a → SignatureIs types u b → Decided (Agree types t u) (signatures_agree a b)
+agree_by : (types : Types) (t u : TypeNo) {a b : Option Signature} → SignatureIs types t a → SignatureIs types u b
+    → Decided (Agree types t u) (signatures_agree a b)
 agree_by types t u (no_signature n) y = fails_it (λ x. let s = agrees_left x in n s.0 s.1)
 agree_by types t u (has_signature s p) (no_signature n) = fails_it (λ x. let s = agrees_right x in n s.0 s.1)
-agree_by types t u (has_signature s p) (has_signature h q) = decided_as (λ e. agree p (subst (λ (s : Signature). IsMade types u (shape.Procedure s)) (sym e) q)) (λ x. agreed types t u p q x) (signatures_decided s h)
+agree_by types t u (has_signature s p) (has_signature h q) =
+    decided_as (λ e. agree p (subst (λ (s : Signature). IsMade types u (shape.Procedure s)) (sym e) q))
+    (λ x. agreed types t u p q x) (signatures_decided s h)
 
 pub agree_decided : (types : Types) (t u : TypeNo) → Decided (Agree types t u) (headings_agree types t u)
 agree_decided types t u = agree_by types t u (signature_there types t) (signature_there types u)

@@ -107,7 +107,8 @@ abbrev bare_selector : Selector-F SE SS SD SI → Selector-F Expr Selector Desig
 bare_selector x = map-Selector SE SS SD SI Expr Selector Designator Item (λ e. e.0) (λ e. e.0) (λ e. e.0) (λ e. e.0) x
 
 abbrev bare_designator : Designator-F SE SS SD SI → Designator-F Expr Selector Designator Item
-bare_designator x = map-Designator SE SS SD SI Expr Selector Designator Item (λ e. e.0) (λ e. e.0) (λ e. e.0) (λ e. e.0) x
+bare_designator x = map-Designator SE SS SD SI Expr Selector Designator Item (λ e. e.0) (λ e. e.0) (λ e. e.0) (λ e. e.0)
+    x
 
 abbrev bare_item : Item-F SE SS SD SI → Item-F Expr Selector Designator Item
 bare_item x = map-Item SE SS SD SI Expr Selector Designator Item (λ e. e.0) (λ e. e.0) (λ e. e.0) (λ e. e.0) x
@@ -116,11 +117,13 @@ all_args : (xs : List SE) → AreTrees (map (λ (e : SE). e.0) xs)
 all_args [] = no_expression
 all_args (x ∷ xs) = one_expression x.1 (all_args xs)
 
-all_factors : (xs : List (Operator MulOp × SE)) → AreOperandTrees (factors (map (λ (a : Operator MulOp × SE). (a.0, a.1.0)) xs))
+all_factors : (xs : List (Operator MulOp × SE))
+    → AreOperandTrees (factors (map (λ (a : Operator MulOp × SE). (a.0, a.1.0)) xs))
 all_factors [] = no_operand
 all_factors (x ∷ xs) = one_operand x.1.1 (all_factors xs)
 
-all_addends : (xs : List (Operator AddOp × SE)) → AreOperandTrees (addends (map (λ (a : Operator AddOp × SE). (a.0, a.1.0)) xs))
+all_addends : (xs : List (Operator AddOp × SE))
+    → AreOperandTrees (addends (map (λ (a : Operator AddOp × SE). (a.0, a.1.0)) xs))
 all_addends [] = no_operand
 all_addends (x ∷ xs) = one_operand x.1.1 (all_addends xs)
 
@@ -150,17 +153,24 @@ selector_tree s (layer.Field p name) h = λ ss r. a_field h r
 selector_tree s (layer.Index p x) h = λ ss r. an_index h x.1 r
 
 item_tree : (i : Item) (low : SE) (high : Option SE) → out-Item i ≡ bare_item (record { low = low; high = high }) → PI i
-item_tree i low None h = λ is r. one_item (subst (λ (y : Item-F Expr Selector Designator Item). IsTree y.low) (sym h) low.1) (ap (λ (y : Item-F Expr Selector Designator Item). y.high) h) r
-item_tree i low (Some high) h = λ is r. one_range (subst (λ (y : Item-F Expr Selector Designator Item). IsTree y.low) (sym h) low.1) (ap (λ (y : Item-F Expr Selector Designator Item). y.high) h) high.1 r
+item_tree i low None h = λ is r. one_item
+    (subst (λ (y : Item-F Expr Selector Designator Item). IsTree y.low) (sym h) low.1)
+    (ap (λ (y : Item-F Expr Selector Designator Item). y.high) h) r
+item_tree i low (Some high) h = λ is r. one_range
+    (subst (λ (y : Item-F Expr Selector Designator Item). IsTree y.low) (sym h) low.1)
+    (ap (λ (y : Item-F Expr Selector Designator Item). y.high) h) high.1 r
 
 step_expr : (x : Expr-F Expr Selector Designator Item) (y : Expr-F SE SS SD SI) → bare y ≡ x → IsTree (roll-Expr x)
 step_expr x y q = expr_tree (roll-Expr x) y (out-roll-Expr x ∙ sym q)
 
-step_selector : (x : Selector-F Expr Selector Designator Item) (y : Selector-F SE SS SD SI) → bare_selector y ≡ x → PS (roll-Selector x)
+step_selector : (x : Selector-F Expr Selector Designator Item) (y : Selector-F SE SS SD SI) → bare_selector y ≡ x
+    → PS (roll-Selector x)
 step_selector x y q = selector_tree (roll-Selector x) y (out-roll-Selector x ∙ sym q)
 
-step_designator : (x : Designator-F Expr Selector Designator Item) (y : Designator-F SE SS SD SI) → bare_designator y ≡ x → PD (roll-Designator x)
-step_designator x y q = subst (λ (z : Designator-F Expr Selector Designator Item). AreSelectorTrees z.selectors) (sym (out-roll-Designator x ∙ sym q)) (all_selectors y.selectors)
+step_designator : (x : Designator-F Expr Selector Designator Item) (y : Designator-F SE SS SD SI)
+    → bare_designator y ≡ x → PD (roll-Designator x)
+step_designator x y q = subst (λ (z : Designator-F Expr Selector Designator Item). AreSelectorTrees z.selectors)
+    (sym (out-roll-Designator x ∙ sym q)) (all_selectors y.selectors)
 
 step_item : (x : Item-F Expr Selector Designator Item) (y : Item-F SE SS SD SI) → bare_item y ≡ x → PI (roll-Item x)
 step_item x y q = item_tree (roll-Item x) y.low y.high (out-roll-Item x ∙ sym q)
@@ -177,23 +187,31 @@ mutual
   pub data IsStmtTree : Stmt → Type 0 where
     tree_assignment : {x : Stmt} {d : Designator} {e : Expr} → out-Stmt x ≡ step.Assign d e → IsStmtTree x
     tree_action : {x : Stmt} {d : Designator} {args : Option (List Expr)} → out-Stmt x ≡ step.Call d args → IsStmtTree x
-    tree_if : {x : Stmt} {c : Expr} {body : List Stmt} {rest : Rest} → out-Stmt x ≡ step.If c body rest → AreStmtTrees body → IsRestTree rest → IsStmtTree x
-    tree_case : {x : Stmt} {e : Expr} {arms : List Arm} {otherwise : Option (List Stmt)} → out-Stmt x ≡ step.Case e arms otherwise → AreArmTrees arms → IsElseTree otherwise → IsStmtTree x
-    tree_while : {x : Stmt} {c : Expr} {body : List Stmt} → out-Stmt x ≡ step.While c body → AreStmtTrees body → IsStmtTree x
-    tree_repeat : {x : Stmt} {body : List Stmt} {c : Expr} → out-Stmt x ≡ step.Repeat body c → AreStmtTrees body → IsStmtTree x
+    tree_if : {x : Stmt} {c : Expr} {body : List Stmt} {rest : Rest} → out-Stmt x ≡ step.If c body rest
+        → AreStmtTrees body → IsRestTree rest → IsStmtTree x
+    tree_case : {x : Stmt} {e : Expr} {arms : List Arm} {otherwise : Option (List Stmt)}
+        → out-Stmt x ≡ step.Case e arms otherwise → AreArmTrees arms → IsElseTree otherwise → IsStmtTree x
+    tree_while : {x : Stmt} {c : Expr} {body : List Stmt} → out-Stmt x ≡ step.While c body → AreStmtTrees body
+        → IsStmtTree x
+    tree_repeat : {x : Stmt} {body : List Stmt} {c : Expr} → out-Stmt x ≡ step.Repeat body c → AreStmtTrees body
+        → IsStmtTree x
     tree_loop : {x : Stmt} {body : List Stmt} → out-Stmt x ≡ step.Loop body → AreStmtTrees body → IsStmtTree x
     tree_exit : {x : Stmt} {at : Pos} → out-Stmt x ≡ step.Exit at → IsStmtTree x
     tree_return : {x : Stmt} {at : Pos} {e : Option Expr} → out-Stmt x ≡ step.Return at e → IsStmtTree x
-    tree_for : {x : Stmt} {name : Ident} {start limit : Expr} {by : Option Expr} {body : List Stmt} → out-Stmt x ≡ step.For name start limit by body → AreStmtTrees body → IsStmtTree x
-    tree_with : {x : Stmt} {d : Designator} {body : List Stmt} → out-Stmt x ≡ step.With d body → AreStmtTrees body → IsStmtTree x
+    tree_for : {x : Stmt} {name : Ident} {start limit : Expr} {by : Option Expr} {body : List Stmt}
+        → out-Stmt x ≡ step.For name start limit by body → AreStmtTrees body → IsStmtTree x
+    tree_with : {x : Stmt} {d : Designator} {body : List Stmt} → out-Stmt x ≡ step.With d body → AreStmtTrees body
+        → IsStmtTree x
 
   pub data AreStmtTrees : List Stmt → Type 0 where
     no_statement : AreStmtTrees []
     one_statement : {x : Stmt} {xs : List Stmt} → IsStmtTree x → AreStmtTrees xs → AreStmtTrees (x ∷ xs)
 
   pub data IsRestTree : Rest → Type 0 where
-    tree_elsif : {r : Rest} {c : Expr} {body : List Stmt} {rest : Rest} → out-Rest r ≡ step.Elsif c body rest → AreStmtTrees body → IsRestTree rest → IsRestTree r
-    tree_end : {r : Rest} {otherwise : Option (List Stmt)} → out-Rest r ≡ step.Else otherwise → IsElseTree otherwise → IsRestTree r
+    tree_elsif : {r : Rest} {c : Expr} {body : List Stmt} {rest : Rest} → out-Rest r ≡ step.Elsif c body rest
+        → AreStmtTrees body → IsRestTree rest → IsRestTree r
+    tree_end : {r : Rest} {otherwise : Option (List Stmt)} → out-Rest r ≡ step.Else otherwise → IsElseTree otherwise
+        → IsRestTree r
 
   pub data IsElseTree : Option (List Stmt) → Type 0 where
     tree_no_else : IsElseTree None
@@ -258,7 +276,8 @@ step_stmt : (x : Stmt-F Rest Stmt Arm) (y : Stmt-F RT ST AT) → bare_stmt y ≡
 step_stmt x y q = stmt_tree (roll-Stmt x) y (out-roll-Stmt x ∙ sym q)
 
 step_arm : (x : Arm-F Rest Stmt Arm) (y : Arm-F RT ST AT) → bare_arm y ≡ x → PA (roll-Arm x)
-step_arm x y q = subst (λ (z : Arm-F Rest Stmt Arm). AreStmtTrees z.body) (sym (out-roll-Arm x ∙ sym q)) (all_statements y.body)
+step_arm x y q = subst (λ (z : Arm-F Rest Stmt Arm). AreStmtTrees z.body) (sym (out-roll-Arm x ∙ sym q))
+    (all_statements y.body)
 
 pub statement_tree : (x : Stmt) → IsStmtTree x
 statement_tree = ind-Stmt IsRestTree IsStmtTree PA step_rest step_stmt step_arm
@@ -268,13 +287,17 @@ statement_tree = ind-Stmt IsRestTree IsStmtTree PA step_rest step_stmt step_arm
 mutual
   pub data IsTypeTree : TypeExpr → Type 0 where
     tree_simple : {e : TypeExpr} {x : Simple} → out-TypeExpr e ≡ type_layer.Simple x → IsTypeTree e
-    tree_array : {e of : TypeExpr} {at : Pos} {index : Simple} → out-TypeExpr e ≡ type_layer.Array at index of → IsTypeTree of → IsTypeTree e
-    tree_record : {e : TypeExpr} {at : Pos} {fields : List Field} → out-TypeExpr e ≡ type_layer.Record at fields → AreFieldTrees fields → IsTypeTree e
-    tree_procedure : {e : TypeExpr} {at : Pos} {xs : List Parameter} {q : Option Qualified} → out-TypeExpr e ≡ type_layer.Procedure at xs q → IsTypeTree e
+    tree_array : {e of : TypeExpr} {at : Pos} {index : Simple} → out-TypeExpr e ≡ type_layer.Array at index of
+        → IsTypeTree of → IsTypeTree e
+    tree_record : {e : TypeExpr} {at : Pos} {fields : List Field} → out-TypeExpr e ≡ type_layer.Record at fields
+        → AreFieldTrees fields → IsTypeTree e
+    tree_procedure : {e : TypeExpr} {at : Pos} {xs : List Parameter} {q : Option Qualified}
+        → out-TypeExpr e ≡ type_layer.Procedure at xs q → IsTypeTree e
 
   pub data AreFieldTrees : List Field → Type 0 where
     no_field_tree : AreFieldTrees []
-    one_field_tree : {f : Field} {fs : List Field} → IsTypeTree (out-Field f).of → AreFieldTrees fs → AreFieldTrees (f ∷ fs)
+    one_field_tree : {f : Field} {fs : List Field} → IsTypeTree (out-Field f).of → AreFieldTrees fs
+        → AreFieldTrees (f ∷ fs)
 
 abbrev PF : Field → Type 0
 PF f = IsTypeTree (out-Field f).of

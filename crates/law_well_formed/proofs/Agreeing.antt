@@ -29,9 +29,12 @@ same_homes (Module m) (Module n) e = ap (λ (k : ℕ). Module k) (eqb-true m n e
 
 same_types : (t u : TypeNo) → are_same t u ≡ true → t ≡ u
 same_types t u e =
-    let homes : t.home ≡ u.home = same_homes t.home u.home (both_left (is_one_home t.home u.home) (t.number == u.number) e) in
-    let numbers : t.number ≡ u.number = eqb-true t.number u.number (both_right (is_one_home t.home u.home) (t.number == u.number) e) in
-    ap (λ (h : Home). record { home = h; number = t.number }) homes ∙ ap (λ (i : ℕ). record { home = u.home; number = i }) numbers
+    let homes : t.home ≡ u.home = same_homes t.home u.home
+    (both_left (is_one_home t.home u.home) (t.number == u.number) e) in
+    let numbers : t.number ≡ u.number = eqb-true t.number u.number
+    (both_right (is_one_home t.home u.home) (t.number == u.number) e) in
+    ap (λ (h : Home). record { home = h; number = t.number }) homes
+    ∙ ap (λ (i : ℕ). record { home = u.home; number = i }) numbers
 
 same_truths : (a b : Bool) → is_one a b ≡ true → a ≡ b
 same_truths true b e = sym e
@@ -41,11 +44,14 @@ same_truths false false e = refl
 same_formals : (f k : Formal) → same_formal f k ≡ true → f ≡ k
 same_formals f k e =
     let rest = both_right (is_one f.is_var k.is_var) (is_one f.is_open k.is_open && are_same f.of k.of) e in
-    let a : f.is_var ≡ k.is_var = same_truths f.is_var k.is_var (both_left (is_one f.is_var k.is_var) (is_one f.is_open k.is_open && are_same f.of k.of) e) in
-    let b : f.is_open ≡ k.is_open = same_truths f.is_open k.is_open (both_left (is_one f.is_open k.is_open) (are_same f.of k.of) rest) in
+    let a : f.is_var ≡ k.is_var = same_truths f.is_var k.is_var
+    (both_left (is_one f.is_var k.is_var) (is_one f.is_open k.is_open && are_same f.of k.of) e) in
+    let b : f.is_open ≡ k.is_open = same_truths f.is_open k.is_open
+    (both_left (is_one f.is_open k.is_open) (are_same f.of k.of) rest) in
     let c : f.of ≡ k.of = same_types f.of k.of (both_right (is_one f.is_open k.is_open) (are_same f.of k.of) rest) in
     ap (λ (x : Bool). record { is_var = x; is_open = f.is_open; of = f.of }) a
-    ∙ (ap (λ (x : Bool). record { is_var = k.is_var; is_open = x; of = f.of }) b ∙ ap (λ (t : TypeNo). record { is_var = k.is_var; is_open = k.is_open; of = t }) c)
+    ∙ (ap (λ (x : Bool). record { is_var = k.is_var; is_open = x; of = f.of }) b
+    ∙ ap (λ (t : TypeNo). record { is_var = k.is_var; is_open = k.is_open; of = t }) c)
 
 same_lists : (fs ks : List Formal) → pointwise same_formal fs ks ≡ true → fs ≡ ks
 same_lists [] [] e = refl
@@ -53,7 +59,8 @@ same_lists [] (k ∷ ks) e = absurd cc
 same_lists (f ∷ fs) [] e = absurd cc
 same_lists (f ∷ fs) (k ∷ ks) e =
     ap (λ (x : Formal). x ∷ fs) (same_formals f k (both_left (same_formal f k) (pointwise same_formal fs ks) e))
-    ∙ ap (λ (xs : List Formal). k ∷ xs) (same_lists fs ks (both_right (same_formal f k) (pointwise same_formal fs ks) e))
+    ∙ ap (λ (xs : List Formal). k ∷ xs) (same_lists fs ks
+    (both_right (same_formal f k) (pointwise same_formal fs ks) e))
 
 same_results : (t u : Option TypeNo) → same_result t u ≡ true → t ≡ u
 same_results None None e = refl
@@ -63,12 +70,16 @@ same_results (Some t) (Some u) e = ap (λ (x : TypeNo). Some x) (same_types t u 
 
 pub same_signatures : (h k : Signature) → agrees h k ≡ true → h ≡ k
 same_signatures h k e =
-    let a : h.formals ≡ k.formals = same_lists h.formals k.formals (both_left (pointwise same_formal h.formals k.formals) (same_result h.result k.result) e) in
-    let b : h.result ≡ k.result = same_results h.result k.result (both_right (pointwise same_formal h.formals k.formals) (same_result h.result k.result) e) in
-    ap (λ (fs : List Formal). record { formals = fs; result = h.result }) a ∙ ap (λ (r : Option TypeNo). record { formals = k.formals; result = r }) b
+    let a : h.formals ≡ k.formals = same_lists h.formals k.formals
+    (both_left (pointwise same_formal h.formals k.formals) (same_result h.result k.result) e) in
+    let b : h.result ≡ k.result = same_results h.result k.result
+    (both_right (pointwise same_formal h.formals k.formals) (same_result h.result k.result) e) in
+    ap (λ (fs : List Formal). record { formals = fs; result = h.result }) a
+    ∙ ap (λ (r : Option TypeNo). record { formals = k.formals; result = r }) b
 
 -- a type whose signature agrees with one has that one
-by_shape : (h : Signature) (y : Made) (s : Shape) → y.shape ≡ s → agree (Some h) (signature_in s) ≡ true → y.shape ≡ shape.Procedure h
+by_shape : (h : Signature) (y : Made) (s : Shape) → y.shape ≡ s → agree (Some h) (signature_in s) ≡ true
+    → y.shape ≡ shape.Procedure h
 by_shape h y (shape.Procedure k) e f = e ∙ ap (λ (x : Signature). shape.Procedure x) (sym (same_signatures h k f))
 by_shape h y (shape.Scalar r) e f = absurd cc
 by_shape h y shape.Set e f = absurd cc
@@ -76,6 +87,7 @@ by_shape h y (shape.Array i j) e f = absurd cc
 by_shape h y (shape.Record fs) e f = absurd cc
 by_shape h y (shape.Open j) e f = absurd cc
 
-pub agreed_made : (h : Signature) (o : Option Made) → agree (Some h) (signature_of o) ≡ true → (y : Made) × ((o ≡ Some y) × (y.shape ≡ shape.Procedure h))
+pub agreed_made : (h : Signature) (o : Option Made) → agree (Some h) (signature_of o) ≡ true → (y : Made)
+    × ((o ≡ Some y) × (y.shape ≡ shape.Procedure h))
 agreed_made h None e = absurd cc
 agreed_made h (Some y) e = (y, (refl, by_shape h y y.shape refl e))

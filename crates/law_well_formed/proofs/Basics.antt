@@ -26,7 +26,8 @@ use Rattle.def_scheme.specs.Exprs.{is_there, result_in, result_made, has_result}
 use Rattle.law_well_formed.specs.Formed.{Holds, fine, broken}
 
 module _ {A B T : Type 0} where
-  pub then_holds : {P : A → Type 0} {Q : B → Type 0} {r : Result A T} {f : A → Result B T} → Holds P r → ((x : A) → P x → Holds Q (f x)) → Holds Q (r ▷ f)
+  pub then_holds : {P : A → Type 0} {Q : B → Type 0} {r : Result A T} {f : A → Result B T} → Holds P r
+      → ((x : A) → P x → Holds Q (f x)) → Holds Q (r ▷ f)
   then_holds (fine x p) k = k x p
   then_holds (broken e) k = broken e
 
@@ -38,16 +39,19 @@ module _ (g : Gathers) where
   pub reported_holds : {A : Type 0} {P : A → Type 0} (at : Pos) (n : Rule) → Holds P (report g {A = A} at n)
   reported_holds at n = broken _
 
-  pub where_holds : {A : Type 0} {P : A → Type 0} (q : Bool) (at : Pos) (n : Rule) {r : Result A g.Reported} → Holds P r → Holds P (reported_where g q at n r)
+  pub where_holds : {A : Type 0} {P : A → Type 0} (q : Bool) (at : Pos) (n : Rule) {r : Result A g.Reported} → Holds P r
+      → Holds P (reported_where g q at n r)
   where_holds true at n h = broken _
   where_holds false at n h = h
 
   -- if nothing is reported, the test has failed
-  pub unless_holds : {A : Type 0} {P : A → Type 0} (q : Bool) (at : Pos) (n : Rule) {r : Result A g.Reported} → (q ≡ false → Holds P r) → Holds P (reported_where g q at n r)
+  pub unless_holds : {A : Type 0} {P : A → Type 0} (q : Bool) (at : Pos) (n : Rule) {r : Result A g.Reported}
+      → (q ≡ false → Holds P r) → Holds P (reported_where g q at n r)
   unless_holds true at n k = broken _
   unless_holds false at n k = k refl
 
-  pub both_holds : {A B : Type 0} {P : A → Type 0} {Q : B → Type 0} {a : Result A g.Reported} {b : Result B g.Reported} → Holds P a → Holds Q b → Holds (λ (x : A × B). P x.0 × Q x.1) (both g a b)
+  pub both_holds : {A B : Type 0} {P : A → Type 0} {Q : B → Type 0} {a : Result A g.Reported} {b : Result B g.Reported}
+      → Holds P a → Holds Q b → Holds (λ (x : A × B). P x.0 × Q x.1) (both g a b)
   both_holds (fine x p) (fine y q) = fine (x, y) (p, q)
   both_holds (fine x p) (broken e) = broken e
   both_holds (broken e) (fine y q) = broken e
@@ -55,38 +59,46 @@ module _ (g : Gathers) where
 
   -- ---- what stands behind a part is looked at
 
-  pub refused_holds : {A : Type 0} {P : A → Type 0} (e : g.Reported) (rest : Result (Unit {0}) g.Reported) → Holds P (refusal_beside g {A = A} e rest)
+  pub refused_holds : {A : Type 0} {P : A → Type 0} (e : g.Reported) (rest : Result (Unit {0}) g.Reported)
+      → Holds P (refusal_beside g {A = A} e rest)
   refused_holds e (Ok x) = broken e
   refused_holds e (Err f) = broken (g.join e f)
 
-  pub reported_beside_holds : {A : Type 0} {P : A → Type 0} (at : Pos) (n : Rule) (rest : Result (Unit {0}) g.Reported) → Holds P (reported_beside g {A = A} at n rest)
+  pub reported_beside_holds : {A : Type 0} {P : A → Type 0} (at : Pos) (n : Rule) (rest : Result (Unit {0}) g.Reported)
+      → Holds P (reported_beside g {A = A} at n rest)
   reported_beside_holds at n rest = refused_holds (g.one (record { pos = at; number = number_of n })) rest
 
-  pub ahead_holds : {A B : Type 0} {P : A → Type 0} {Q : B → Type 0} {r : Result A g.Reported} (rest : Result (Unit {0}) g.Reported) {f : A → Result B g.Reported} → Holds P r → ((x : A) → P x → Holds Q (f x)) → Holds Q (ahead g r rest f)
+  pub ahead_holds : {A B : Type 0} {P : A → Type 0} {Q : B → Type 0} {r : Result A g.Reported}
+      (rest : Result (Unit {0}) g.Reported) {f : A → Result B g.Reported} → Holds P r → ((x : A) → P x → Holds Q (f x))
+      → Holds Q (ahead g r rest f)
   ahead_holds rest (fine x p) k = k x p
   ahead_holds rest (broken e) k = refused_holds e rest
 
   -- ---- names of procedures in whose headings rules are broken
 
-  pub sort_holds : {A : Type 0} {P : A → Type 0} (at : Pos) (n : Rule) {r : Result A (Meaningless g.Reported)} → Holds P r → Holds P (of_sort g at n r)
+  pub sort_holds : {A : Type 0} {P : A → Type 0} (at : Pos) (n : Rule) {r : Result A (Meaningless g.Reported)}
+      → Holds P r → Holds P (of_sort g at n r)
   sort_holds at n (fine x p) = fine x p
   sort_holds at n (broken (Broken e)) = broken e
   sort_holds at n (broken (Headless nested e)) = reported_holds at n
 
-  pub of_value_holds : {A : Type 0} {P : A → Type 0} (at : Pos) {r : Result A (Meaningless g.Reported)} → Holds P r → Holds P (of_value g at r)
+  pub of_value_holds : {A : Type 0} {P : A → Type 0} (at : Pos) {r : Result A (Meaningless g.Reported)} → Holds P r
+      → Holds P (of_value g at r)
   of_value_holds at (fine x p) = fine x p
   of_value_holds at (broken (Broken e)) = broken e
   of_value_holds at (broken (Headless true e)) = reported_holds at rule.NoProcedureValue
   of_value_holds at (broken (Headless false e)) = broken e
 
-  pub sort_of_value_holds : {A : Type 0} {P : A → Type 0} (at : Pos) (n : Rule) {r : Result A (Meaningless g.Reported)} → Holds P r → Holds P (of_sort_of_value g at n r)
+  pub sort_of_value_holds : {A : Type 0} {P : A → Type 0} (at : Pos) (n : Rule) {r : Result A (Meaningless g.Reported)}
+      → Holds P r → Holds P (of_sort_of_value g at n r)
   sort_of_value_holds at n (fine x p) = fine x p
   sort_of_value_holds at n (broken (Broken e)) = broken e
   sort_of_value_holds at n (broken (Headless true e)) = reported_holds at rule.NoProcedureValue
   sort_of_value_holds at n (broken (Headless false e)) = reported_holds at n
 
 module _ {T : Type 0} where
-  pub of_heading_holds : {A : Type 0} {P : A → Type 0} {r : Result A (Meaningless T)} → Holds P r → Holds P (of_heading r)
+  pub of_heading_holds : {A : Type 0} {P : A → Type 0} {r : Result A (Meaningless T)} → Holds P r
+      → Holds P (of_heading r)
   of_heading_holds (fine x p) = fine x p
   of_heading_holds (broken (Broken e)) = broken e
   of_heading_holds (broken (Headless nested e)) = broken e
@@ -99,7 +111,8 @@ module _ {T : Type 0} where
   plain_ok {A = A} (Ok y) x e = let z : y ≡ x = cc in ap (λ (v : A). Ok v) z
   plain_ok (Err y) x e = absurd cc
 
-  pub heading_means_holds : (nested : Bool) {P : Meaning → Type 0} {r : Result Meaning T} → Holds P r → Holds P (heading_means nested r)
+  pub heading_means_holds : (nested : Bool) {P : Meaning → Type 0} {r : Result Meaning T} → Holds P r
+      → Holds P (heading_means nested r)
   heading_means_holds nested (fine x p) = fine x p
   heading_means_holds nested (broken e) = broken (Headless nested e)
 
@@ -129,13 +142,16 @@ scalar_shape (shape.Procedure p) h = refl
 scalar_shape (shape.Open e) h = absurd cc
 
 module _ (known all : Types) (grows : Grows known all) where
-  made_scalar : (t : TypeNo) (o : Option Made) → made_at known t ≡ o → is_whole (class_made o) ≡ false → is_result_made (made_at all t) ≡ true
+  made_scalar : (t : TypeNo) (o : Option Made) → made_at known t ≡ o → is_whole (class_made o) ≡ false
+      → is_result_made (made_at all t) ≡ true
   made_scalar t None e h = absurd cc
   made_scalar t (Some x) e h = ap is_result_made (grows t x e) ∙ scalar_shape x.shape h
 
-  scalar_from : (home : Home) (n : ℕ) → is_whole (class_from known (record { home = home; number = n }) home) ≡ false → is_result_from all home n ≡ true
+  scalar_from : (home : Home) (n : ℕ) → is_whole (class_from known (record { home = home; number = n }) home) ≡ false
+      → is_result_from all home n ≡ true
   scalar_from Predeclared n h = refl
-  scalar_from (Module k) n h = made_scalar (record { home = Module k; number = n }) (made_at known (record { home = Module k; number = n })) refl h
+  scalar_from (Module k) n h = made_scalar (record { home = Module k; number = n })
+      (made_at known (record { home = Module k; number = n })) refl h
 
   pub scalar_kept : (t : TypeNo) → is_whole (class_at known t) ≡ false → is_result all t ≡ true
   scalar_kept t h = scalar_from t.home t.number h
@@ -146,7 +162,8 @@ module _ (known all : Types) (grows : Grows known all) where
     pub formals : formals_of all t ≡ h.formals
     pub result : has_result all t ≡ is_there h.result
 
-  shape_heading : (t : TypeNo) (x : Made) (s : Shape) (h : Signature) → made_at all t ≡ Some x → x.shape ≡ s → signature_shape s ≡ Some h → HasHeading t h
+  shape_heading : (t : TypeNo) (x : Made) (s : Shape) (h : Signature) → made_at all t ≡ Some x → x.shape ≡ s
+      → signature_shape s ≡ Some h → HasHeading t h
   shape_heading t x (shape.Procedure p) h e q r =
       let same : p ≡ h = cc in record {
         formals = ap formals_made e ∙ ap formals_in q ∙ ap (λ (i : Signature). i.formals) same;
@@ -158,7 +175,8 @@ module _ (known all : Types) (grows : Grows known all) where
   shape_heading t x (shape.Record fs) h e q r = absurd cc
   shape_heading t x (shape.Open j) h e q r = absurd cc
 
-  made_heading : (t : TypeNo) (o : Option Made) (h : Signature) → made_at known t ≡ o → signature_made o ≡ Some h → HasHeading t h
+  made_heading : (t : TypeNo) (o : Option Made) (h : Signature) → made_at known t ≡ o → signature_made o ≡ Some h
+      → HasHeading t h
   made_heading t None h e r = absurd cc
   made_heading t (Some x) h e r = shape_heading t x x.shape h (grows t x e) refl r
 

@@ -24,22 +24,26 @@ StayMade a b = (u : TypeNo) → is_known a u ≡ true → made_at b u ≡ made_a
 module _ (a b : Types) (stay : StayMade a b) where
   pub scalar_stays : (u : TypeNo) → is_known a u ≡ true → scalar_at b u ≡ scalar_at a u
   scalar_stays u e = from u.home u.number e (stay u e) where
-    from : (h : Home) (n : ℕ) → is_known_from a h n ≡ true → made_from b h n ≡ made_from a h n → scalar_from b h n ≡ scalar_from a h n
+    from : (h : Home) (n : ℕ) → is_known_from a h n ≡ true → made_from b h n ≡ made_from a h n
+        → scalar_from b h n ≡ scalar_from a h n
     from Predeclared n g same = refl
     from (Module k) n g same = ap scalar_made same
 
   pub cells_stay : (u : TypeNo) → is_known a u ≡ true → cells_at b u ≡ cells_at a u
   cells_stay u e = ap cells_made (stay u e)
 
-  pub fields_stay : (fs : List (List ℕ × TypeNo)) → AreKnown a (map (λ f. f.1) fs) → cells_of_fields b fs ≡ cells_of_fields a fs
+  pub fields_stay : (fs : List (List ℕ × TypeNo)) → AreKnown a (map (λ f. f.1) fs)
+      → cells_of_fields b fs ≡ cells_of_fields a fs
   fields_stay [] h = refl
-  fields_stay (f ∷ fs) h = ap (λ (n : ℕ). n + cells_of_fields b fs) (cells_stay f.1 h.0) ∙ ap (λ (n : ℕ). cells_at a f.1 + n) (fields_stay fs h.1)
+  fields_stay (f ∷ fs) h = ap (λ (n : ℕ). n + cells_of_fields b fs) (cells_stay f.1 h.0)
+      ∙ ap (λ (n : ℕ). cells_at a f.1 + n) (fields_stay fs h.1)
 
   pub counted_stays : (s : Shape) → AreKnown a (named_by s) → cells_of b s ≡ cells_of a s
   counted_stays (shape.Scalar s) h = refl
   counted_stays shape.Set h = refl
   counted_stays (shape.Array i e) h =
-      ap (λ (o : Option Range). count_of o * cells_at b e) (scalar_stays i h.0) ∙ ap (λ (n : ℕ). count_at a i * n) (cells_stay e h.1.0)
+      ap (λ (o : Option Range). count_of o * cells_at b e) (scalar_stays i h.0)
+      ∙ ap (λ (n : ℕ). count_at a i * n) (cells_stay e h.1.0)
   counted_stays (shape.Record fs) h = fields_stay fs h
   counted_stays (shape.Procedure p) h = refl
   counted_stays (shape.Open e) h = refl
@@ -58,13 +62,16 @@ made_there k n home own others = cond (k == home) (slice_get own n) (in_list n (
 
 pub made_kept : (a b : Types) → StartedFrom a b → StayMade a b
 made_kept a b p t e = from t.home t.number e where
-  by : (c : Bool) (n : ℕ) (other : Option Made) → is_some (cond c (slice_get a.own n) other) ≡ true → cond c (slice_get (a.own ++ p.more) n) other ≡ cond c (slice_get a.own n) other
+  by : (c : Bool) (n : ℕ) (other : Option Made) → is_some (cond c (slice_get a.own n) other) ≡ true
+      → cond c (slice_get (a.own ++ p.more) n) other ≡ cond c (slice_get a.own n) other
   by true n other g = get_more a.own p.more n g
   by false n other g = refl
 
   same : (k n : ℕ) → made_there k n b.home b.own b.others ≡ made_there k n a.home (a.own ++ p.more) a.others
   same k n =
-      ap (λ (h : ℕ). made_there k n h b.own b.others) p.home ∙ ap (λ (ms : List Made). made_there k n a.home ms b.others) p.own ∙ ap (λ (es : List (ℕ × List Made)). made_there k n a.home (a.own ++ p.more) es) p.others
+      ap (λ (h : ℕ). made_there k n h b.own b.others) p.home
+      ∙ ap (λ (ms : List Made). made_there k n a.home ms b.others) p.own
+      ∙ ap (λ (es : List (ℕ × List Made)). made_there k n a.home (a.own ++ p.more) es) p.others
 
   from : (h : Home) (n : ℕ) → is_known_from a h n ≡ true → made_from b h n ≡ made_from a h n
   from Predeclared n g = refl
@@ -72,17 +79,21 @@ made_kept a b p t e = from t.home t.number e where
 
 -- ---- more modules behind those that stand before
 
-pub made_within : (before so : List (ℕ × List Made)) → ((k : ℕ) (l : List Made) → at k before ≡ Some l → at k so ≡ Some l) → (h : ℕ) (own : List Made) → StayMade (made_by h own before) (made_by h own so)
+pub made_within : (before so : List (ℕ × List Made))
+    → ((k : ℕ) (l : List Made) → at k before ≡ Some l → at k so ≡ Some l) → (h : ℕ) (own : List Made)
+    → StayMade (made_by h own before) (made_by h own so)
 made_within before so w h own u e = from u.home u.number e where
   there : (k n : ℕ) → is_some (in_list n (at k before)) ≡ true → in_list n (at k so) ≡ in_list n (at k before)
   there k n g =
       let x = some_of (at k before) (in_some n (at k before) g) in
       ap (in_list n) (w k x.0 x.1 ∙ sym x.1)
 
-  by : (k n : ℕ) (b : Bool) → is_some (cond b (slice_get own n) (in_list n (at k before))) ≡ true → cond b (slice_get own n) (in_list n (at k so)) ≡ cond b (slice_get own n) (in_list n (at k before))
+  by : (k n : ℕ) (b : Bool) → is_some (cond b (slice_get own n) (in_list n (at k before))) ≡ true
+      → cond b (slice_get own n) (in_list n (at k so)) ≡ cond b (slice_get own n) (in_list n (at k before))
   by k n true g = refl
   by k n false g = there k n g
 
-  from : (home : Home) (n : ℕ) → is_known_from (made_by h own before) home n ≡ true → made_from (made_by h own so) home n ≡ made_from (made_by h own before) home n
+  from : (home : Home) (n : ℕ) → is_known_from (made_by h own before) home n ≡ true
+      → made_from (made_by h own so) home n ≡ made_from (made_by h own before) home n
   from Predeclared n g = refl
   from (Module k) n g = by k n (k == h) g

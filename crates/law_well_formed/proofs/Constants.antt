@@ -1,4 +1,5 @@
--- Constant expressions mean numbers of their types: what names mean, a lemma for each construct, and then the induction.
+-- Constant expressions mean numbers of their types: what names mean, a lemma for each construct, and then the
+-- induction.
 use Rattle.std.proofs.Common.{◌≡◌, ℕ, zero, suc, pos, Bool, true, false, cond, List, [], ◌∷◌, map, Option, Some, None, Result, refl, sym, ap, subst, ◌∙◌, arith}
 use Rattle.std.proofs.lemmas.Int.{ints}
 use Rattle.std.specs.Prelude.{◌&&◌, nat_lt, slice_get}
@@ -67,20 +68,24 @@ module _ (types : Types) {T : Type 0} where
   RangedSight None = Unit {0}
   RangedSight (Some k) = KnownRanged types k.0
 
-  found_by : (b : Bool) (k : Known T) (o : Option (Known T)) → KnownRanged types k → RangedIf o → RangedIf (cond b (Some k) o)
+  found_by : (b : Bool) (k : Known T) (o : Option (Known T)) → KnownRanged types k → RangedIf o
+      → RangedIf (cond b (Some k) o)
   found_by true k o p q = p
   found_by false k o p q = q
 
   found_ranged : (name : List ℕ) (es : List (List ℕ × Known T)) → NamesRanged types es → RangedIf (find_name name es)
   found_ranged name [] all = tt
-  found_ranged name (e ∷ es) all = found_by (same_name name e.0) e.1 (find_name name es) all.0 (found_ranged name es all.1)
+  found_ranged name (e ∷ es) all = found_by (same_name name e.0) e.1 (find_name name es) all.0
+      (found_ranged name es all.1)
 
-  at_place : (seen p : ℕ) (es : List (List ℕ × Known T)) (n : ℕ) → NamesRanged types es → RangedSight (option_map (λ e. (e.1, nat_lt p seen)) (slice_get es n))
+  at_place : (seen p : ℕ) (es : List (List ℕ × Known T)) (n : ℕ) → NamesRanged types es
+      → RangedSight (option_map (λ e. (e.1, nat_lt p seen)) (slice_get es n))
   at_place seen p [] n all = tt
   at_place seen p (e ∷ es) zero all = all.0
   at_place seen p (e ∷ es) (suc n) all = at_place seen p es n all.1
 
-  seen_ranged : (seen : ℕ) (es : List (List ℕ × Known T)) (o : Option ℕ) → NamesRanged types es → RangedSight (seen_at seen es o)
+  seen_ranged : (seen : ℕ) (es : List (List ℕ × Known T)) (o : Option ℕ) → NamesRanged types es
+      → RangedSight (seen_at seen es o)
   seen_ranged seen es None all = tt
   seen_ranged seen es (Some p) all = at_place seen p es p all
 
@@ -88,9 +93,12 @@ module _ (types : Types) {T : Type 0} where
   or_ranged None b p q = q
   or_ranged (Some k) b p q = p
 
-  outside_ranged : (name : List ℕ) (bs : List (Block T)) (far : Sight T) → RangedSight far → BlocksRanged types bs → RangedSight (fold (nearer name) far bs)
+  outside_ranged : (name : List ℕ) (bs : List (Block T)) (far : Sight T) → RangedSight far → BlocksRanged types bs
+      → RangedSight (fold (nearer name) far bs)
   outside_ranged name [] far p all = p
-  outside_ranged name (b ∷ bs) far p all = outside_ranged name bs (nearer name far b) (or_ranged (in_block name b) far (seen_ranged b.seen b.names (place_of name b.names) all.0) p) all.1
+  outside_ranged name (b ∷ bs) far p all =
+      outside_ranged name bs (nearer name far b)
+      (or_ranged (in_block name b) far (seen_ranged b.seen b.names (place_of name b.names) all.0) p) all.1
 
   around_ranged : (o : Option (Known T)) (far : Sight T) → RangedIf o → RangedSight far → RangedSight (or_around o far)
   around_ranged None far p q = q
@@ -100,7 +108,8 @@ module _ (g : Gathers) (types : Types) where
   abbrev Means_ : {T : Type 0} → Result Meaning T → Type 0
   Means_ r = Holds (MeaningRanged types) r
 
-  declared_means : (at : Pos) (seen : Bool) (r : Result Meaning g.Reported) → Means_ r → Means_ (cond seen r (report g at rule.Undeclared))
+  declared_means : (at : Pos) (seen : Bool) (r : Result Meaning g.Reported) → Means_ r
+      → Means_ (cond seen r (report g at rule.Undeclared))
   declared_means at true r p = p
   declared_means at false r p = reported_holds g at rule.Undeclared
 
@@ -125,15 +134,18 @@ module _ (g : Gathers) (types : Types) where
   ExportIf None = Unit {0}
   ExportIf (Some m) = MeaningRanged types m
 
-  export_by : (b : Bool) (m : Meaning) (o : Option Meaning) → MeaningRanged types m → ExportIf o → ExportIf (cond b (Some m) o)
+  export_by : (b : Bool) (m : Meaning) (o : Option Meaning) → MeaningRanged types m → ExportIf o
+      → ExportIf (cond b (Some m) o)
   export_by true m o p q = p
   export_by false m o p q = q
 
   export_found : (name : List ℕ) (es : List (List ℕ × Meaning)) → ExportsRanged types es → ExportIf (find_name name es)
   export_found name [] all = tt
-  export_found name (e ∷ es) all = export_by (same_name name e.0) e.1 (find_name name es) all.0 (export_found name es all.1)
+  export_found name (e ∷ es) all = export_by (same_name name e.0) e.1 (find_name name es) all.0
+      (export_found name es all.1)
 
-  export_at : (name : List ℕ) (ts : List Table) (k : ℕ) → TablesRanged types ts → ExportIf (exported_by name (slice_get ts k))
+  export_at : (name : List ℕ) (ts : List Table) (k : ℕ) → TablesRanged types ts
+      → ExportIf (exported_by name (slice_get ts k))
   export_at name [] k all = tt
   export_at name (t ∷ ts) zero all = export_found name t.exported all.0
   export_at name (t ∷ ts) (suc k) all = export_at name ts k all.1
@@ -146,10 +158,13 @@ module _ (g : Gathers) (s : Scope g.Reported) (h : ScopeRanged s) where
   name_means : (name : Ident) → Means_ g s.types (looked_up g s name)
   name_means name =
       field_or g s.types (open_field s.types name.name s.withs) (means_as g name.pos (sight_of name.name s))
-      (means_ranged g s.types name.pos (sight_of name.name s) (around_ranged s.types (find_name name.name s.own) (known_outside name.name s.outer) (found_ranged s.types name.name s.own h.names) (outside_ranged s.types name.name s.outer None tt h.outer)))
+      (means_ranged g s.types name.pos (sight_of name.name s)
+      (around_ranged s.types (find_name name.name s.own) (known_outside name.name s.outer)
+      (found_ranged s.types name.name s.own h.names) (outside_ranged s.types name.name s.outer None tt h.outer)))
 
   member_means : (k : ℕ) (name : Ident) → Means_ g s.types (exported_meaning g s.tables k name)
-  member_means k name = exported_means g s.types name.pos (exported_by name.name (slice_get s.tables k)) (export_at g s.types name.name s.tables k h.tables)
+  member_means k name = exported_means g s.types name.pos (exported_by name.name (slice_get s.tables k))
+      (export_at g s.types name.name s.tables k h.tables)
 
   -- ---- what designators and expressions stand for
 
@@ -210,7 +225,8 @@ module _ (g : Gathers) (s : Scope g.Reported) (h : ScopeRanged s) where
   component_ranged at (denoted.Module k) = fine denoted.Variable tt
 
   field_ranged : (at : Pos) (name : Ident) (d : Denoted) → D_ (field_of g s at name d)
-  field_ranged at name (denoted.Module k) = then_holds (member_means k name) (λ m p. fine (denoted_by m) (by_meaning m p))
+  field_ranged at name (denoted.Module k) =
+      then_holds (member_means k name) (λ m p. fine (denoted_by m) (by_meaning m p))
   field_ranged at name denoted.Variable = component_ranged at denoted.Variable
   field_ranged at name (denoted.Value v) = component_ranged at (denoted.Value v)
   field_ranged at name (denoted.Type t) = component_ranged at (denoted.Type t)
@@ -233,12 +249,14 @@ module _ (g : Gathers) (s : Scope g.Reported) (h : ScopeRanged s) where
 
   -- ---- calls
 
-  one_ranged : (at : Pos) (args : List (Part g.Reported)) → AllM args → Holds (λ (p : Pos × Value). ValueRanged s.types p.1) (one g s at args)
+  one_ranged : (at : Pos) (args : List (Part g.Reported)) → AllM args
+      → Holds (λ (p : Pos × Value). ValueRanged s.types p.1) (one g s at args)
   one_ranged at [] all = reported_holds g at rule.ArgumentCount
   one_ranged at (x ∷ []) all = then_holds (constant_ranged x all.0) (λ v k. fine (x.at, v) k)
   one_ranged at (x ∷ y ∷ xs) all = reported_holds g at rule.ArgumentCount
 
-  scalar_is : (at : Pos) (t : TypeNo) (o : Option Range) → scalar_at s.types t ≡ o → Holds (TypeIs g s h) (scalar_type g at t o)
+  scalar_is : (at : Pos) (t : TypeNo) (o : Option Range) → scalar_at s.types t ≡ o
+      → Holds (TypeIs g s h) (scalar_type g at t o)
   scalar_is at t None e = reported_holds g at rule.NoType
   scalar_is at t (Some r) e = fine (t, r) e
 
@@ -260,13 +278,15 @@ module _ (g : Gathers) (s : Scope g.Reported) (h : ScopeRanged s) where
   conversion_ranged at (t ∷ x ∷ []) = converted_ranged g s h x.at (constant g s x) (argument_is t.at (t.names s))
   conversion_ranged at (t ∷ x ∷ y ∷ xs) = reported_holds g at rule.ArgumentCount
 
-  sort_ranged : (at : Pos) (f : Standard) (args : List (Part g.Reported)) (o : Sort) → AllM args → V_ (by_sort g s at f args o)
+  sort_ranged : (at : Pos) (f : Standard) (args : List (Part g.Reported)) (o : Sort) → AllM args
+      → V_ (by_sort g s at f args o)
   sort_ranged at f args Unary all = unary_ranged g s.types f (one_ranged at args all)
   sort_ranged at f args Bound all = bound_ranged g s h f (only_is at args)
   sort_ranged at f args Conversion all = conversion_ranged at args
   sort_ranged at f args Never all = reported_holds g at rule.NoConstant
 
-  called_as_ranged : (at : Pos) (d : Denoted) (args : List (Part g.Reported)) → AllM args → V_ (standard_call_value g s at d args)
+  called_as_ranged : (at : Pos) (d : Denoted) (args : List (Part g.Reported)) → AllM args
+      → V_ (standard_call_value g s at d args)
   called_as_ranged at (denoted.Standard f) args all = sort_ranged at f args (sort_of f) all
   called_as_ranged at (denoted.Value v) args all = reported_holds g at rule.NoConstant
   called_as_ranged at (denoted.Type t) args all = reported_holds g at rule.NoConstant
@@ -274,24 +294,30 @@ module _ (g : Gathers) (s : Scope g.Reported) (h : ScopeRanged s) where
   called_as_ranged at denoted.Procedure args all = reported_holds g at rule.NoConstant
   called_as_ranged at (denoted.Module k) args all = reported_holds g at rule.NoConstant
 
-  called_ranged : (at : Pos) (d : Result Denoted g.Reported) (args : List (Part g.Reported)) → AllM args → V_ (call_value g s at d args)
+  called_ranged : (at : Pos) (d : Result Denoted g.Reported) (args : List (Part g.Reported)) → AllM args
+      → V_ (call_value g s at d args)
   called_ranged at d args all = then_holds (any_holds d) (λ x k. called_as_ranged at x args all)
 
   -- ---- operators
 
-  factors_ranged : (at : Pos) (rest : List (Operator MulOp × Part g.Reported)) (v : Result Value g.Reported) → V_ v → V_ (fold (factor g s at) v rest)
+  factors_ranged : (at : Pos) (rest : List (Operator MulOp × Part g.Reported)) (v : Result Value g.Reported) → V_ v
+      → V_ (fold (factor g s at) v rest)
   factors_ranged at [] v p = p
-  factors_ranged at (x ∷ xs) v p = factors_ranged at xs (factor g s at v x) (combined_ranged g s.types (mul_op x.0.op) x.0.pos at v x.1.at (constant g s x.1))
+  factors_ranged at (x ∷ xs) v p = factors_ranged at xs (factor g s at v x)
+      (combined_ranged g s.types (mul_op x.0.op) x.0.pos at v x.1.at (constant g s x.1))
 
-  terms_ranged : (at : Pos) (rest : List (Operator AddOp × Part g.Reported)) (v : Result Value g.Reported) → V_ v → V_ (fold (term g s at) v rest)
+  terms_ranged : (at : Pos) (rest : List (Operator AddOp × Part g.Reported)) (v : Result Value g.Reported) → V_ v
+      → V_ (fold (term g s at) v rest)
   terms_ranged at [] v p = p
-  terms_ranged at (x ∷ xs) v p = terms_ranged at xs (term g s at v x) (combined_ranged g s.types (add_op x.0.op) x.0.pos at v x.1.at (constant g s x.1))
+  terms_ranged at (x ∷ xs) v p = terms_ranged at xs (term g s at v x)
+      (combined_ranged g s.types (add_op x.0.op) x.0.pos at v x.1.at (constant g s x.1))
 
   first_ranged : (o : Option (Operator Sign)) {x : Result Value g.Reported} → V_ x → V_ (signed_first g o x)
   first_ranged None p = p
   first_ranged (Some o) p = signed_ranged g s.types o.op o.pos p
 
-  picks_ranged : (ps : List (Pick g.Reported)) (d : Result Denoted g.Reported) → D_ d → AllP ps → D_ (fold (λ x p. p s x) d ps)
+  picks_ranged : (ps : List (Pick g.Reported)) (d : Result Denoted g.Reported) → D_ d → AllP ps
+      → D_ (fold (λ x p. p s x) d ps)
   picks_ranged [] d p all = p
   picks_ranged (x ∷ ps) d p all = picks_ranged ps (x s d) (all.0 d p) all.1
 
@@ -321,26 +347,41 @@ module _ (g : Gathers) (s : Scope g.Reported) (h : ScopeRanged s) where
   abbrev SI : Type 0
   SI = (e : Item) × PI e
 
-  abbrev parts : Expr-F Expr Selector Designator Item → Expr-F (Meant g.Reported) (Picks g.Reported) (Meant g.Reported) (Adds g.Reported)
-  parts x = map-Expr Expr Selector Designator Item (Meant g.Reported) (Picks g.Reported) (Meant g.Reported) (Adds g.Reported) (meanings_of g) (picks g) (head g) (item g) x
+  abbrev parts : Expr-F Expr Selector Designator Item
+      → Expr-F (Meant g.Reported) (Picks g.Reported) (Meant g.Reported) (Adds g.Reported)
+  parts x = map-Expr Expr Selector Designator Item (Meant g.Reported) (Picks g.Reported) (Meant g.Reported)
+      (Adds g.Reported) (meanings_of g) (picks g) (head g) (item g) x
 
-  abbrev parts_selector : Selector-F Expr Selector Designator Item → Selector-F (Meant g.Reported) (Picks g.Reported) (Meant g.Reported) (Adds g.Reported)
-  parts_selector x = map-Selector Expr Selector Designator Item (Meant g.Reported) (Picks g.Reported) (Meant g.Reported) (Adds g.Reported) (meanings_of g) (picks g) (head g) (item g) x
+  abbrev parts_selector : Selector-F Expr Selector Designator Item
+      → Selector-F (Meant g.Reported) (Picks g.Reported) (Meant g.Reported) (Adds g.Reported)
+  parts_selector x = map-Selector Expr Selector Designator Item (Meant g.Reported) (Picks g.Reported) (Meant g.Reported)
+      (Adds g.Reported) (meanings_of g) (picks g) (head g) (item g) x
 
-  abbrev parts_designator : Designator-F Expr Selector Designator Item → Designator-F (Meant g.Reported) (Picks g.Reported) (Meant g.Reported) (Adds g.Reported)
-  parts_designator x = map-Designator Expr Selector Designator Item (Meant g.Reported) (Picks g.Reported) (Meant g.Reported) (Adds g.Reported) (meanings_of g) (picks g) (head g) (item g) x
+  abbrev parts_designator : Designator-F Expr Selector Designator Item
+      → Designator-F (Meant g.Reported) (Picks g.Reported) (Meant g.Reported) (Adds g.Reported)
+  parts_designator x = map-Designator Expr Selector Designator Item (Meant g.Reported) (Picks g.Reported)
+      (Meant g.Reported) (Adds g.Reported) (meanings_of g) (picks g) (head g) (item g) x
 
-  at_expr : (e : Expr) (x : Expr-F Expr Selector Designator Item) → out-Expr e ≡ x → meanings_of g e ≡ expr_layer g (parts x)
+  at_expr : (e : Expr) (x : Expr-F Expr Selector Designator Item) → out-Expr e ≡ x
+      → meanings_of g e ≡ expr_layer g (parts x)
   unfolding meanings_of picks head item
-  at_expr e x q = fold_out-Expr (Meant g.Reported) (Picks g.Reported) (Meant g.Reported) (Adds g.Reported) (expr_layer g) (selector_layer g) (designator_layer g) (item_layer g) e ∙ ap (λ (y : Expr-F Expr Selector Designator Item). expr_layer g (parts y)) q
+  at_expr e x q = fold_out-Expr (Meant g.Reported) (Picks g.Reported) (Meant g.Reported) (Adds g.Reported)
+      (expr_layer g) (selector_layer g) (designator_layer g) (item_layer g) e
+      ∙ ap (λ (y : Expr-F Expr Selector Designator Item). expr_layer g (parts y)) q
 
-  at_selector : (e : Selector) (x : Selector-F Expr Selector Designator Item) → out-Selector e ≡ x → picks g e ≡ selector_layer g (parts_selector x)
+  at_selector : (e : Selector) (x : Selector-F Expr Selector Designator Item) → out-Selector e ≡ x
+      → picks g e ≡ selector_layer g (parts_selector x)
   unfolding meanings_of picks head item
-  at_selector e x q = fold_out-Selector (Meant g.Reported) (Picks g.Reported) (Meant g.Reported) (Adds g.Reported) (expr_layer g) (selector_layer g) (designator_layer g) (item_layer g) e ∙ ap (λ (y : Selector-F Expr Selector Designator Item). selector_layer g (parts_selector y)) q
+  at_selector e x q = fold_out-Selector (Meant g.Reported) (Picks g.Reported) (Meant g.Reported) (Adds g.Reported)
+      (expr_layer g) (selector_layer g) (designator_layer g) (item_layer g) e
+      ∙ ap (λ (y : Selector-F Expr Selector Designator Item). selector_layer g (parts_selector y)) q
 
-  at_designator : (e : Designator) (x : Designator-F Expr Selector Designator Item) → out-Designator e ≡ x → head g e ≡ designator_layer g (parts_designator x)
+  at_designator : (e : Designator) (x : Designator-F Expr Selector Designator Item) → out-Designator e ≡ x
+      → head g e ≡ designator_layer g (parts_designator x)
   unfolding meanings_of picks head item
-  at_designator e x q = fold_out-Designator (Meant g.Reported) (Picks g.Reported) (Meant g.Reported) (Adds g.Reported) (expr_layer g) (selector_layer g) (designator_layer g) (item_layer g) e ∙ ap (λ (y : Designator-F Expr Selector Designator Item). designator_layer g (parts_designator y)) q
+  at_designator e x q = fold_out-Designator (Meant g.Reported) (Picks g.Reported) (Meant g.Reported) (Adds g.Reported)
+      (expr_layer g) (selector_layer g) (designator_layer g) (item_layer g) e
+      ∙ ap (λ (y : Designator-F Expr Selector Designator Item). designator_layer g (parts_designator y)) q
 
   abbrev fits_s : Selector → Bool
   fits_s e = fold-Selector Bool Bool Bool Bool fits_layer fits_selector fits_designator fits_item e
@@ -356,7 +397,8 @@ module _ (g : Gathers) (s : Scope g.Reported) (h : ScopeRanged s) where
 
   fits_at : (e : Expr) (x : Expr-F Expr Selector Designator Item) → out-Expr e ≡ x → fits e ≡ fits_layer (elaborated x)
   unfolding fits
-  fits_at e x q = fold_out-Expr Bool Bool Bool Bool fits_layer fits_selector fits_designator fits_item e ∙ ap (λ (y : Expr-F Expr Selector Designator Item). fits_layer (elaborated y)) q
+  fits_at e x q = fold_out-Expr Bool Bool Bool Bool fits_layer fits_selector fits_designator fits_item e
+      ∙ ap (λ (y : Expr-F Expr Selector Designator Item). fits_layer (elaborated y)) q
 
   abbrev bare : Expr-F SE SS SD SI → Expr-F Expr Selector Designator Item
   bare x = map-Expr SE SS SD SI Expr Selector Designator Item (λ e. e.0) (λ e. e.0) (λ e. e.0) (λ e. e.0) x
@@ -365,11 +407,17 @@ module _ (g : Gathers) (s : Scope g.Reported) (h : ScopeRanged s) where
   bare_selector x = map-Selector SE SS SD SI Expr Selector Designator Item (λ e. e.0) (λ e. e.0) (λ e. e.0) (λ e. e.0) x
 
   abbrev bare_designator : Designator-F SE SS SD SI → Designator-F Expr Selector Designator Item
-  bare_designator x = map-Designator SE SS SD SI Expr Selector Designator Item (λ e. e.0) (λ e. e.0) (λ e. e.0) (λ e. e.0) x
+  bare_designator x = map-Designator SE SS SD SI Expr Selector Designator Item (λ e. e.0) (λ e. e.0) (λ e. e.0)
+      (λ e. e.0) x
 
-  all_args : (xs : List SE) → list_all itself (map fits (map (λ (e : SE). e.0) xs)) ≡ true → AllM (map (λ (e : Meant g.Reported). e.fixed) (map (meanings_of g) (map (λ (e : SE). e.0) xs)))
+  all_args : (xs : List SE) → list_all itself (map fits (map (λ (e : SE). e.0) xs)) ≡ true
+      → AllM (map (λ (e : Meant g.Reported). e.fixed) (map (meanings_of g) (map (λ (e : SE). e.0) xs)))
   all_args [] e = tt
-  all_args (x ∷ xs) e = (x.1 (both_left (fits x.0) (list_all itself (map fits (map (λ (e : SE). e.0) xs))) e), all_args xs (both_right (fits x.0) (list_all itself (map fits (map (λ (e : SE). e.0) xs))) e))
+  all_args (x ∷ xs) e = (
+    x.1 (both_left (fits x.0) (list_all itself (map fits (map (λ (e : SE). e.0) xs))) e),
+    all_args
+        xs (both_right (fits x.0) (list_all itself (map fits (map (λ (e : SE). e.0) xs))) e),
+  )
 
   all_picks : (xs : List SS) → AllP (map (λ (e : Picks g.Reported). e.fixed) (map (picks g) (map (λ (e : SS). e.0) xs)))
   all_picks [] = tt
@@ -378,44 +426,69 @@ module _ (g : Gathers) (s : Scope g.Reported) (h : ScopeRanged s) where
   first_of : (x : SE) (rest : Bool) → (fits x.0 && rest) ≡ true → V_ (constant g s (part g x.0))
   first_of x rest e = constant_ranged (part g x.0) (x.1 (both_left (fits x.0) rest e))
 
-  expr_ranged : (y : Expr-F SE SS SD SI) → fits_layer (elaborated (bare y)) ≡ true → FM (expr_layer g (parts (bare y))).fixed
-  expr_ranged (layer.Number p n) e = fine (denoted.Value (value.Number (pos n))) (omega (arith, ints), from_le (pos n) (pos 4294967295) e)
-  expr_ranged (layer.Char p c) e = fine (denoted.Value (number_value (Some char) (pos c))) (char_ranged g s.types (pos c) (omega (arith, ints)) (from_le (pos c) (pos 255) e))
+  expr_ranged : (y : Expr-F SE SS SD SI) → fits_layer (elaborated (bare y)) ≡ true
+      → FM (expr_layer g (parts (bare y))).fixed
+  expr_ranged (layer.Number p n) e = fine (denoted.Value (value.Number (pos n)))
+      (omega (arith, ints), from_le (pos n) (pos 4294967295) e)
+  expr_ranged (layer.Char p c) e = fine (denoted.Value (number_value (Some char) (pos c)))
+      (char_ranged g s.types (pos c) (omega (arith, ints)) (from_le (pos c) (pos 255) e))
   expr_ranged (layer.Text p t) e = fine (denoted.Value (value.Text t)) e
-  expr_ranged (layer.Set q p items) e = then_holds (any_holds (both g _ _)) (λ x k. fine (denoted.Value (value.Set x.1)) tt)
+  expr_ranged (layer.Set q p items) e = then_holds (any_holds (both g _ _))
+      (λ x k. fine (denoted.Value (value.Set x.1)) tt)
   expr_ranged (layer.Not p x) e = value_ranged (negated_ranged g s.types p (constant g s (part g x.0)))
   expr_ranged (layer.Bracketed p x) e = value_ranged (constant_ranged (part g x.0) (x.1 e))
   expr_ranged (layer.Use d None) e = d.1
   expr_ranged (layer.Use d (Some es)) e =
-      value_ranged (called_ranged (head g d.0).fixed.at ((head g d.0).fixed.denotes s) (map (λ (e : Meant g.Reported). e.fixed) (map (meanings_of g) (map (λ (e : SE). e.0) es))) (all_args es (both_right (fits_d d.0) (list_all itself (map fits (map (λ (e : SE). e.0) es))) e)))
+      value_ranged (called_ranged (head g d.0).fixed.at ((head g d.0).fixed.denotes s)
+      (map (λ (e : Meant g.Reported). e.fixed) (map (meanings_of g) (map (λ (e : SE). e.0) es)))
+      (all_args es (both_right (fits_d d.0) (list_all itself (map fits (map (λ (e : SE). e.0) es))) e)))
   expr_ranged (layer.Term x xs) e =
-      value_ranged (factors_ranged (part g x.0).at (map (λ (x : Operator MulOp × Meant g.Reported). (x.0, x.1.fixed)) (map (λ (x : Operator MulOp × Expr). (x.0, meanings_of g x.1)) (map (λ (a : Operator MulOp × SE). (a.0, a.1.0)) xs))) (constant g s (part g x.0)) (first_of x _ e))
+      value_ranged (factors_ranged (part g x.0).at
+      (map (λ (x : Operator MulOp × Meant g.Reported). (x.0, x.1.fixed))
+      (map (λ (x : Operator MulOp × Expr). (x.0, meanings_of g x.1))
+      (map (λ (a : Operator MulOp × SE). (a.0, a.1.0)) xs))) (constant g s (part g x.0)) (first_of x _ e))
   expr_ranged (layer.Sum o x xs) e =
-      value_ranged (terms_ranged (sign_place o (part g x.0).at) (map (λ (x : Operator AddOp × Meant g.Reported). (x.0, x.1.fixed)) (map (λ (x : Operator AddOp × Expr). (x.0, meanings_of g x.1)) (map (λ (a : Operator AddOp × SE). (a.0, a.1.0)) xs))) (signed_first g o (constant g s (part g x.0))) (first_ranged o (first_of x _ e)))
-  expr_ranged (layer.Relation a o b) e = value_ranged (combined_ranged g s.types (op.Relation o.op) o.pos (part g a.0).at (constant g s (part g a.0)) (part g b.0).at (constant g s (part g b.0)))
+      value_ranged (terms_ranged (sign_place o (part g x.0).at)
+      (map (λ (x : Operator AddOp × Meant g.Reported). (x.0, x.1.fixed))
+      (map (λ (x : Operator AddOp × Expr). (x.0, meanings_of g x.1))
+      (map (λ (a : Operator AddOp × SE). (a.0, a.1.0)) xs))) (signed_first g o (constant g s (part g x.0)))
+      (first_ranged o (first_of x _ e)))
+  expr_ranged (layer.Relation a o b) e = value_ranged
+      (combined_ranged g s.types (op.Relation o.op) o.pos (part g a.0).at (constant g s (part g a.0)) (part g b.0).at
+      (constant g s (part g b.0)))
 
   selector_ranged : (y : Selector-F SE SS SD SI) → FP (selector_layer g (parts_selector (bare_selector y))).fixed
   selector_ranged (layer.Field p name) = λ d q. then_holds q (λ x k. field_ranged p name x)
   selector_ranged (layer.Index p e) = λ d q. then_holds q (λ x k. component_ranged p x)
 
-  designator_ranged : (y : Designator-F SE SS SD SI) → FM (designator_layer g (parts_designator (bare_designator y))).fixed
-  designator_ranged y = picks_ranged (map (λ (e : Picks g.Reported). e.fixed) (map (picks g) (map (λ (e : SS). e.0) y.selectors))) (first_name g s y.name) (named_ranged y.name) (all_picks y.selectors)
+  designator_ranged : (y : Designator-F SE SS SD SI)
+      → FM (designator_layer g (parts_designator (bare_designator y))).fixed
+  designator_ranged y = picks_ranged (map (λ (e : Picks g.Reported). e.fixed)
+      (map (picks g) (map (λ (e : SS). e.0) y.selectors))) (first_name g s y.name) (named_ranged y.name)
+      (all_picks y.selectors)
 
   -- ---- the induction
 
   step_expr : (x : Expr-F Expr Selector Designator Item) (y : Expr-F SE SS SD SI) → bare y ≡ x → PE (roll-Expr x)
   step_expr x y q =
       let is : out-Expr (roll-Expr x) ≡ bare y = out-roll-Expr x ∙ sym q in λ e.
-      subst (λ (z : Meant g.Reported). FM z.fixed) (sym (at_expr (roll-Expr x) (bare y) is)) (expr_ranged y (sym (fits_at (roll-Expr x) (bare y) is) ∙ e))
+      subst (λ (z : Meant g.Reported). FM z.fixed) (sym (at_expr (roll-Expr x) (bare y) is))
+      (expr_ranged y (sym (fits_at (roll-Expr x) (bare y) is) ∙ e))
 
-  step_selector : (x : Selector-F Expr Selector Designator Item) (y : Selector-F SE SS SD SI) → bare_selector y ≡ x → PS (roll-Selector x)
-  step_selector x y q = subst (λ (z : Picks g.Reported). FP z.fixed) (sym (at_selector (roll-Selector x) (bare_selector y) (out-roll-Selector x ∙ sym q))) (selector_ranged y)
+  step_selector : (x : Selector-F Expr Selector Designator Item) (y : Selector-F SE SS SD SI) → bare_selector y ≡ x
+      → PS (roll-Selector x)
+  step_selector x y q = subst (λ (z : Picks g.Reported). FP z.fixed)
+      (sym (at_selector (roll-Selector x) (bare_selector y) (out-roll-Selector x ∙ sym q))) (selector_ranged y)
 
-  step_designator : (x : Designator-F Expr Selector Designator Item) (y : Designator-F SE SS SD SI) → bare_designator y ≡ x → PD (roll-Designator x)
-  step_designator x y q = subst (λ (z : Meant g.Reported). FM z.fixed) (sym (at_designator (roll-Designator x) (bare_designator y) (out-roll-Designator x ∙ sym q))) (designator_ranged y)
+  step_designator : (x : Designator-F Expr Selector Designator Item) (y : Designator-F SE SS SD SI)
+      → bare_designator y ≡ x → PD (roll-Designator x)
+  step_designator x y q = subst (λ (z : Meant g.Reported). FM z.fixed)
+      (sym (at_designator (roll-Designator x) (bare_designator y) (out-roll-Designator x ∙ sym q)))
+      (designator_ranged y)
 
   part_ranged : (e : Expr) → PE e
   part_ranged = ind-Expr PE PS PD PI step_expr step_selector step_designator (λ x y q. tt)
 
-pub constants_ranged : (g : Gathers) (s : Scope g.Reported) → ScopeRanged s → (e : Expr) → fits e ≡ true → Holds (ValueRanged s.types) (constant g s (part g e))
+pub constants_ranged : (g : Gathers) (s : Scope g.Reported) → ScopeRanged s → (e : Expr) → fits e ≡ true
+    → Holds (ValueRanged s.types) (constant g s (part g e))
 constants_ranged g s h e f = constant_ranged g s h (part g e) (part_ranged g s h e f)

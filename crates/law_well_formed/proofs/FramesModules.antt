@@ -61,7 +61,8 @@ use Rattle.law_well_formed.proofs.FramesProcedures.{NestsIn, in_module, in_local
 
 -- ---- lists
 
-each_place : {X : Type 0} (P : X → Type 0) (xs : List X) → ((n : ℕ) (x : X) → slice_get xs n ≡ Some x → P x) → AllByRecursion P xs
+each_place : {X : Type 0} (P : X → Type 0) (xs : List X) → ((n : ℕ) (x : X) → slice_get xs n ≡ Some x → P x)
+    → AllByRecursion P xs
 each_place P [] k = tt
 each_place P (x ∷ xs) k = (k 0 x refl, each_place P xs (λ n y e. k (suc n) y e))
 
@@ -85,7 +86,9 @@ unfilled_headings [] n t e = absurd cc
 unfilled_headings (h ∷ hs) zero t e = (empty_routine h, refl, same_Some h t e)
 unfilled_headings (h ∷ hs) (suc n) t e = unfilled_headings hs n t e
 
-module _ (g : Gathers) (elaborates : Elaborates g.Reported) (forms : FormsStatements g elaborates) (s : Scope g.Reported) (m : Module) (decls : List Decl) (body : Option (List Stmt)) (ends : List ℕ) (counted : ends ≡ procedure_ends decls) where
+module _ (g : Gathers) (elaborates : Elaborates g.Reported) (forms : FormsStatements g elaborates)
+    (s : Scope g.Reported) (m : Module) (decls : List Decl) (body : Option (List Stmt)) (ends : List ℕ)
+    (counted : ends ≡ procedure_ends decls) where
   abbrev modules : List (List ℕ × ℕ)
   modules = (numbered_modules s.tables).0
 
@@ -105,7 +108,12 @@ module _ (g : Gathers) (elaborates : Elaborates g.Reported) (forms : FormsStatem
   course = fold declared_by (marks.0, imported.1, 0) xs
 
   abbrev start : Walk g.Reported
-  start = record { scope = course.0; so_far = beside g course.1 (reported_of_lack g m.name.pos course.0); bodies = no_bodies course.0.procedures }
+  start = record {
+    scope = course.0;
+    so_far = beside g course.1 (reported_of_lack g m.name.pos course.0);
+    bodies =
+        no_bodies course.0.procedures;
+  }
 
   abbrev end : Walk g.Reported
   end = from g elaborates ends None marks.1 (start, 0) xs
@@ -126,15 +134,18 @@ module _ (g : Gathers) (elaborates : Elaborates g.Reported) (forms : FormsStatem
   imported_keeps = import_keeps g modules m.imports (s, Ok tt)
 
   start_tables : start.scope.tables ≡ s.tables
-  start_tables = course_leads.tables ∙ (marks_lead other nothing_open).tables ∙ ap (λ (p : List Table × ℕ). p.0) imported_keeps
+  start_tables = course_leads.tables ∙ (marks_lead other nothing_open).tables
+      ∙ ap (λ (p : List Table × ℕ). p.0) imported_keeps
 
   start_home : start.scope.types.home ≡ s.types.home
-  start_home = course_leads.home ∙ (marks_lead other nothing_open).home ∙ ap (λ (p : List Table × ℕ). p.1) imported_keeps
+  start_home = course_leads.home ∙ (marks_lead other nothing_open).home
+      ∙ ap (λ (p : List Table × ℕ). p.1) imported_keeps
 
   end_home : s.types.home ≡ end.scope.types.home
   end_home = sym (end_keeps.home ∙ start_home)
 
-  module _ (own : Option Table) (ys : List TypedStmt) (tables : List Table) (es : List (List ℕ × Meaning)) (starts : Starts s tables es) (ok : end.so_far ≡ Ok tt) where
+  module _ (own : Option Table) (ys : List TypedStmt) (tables : List Table) (es : List (List ℕ × Meaning))
+      (starts : Starts s tables es) (ok : end.so_far ≡ Ok tt) where
     abbrev made : TypedModule
     made = typed_module end.scope modules own m end.bodies ys
 
@@ -146,7 +157,9 @@ module _ (g : Gathers) (elaborates : Elaborates g.Reported) (forms : FormsStatem
 
     imports_open : OpensAll made opens g modules m.imports
     imports_open =
-        subst (λ (us : List Table). OpensAll made (open_in s.tables (typed_imports modules us (all_imports modules us own m.imports))) g modules m.imports) (sym (end_keeps.tables ∙ start_tables))
+        subst (λ (us : List Table). OpensAll made
+        (open_in s.tables (typed_imports modules us (all_imports modules us own m.imports))) g modules m.imports)
+        (sym (end_keeps.tables ∙ start_tables))
         (opens_all modules s.tables made g own m.imports)
 
     imports_leads : Leads made opens s imported.0
@@ -157,15 +170,19 @@ module _ (g : Gathers) (elaborates : Elaborates g.Reported) (forms : FormsStatem
 
     begun_awaits : AwaitsOwn s
     begun_awaits name p e =
-        let k = own_await g.Reported s.types.home (exported_headings es) es starts.exports starts.numbers name p (ap (λ (ns : List (List ℕ × Known g.Reported)). name_standing (find_name name ns)) (sym starts.own) ∙ e) in
+        let k = own_await g.Reported s.types.home (exported_headings es) es starts.exports starts.numbers name p
+        (ap (λ (ns : List (List ℕ × Known g.Reported)). name_standing (find_name name ns)) (sym starts.own) ∙ e) in
         (k.0, ap (λ (hs : List TypeNo). slice_get hs p.number) starts.procedures ∙ k.1)
 
     course_ok : course.1 ≡ Ok tt
-    course_ok = beside_left g course.1 (reported_of_lack g m.name.pos course.0) (checked_reported g elaborates ends None marks.1 ps (start, 0) ok)
+    course_ok = beside_left g course.1 (reported_of_lack g m.name.pos course.0)
+        (checked_reported g elaborates ends None marks.1 ps (start, 0) ok)
 
     heads : ModuleHeadsIn g elaborates ends course.0.own course.0.types course.0.procedures ps
-    heads = heads_in g elaborates ends course.0.own course.0.types course.0.procedures ps (marks.0, imported.1, 0) course.0 refl refl refl refl
-        (ap (λ (n : ℕ). n == 0) marked_leads.level ∙ starts.level) (awaits_kept g made opens s marks.0 marked_leads begun_awaits) course_ok
+    heads = heads_in g elaborates ends course.0.own course.0.types course.0.procedures ps (marks.0, imported.1, 0)
+        course.0 refl refl refl refl
+        (ap (λ (n : ℕ). n == 0) marked_leads.level ∙ starts.level)
+        (awaits_kept g made opens s marks.0 marked_leads begun_awaits) course_ok
 
     start_outer : start.scope.outer ≡ predeclared_block ∷ []
     start_outer = course_leads.outer ∙ marked_leads.outer ∙ starts.outer
@@ -183,10 +200,12 @@ module _ (g : Gathers) (elaborates : Elaborates g.Reported) (forms : FormsStatem
     numbers = numbers_in g elaborates forms ends None decls counted
 
     goes : Goes g elaborates ends None course.0.own course.0.types course.0.procedures start end
-    goes = all_go g elaborates ends None course.0.own course.0.types course.0.procedures marks.1 ps (start, 0) 0 stands heads numbers ok
+    goes = all_go g elaborates ends None course.0.own course.0.types course.0.procedures marks.1 ps (start, 0) 0 stands
+        heads numbers ok
 
     nested : Nested g elaborates ends None course.0.own course.0.types course.0.procedures start end
-    nested = all_nested g elaborates ends None course.0.own course.0.types course.0.procedures marks.1 ps (they_nest g elaborates forms ends decls) (start, 0) 0 stands heads numbers ok
+    nested = all_nested g elaborates ends None course.0.own course.0.types course.0.procedures marks.1 ps
+        (they_nest g elaborates forms ends decls) (start, 0) 0 stands heads numbers ok
 
     headings : Headings course.0.procedures end.bodies.procedures
     headings = goes.headings (unfilled_headings course.0.procedures)
@@ -197,23 +216,34 @@ module _ (g : Gathers) (elaborates : Elaborates g.Reported) (forms : FormsStatem
     inside_by : (r : Routine) → NestsIn course.0.procedures end.bodies.locals r → IsNested made r
     inside_by r (in_module k t e p q) =
         let there = headings k t e in
-        record { which = which.Module k; routine = there.0; around = p; there = there.1; level = q ∙ ap suc (sym (levels k there.0 there.1)) }
+        record {
+          which = which.Module k;
+          routine = there.0;
+          around = p;
+          there = there.1;
+          level = q
+              ∙ ap suc (sym (levels k there.0 there.1));
+        }
     inside_by r (in_local k x e p q) = record { which = which.Local k; routine = x; around = p; there = e; level = q }
 
     pub procedures_nested : AreNested made
     procedures_nested = record {
-      outermost = all_places (λ (r : Routine). r.around ≡ None) end.bodies.procedures (nested.apart (unfilled_apart course.0.procedures));
+      outermost = all_places (λ (r : Routine). r.around ≡ None) end.bodies.procedures
+          (nested.apart (unfilled_apart course.0.procedures));
       inside = all_places (IsNested made) end.bodies.locals (λ n r e. inside_by r (nested.nests n r (omega arith) e));
     }
 
 module _ (g : Gathers) where
-  both_nested : (a : Result (Unit {0}) g.Reported) (r : Result (List TypedStmt) g.Reported) (f : List TypedStmt → TypedModule) → ((ys : List TypedStmt) → a ≡ Ok tt → AreNested (f ys)) → Holds AreNested (both g a r ▷ λ p. Ok (f p.1))
+  both_nested : (a : Result (Unit {0}) g.Reported) (r : Result (List TypedStmt) g.Reported)
+      (f : List TypedStmt → TypedModule) → ((ys : List TypedStmt) → a ≡ Ok tt → AreNested (f ys))
+      → Holds AreNested (both g a r ▷ λ p. Ok (f p.1))
   both_nested (Ok u) (Ok ys) f k = fine (f ys) (k ys refl)
   both_nested (Ok u) (Err e) f k = broken e
   both_nested (Err e) (Ok ys) f k = broken e
   both_nested (Err e) (Err x) f k = broken (g.join e x)
 
-  module _ (elaborates : Elaborates g.Reported) (forms : FormsStatements g elaborates) (s : Scope g.Reported) (own : Option Table) (m : Module) (b : Block) where
+  module _ (elaborates : Elaborates g.Reported) (forms : FormsStatements g elaborates) (s : Scope g.Reported)
+      (own : Option Table) (m : Module) (b : Block) where
     abbrev ds : List Decl
     ds = (out-Block b).decls
 
@@ -223,36 +253,77 @@ module _ (g : Gathers) where
     abbrev behind : Declared g.Reported → Checked g.Reported
     behind d =
         with_statements elaborates None body
-        (bodies_checked g elaborates (procedure_ends ds) None d.2 (record { scope = d.0; so_far = beside g d.1 (reported_of_lack g m.name.pos d.0); bodies = no_bodies d.0.procedures }) ds)
+        (bodies_checked g elaborates (procedure_ends ds) None d.2
+        (record {
+          scope = d.0;
+          so_far = beside g d.1 (reported_of_lack g m.name.pos d.0);
+          bodies =
+              no_bodies d.0.procedures;
+        }) ds)
 
     abbrev last : Walk g.Reported
     last = end g elaborates forms s m ds body (procedure_ends ds) refl
 
-    walk_is : ◌≡◌ {A = Checked g.Reported} (walk_body g elaborates (numbered_modules s.tables).0 (procedure_ends ds) s m b) (last, statements_of elaborates last.scope None body)
+    walk_is : ◌≡◌ {A = Checked g.Reported}
+        (walk_body g elaborates (numbered_modules s.tables).0 (procedure_ends ds) s m b)
+        (last, statements_of elaborates last.scope None body)
     walk_is =
-        ap behind (declared_is g elaborates forms (procedure_ends ds) (imported g elaborates forms s m ds body (procedure_ends ds) refl) 0 ds)
+        ap behind (declared_is g elaborates forms (procedure_ends ds)
+        (imported g elaborates forms s m ds body (procedure_ends ds) refl) 0 ds)
         ∙ ap (λ (w : Walk g.Reported). with_statements elaborates None body w)
-        (bodies_are g elaborates forms (procedure_ends ds) None (marks g elaborates forms s m ds body (procedure_ends ds) refl).1 (start g elaborates forms s m ds body (procedure_ends ds) refl) ds)
+        (bodies_are g elaborates forms (procedure_ends ds) None
+        (marks g elaborates forms s m ds body (procedure_ends ds) refl).1
+        (start g elaborates forms s m ds body (procedure_ends ds) refl) ds)
 
-    of_body_nested : (tables : List Table) (es : List (List ℕ × Meaning)) → Starts s tables es → Holds AreNested (of_body g elaborates s own m b)
+    of_body_nested : (tables : List Table) (es : List (List ℕ × Meaning)) → Starts s tables es
+        → Holds AreNested (of_body g elaborates s own m b)
     of_body_nested tables es starts =
-        subst (λ (c : Checked g.Reported). Holds AreNested (module_or g (numbered_modules s.tables).0 own m c)) (sym walk_is)
-        (both_nested last.so_far (statements_of elaborates last.scope None body) (λ ys. typed_module last.scope (numbered_modules s.tables).0 own m last.bodies ys)
+        subst (λ (c : Checked g.Reported). Holds AreNested (module_or g (numbered_modules s.tables).0 own m c))
+        (sym walk_is)
+        (both_nested last.so_far (statements_of elaborates last.scope None body)
+        (λ ys. typed_module last.scope (numbered_modules s.tables).0 own m last.bodies ys)
         (λ ys ok. procedures_nested g elaborates forms s m ds body (procedure_ends ds) refl own ys tables es starts ok))
 
-  module _ (elaborates : Elaborates g.Reported) (forms : FormsStatements g elaborates) (number : ℕ) (m : Module) (tables : List Table) where
-    implementation_nested : (own : Option Table) (b : Block) → AreForOwn own tables → Holds AreNested (of_implementation g elaborates m own (tables ++ console ∷ []) b)
+  module _ (elaborates : Elaborates g.Reported) (forms : FormsStatements g elaborates) (number : ℕ) (m : Module)
+      (tables : List Table) where
+    implementation_nested : (own : Option Table) (b : Block) → AreForOwn own tables
+        → Holds AreNested (of_implementation g elaborates m own (tables ++ console ∷ []) b)
     implementation_nested None b k = reported_holds g m.name.pos rule.LonelyModule
     implementation_nested (Some t) b k =
         of_body_nested elaborates forms (implementation_scope t (tables ++ console ∷ [])) (Some t) m b tables t.exported
-        (record { tables_are = refl; outer = refl; level = refl; withs = refl; own = refl; procedures = refl; exports = k.0.exports; numbers = k.0.numbers; others = k.1 })
+        (record {
+          tables_are = refl;
+          outer = refl;
+          level = refl;
+          withs = refl;
+          own = refl;
+          procedures = refl;
+          exports =
+              k.0.exports;
+          numbers = k.0.numbers;
+          others = k.1;
+        })
 
-    contents_nested : (own : Option Table) (c : Contents) → AreFor number own tables c → Holds AreNested (of_contents g elaborates number m own (tables ++ console ∷ []) c)
+    contents_nested : (own : Option Table) (c : Contents) → AreFor number own tables c
+        → Holds AreNested (of_contents g elaborates number m own (tables ++ console ∷ []) c)
     contents_nested own (contents.Definition defs) k = reported_holds g m.name.pos rule.LonelyModule
     contents_nested own (contents.Implementation b) k = implementation_nested own b k
     contents_nested own (contents.Program b) k =
         of_body_nested elaborates forms (first_scope number (tables ++ console ∷ [])) None m b tables []
-        (record { tables_are = refl; outer = refl; level = refl; withs = refl; own = refl; procedures = refl; exports = tt; numbers = tt; others = k })
+        (record {
+          tables_are = refl;
+          outer = refl;
+          level = refl;
+          withs = refl;
+          own = refl;
+          procedures = refl;
+          exports =
+              tt;
+          numbers = tt;
+          others = k;
+        })
 
-pub modules_nested : (g : Gathers) (number : ℕ) (m : Module) (own : Option Table) (tables : List Table) → AreFor number own tables m.contents → Holds AreNested (body_module g number m own tables)
-modules_nested g number m own tables k = contents_nested g (elaborate_body g) (elaborated_formed g) number m tables own m.contents k
+pub modules_nested : (g : Gathers) (number : ℕ) (m : Module) (own : Option Table) (tables : List Table)
+    → AreFor number own tables m.contents → Holds AreNested (body_module g number m own tables)
+modules_nested g number m own tables k =
+    contents_nested g (elaborate_body g) (elaborated_formed g) number m tables own m.contents k

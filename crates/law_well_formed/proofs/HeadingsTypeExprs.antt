@@ -26,7 +26,8 @@ use Rattle.law_well_formed.proofs.HeadingsSteps.{marked_refl, marked_then, keeps
 -- ---- types that are made
 
 module _ (g : Gathers) where
-  listed_all : (t : TypeNo) (names : List Ident) (l : Scope g.Reported × ℕ × Result (Unit {0}) g.Reported) → Changes (λ z. fold marked_later z names) l.0 (fold (enumerate_name g t) l names).0
+  listed_all : (t : TypeNo) (names : List Ident) (l : Scope g.Reported × ℕ × Result (Unit {0}) g.Reported)
+      → Changes (λ z. fold marked_later z names) l.0 (fold (enumerate_name g t) l names).0
   listed_all t [] l = changes_refl _ l.0
   listed_all t (x ∷ xs) l =
       changes_then
@@ -81,10 +82,12 @@ module _ (g : Gathers) where
   names_marked [] s = marked_refl s
   names_marked (f ∷ fs) s = marked_then (field_marked f.0 s) (names_marked fs (marked_field f.0 s))
 
-  fields_change : (fs : List SF) (st : Fielded) → Changes (field_names fs) st.0 (fold (then_fields g) st (map (field_list g) (bare_fields fs))).0
+  fields_change : (fs : List SF) (st : Fielded)
+      → Changes (field_names fs) st.0 (fold (then_fields g) st (map (field_list g) (bare_fields fs))).0
   fields_change [] st = changes_refl _ st.0
   fields_change (f ∷ fs) st =
-      changes_then (changes_first (marked_field f.0) (field_names fs) (names_marked fs) (f.1 st)) (changes_second (marked_field f.0) (field_names fs) (fields_change fs (field_list g f.0 st)))
+      changes_then (changes_first (marked_field f.0) (field_names fs) (names_marked fs) (f.1 st))
+      (changes_second (marked_field f.0) (field_names fs) (fields_change fs (field_list g f.0 st)))
 
   type_changes : (y : TypeExpr-F ST SF)
       → Makes' (type_layer g (types_opened g (stripped y))) (marking.type_layer (marks_opened (stripped y)))
@@ -92,8 +95,10 @@ module _ (g : Gathers) where
   type_changes (layer.Array at index t) = λ s.
       changes_then (changes_first (marked_simple index) (marked_in t.0) (type_marks keeps_marks t.0)
       (simple_changes s index))
-      (changes_then (changes_second (marked_simple index) (marked_in t.0) (t.1 (index_type g s index).0)) (made_changes _ (type_of g t.0 (index_type g s index).0).0 _))
-  type_changes (layer.Record at fields) = λ s. changes_then (fields_change fields (s, no_fields, Ok tt)) (made_changes _ _ _)
+      (changes_then (changes_second (marked_simple index) (marked_in t.0) (t.1 (index_type g s index).0))
+      (made_changes _ (type_of g t.0 (index_type g s index).0).0 _))
+  type_changes (layer.Record at fields) =
+      λ s. changes_then (fields_change fields (s, no_fields, Ok tt)) (made_changes _ _ _)
   type_changes (layer.Procedure at formals t) = λ s. made_changes _ s _
 
   type_step : (y : TypeExpr-F ST SF) → PT (roll-TypeExpr (stripped y)) (type_layer g (types_opened g (stripped y)))

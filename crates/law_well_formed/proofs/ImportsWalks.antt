@@ -42,16 +42,21 @@ module _ (g : Gathers) where
     awaited = λ s name p e. refl;
   }
 
-  pub layer_keeps : {A B : Type 0} (ends : List ℕ) (c : Course g.Reported) (d : Decl-F A B) → Keeps c.0 (decl_layer g ends c d).0
+  pub layer_keeps : {A B : Type 0} (ends : List ℕ) (c : Course g.Reported) (d : Decl-F A B)
+      → Keeps c.0 (decl_layer g ends c d).0
   layer_keeps = all_blocks.layer_keeps g blocks
 
-module _ {T X : Type 0} (marks : Scope T → X → Scope T) (declares : Course T → X → Course T) (k : (s : Scope T) (x : X) → Keeps s (marks s x)) (j : (c : Course T) (x : X) → Keeps c.0 (declares c x).0) where
-  pub declared_keep : (st : State (Unit {0}) T) (first : ℕ) (xs : List X) → Keeps st.0 (all_declared marks declares st first xs).0
+module _ {T X : Type 0} (marks : Scope T → X → Scope T) (declares : Course T → X → Course T)
+    (k : (s : Scope T) (x : X) → Keeps s (marks s x)) (j : (c : Course T) (x : X) → Keeps c.0 (declares c x).0) where
+  pub declared_keep : (st : State (Unit {0}) T) (first : ℕ) (xs : List X)
+      → Keeps st.0 (all_declared marks declares st first xs).0
   declared_keep st first xs =
       let m = all_marked marks st.0 xs in
-      fold_keeps (λ (c : Course T). c.0) declares j xs (m.0, st.1, first) ∙ fold_keeps (λ (w : Scope T × List ℕ). w.0) (with_marks marks) (λ w x. k w.0 x) xs (st.0, [])
+      fold_keeps (λ (c : Course T). c.0) declares j xs (m.0, st.1, first)
+      ∙ fold_keeps (λ (w : Scope T × List ℕ). w.0) (with_marks marks) (λ w x. k w.0 x) xs (st.0, [])
 
-pub module_keeps : (g : Gathers) (modules : List (List ℕ × ℕ)) (ends : List ℕ) (s : Scope g.Reported) (m : Module) (ds : List Decl) → Keeps s (declared_module g modules ends s m ds).0
+pub module_keeps : (g : Gathers) (modules : List (List ℕ × ℕ)) (ends : List ℕ) (s : Scope g.Reported) (m : Module)
+    (ds : List Decl) → Keeps s (declared_module g modules ends s m ds).0
 module_keeps g modules ends s m ds =
     let st = fold (with_import g modules) (s, Ok tt) m.imports in
     declared_keep marked_decl (with_decl g ends) (λ s d. decl_layer_marks marks (out-Decl d) s)
@@ -64,7 +69,8 @@ module _ {T : Type 0} where
   KeepingChecks f = (around : Option Which) (seen : ℕ) (w : Walk T) → Keeps w.scope (f around seen w).scope
 
   abbrev KeepingBlock : ChecksBlock T → Type 0
-  KeepingBlock f = (around : Option Which) (returns : Option (Result TypeNo T)) (w : Walk T) → Keeps w.scope (f around returns w).0.scope
+  KeepingBlock f = (around : Option Which) (returns : Option (Result TypeNo T)) (w : Walk T)
+      → Keeps w.scope (f around returns w).0.scope
 
   record KeepingSteps (x : Steps T) : Type 0 where
     pub marks : (s : Scope T) → Keeps s (x.marks s)
@@ -78,10 +84,13 @@ module _ {T : Type 0} where
   abbrev scope_of : Walk T × ℕ → Scope T
   scope_of st = st.0.scope
 
-  bodies_keep : {X : Type 0} (checks : X → (seen : ℕ) → Walk T → Walk T) (k : (x : X) (seen : ℕ) (w : Walk T) → Keeps w.scope (checks x seen w).scope) (seen : List ℕ) (w : Walk T) (xs : List X) → Keeps w.scope (with_bodies checks seen w xs).scope
+  bodies_keep : {X : Type 0} (checks : X → (seen : ℕ) → Walk T → Walk T)
+      (k : (x : X) (seen : ℕ) (w : Walk T) → Keeps w.scope (checks x seen w).scope) (seen : List ℕ) (w : Walk T)
+      (xs : List X) → Keeps w.scope (with_bodies checks seen w xs).scope
   bodies_keep checks k seen w xs = fold_keeps scope_of (with_body checks seen) (λ st x. k x _ st.0) xs (w, 0)
 
-  marks_all : (xs : List (Steps T)) → AllKeep xs → (st : Scope T × List ℕ) → Keeps st.0 (fold (with_marks marked_by) st xs).0
+  marks_all : (xs : List (Steps T)) → AllKeep xs → (st : Scope T × List ℕ)
+      → Keeps st.0 (fold (with_marks marked_by) st xs).0
   marks_all [] all st = refl
   marks_all (x ∷ xs) all st = marks_all xs all.1 (with_marks marked_by st x) ∙ all.0.marks st.0
 
@@ -89,19 +98,25 @@ module _ {T : Type 0} where
   declares_all [] all c = refl
   declares_all (x ∷ xs) all c = declares_all xs all.1 (declared_by c x) ∙ all.0.declares c
 
-  checks_all : (around : Option Which) (seen : List ℕ) (xs : List (Steps T)) → AllKeep xs → (st : Walk T × ℕ) → Keeps st.0.scope (fold (with_body (λ x. checked_by x around) seen) st xs).0.scope
+  checks_all : (around : Option Which) (seen : List ℕ) (xs : List (Steps T)) → AllKeep xs → (st : Walk T × ℕ)
+      → Keeps st.0.scope (fold (with_body (λ x. checked_by x around) seen) st xs).0.scope
   checks_all around seen [] all st = refl
-  checks_all around seen (x ∷ xs) all st = checks_all around seen xs all.1 (with_body (λ x. checked_by x around) seen st x) ∙ all.0.checks around _ st.0
+  checks_all around seen (x ∷ xs) all st =
+      checks_all around seen xs all.1 (with_body (λ x. checked_by x around) seen st x) ∙ all.0.checks around _ st.0
 
 module _ (g : Gathers) (elaborates : Elaborates g.Reported) (ends : List ℕ) where
-  procedure_keeps : (h : Heading) (block : ChecksBlock g.Reported) → KeepingBlock block → KeepingChecks (procedure_checked g elaborates ends h block)
-  procedure_keeps h block k around seen w = let b = begun_procedure g w seen h in k (which_of b.1.procedure) b.1.returns b.0
+  procedure_keeps : (h : Heading) (block : ChecksBlock g.Reported) → KeepingBlock block
+      → KeepingChecks (procedure_checked g elaborates ends h block)
+  procedure_keeps h block k around seen w = let b = begun_procedure g w seen h in
+      k (which_of b.1.procedure) b.1.returns b.0
 
-  block_keeps : (xs : List (Steps g.Reported)) (body : Option (List Stmt)) → AllKeep xs → KeepingBlock (block_layer g elaborates ends (record { decls = xs; body = body }))
+  block_keeps : (xs : List (Steps g.Reported)) (body : Option (List Stmt)) → AllKeep xs
+      → KeepingBlock (block_layer g elaborates ends (record { decls = xs; body = body }))
   block_keeps xs body all around returns w =
       let d = all_declared marked_by declared_by (w.scope, w.so_far) (length w.bodies.locals) xs in
       let m = all_marked marked_by w.scope xs in
-      checks_all around d.2 xs all (begun_from d w.bodies, 0) ∙ (declares_all xs all (m.0, w.so_far, length w.bodies.locals) ∙ marks_all xs all (w.scope, []))
+      checks_all around d.2 xs all (begun_from d w.bodies, 0)
+      ∙ (declares_all xs all (m.0, w.so_far, length w.bodies.locals) ∙ marks_all xs all (w.scope, []))
 
   abbrev SD : Type 0
   SD = OfDecl g elaborates ends (λ d x. KeepingSteps x) (λ b c. KeepingBlock c)
@@ -117,7 +132,8 @@ module _ (g : Gathers) (elaborates : Elaborates g.Reported) (ends : List ℕ) wh
   checks_at (layer.Constants cs) around seen w = refl
   checks_at (layer.Types ts) around seen w = refl
   checks_at (layer.Variables vs) around seen w = refl
-  checks_at (layer.Procedure h b) around seen w = procedure_keeps h (checks_block g elaborates ends b.0) b.1 around seen w
+  checks_at (layer.Procedure h b) around seen w =
+      procedure_keeps h (checks_block g elaborates ends b.0) b.1 around seen w
 
   steps_at : (y : Decl-F SD SB) → KeepingSteps (steps_layer g elaborates ends (opened g elaborates ends (stripped y)))
   steps_at y = record {
@@ -135,8 +151,10 @@ module _ (g : Gathers) (elaborates : Elaborates g.Reported) (ends : List ℕ) wh
       all_decls g elaborates ends (λ d x. KeepingSteps x) (λ b c. KeepingBlock c) steps_at
       (λ y. block_keeps _ y.body (all_at y.decls))
 
-  pub walk_keeps : (modules : List (List ℕ × ℕ)) (s : Scope g.Reported) (m : Module) (b : Block) → Keeps s (walk_body g elaborates modules ends s m b).0.scope
+  pub walk_keeps : (modules : List (List ℕ × ℕ)) (s : Scope g.Reported) (m : Module) (b : Block)
+      → Keeps s (walk_body g elaborates modules ends s m b).0.scope
   walk_keeps modules s m b =
       let ds = (out-Block b).decls in
       let w = begun_module g modules ends s m ds in
-      bodies_keep (λ d. checks_decl g elaborates ends d None) (λ d seen w. (steps_keep d).checks None seen w) w.1 w.0 ds ∙ module_keeps g modules ends s m ds
+      bodies_keep (λ d. checks_decl g elaborates ends d None) (λ d seen w. (steps_keep d).checks None seen w) w.1 w.0 ds
+      ∙ module_keeps g modules ends s m ds

@@ -40,18 +40,23 @@ use Rattle.law_well_formed.proofs.BodiesBlocks.{from, Here, all_own, all_keep, c
 
 pub elaborated_formed : (g : Gathers) → FormsStatements g (elaborate_body g)
 elaborated_formed g m opens s h e returns body =
-    subst (λ (w : ℕ). Holds (AreStmts m (is_there returns) w false) (elaborate_body g s returns body)) (ap (λ (ws : List _). length ws) e)
-    (statements_formed g m opens s (subst (λ (w : ℕ). IsFormed g m opens w s) (sym (ap (λ (ws : List _). length ws) e)) h) (record { gives = returns; in_loop = false }) body)
+    subst (λ (w : ℕ). Holds (AreStmts m (is_there returns) w false) (elaborate_body g s returns body))
+    (ap (λ (ws : List _). length ws) e)
+    (statements_formed g m opens s (subst (λ (w : ℕ). IsFormed g m opens w s) (sym (ap (λ (ws : List _). length ws) e))
+    h) (record { gives = returns; in_loop = false }) body)
 
 module _ (g : Gathers) (elaborates : Elaborates g.Reported) (forms : FormsStatements g elaborates) (ends : List ℕ) where
-  pub body_formed : (m : TypedModule) (opens : ℕ → Bool) (s : Scope g.Reported) → IsFormed g m opens 0 s → s.withs ≡ [] → (returns : Option (Result TypeNo g.Reported)) (body : Option (List Stmt))
+  pub body_formed : (m : TypedModule) (opens : ℕ → Bool) (s : Scope g.Reported) → IsFormed g m opens 0 s → s.withs ≡ []
+      → (returns : Option (Result TypeNo g.Reported)) (body : Option (List Stmt))
       → Holds (AreStmts m (is_there returns) 0 false) (statements_of elaborates s returns body)
   body_formed m opens s h e returns None = fine [] (no_stmts 0 false)
   body_formed m opens s h e returns (Some xs) = forms m opens s h e returns xs
 
   -- ---- a block, whose parts are known
 
-  module _ (xs : List (Steps g.Reported)) (body : Option (List Stmt)) (ls : List ℕ) (ps : AreSteps g elaborates ends xs ls) (around : Option Which) (returns : Option (Result TypeNo g.Reported)) (w : Walk g.Reported) where
+  module _ (xs : List (Steps g.Reported)) (body : Option (List Stmt)) (ls : List ℕ)
+      (ps : AreSteps g elaborates ends xs ls) (around : Option Which) (returns : Option (Result TypeNo g.Reported))
+      (w : Walk g.Reported) where
     abbrev marks : Scope g.Reported × List ℕ
     marks = fold (with_marks marked_by) (w.scope, []) xs
 
@@ -71,20 +76,25 @@ module _ (g : Gathers) (elaborates : Elaborates g.Reported) (forms : FormsStatem
     other = nothing_at marks.0.types.home
 
     course_leads : Leads other nothing_open marks.0 course.0
-    course_leads = all_lead g elaborates ends other nothing_open ps (marks.0, w.so_far, length w.bodies.locals) (no_home marks.0.types.home)
+    course_leads = all_lead g elaborates ends other nothing_open ps (marks.0, w.so_far, length w.bodies.locals)
+        (no_home marks.0.types.home)
 
     start_keeps : Keeps w.scope start.scope
-    start_keeps = keeps_then (leads_keeps other nothing_open (marks_lead other nothing_open)) (leads_keeps other nothing_open course_leads)
+    start_keeps = keeps_then (leads_keeps other nothing_open (marks_lead other nothing_open))
+        (leads_keeps other nothing_open course_leads)
 
     end_keeps : Keeps start.scope end.scope
     end_keeps = all_keep g elaborates ends around marks.1 ps (start, 0)
 
     block_reported : end.so_far ≡ Ok tt → w.so_far ≡ Ok tt
-    block_reported e = all_reported g elaborates ends ps (marks.0, w.so_far, length w.bodies.locals) (checked_reported g elaborates ends around marks.1 ps (start, 0) e)
+    block_reported e = all_reported g elaborates ends ps (marks.0, w.so_far, length w.bodies.locals)
+        (checked_reported g elaborates ends around marks.1 ps (start, 0) e)
 
-    block_count : (w.scope.level == 0) ≡ false → 0 < length w.scope.outer → length end.bodies.locals ≡ length w.bodies.locals + length ls
+    block_count : (w.scope.level == 0) ≡ false → 0 < length w.scope.outer
+        → length end.bodies.locals ≡ length w.bodies.locals + length ls
     block_count l d =
-        all_count g elaborates ends around marks.1 ps (start, 0) (ap (λ (n : ℕ). n == 0) start_keeps.level ∙ l) (subst (λ (bs : List (Around g.Reported)). 0 < length bs) (sym start_keeps.outer) d)
+        all_count g elaborates ends around marks.1 ps (start, 0) (ap (λ (n : ℕ). n == 0) start_keeps.level ∙ l)
+        (subst (λ (bs : List (Around g.Reported)). 0 < length bs) (sym start_keeps.outer) d)
 
     module _ (begins : Begins ends w ls) (ok : end.so_far ≡ Ok tt) where
       start_ok : course.1 ≡ Ok tt
@@ -94,8 +104,10 @@ module _ (g : Gathers) (elaborates : Elaborates g.Reported) (forms : FormsStatem
       marks_level = (marks_lead other nothing_open).level
 
       heads : HeadsIn g elaborates ends course.0.own course.0.types marks.0.level (length w.bodies.locals) ps
-      heads = heads_in g elaborates ends course.0.own course.0.types marks.0.level ps (marks.0, w.so_far, length w.bodies.locals) course.0 refl refl refl refl
-          (ap (λ (n : ℕ). n == 0) marks_level ∙ begins.level) (λ name. (marks_lead other nothing_open).awaits name (begins.awaits name)) begins.numbers start_ok
+      heads = heads_in g elaborates ends course.0.own course.0.types marks.0.level ps
+          (marks.0, w.so_far, length w.bodies.locals) course.0 refl refl refl refl
+          (ap (λ (n : ℕ). n == 0) marks_level ∙ begins.level)
+          (λ name. (marks_lead other nothing_open).awaits name (begins.awaits name)) begins.numbers start_ok
 
       here : Here g elaborates ends around course.0.own course.0.types marks.0.level start (length w.bodies.locals) ls
       here = record {
@@ -108,42 +120,57 @@ module _ (g : Gathers) (elaborates : Elaborates g.Reported) (forms : FormsStatem
       }
 
       start_adds : Adds start end
-      start_adds = all_add g elaborates ends around marks.1 course.0.own course.0.types marks.0.level ps (start, 0) (length w.bodies.locals) here heads ok
+      start_adds = all_add g elaborates ends around marks.1 course.0.own course.0.types marks.0.level ps (start, 0)
+          (length w.bodies.locals) here heads ok
 
       block_adds : Adds w end
       block_adds = record { procedures = start_adds.procedures; below = start_adds.below; nested = start_adds.nested }
 
-      module _ (m : TypedModule) (opens : ℕ → Bool) (suits : Suits g m opens w end) (own : AreFormedNames m opens w.scope.own) where
-        there : RoutinesIn g elaborates ends course.0.own course.0.types marks.0.level m.locals (length w.bodies.locals) ps heads
-        there = routines_in g elaborates ends course.0.own course.0.types marks.0.level end.bodies.locals m.locals (length w.bodies.locals) (length w.bodies.locals) (omega arith)
+      module _ (m : TypedModule) (opens : ℕ → Bool) (suits : Suits g m opens w end)
+          (own : AreFormedNames m opens w.scope.own) where
+        there : RoutinesIn g elaborates ends course.0.own course.0.types marks.0.level m.locals (length w.bodies.locals)
+            ps heads
+        there = routines_in g elaborates ends course.0.own course.0.types marks.0.level end.bodies.locals m.locals
+            (length w.bodies.locals) (length w.bodies.locals) (omega arith)
             (λ k r b e. suits.locals k b (is_within end.bodies.locals k r e) ∙ e) ps heads
-            (all_routines g elaborates ends around marks.1 course.0.own course.0.types marks.0.level ps (start, 0) (length w.bodies.locals) here heads ok)
+            (all_routines g elaborates ends around marks.1 course.0.own course.0.types marks.0.level ps (start, 0)
+            (length w.bodies.locals) here heads ok)
 
         names_lead : Leads m opens marks.0 course.0
-        names_lead = all_formed g elaborates ends course.0.own course.0.types marks.0.level m opens ps (marks.0, w.so_far, length w.bodies.locals) (length w.bodies.locals) course.0 refl refl heads there
+        names_lead = all_formed g elaborates ends course.0.own course.0.types marks.0.level m opens ps
+            (marks.0, w.so_far, length w.bodies.locals) (length w.bodies.locals) course.0 refl refl heads there
 
         start_formed : AreFormedNames m opens course.0.own
-        start_formed = names_lead.formed ((marks_lead m opens).home ∙ suits.home) ((marks_lead m opens).formed suits.home own)
+        start_formed = names_lead.formed ((marks_lead m opens).home ∙ suits.home)
+            ((marks_lead m opens).formed suits.home own)
 
         start_suits : Suits g m opens start end
-        start_suits = suits_rest g elaborates ends around marks.1 course.0.own course.0.types marks.0.level m opens w start end start_keeps (omega arith) suits
+        start_suits = suits_rest g elaborates ends around marks.1 course.0.own course.0.types marks.0.level m opens w
+            start end start_keeps (omega arith) suits
 
         end_formed : IsFormed g m opens 0 end.scope
         end_formed = scope_formed m opens g end.scope suits.types
-            (subst (λ (es : List (List ℕ × Known g.Reported)). AreFormedNames m opens es) (sym (all_own g elaborates ends around marks.1 ps (start, 0))) start_formed)
-            (subst (λ (bs : List (Around g.Reported)). AreFormedBlocks m opens bs) (sym end_keeps.outer) start_suits.outer)
+            (subst (λ (es : List (List ℕ × Known g.Reported)). AreFormedNames m opens es)
+            (sym (all_own g elaborates ends around marks.1 ps (start, 0))) start_formed)
+            (subst (λ (bs : List (Around g.Reported)). AreFormedBlocks m opens bs) (sym end_keeps.outer)
+            start_suits.outer)
             (end_keeps.withs ∙ start_suits.withs)
-            (λ k name e. subst (λ (ts : List Table). Holds (FormedMeaning m opens 0) (exported_meaning g ts k name)) (sym end_keeps.tables) (start_suits.members k name e))
+            (λ k name e. subst (λ (ts : List Table). Holds (FormedMeaning m opens 0) (exported_meaning g ts k name))
+            (sym end_keeps.tables) (start_suits.members k name e))
 
-        block_formed : AddsFormed g m opens w end × Holds (AreStmts m (is_there returns) 0 false) (statements_of elaborates end.scope returns body)
+        block_formed : AddsFormed g m opens w end
+            × Holds (AreStmts m (is_there returns) 0 false) (statements_of elaborates end.scope returns body)
         block_formed = (
-          all_formed_in g elaborates ends around marks.1 course.0.own course.0.types marks.0.level m opens ps (start, 0) (length w.bodies.locals) here heads ok start_suits start_formed,
+          all_formed_in g elaborates ends around marks.1 course.0.own course.0.types marks.0.level m opens ps (start, 0)
+              (length w.bodies.locals) here heads ok start_suits start_formed,
           body_formed m opens end.scope end_formed (end_keeps.withs ∙ start_suits.withs) returns body,
         )
 
-  of_steps : (xs : List (Steps g.Reported)) (body : Option (List Stmt)) (ls : List ℕ) → AreSteps g elaborates ends xs ls → FormedBlock g ends (block_layer g elaborates ends (record { decls = xs; body = body })) ls
+  of_steps : (xs : List (Steps g.Reported)) (body : Option (List Stmt)) (ls : List ℕ) → AreSteps g elaborates ends xs ls
+      → FormedBlock g ends (block_layer g elaborates ends (record { decls = xs; body = body })) ls
   of_steps xs body ls ps = record {
-    keeps = λ around returns w. keeps_then (start_keeps xs body ls ps around returns w) (end_keeps xs body ls ps around returns w);
+    keeps = λ around returns w. keeps_then (start_keeps xs body ls ps around returns w)
+        (end_keeps xs body ls ps around returns w);
     reported = λ around returns w e. block_reported xs body ls ps around returns w e;
     count = λ around returns w l d. block_count xs body ls ps around returns w l d;
     adds = λ around returns w b e. block_adds xs body ls ps around returns w b e;
@@ -178,7 +205,8 @@ module _ (g : Gathers) (elaborates : Elaborates g.Reported) (forms : FormsStatem
 
   are_steps : (xs : List SD) → AreSteps g elaborates ends (map steps_of (map (λ (x : SD). x.0) xs)) (total xs)
   are_steps [] = no_steps
-  are_steps (x ∷ xs) = more_steps (steps_of x.0) (map steps_of (map (λ (x : SD). x.0) xs)) (within_decl x.0) (total xs) x.1 (are_steps xs)
+  are_steps (x ∷ xs) = more_steps (steps_of x.0) (map steps_of (map (λ (x : SD). x.0) xs)) (within_decl x.0) (total xs)
+      x.1 (are_steps xs)
 
   step_at : (y : Decl-F SD SB)
       → IsStep g elaborates ends (steps_layer g elaborates ends (opened g elaborates ends (stripped y)))
@@ -193,7 +221,9 @@ module _ (g : Gathers) (elaborates : Elaborates g.Reported) (forms : FormsStatem
       (record { decls = map steps_of (map (λ (x : SD). x.0) xs); body = body }))
       (fold append_names [] (map within_decl (map (λ (x : SD). x.0) xs)))
   block_of_steps xs body =
-      subst (λ (ks : List ℕ). FormedBlock g ends (block_layer g elaborates ends (record { decls = map steps_of (map (λ (x : SD). x.0) xs); body = body })) ks) (sym (total_is [] xs))
+      subst (λ (ks : List ℕ). FormedBlock g ends
+      (block_layer g elaborates ends (record { decls = map steps_of (map (λ (x : SD). x.0) xs); body = body })) ks)
+      (sym (total_is [] xs))
       (of_steps (map steps_of (map (λ (x : SD). x.0) xs)) body (total xs) (are_steps xs))
 
   decl_step : (y : Decl-F SD SB)

@@ -53,7 +53,8 @@ and_both : (a b : Bool) → a ≡ true → b ≡ true → (a && b) ≡ true
 and_both true b h k = k
 and_both false b h k = absurd cc
 
-then_two : {A T : Type 0} {base : Types} {s : Scope T} {r : Result A T} → Holds (λ x. ScopeRanged s) r → Holds (λ x. ScopeOrdered base s) r → Holds (λ x. ScopeFormed base s) r
+then_two : {A T : Type 0} {base : Types} {s : Scope T} {r : Result A T} → Holds (λ x. ScopeRanged s) r
+    → Holds (λ x. ScopeOrdered base s) r → Holds (λ x. ScopeFormed base s) r
 then_two (fine x a) (fine _ b) = fine x (record { ranged = a; ordered = b })
 then_two (broken e) b = broken e
 
@@ -73,21 +74,29 @@ module _ (g : Gathers) (elaborates : Elaborates g.Reported) (ends : List ℕ) wh
   StepFormed x = (around : Option Which) → CheckFormed (checked_by x around)
 
   abbrev BlockFormed : ChecksBlock g.Reported → Type 0
-  BlockFormed block = (base : Types) (around : Option Which) (returns : Option (Result TypeNo g.Reported)) (w : Walk g.Reported) → WalkFormed base w → WalkFormed base (block around returns w).0
+  BlockFormed block = (base : Types) (around : Option Which) (returns : Option (Result TypeNo g.Reported))
+      (w : Walk g.Reported) → WalkFormed base w → WalkFormed base (block around returns w).0
 
   -- ---- procedures
 
-  entered_formed : (base : Types) (w : Walk g.Reported) (seen : ℕ) (h : Heading) → ScopeFormed base w.scope → ScopeFormed base (begun_procedure g w seen h).0.scope
-  entered_formed base w seen h k = record { ranged = entered_ranged g w.scope seen h k.ranged; ordered = entered_ordered base g w.scope seen h k.ordered }
+  entered_formed : (base : Types) (w : Walk g.Reported) (seen : ℕ) (h : Heading) → ScopeFormed base w.scope
+      → ScopeFormed base (begun_procedure g w seen h).0.scope
+  entered_formed base w seen h k = record {
+    ranged = entered_ranged g w.scope seen h k.ranged;
+    ordered =
+        entered_ordered base g w.scope seen h k.ordered;
+  }
 
   -- behind the procedure, where its walk began with the types outside it
-  left_formed : (base : Types) (o : Outside) (s : Scope g.Reported) (outer : Types) → ScopeFormed base s → StartedFrom outer s.types → AreKnown outer o.variables → ScopeFormed base (left_procedure o s)
+  left_formed : (base : Types) (o : Outside) (s : Scope g.Reported) (outer : Types) → ScopeFormed base s
+      → StartedFrom outer s.types → AreKnown outer o.variables → ScopeFormed base (left_procedure o s)
   left_formed base o s outer k started v = record {
     ranged = left_ranged o s k.ranged;
     ordered = left_ordered base o s k.ordered (all_kept outer s.types (known_kept outer s.types started) o.variables v);
   }
 
-  module _ (h : Heading) (block : ChecksBlock g.Reported) (f : BlockFormed block) (around : Option Which) (seen : ℕ) (w : Walk g.Reported) where
+  module _ (h : Heading) (block : ChecksBlock g.Reported) (f : BlockFormed block) (around : Option Which) (seen : ℕ)
+      (w : Walk g.Reported) where
     abbrev first : Walk g.Reported
     first = (begun_procedure g w seen h).0
 
@@ -95,36 +104,50 @@ module _ (g : Gathers) (elaborates : Elaborates g.Reported) (ends : List ℕ) wh
     last = block (which_of (begun_procedure g w seen h).1.procedure) (begun_procedure g w seen h).1.returns first
 
     inner_formed : (base : Types) → WalkFormed base first → WalkFormed base last.0
-    inner_formed base p = f base (which_of (begun_procedure g w seen h).1.procedure) (begun_procedure g w seen h).1.returns first p
+    inner_formed base p = f base (which_of (begun_procedure g w seen h).1.procedure)
+        (begun_procedure g w seen h).1.returns first p
 
     abbrev Behind : Type 0
     Behind = StartedFrom w.scope.types last.0.scope.types × AreKnown w.scope.types w.scope.variables
 
     -- where a rule was broken before, one is broken in the end: else the walk began in two modules
-    never_begun : (base : Types) → StartedFrom base last.0.scope.types → StartedFrom (record { home = suc base.home; own = []; others = [] }) last.0.scope.types → Behind
-    never_begun base p q = let a = p.home in let b = q.home in absurd (let clash : base.home < base.home = omega (arith, a, b) in omega (arith, clash))
+    never_begun : (base : Types) → StartedFrom base last.0.scope.types
+        → StartedFrom (record { home = suc base.home; own = []; others = [] }) last.0.scope.types → Behind
+    never_begun base p q = let a = p.home in let b = q.home in
+        absurd (let clash : base.home < base.home = omega (arith, a, b) in omega (arith, clash))
 
-    behind_by : {P : Type 0} → (r : Result (Unit {0}) g.Reported) → w.so_far ≡ r → Holds (λ x. P) r → (P → ScopeFormed w.scope.types w.scope) → Holds (λ x. Behind) last.0.so_far
+    behind_by : {P : Type 0} → (r : Result (Unit {0}) g.Reported) → w.so_far ≡ r → Holds (λ x. P) r
+        → (P → ScopeFormed w.scope.types w.scope) → Holds (λ x. Behind) last.0.so_far
     behind_by _ e (fine x p) k =
-        holds_weaker (λ x z. (z.ordered.started, (k p).ordered.variables)) (inner_formed w.scope.types (const_holds (entered_formed w.scope.types w seen h (k p)) w.so_far))
+        holds_weaker (λ x z. (z.ordered.started, (k p).ordered.variables))
+        (inner_formed w.scope.types (const_holds (entered_formed w.scope.types w seen h (k p)) w.so_far))
     behind_by _ e (broken x) k =
-        let any : (base : Types) → WalkFormed base first = λ base. subst (λ (r : Result (Unit {0}) g.Reported). Holds (λ x. ScopeFormed base first.scope) r) (sym e) (broken x) in
+        let any : (base : Types) → WalkFormed base first =
+        λ base. subst (λ (r : Result (Unit {0}) g.Reported). Holds (λ x. ScopeFormed base first.scope) r) (sym e)
+        (broken x) in
         let base : Types = w.scope.types in
         let other : Types = record { home = suc base.home; own = []; others = [] } in
-        holds_weaker (λ x z. never_begun base z.0.ordered.started z.1.ordered.started) (holds_both (inner_formed base (any base)) (inner_formed other (any other)))
+        holds_weaker (λ x z. never_begun base z.0.ordered.started z.1.ordered.started)
+        (holds_both (inner_formed base (any base)) (inner_formed other (any other)))
 
-  procedure_formed : (h : Heading) (block : ChecksBlock g.Reported) → BlockFormed block → (around : Option Which) → CheckFormed (procedure_checked g elaborates ends h block around)
+  procedure_formed : (h : Heading) (block : ChecksBlock g.Reported) → BlockFormed block → (around : Option Which)
+      → CheckFormed (procedure_checked g elaborates ends h block around)
   procedure_formed h block f around base seen w p =
       let b = begun_procedure g w seen h in
       let e = last h block f around seen w in
       let one = inner_formed h block f around seen w base (holds_weaker (λ x k. entered_formed base w seen h k) p) in
-      let two = behind_by h block f around seen w w.so_far refl p (λ k. record { ranged = k.ranged; ordered = based_here base w.scope k.ordered }) in
-      beside_then g (reported_in e.1) (holds_both one two) (λ k. const_holds (left_formed base b.1.outside e.0.scope w.scope.types k.0 k.1.0 k.1.1) (reported_in e.1))
+      let two = behind_by h block f around seen w w.so_far refl p
+      (λ k. record { ranged = k.ranged; ordered = based_here base w.scope k.ordered }) in
+      beside_then g (reported_in e.1) (holds_both one two)
+      (λ k. const_holds (left_formed base b.1.outside e.0.scope w.scope.types k.0 k.1.0 k.1.1) (reported_in e.1))
 
-  bodies_formed : (base : Types) {X : Type 0} (checks : X → ℕ → Walk g.Reported → Walk g.Reported) (seen : List ℕ) (xs : List X) → AllByRecursion (λ x. CheckFormed (checks x)) xs → (st : Walk g.Reported × ℕ)
+  bodies_formed : (base : Types) {X : Type 0} (checks : X → ℕ → Walk g.Reported → Walk g.Reported) (seen : List ℕ)
+      (xs : List X) → AllByRecursion (λ x. CheckFormed (checks x)) xs → (st : Walk g.Reported × ℕ)
       → WalkFormed base st.0 → WalkFormed base (fold (with_body checks seen) st xs).0
   bodies_formed base checks seen [] h st p = p
-  bodies_formed base checks seen (x ∷ xs) h st p = bodies_formed base checks seen xs h.1 (with_body checks seen st x) (h.0 base (unwrap_or (slice_get seen st.1) 0) st.0 p)
+  bodies_formed base checks seen (x ∷ xs) h st p =
+      bodies_formed base checks seen xs h.1 (with_body checks seen st x)
+      (h.0 base (unwrap_or (slice_get seen st.1) 0) st.0 p)
 
   -- ---- steps as declarations
 
@@ -144,11 +167,14 @@ module _ (g : Gathers) (elaborates : Elaborates g.Reported) (ends : List ℕ) wh
 
   fits_at : (e : Decl) (x : Decl-F Decl Block) → out-Decl e ≡ x → fits_within e ≡ fits_within_layer (elaborated x)
   unfolding fits_within fits_block
-  fits_at e x h = fold_out-Decl Bool Bool fits_within_layer fits_block_layer e ∙ ap (λ (y : Decl-F Decl Block). fits_within_layer (elaborated y)) h
+  fits_at e x h = fold_out-Decl Bool Bool fits_within_layer fits_block_layer e
+      ∙ ap (λ (y : Decl-F Decl Block). fits_within_layer (elaborated y)) h
 
-  fits_at_block : (e : Block) (x : Block-F Decl Block) → out-Block e ≡ x → fits_block e ≡ fits_block_layer (elaborated_block x)
+  fits_at_block : (e : Block) (x : Block-F Decl Block) → out-Block e ≡ x
+      → fits_block e ≡ fits_block_layer (elaborated_block x)
   unfolding fits_within fits_block
-  fits_at_block e x h = fold_out-Block Bool Bool fits_within_layer fits_block_layer e ∙ ap (λ (y : Block-F Decl Block). fits_block_layer (elaborated_block y)) h
+  fits_at_block e x h = fold_out-Block Bool Bool fits_within_layer fits_block_layer e
+      ∙ ap (λ (y : Block-F Decl Block). fits_block_layer (elaborated_block y)) h
 
   layer_fits : (x : Decl-F Decl Block) → fits_within_layer (elaborated x) ≡ true → fits_decl_layer x ≡ true
   layer_fits (layer.Constants cs) e = e
@@ -162,7 +188,9 @@ module _ (g : Gathers) (elaborates : Elaborates g.Reported) (ends : List ℕ) wh
   decls_fit : (ds : List Decl) → list_all itself (map fits_within ds) ≡ true → list_all fits_decl ds ≡ true
   decls_fit [] e = refl
   decls_fit (d ∷ ds) e =
-      and_both (fits_decl d) (list_all fits_decl ds) (decl_fits d (both_left (fits_within d) (list_all itself (map fits_within ds)) e)) (decls_fit ds (both_right (fits_within d) (list_all itself (map fits_within ds)) e))
+      and_both (fits_decl d) (list_all fits_decl ds)
+      (decl_fits d (both_left (fits_within d) (list_all itself (map fits_within ds)) e))
+      (decls_fit ds (both_right (fits_within d) (list_all itself (map fits_within ds)) e))
 
   -- ---- blocks, by induction
 
@@ -187,33 +215,47 @@ module _ (g : Gathers) (elaborates : Elaborates g.Reported) (ends : List ℕ) wh
   abbrev decls_of : List SD → List Decl
   decls_of xs = map (λ (x : SD). x.0) xs
 
-  declared_formed : (base : Types) (ds : List Decl) → list_all itself (map fits_within ds) ≡ true → (st : State (Unit {0}) g.Reported) (first : ℕ) → Holds (λ x. ScopeFormed base st.0) st.1
+  declared_formed : (base : Types) (ds : List Decl) → list_all itself (map fits_within ds) ≡ true
+      → (st : State (Unit {0}) g.Reported) (first : ℕ) → Holds (λ x. ScopeFormed base st.0) st.1
       → Holds (λ x. ScopeFormed base (declared_block g ends st first ds).0) (declared_block g ends st first ds).1
   declared_formed base ds e st first p =
-      then_two (block_ranged g ends st first ds (decls_fit ds e) (holds_weaker (λ x k. k.ranged) p)) (block_ordered base g ends st first ds (holds_weaker (λ x k. k.ordered) p))
+      then_two (block_ranged g ends st first ds (decls_fit ds e) (holds_weaker (λ x k. k.ranged) p))
+      (block_ordered base g ends st first ds (holds_weaker (λ x k. k.ordered) p))
 
-  all_steps : (xs : List SD) → list_all itself (map fits_within (decls_of xs)) ≡ true → (around : Option Which) → AllByRecursion (λ x. CheckFormed (checked_by x around)) (map steps_of (decls_of xs))
+  all_steps : (xs : List SD) → list_all itself (map fits_within (decls_of xs)) ≡ true → (around : Option Which)
+      → AllByRecursion (λ x. CheckFormed (checked_by x around)) (map steps_of (decls_of xs))
   all_steps [] e around = tt
-  all_steps (x ∷ xs) e around =
-      (x.1 (both_left (fits_within x.0) (list_all itself (map fits_within (decls_of xs))) e) around, all_steps xs (both_right (fits_within x.0) (list_all itself (map fits_within (decls_of xs))) e) around)
+  all_steps (x ∷ xs) e around = (
+    x.1 (both_left (fits_within x.0) (list_all itself (map fits_within (decls_of xs))) e) around,
+    all_steps xs
+        (both_right (fits_within x.0) (list_all itself (map fits_within (decls_of xs))) e) around,
+  )
 
-  block_formed : (xs : List SD) (body : Option (List Stmt)) → list_all itself (map fits_within (decls_of xs)) ≡ true → BlockFormed (block_layer g elaborates ends (record { decls = map steps_of (decls_of xs); body = body }))
+  block_formed : (xs : List SD) (body : Option (List Stmt)) → list_all itself (map fits_within (decls_of xs)) ≡ true
+      → BlockFormed (block_layer g elaborates ends (record { decls = map steps_of (decls_of xs); body = body }))
   block_formed xs body e base around returns w p =
       let first : ℕ = length w.bodies.locals in
       let is : all_declared marked_by declared_by (w.scope, w.so_far) first (map steps_of (decls_of xs))
       ≡ declared_block g ends (w.scope, w.so_far) first (decls_of xs) =
       declared_same g elaborates ends (decls_of xs) (w.scope, w.so_far) first in
-      let start : WalkFormed base (begun_from (all_declared marked_by declared_by (w.scope, w.so_far) first (map steps_of (decls_of xs))) w.bodies)
-      = subst (λ (d : Declared g.Reported). WalkFormed base (begun_from d w.bodies)) (sym is) (declared_formed base (decls_of xs) e (w.scope, w.so_far) first p) in
-      bodies_formed base (λ (x : Steps g.Reported). checked_by x around) (all_declared marked_by declared_by (w.scope, w.so_far) first (map steps_of (decls_of xs))).2 (map steps_of (decls_of xs)) (all_steps xs e around)
-      (begun_from (all_declared marked_by declared_by (w.scope, w.so_far) first (map steps_of (decls_of xs))) w.bodies, 0) start
+      let start : WalkFormed base (begun_from
+      (all_declared marked_by declared_by (w.scope, w.so_far) first (map steps_of (decls_of xs))) w.bodies)
+      = subst (λ (d : Declared g.Reported). WalkFormed base (begun_from d w.bodies)) (sym is)
+      (declared_formed base (decls_of xs) e (w.scope, w.so_far) first p) in
+      bodies_formed base (λ (x : Steps g.Reported). checked_by x around)
+      (all_declared marked_by declared_by (w.scope, w.so_far) first (map steps_of (decls_of xs))).2
+      (map steps_of (decls_of xs)) (all_steps xs e around) (
+        begun_from (all_declared marked_by declared_by (w.scope, w.so_far) first (map steps_of (decls_of xs))) w.bodies,
+        0,
+      ) start
 
   step_at : (y : Decl-F SD SB) → fits_within_layer (elaborated (stripped y)) ≡ true
       → StepFormed (steps_layer g elaborates ends (opened g elaborates ends (stripped y)))
   step_at (layer.Constants cs) e = λ around base seen w p. p
   step_at (layer.Types ts) e = λ around base seen w p. p
   step_at (layer.Variables vs) e = λ around base seen w p. p
-  step_at (layer.Procedure h b) e = λ around base seen w p. procedure_formed h (block_of b.0) (b.1 e) around base seen w p
+  step_at (layer.Procedure h b) e = λ around base seen w p. procedure_formed h (block_of b.0) (b.1 e) around base seen w
+      p
 
   decl_step : (y : Decl-F SD SB)
       → PD (roll-Decl (stripped y)) (steps_layer g elaborates ends (opened g elaborates ends (stripped y)))
@@ -232,37 +274,55 @@ module _ (g : Gathers) (elaborates : Elaborates g.Reported) (ends : List ℕ) wh
 
   -- ---- modules
 
-  all_decls : (ds : List Decl) → list_all itself (map fits_within ds) ≡ true → (around : Option Which) → AllByRecursion (λ d. CheckFormed (checks_decl g elaborates ends d around)) ds
+  all_decls : (ds : List Decl) → list_all itself (map fits_within ds) ≡ true → (around : Option Which)
+      → AllByRecursion (λ d. CheckFormed (checks_decl g elaborates ends d around)) ds
   all_decls [] e around = tt
-  all_decls (d ∷ ds) e around =
-      (decl_formed d (both_left (fits_within d) (list_all itself (map fits_within ds)) e) around, all_decls ds (both_right (fits_within d) (list_all itself (map fits_within ds)) e) around)
+  all_decls (d ∷ ds) e around = (
+    decl_formed d (both_left (fits_within d) (list_all itself (map fits_within ds)) e) around,
+    all_decls ds
+        (both_right (fits_within d) (list_all itself (map fits_within ds)) e) around,
+  )
 
-  pub walked_formed : (base : Types) (modules : List (List ℕ × ℕ)) (s : Scope g.Reported) (m : Module) (b : Block) → fits_block b ≡ true → ScopeFormed base s → WalkFormed base (walk_body g elaborates modules ends s m b).0
+  pub walked_formed : (base : Types) (modules : List (List ℕ × ℕ)) (s : Scope g.Reported) (m : Module) (b : Block)
+      → fits_block b ≡ true → ScopeFormed base s → WalkFormed base (walk_body g elaborates modules ends s m b).0
   walked_formed base modules s m b e h =
       let ds : List Decl = (out-Block b).decls in
       let fit : list_all itself (map fits_within ds) ≡ true = sym (fits_at_block b (out-Block b) refl) ∙ e in
       let d : Declared g.Reported = declared_module g modules ends s m ds in
-      bodies_formed base (λ (x : Decl). checks_decl g elaborates ends x None) d.2 ds (all_decls ds fit None) (_, 0) (then_two (module_ranged g modules ends s m ds (decls_fit ds fit) h.ranged) (module_ordered base g modules ends s m ds h.ordered))
+      bodies_formed base (λ (x : Decl). checks_decl g elaborates ends x None) d.2 ds (all_decls ds fit None) (_, 0)
+      (then_two (module_ranged g modules ends s m ds (decls_fit ds fit) h.ranged)
+      (module_ordered base g modules ends s m ds h.ordered))
 
 module _ (g : Gathers) (elaborates : Elaborates g.Reported) where
   abbrev TypesFormed : TypedModule → Type 0
   TypesFormed t = AreRanged t.types × AreOrdered t.types
 
-  body_formed : (base : Types) (s : Scope g.Reported) (own : Option Table) (m : Module) (b : Block) → fits_block b ≡ true → ScopeFormed base s → Holds TypesFormed (of_body g elaborates s own m b)
+  body_formed : (base : Types) (s : Scope g.Reported) (own : Option Table) (m : Module) (b : Block)
+      → fits_block b ≡ true → ScopeFormed base s → Holds TypesFormed (of_body g elaborates s own m b)
   body_formed base s own m b e h =
       let ends : List ℕ = procedure_ends (out-Block b).decls in
       let w = walk_body g elaborates (numbered_modules s.tables).0 ends s m b in
-      then_holds (both_holds g (walked_formed g elaborates ends base (numbered_modules s.tables).0 s m b e h) (any_holds w.1)) (λ x k. fine _ (k.0.ranged.types, k.0.ordered.types))
+      then_holds (both_holds g (walked_formed g elaborates ends base (numbered_modules s.tables).0 s m b e h)
+      (any_holds w.1)) (λ x k. fine _ (k.0.ranged.types, k.0.ordered.types))
 
   module _ (types_of : ℕ → List Made) (number : ℕ) (m : Module) where
-    own_formed : (own : Option Table) (ts : List Table) (b : Block) → fits_block b ≡ true → OwnFormed types_of number own → TablesFormed types_of number ts → Holds TypesFormed (of_implementation g elaborates m own ts b)
+    own_formed : (own : Option Table) (ts : List Table) (b : Block) → fits_block b ≡ true
+        → OwnFormed types_of number own → TablesFormed types_of number ts
+        → Holds TypesFormed (of_implementation g elaborates m own ts b)
     own_formed None ts b e o p = reported_holds g m.name.pos rule.LonelyModule
-    own_formed (Some t) ts b e o p = body_formed (begun_types types_of number t ts o.0 o.1 p) (implementation_scope t ts) (Some t) m b e (implementation_formed types_of number t ts o.0 o.1 p)
+    own_formed (Some t) ts b e o p = body_formed (begun_types types_of number t ts o.0 o.1 p)
+        (implementation_scope t ts) (Some t) m b e (implementation_formed types_of number t ts o.0 o.1 p)
 
-    contents_formed : (own : Option Table) (ts : List Table) (c : Contents) → fits_contents c ≡ true → OwnFormed types_of number own → TablesFormed types_of number ts → Holds TypesFormed (of_contents g elaborates number m own ts c)
+    contents_formed : (own : Option Table) (ts : List Table) (c : Contents) → fits_contents c ≡ true
+        → OwnFormed types_of number own → TablesFormed types_of number ts
+        → Holds TypesFormed (of_contents g elaborates number m own ts c)
     contents_formed own ts (contents.Definition ds) e o p = reported_holds g m.name.pos rule.LonelyModule
     contents_formed own ts (contents.Implementation b) e o p = own_formed own ts b e o p
-    contents_formed own ts (contents.Program b) e o p = body_formed (first_types number ts) (first_scope number ts) None m b e (first_formed types_of number ts p)
+    contents_formed own ts (contents.Program b) e o p =
+        body_formed (first_types number ts) (first_scope number ts) None m b e (first_formed types_of number ts p)
 
-    pub checked_formed : (own : Option Table) (ts : List Table) → fits_contents m.contents ≡ true → OwnFormed types_of number own → TablesFormed types_of number ts → Holds TypesFormed (body_module g elaborates number m own ts)
-    checked_formed own ts e o p = contents_formed own (ts ++ console ∷ []) m.contents e o (each_more (TableFormed types_of number) ts console p (console_formed types_of number))
+    pub checked_formed : (own : Option Table) (ts : List Table) → fits_contents m.contents ≡ true
+        → OwnFormed types_of number own → TablesFormed types_of number ts
+        → Holds TypesFormed (body_module g elaborates number m own ts)
+    checked_formed own ts e o p = contents_formed own (ts ++ console ∷ []) m.contents e o
+        (each_more (TableFormed types_of number) ts console p (console_formed types_of number))

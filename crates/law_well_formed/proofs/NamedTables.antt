@@ -75,5 +75,6 @@ module _ (g : Gathers) where
   imports : KeepsImports g Keeps
   imports = record { order = order; modules = λ s name n e. refl; exports = λ s name n m e. refl }
 
-  pub import_keeps : (modules : List (List ℕ × ℕ)) (is : List Import) (st : State (Unit {0}) g.Reported) → Keeps st.0 (fold (with_import g modules) st is).0
+  pub import_keeps : (modules : List (List ℕ × ℕ)) (is : List Import) (st : State (Unit {0}) g.Reported)
+      → Keeps st.0 (fold (with_import g modules) st is).0
   import_keeps = imports_keep g imports

@@ -101,7 +101,8 @@ module _ (fs : List Formal) (g : Gathers) where
     procedures = λ n y e. get_more s.procedures (t ∷ []) n y e;
   })
 
-  module_procedure_grows : (s : Scope g.Reported) (name : List ℕ) (t : Result TypeNo g.Reported) → Goes s (module_procedure s name t)
+  module_procedure_grows : (s : Scope g.Reported) (name : List ℕ) (t : Result TypeNo g.Reported)
+      → Goes s (module_procedure s name t)
   module_procedure_grows s name (Err e) =
       known_grows fs s name (Headed (Err (Headless false e))) (λ h. broken (Headless false e))
   module_procedure_grows s name (Ok t) =
@@ -115,16 +116,21 @@ module _ (fs : List Formal) (g : Gathers) where
   If s None = Unit {0}
   If s (Some k) = KnownNumbered fs (lists_of s) k
 
-  found_by : (s : Scope g.Reported) (b : Bool) (k : Known g.Reported) (o : Option (Known g.Reported)) → KnownNumbered fs (lists_of s) k → If s o → If s (cond b (Some k) o)
+  found_by : (s : Scope g.Reported) (b : Bool) (k : Known g.Reported) (o : Option (Known g.Reported))
+      → KnownNumbered fs (lists_of s) k → If s o → If s (cond b (Some k) o)
   found_by s true k o p q = p
   found_by s false k o p q = q
 
-  found_numbered : (s : Scope g.Reported) (name : List ℕ) (es : List (List ℕ × Known g.Reported)) → NamesNumbered fs (lists_of s) es → If s (find_name name es)
+  found_numbered : (s : Scope g.Reported) (name : List ℕ) (es : List (List ℕ × Known g.Reported))
+      → NamesNumbered fs (lists_of s) es → If s (find_name name es)
   found_numbered s name [] h = tt
-  found_numbered s name (e ∷ es) h = found_by s (same_name name e.0) e.1 (find_name name es) h.0 (found_numbered s name es h.1)
+  found_numbered s name (e ∷ es) h = found_by s (same_name name e.0) e.1 (find_name name es) h.0
+      (found_numbered s name es h.1)
 
-  of_meaning : (s : Scope g.Reported) (p : Procedure) (m : Meaning) → standing_of m ≡ Awaited p → MeaningNumbered fs (lists_of s) m → MeaningNumbered fs (lists_of s) (meaning.Procedure p)
-  of_meaning s p (meaning.Procedure q) e h = let k : q ≡ p = cc in subst (λ (r : Procedure). MeaningNumbered fs (lists_of s) (meaning.Procedure r)) k h
+  of_meaning : (s : Scope g.Reported) (p : Procedure) (m : Meaning) → standing_of m ≡ Awaited p
+      → MeaningNumbered fs (lists_of s) m → MeaningNumbered fs (lists_of s) (meaning.Procedure p)
+  of_meaning s p (meaning.Procedure q) e h = let k : q ≡ p = cc in
+      subst (λ (r : Procedure). MeaningNumbered fs (lists_of s) (meaning.Procedure r)) k h
   of_meaning s p (meaning.Constant v) e h = absurd cc
   of_meaning s p (meaning.Type t n) e h = absurd cc
   of_meaning s p (meaning.Variable v) e h = absurd cc
@@ -135,11 +141,14 @@ module _ (fs : List Formal) (g : Gathers) where
   of_meaning s p (meaning.Standard f) e h = absurd cc
   of_meaning s p (meaning.Module k) e h = absurd cc
 
-  of_elaborated : (s : Scope g.Reported) (p : Procedure) (r : Result Meaning g.Reported) → standing_elaborated r ≡ Awaited p → Holds (MeaningNumbered fs (lists_of s)) r → MeaningNumbered fs (lists_of s) (meaning.Procedure p)
+  of_elaborated : (s : Scope g.Reported) (p : Procedure) (r : Result Meaning g.Reported)
+      → standing_elaborated r ≡ Awaited p → Holds (MeaningNumbered fs (lists_of s)) r
+      → MeaningNumbered fs (lists_of s) (meaning.Procedure p)
   of_elaborated s p _ e (fine m h) = of_meaning s p m e h
   of_elaborated s p _ e (broken x) = absurd cc
 
-  awaited_numbered : (s : Scope g.Reported) (p : Procedure) (o : Option (Known g.Reported)) → name_standing o ≡ Awaited p → If s o → MeaningNumbered fs (lists_of s) (meaning.Procedure p)
+  awaited_numbered : (s : Scope g.Reported) (p : Procedure) (o : Option (Known g.Reported))
+      → name_standing o ≡ Awaited p → If s o → MeaningNumbered fs (lists_of s) (meaning.Procedure p)
   awaited_numbered s p None e h = absurd cc
   awaited_numbered s p (Some Later) e h = absurd cc
   awaited_numbered s p (Some Ahead) e h = absurd cc

@@ -34,7 +34,12 @@ module _ (fs : List Formal) where
     meaning_more (meaning.Constant v) h = tt
     meaning_more (meaning.Type t n) h = tt
     meaning_more (meaning.Variable v) h = λ e. m.variables v.number v.of (h (e ∙ m.home))
-    meaning_more (meaning.Local v) h = record { level = h.level ∙ sym m.level; there = m.variables v.number v.of h.there; placed = h.placed }
+    meaning_more (meaning.Local v) h = record {
+      level = h.level ∙ sym m.level;
+      there =
+          m.variables v.number v.of h.there;
+      placed = h.placed;
+    }
     meaning_more (meaning.Field f) h = tt
     meaning_more (meaning.Procedure p) h = λ e. m.procedures p.number p.heading (h (e ∙ m.home))
     meaning_more (meaning.LocalProcedure p) h = h ∙ sym m.level
@@ -59,29 +64,40 @@ module _ (fs : List Formal) where
   grows_refl s = record { outer = refl; more = more_refl (lists_of s); numbered = λ h. h }
 
   pub grows_then : {T : Type 0} {a b c : Scope T} → Grows fs a b → Grows fs b c → Grows fs a c
-  grows_then p q = record { outer = q.outer ∙ p.outer; more = more_then p.more q.more; numbered = λ h. q.numbered (p.numbered h) }
+  grows_then p q = record {
+    outer = q.outer ∙ p.outer;
+    more = more_then p.more q.more;
+    numbered =
+        λ h. q.numbered (p.numbered h);
+  }
 
   -- the names stay, and the lists grow
-  pub lists_grow : {T : Type 0} (s s' : Scope T) → s'.outer ≡ s.outer → s'.own ≡ s.own → More (lists_of s) (lists_of s') → Grows fs s s'
+  pub lists_grow : {T : Type 0} (s s' : Scope T) → s'.outer ≡ s.outer → s'.own ≡ s.own → More (lists_of s) (lists_of s')
+      → Grows fs s s'
   lists_grow s s' o e m = record {
     outer = o;
     more = m;
     numbered = λ h. record {
-      names = subst (λ (es : List (List ℕ × Known _)). NamesNumbered fs (lists_of s') es) (sym e) (names_more m s.own h.names);
+      names = subst (λ (es : List (List ℕ × Known _)). NamesNumbered fs (lists_of s') es) (sym e)
+          (names_more m s.own h.names);
       few = let x = h.few in let y = m.count in omega (arith, x, y);
     };
   }
 
-  entered_by : {T : Type 0} (l : Lists) (b : Bool) (k : Known T) (e : List ℕ × Known T) (es more : List (List ℕ × Known T)) → KnownNumbered fs l k → NamesNumbered fs l (e ∷ es) → NamesNumbered fs l more
+  entered_by : {T : Type 0} (l : Lists) (b : Bool) (k : Known T) (e : List ℕ × Known T)
+      (es more : List (List ℕ × Known T)) → KnownNumbered fs l k → NamesNumbered fs l (e ∷ es) → NamesNumbered fs l more
       → NamesNumbered fs l (cond b ((e.0, k) ∷ es) (e ∷ more))
   entered_by l true k e es more p all q = (p, all.1)
   entered_by l false k e es more p all q = (all.0, q)
 
-  pub names_entered : {T : Type 0} (l : Lists) (name : List ℕ) (k : Known T) (es : List (List ℕ × Known T)) → KnownNumbered fs l k → NamesNumbered fs l es → NamesNumbered fs l (enter_name name k es)
+  pub names_entered : {T : Type 0} (l : Lists) (name : List ℕ) (k : Known T) (es : List (List ℕ × Known T))
+      → KnownNumbered fs l k → NamesNumbered fs l es → NamesNumbered fs l (enter_name name k es)
   names_entered l name k [] p all = (p, tt)
-  names_entered l name k (e ∷ es) p all = entered_by l (same_name name e.0) k e es (enter_name name k es) p all (names_entered l name k es p all.1)
+  names_entered l name k (e ∷ es) p all =
+      entered_by l (same_name name e.0) k e es (enter_name name k es) p all (names_entered l name k es p all.1)
 
-  pub known_grows : {T : Type 0} (s : Scope T) (name : List ℕ) (k : Known T) → (IsNumbered fs s → KnownNumbered fs (lists_of s) k) → Grows fs s (with_known name k s)
+  pub known_grows : {T : Type 0} (s : Scope T) (name : List ℕ) (k : Known T)
+      → (IsNumbered fs s → KnownNumbered fs (lists_of s) k) → Grows fs s (with_known name k s)
   known_grows s name k p = record {
     outer = refl;
     more = more_refl (lists_of s);

@@ -58,7 +58,8 @@ module _ (base : Types) where
 
   -- ---- imports
 
-  exports_ordered : (types : Types) (ts : List Table) (k : ℕ) → TablesOrdered types ts → ExportsOrdered types (exports_of (slice_get ts k))
+  exports_ordered : (types : Types) (ts : List Table) (k : ℕ) → TablesOrdered types ts
+      → ExportsOrdered types (exports_of (slice_get ts k))
   exports_ordered types [] k p = tt
   exports_ordered types (t ∷ ts) zero p = p.0
   exports_ordered types (t ∷ ts) (suc k) p = exports_ordered types ts k p.1
@@ -85,33 +86,40 @@ module _ (base : Types) where
 
     -- ---- blocks
 
-    decls_ordered : (ends : List ℕ) (ds : List Decl) (c : Course g.Reported) → StateOrdered base (c.0, c.1) → StateOrdered base (let n = fold (with_decl g ends) c ds in (n.0, n.1))
+    decls_ordered : (ends : List ℕ) (ds : List Decl) (c : Course g.Reported) → StateOrdered base (c.0, c.1)
+        → StateOrdered base (let n = fold (with_decl g ends) c ds in (n.0, n.1))
     decls_ordered ends [] c p = p
-    decls_ordered ends (d ∷ ds) c p = decls_ordered ends ds (with_decl g ends c d) (decl_ordered base g ends c p (out-Decl d))
+    decls_ordered ends (d ∷ ds) c p = decls_ordered ends ds (with_decl g ends c d)
+        (decl_ordered base g ends c p (out-Decl d))
 
-    pub block_ordered : (ends : List ℕ) (st : State (Unit {0}) g.Reported) (first : ℕ) (ds : List Decl) → StateOrdered base st → StateOrdered base (let d = declared_block g ends st first ds in (d.0, d.1))
+    pub block_ordered : (ends : List ℕ) (st : State (Unit {0}) g.Reported) (first : ℕ) (ds : List Decl)
+        → StateOrdered base st → StateOrdered base (let d = declared_block g ends st first ds in (d.0, d.1))
     block_ordered ends st first ds p =
         decls_ordered ends ds ((all_marked marked_decl st.0 ds).0, st.1, first)
         (holds_weaker (λ x h. decls_marks marks ds (st.0, []) h) p)
 
-    pub module_ordered : (modules : List (List ℕ × ℕ)) (ends : List ℕ) (s : Scope g.Reported) (m : Module) (ds : List Decl) → ScopeOrdered base s
+    pub module_ordered : (modules : List (List ℕ × ℕ)) (ends : List ℕ) (s : Scope g.Reported) (m : Module)
+        (ds : List Decl) → ScopeOrdered base s
         → StateOrdered base (let d = declared_module g modules ends s m ds in (d.0, d.1))
     module_ordered modules ends s m ds h =
         beside_then g _ (block_ordered ends (fold (with_import g modules) (s, Ok tt) m.imports) 0 ds
         (imports_ordered modules m.imports (s, Ok tt) h)) (λ k. const_holds k _)
 
-    defs_ordered : (ds : List Def) (st : State (Unit {0}) g.Reported) → StateOrdered base st → StateOrdered base (fold (with_def g) st ds)
+    defs_ordered : (ds : List Def) (st : State (Unit {0}) g.Reported) → StateOrdered base st
+        → StateOrdered base (fold (with_def g) st ds)
     defs_ordered [] st p = p
     defs_ordered (d ∷ ds) st p = defs_ordered ds (with_def g st d) (def_ordered base g st p d)
 
-    pub definition_ordered : (m : Module) (modules : List (List ℕ × ℕ)) (s : Scope g.Reported) (ds : List Def) → ScopeOrdered base s → StateOrdered base (declared_in g m modules s ds)
+    pub definition_ordered : (m : Module) (modules : List (List ℕ × ℕ)) (s : Scope g.Reported) (ds : List Def)
+        → ScopeOrdered base s → StateOrdered base (declared_in g m modules s ds)
     definition_ordered m modules s ds h =
         defs_ordered ds (fold (with_import g modules) (fold marked_def s ds, Ok tt) m.imports)
         (imports_ordered modules m.imports (fold marked_def s ds, Ok tt) (defs_marks marks ds s h))
 
   -- ---- into a procedure, and back
 
-  blocks_more : {T : Type 0} (types : Types) (bs : List (Block T)) (b : Block T) → BlocksOrdered types bs → NamesOrdered types b.names → BlocksOrdered types (bs ++ b ∷ [])
+  blocks_more : {T : Type 0} (types : Types) (bs : List (Block T)) (b : Block T) → BlocksOrdered types bs
+      → NamesOrdered types b.names → BlocksOrdered types (bs ++ b ∷ [])
   blocks_more types [] b p q = (q, tt)
   blocks_more types (x ∷ bs) b p q = (p.0, blocks_more types bs b p.1 q)
 
@@ -126,46 +134,74 @@ module _ (base : Types) where
     variables = tt;
   }
 
-  formal_by : {T : Type 0} (types : Types) (b : Bool) (name : List ℕ) (k : Known T) (ns : List (List ℕ × Known T)) → KnownOrdered types k → NamesOrdered types ns → NamesOrdered types (cond b ns (enter_name name k ns))
+  formal_by : {T : Type 0} (types : Types) (b : Bool) (name : List ℕ) (k : Known T) (ns : List (List ℕ × Known T))
+      → KnownOrdered types k → NamesOrdered types ns → NamesOrdered types (cond b ns (enter_name name k ns))
   formal_by types true name k ns p h = h
   formal_by types false name k ns p h = names_more types name k ns p h
 
-  names_formals : {T : Type 0} (types : Types) (level : ℕ) (f : Result Formal T) → Holds (λ x. is_known types x.of ≡ true) f → (names : List Ident) (fs : Formals T) → NamesOrdered types fs.0 → NamesOrdered types (fold (with_formal level f) fs names).0
+  names_formals : {T : Type 0} (types : Types) (level : ℕ) (f : Result Formal T)
+      → Holds (λ x. is_known types x.of ≡ true) f → (names : List Ident) (fs : Formals T) → NamesOrdered types fs.0
+      → NamesOrdered types (fold (with_formal level f) fs names).0
   names_formals types level f p [] fs h = h
   names_formals types level f p (x ∷ xs) fs h =
       names_formals types level f p xs (with_formal level f fs x)
-      (formal_by types (is_some (find_name x.name fs.0)) x.name (Declared Here (formal_meaning level (length fs.1) f)) fs.0
+      (formal_by types (is_some (find_name x.name fs.0)) x.name (Declared Here (formal_meaning level (length fs.1) f))
+      fs.0
       (then_holds p (λ u k. fine _ k)) h)
 
-  type_formals : {T : Type 0} (types : Types) (ts : List TypeNo) (f : Result Formal T) → Holds (λ x. is_known types x.of ≡ true) f → AreKnown types ts → AreKnown types (with_formal_type ts f)
+  type_formals : {T : Type 0} (types : Types) (ts : List TypeNo) (f : Result Formal T)
+      → Holds (λ x. is_known types x.of ≡ true) f → AreKnown types ts → AreKnown types (with_formal_type ts f)
   type_formals types ts _ (fine f p) h = known_more types ts f.of h p
   type_formals types ts _ (broken e) h = h
 
-  types_formals : {T : Type 0} (types : Types) (level : ℕ) (f : Result Formal T) → Holds (λ x. is_known types x.of ≡ true) f → (names : List Ident) (fs : Formals T) → AreKnown types fs.1 → AreKnown types (fold (with_formal level f) fs names).1
+  types_formals : {T : Type 0} (types : Types) (level : ℕ) (f : Result Formal T)
+      → Holds (λ x. is_known types x.of ≡ true) f → (names : List Ident) (fs : Formals T) → AreKnown types fs.1
+      → AreKnown types (fold (with_formal level f) fs names).1
   types_formals types level f p [] fs h = h
-  types_formals types level f p (x ∷ xs) fs h = types_formals types level f p xs (with_formal level f fs x) (type_formals types fs.1 f p h)
+  types_formals types level f p (x ∷ xs) fs h =
+      types_formals types level f p xs (with_formal level f fs x) (type_formals types fs.1 f p h)
 
-  left_by : {T : Type 0} (types : Types) (bs : List (Block T)) → BlocksOrdered types bs → BlocksOrdered types (pop_block (split_last bs)).0 × NamesOrdered types (pop_block (split_last bs)).1
+  left_by : {T : Type 0} (types : Types) (bs : List (Block T)) → BlocksOrdered types bs
+      → BlocksOrdered types (pop_block (split_last bs)).0 × NamesOrdered types (pop_block (split_last bs)).1
   left_by types [] p = (tt, tt)
   left_by types (b ∷ bs) p = last b (split_last bs) p.0 (left_by types bs p.1) where
-    last : {T : Type 0} (b : Block T) (o : Option (List (Block T) × Block T)) → NamesOrdered types b.names → BlocksOrdered types (pop_block o).0 × NamesOrdered types (pop_block o).1
-        → BlocksOrdered types (pop_block (elim o [ None ↦ Some ([], b) | Some p ↦ Some (b ∷ p.0, p.1) ])).0 × NamesOrdered types (pop_block (elim o [ None ↦ Some ([], b) | Some p ↦ Some (b ∷ p.0, p.1) ])).1
+    last : {T : Type 0} (b : Block T) (o : Option (List (Block T) × Block T)) → NamesOrdered types b.names
+        → BlocksOrdered types (pop_block o).0 × NamesOrdered types (pop_block o).1
+        → BlocksOrdered types (pop_block (elim o [ None ↦ Some ([], b) | Some p ↦ Some (b ∷ p.0, p.1) ])).0
+        × NamesOrdered types (pop_block (elim o [ None ↦ Some ([], b) | Some p ↦ Some (b ∷ p.0, p.1) ])).1
     last b None p q = (tt, p)
     last b (Some x) p q = ((p, q.0), q.1)
 
-  pub left_ordered : {T : Type 0} (o : Outside) (s : Scope T) → ScopeOrdered base s → AreKnown s.types o.variables → ScopeOrdered base (left_procedure o s)
-  left_ordered o s h v = let k = left_by s.types s.outer h.outer in record { started = h.started; types = h.types; once = h.once; names = k.1; outer = k.0; tables = h.tables; variables = v }
+  pub left_ordered : {T : Type 0} (o : Outside) (s : Scope T) → ScopeOrdered base s → AreKnown s.types o.variables
+      → ScopeOrdered base (left_procedure o s)
+  left_ordered o s h v = let k = left_by s.types s.outer h.outer in
+      record {
+        started = h.started;
+        types = h.types;
+        once = h.once;
+        names = k.1;
+        outer = k.0;
+        tables = h.tables;
+        variables = v;
+      }
 
   module _ (g : Gathers) where
-    sections_formals : (s : Scope g.Reported) → ScopeOrdered base s → (xs : List Section) (fs : Formals g.Reported) → NamesOrdered s.types fs.0 → NamesOrdered s.types (fold (with_section g s) fs xs).0
+    sections_formals : (s : Scope g.Reported) → ScopeOrdered base s → (xs : List Section) (fs : Formals g.Reported)
+        → NamesOrdered s.types fs.0 → NamesOrdered s.types (fold (with_section g s) fs xs).0
     sections_formals s p [] fs h = h
-    sections_formals s p (x ∷ xs) fs h = sections_formals s p xs (with_section g s fs x) (names_formals s.types s.level (formal_of g s x.is_var x.of) (formal_ordered g base s p x.is_var x.of) x.names fs h)
+    sections_formals s p (x ∷ xs) fs h = sections_formals s p xs (with_section g s fs x)
+        (names_formals s.types s.level (formal_of g s x.is_var x.of) (formal_ordered g base s p x.is_var x.of) x.names
+        fs h)
 
-    sections_types : (s : Scope g.Reported) → ScopeOrdered base s → (xs : List Section) (fs : Formals g.Reported) → AreKnown s.types fs.1 → AreKnown s.types (fold (with_section g s) fs xs).1
+    sections_types : (s : Scope g.Reported) → ScopeOrdered base s → (xs : List Section) (fs : Formals g.Reported)
+        → AreKnown s.types fs.1 → AreKnown s.types (fold (with_section g s) fs xs).1
     sections_types s p [] fs h = h
-    sections_types s p (x ∷ xs) fs h = sections_types s p xs (with_section g s fs x) (types_formals s.types s.level (formal_of g s x.is_var x.of) (formal_ordered g base s p x.is_var x.of) x.names fs h)
+    sections_types s p (x ∷ xs) fs h = sections_types s p xs (with_section g s fs x)
+        (types_formals s.types s.level (formal_of g s x.is_var x.of) (formal_ordered g base s p x.is_var x.of) x.names
+        fs h)
 
-    pub entered_ordered : (s : Scope g.Reported) (seen : ℕ) (h : Heading) → ScopeOrdered base s → ScopeOrdered base (entered_procedure g s seen h).0
+    pub entered_ordered : (s : Scope g.Reported) (seen : ℕ) (h : Heading) → ScopeOrdered base s
+        → ScopeOrdered base (entered_procedure g s seen h).0
     entered_ordered s seen h p =
         let k : ScopeOrdered base (inwards s seen) = inwards_ordered s seen p in
         record {

@@ -40,13 +40,16 @@ there_in k n home own others = is_some (cond (k == home) (slice_get own n) (in_l
 
 pub known_kept : (a b : Types) → StartedFrom a b → (t : TypeNo) → is_known a t ≡ true → is_known b t ≡ true
 known_kept a b p t e = from t.home t.number e where
-  by : (c : Bool) (n : ℕ) (other : Option Made) → is_some (cond c (slice_get a.own n) other) ≡ true → is_some (cond c (slice_get (a.own ++ p.more) n) other) ≡ true
+  by : (c : Bool) (n : ℕ) (other : Option Made) → is_some (cond c (slice_get a.own n) other) ≡ true
+      → is_some (cond c (slice_get (a.own ++ p.more) n) other) ≡ true
   by true n other g = ap is_some (get_more a.own p.more n g) ∙ g
   by false n other g = g
 
   same : (k n : ℕ) → there_in k n b.home b.own b.others ≡ there_in k n a.home (a.own ++ p.more) a.others
   same k n =
-      ap (λ (h : ℕ). there_in k n h b.own b.others) p.home ∙ ap (λ (ms : List Made). there_in k n a.home ms b.others) p.own ∙ ap (λ (es : List (ℕ × List Made)). there_in k n a.home (a.own ++ p.more) es) p.others
+      ap (λ (h : ℕ). there_in k n h b.own b.others) p.home
+      ∙ ap (λ (ms : List Made). there_in k n a.home ms b.others) p.own
+      ∙ ap (λ (es : List (ℕ × List Made)). there_in k n a.home (a.own ++ p.more) es) p.others
 
   from : (h : Home) (n : ℕ) → is_known_from a h n ≡ true → is_known_from b h n ≡ true
   from Predeclared n g = g
@@ -98,7 +101,8 @@ module _ (a b : Types) (p : StayKnown a b) where
 
 -- ---- the types of variables
 
-pub known_more : (types : Types) (ts : List TypeNo) (t : TypeNo) → AreKnown types ts → is_known types t ≡ true → AreKnown types (ts ++ t ∷ [])
+pub known_more : (types : Types) (ts : List TypeNo) (t : TypeNo) → AreKnown types ts → is_known types t ≡ true
+    → AreKnown types (ts ++ t ∷ [])
 known_more types [] t h p = (p, tt)
 known_more types (u ∷ ts) t h p = (h.0, known_more types ts t h.1 p)
 
@@ -112,22 +116,35 @@ pub made_known : (a b : Types) → ((t : TypeNo) (x : Made) → made_at a t ≡ 
 made_known a b keep t e = from t.home t.number e where
   from : (h : Home) (n : ℕ) → is_known_from a h n ≡ true → is_known_from b h n ≡ true
   from Predeclared n g = g
-  from (Module k) n g = let x = some_of (made_in a k n) g in ap is_some (keep (record { home = Module k; number = n }) x.0 x.1)
+  from (Module k) n g = let x = some_of (made_in a k n) g in
+      ap is_some (keep (record { home = Module k; number = n }) x.0 x.1)
 
 -- ---- one type more
 
 pub more_started : {T : Type 0} (s : Scope T) (m : Made) → StartedFrom s.types (with_shape s m).types
 more_started s m = record { home = refl; others = refl; more = m ∷ []; own = refl }
 
-ordered_more : (others : List (ℕ × List Made)) (home : ℕ) (ms before : List Made) (m : Made) → AreOrderedFrom others home before ms → Follows (record { home = home; own = before ++ ms; others = others }) m
+ordered_more : (others : List (ℕ × List Made)) (home : ℕ) (ms before : List Made) (m : Made)
+    → AreOrderedFrom others home before ms → Follows (record { home = home; own = before ++ ms; others = others }) m
     → AreOrderedFrom others home before (ms ++ m ∷ [])
-ordered_more others home [] before m h p = (subst (λ (own : List Made). Follows (record { home = home; own = own; others = others }) m) (append-nil before) p, tt)
-ordered_more others home (x ∷ ms) before m h p =
-    (h.0, ordered_more others home ms (before ++ x ∷ []) m h.1 (subst (λ (own : List Made). Follows (record { home = home; own = own; others = others }) m) (sym (append_more before x ms)) p))
+ordered_more others home [] before m h p = (
+  subst (λ (own : List Made). Follows (record { home = home; own = own; others = others }) m) (append-nil before) p,
+  tt,
+)
+ordered_more others home (x ∷ ms) before m h p = (
+  h.0,
+  ordered_more others home ms (before ++ x ∷ []) m h.1
+      (subst (λ (own : List Made). Follows (record { home = home; own = own; others = others }) m)
+      (sym (append_more before x ms)) p),
+)
 
 begins_more : (own : List Made) (o : Option (List Made)) (m : Made) → BeginsWith own o → BeginsWith (own ++ m ∷ []) o
 begins_more own None m h = tt
-begins_more own (Some known) m h = (h.0 ++ m ∷ [], ap (λ (ms : List Made). ms ++ m ∷ []) h.1 ∙ append_assoc known h.0 (m ∷ []))
+begins_more own (Some known) m h = (
+  h.0 ++ m ∷ [],
+  ap (λ (ms : List Made). ms ++ m ∷ []) h.1
+      ∙ append_assoc known h.0 (m ∷ []),
+)
 
 once_more : (ms : List Made) (m : Made) → AllOnce ms → FieldsOnce m.shape → AllOnce (ms ++ m ∷ [])
 once_more [] m h p = (p, tt)
@@ -137,7 +154,8 @@ once_more (x ∷ ms) m h p = (h.0, once_more ms m h.1 p)
 abbrev pub ShapeOrdered : {T : Type 0} → Scope T → Made → Type 0
 ShapeOrdered s m = Follows s.types m × FieldsOnce m.shape
 
-pub scope_more : {T : Type 0} (base : Types) (s : Scope T) (m : Made) → ScopeOrdered base s → ShapeOrdered s m → ScopeOrdered base (with_shape s m)
+pub scope_more : {T : Type 0} (base : Types) (s : Scope T) (m : Made) → ScopeOrdered base s → ShapeOrdered s m
+    → ScopeOrdered base (with_shape s m)
 scope_more base s m h p =
     let now : Types = (with_shape s m).types in
     let new : StartedFrom s.types now = more_started s m in
@@ -162,11 +180,32 @@ last_there (y ∷ xs) x = last_there xs x
 
 pub next_known : {T : Type 0} (s : Scope T) (m : Made) → is_known (with_shape s m).types (next_type s) ≡ true
 next_known s m =
-    ap (λ (b : Bool). is_some (cond b (slice_get (s.types.own ++ m ∷ []) (length s.types.own)) (in_list (length s.types.own) (at s.types.home s.types.others)))) (itself s.types.home) ∙ last_there s.types.own m
+    ap (λ (b : Bool). is_some (cond b (slice_get (s.types.own ++ m ∷ []) (length s.types.own))
+    (in_list (length s.types.own) (at s.types.home s.types.others)))) (itself s.types.home)
+    ∙ last_there s.types.own m
 
 -- the same scope, as it began later
-pub based_on : {T : Type 0} (base later : Types) (s : Scope T) → StartedFrom base later → ScopeOrdered later s → ScopeOrdered base s
-based_on base later s p h = record { started = started_from base later s.types p h.started; types = h.types; once = h.once; names = h.names; outer = h.outer; tables = h.tables; variables = h.variables }
+pub based_on : {T : Type 0} (base later : Types) (s : Scope T) → StartedFrom base later → ScopeOrdered later s
+    → ScopeOrdered base s
+based_on base later s p h = record {
+  started = started_from base later s.types p h.started;
+  types = h.types;
+  once =
+      h.once;
+  names = h.names;
+  outer = h.outer;
+  tables = h.tables;
+  variables = h.variables;
+}
 
 pub based_here : {T : Type 0} (base : Types) (s : Scope T) → ScopeOrdered base s → ScopeOrdered s.types s
-based_here base s h = record { started = started_here s.types; types = h.types; once = h.once; names = h.names; outer = h.outer; tables = h.tables; variables = h.variables }
+based_here base s h = record {
+  started = started_here s.types;
+  types = h.types;
+  once = h.once;
+  names = h.names;
+  outer =
+      h.outer;
+  tables = h.tables;
+  variables = h.variables;
+}

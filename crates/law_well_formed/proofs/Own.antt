@@ -60,11 +60,17 @@ module _ {T : Type 0} where
   pub ◌⨾◌ : {a b c : Scope T} → Leads b c → Leads a b → Leads a c
   ◌⨾◌ {a} {b} {c} q p = record {
     home = q.home ∙ p.home;
-    own = λ all. subst (λ (h : ℕ). AreOwn {T = T} h c.own) p.home (q.own (subst (λ (h : ℕ). AreOwn {T = T} h b.own) (sym p.home) (p.own all)));
+    own = λ all. subst (λ (h : ℕ). AreOwn {T = T} h c.own) p.home
+        (q.own (subst (λ (h : ℕ). AreOwn {T = T} h b.own) (sym p.home) (p.own all)));
   }
 
-  pub known_leads : (name : List ℕ) (k : Known T) (s : Scope T) → OwnKnown s.types.home k → Leads s (with_known name k s)
-  known_leads name k s p = record { home = refl; own = λ all. each_entered (λ (e : List ℕ × Known T). OwnKnown s.types.home e.1) name k s.own (λ other e. p) all }
+  pub known_leads : (name : List ℕ) (k : Known T) (s : Scope T) → OwnKnown s.types.home k
+      → Leads s (with_known name k s)
+  known_leads name k s p = record {
+    home = refl;
+    own =
+        λ all. each_entered (λ (e : List ℕ × Known T). OwnKnown s.types.home e.1) name k s.own (λ other e. p) all;
+  }
 
   order : IsOrder {T = T} Leads
   order = record { same = same_leads; next = λ a b c p q. q ⨾ p }
@@ -97,11 +103,13 @@ module _ {T : Type 0} where
   procedure_type_leads s (Ok t) = record { home = refl; own = λ p. p }
   procedure_type_leads s (Err e) = same_leads s
 
-  variable_own : (s : Scope T) (n : ℕ) (t : Result TypeNo T) → IfOk (variable_meaning s.types.home n t) (IsExport (with_variable_type s t).types.home)
+  variable_own : (s : Scope T) (n : ℕ) (t : Result TypeNo T)
+      → IfOk (variable_meaning s.types.home n t) (IsExport (with_variable_type s t).types.home)
   variable_own s n (Ok t) = refl
   variable_own s n (Err e) = tt
 
-  procedure_own : (s : Scope T) (n : ℕ) (t : Result TypeNo T) → IfOk (procedure_meaning s.types.home n t) (IsExport (with_procedure_type s t).types.home)
+  procedure_own : (s : Scope T) (n : ℕ) (t : Result TypeNo T)
+      → IfOk (procedure_meaning s.types.home n t) (IsExport (with_procedure_type s t).types.home)
   procedure_own s n (Ok t) = refl
   procedure_own s n (Err e) = tt
 
@@ -149,5 +157,6 @@ module _ (g : Gathers) where
     exports = λ s name n m e. known_leads name (Declared (Export n) (Ok m)) s tt;
   }
 
-  pub import_leads : (modules : List (List ℕ × ℕ)) (is : List Import) (st : State (Unit {0}) g.Reported) → Leads st.0 (fold (with_import g modules) st is).0
+  pub import_leads : (modules : List (List ℕ × ℕ)) (is : List Import) (st : State (Unit {0}) g.Reported)
+      → Leads st.0 (fold (with_import g modules) st is).0
   import_leads = imports_keep g imports

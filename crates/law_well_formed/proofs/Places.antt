@@ -27,7 +27,8 @@ module _ {A : Type 0} where
 
   pub behind_end : (xs ys : List A) (k : ℕ) → slice_get (xs ++ ys) (length xs + k) ≡ slice_get ys k
   behind_end [] ys k = let e : 0 + k ≡ k = omega arith in ap (λ (n : ℕ). slice_get ys n) e
-  behind_end (x ∷ xs) ys k = let e : suc (length xs) + k ≡ suc (length xs + k) = omega arith in ap (λ (n : ℕ). slice_get (x ∷ (xs ++ ys)) n) e ∙ behind_end xs ys k
+  behind_end (x ∷ xs) ys k = let e : suc (length xs) + k ≡ suc (length xs + k) = omega arith in
+      ap (λ (n : ℕ). slice_get (x ∷ (xs ++ ys)) n) e ∙ behind_end xs ys k
 
   pub is_within : (xs : List A) (k : ℕ) (x : A) → slice_get xs k ≡ Some x → k < length xs
   is_within [] k x e = absurd cc

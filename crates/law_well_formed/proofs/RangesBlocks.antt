@@ -54,7 +54,8 @@ marks = record {
 
 -- ---- imports
 
-exports_ranged : (types : Types) (ts : List Table) (k : ℕ) → TablesRanged types ts → ExportsRanged types (exports_of (slice_get ts k))
+exports_ranged : (types : Types) (ts : List Table) (k : ℕ) → TablesRanged types ts
+    → ExportsRanged types (exports_of (slice_get ts k))
 exports_ranged types [] k p = tt
 exports_ranged types (t ∷ ts) zero p = p.0
 exports_ranged types (t ∷ ts) (suc k) p = exports_ranged types ts k p.1
@@ -81,33 +82,43 @@ module _ (g : Gathers) where
 
   -- ---- blocks
 
-  decls_ranged : (ends : List ℕ) (ds : List Decl) (c : Course g.Reported) → list_all fits_decl ds ≡ true → StateRanged (c.0, c.1) → StateRanged (let n = fold (with_decl g ends) c ds in (n.0, n.1))
+  decls_ranged : (ends : List ℕ) (ds : List Decl) (c : Course g.Reported) → list_all fits_decl ds ≡ true
+      → StateRanged (c.0, c.1) → StateRanged (let n = fold (with_decl g ends) c ds in (n.0, n.1))
   decls_ranged ends [] c e p = p
-  decls_ranged ends (d ∷ ds) c e p = decls_ranged ends ds (with_decl g ends c d) (both_right (fits_decl d) (list_all fits_decl ds) e) (decl_ranged g (constants_ranged g) ends c p (out-Decl d) (both_left (fits_decl d) (list_all fits_decl ds) e))
+  decls_ranged ends (d ∷ ds) c e p = decls_ranged ends ds (with_decl g ends c d)
+      (both_right (fits_decl d) (list_all fits_decl ds) e)
+      (decl_ranged g (constants_ranged g) ends c p (out-Decl d) (both_left (fits_decl d) (list_all fits_decl ds) e))
 
-  pub block_ranged : (ends : List ℕ) (st : State (Unit {0}) g.Reported) (first : ℕ) (ds : List Decl) → list_all fits_decl ds ≡ true → StateRanged st → StateRanged (let d = declared_block g ends st first ds in (d.0, d.1))
+  pub block_ranged : (ends : List ℕ) (st : State (Unit {0}) g.Reported) (first : ℕ) (ds : List Decl)
+      → list_all fits_decl ds ≡ true → StateRanged st
+      → StateRanged (let d = declared_block g ends st first ds in (d.0, d.1))
   block_ranged ends st first ds e p =
       decls_ranged ends ds ((all_marked marked_decl st.0 ds).0, st.1, first) e
       (holds_weaker (λ x h. decls_marks marks ds (st.0, []) h) p)
 
-  pub module_ranged : (modules : List (List ℕ × ℕ)) (ends : List ℕ) (s : Scope g.Reported) (m : Module) (ds : List Decl) → list_all fits_decl ds ≡ true → ScopeRanged s
+  pub module_ranged : (modules : List (List ℕ × ℕ)) (ends : List ℕ) (s : Scope g.Reported) (m : Module) (ds : List Decl)
+      → list_all fits_decl ds ≡ true → ScopeRanged s
       → StateRanged (let d = declared_module g modules ends s m ds in (d.0, d.1))
   module_ranged modules ends s m ds e h =
       beside_then g _ (block_ranged ends (fold (with_import g modules) (s, Ok tt) m.imports) 0 ds e
       (imports_ranged modules m.imports (s, Ok tt) h)) (λ k. const_holds k _)
 
-  defs_ranged : (ds : List Def) (st : State (Unit {0}) g.Reported) → list_all fits_def ds ≡ true → StateRanged st → StateRanged (fold (with_def g) st ds)
+  defs_ranged : (ds : List Def) (st : State (Unit {0}) g.Reported) → list_all fits_def ds ≡ true → StateRanged st
+      → StateRanged (fold (with_def g) st ds)
   defs_ranged [] st e p = p
-  defs_ranged (d ∷ ds) st e p = defs_ranged ds (with_def g st d) (both_right (fits_def d) (list_all fits_def ds) e) (def_ranged g (constants_ranged g) st p d (both_left (fits_def d) (list_all fits_def ds) e))
+  defs_ranged (d ∷ ds) st e p = defs_ranged ds (with_def g st d) (both_right (fits_def d) (list_all fits_def ds) e)
+      (def_ranged g (constants_ranged g) st p d (both_left (fits_def d) (list_all fits_def ds) e))
 
-  pub definition_ranged : (m : Module) (modules : List (List ℕ × ℕ)) (s : Scope g.Reported) (ds : List Def) → list_all fits_def ds ≡ true → ScopeRanged s → StateRanged (declared_in g m modules s ds)
+  pub definition_ranged : (m : Module) (modules : List (List ℕ × ℕ)) (s : Scope g.Reported) (ds : List Def)
+      → list_all fits_def ds ≡ true → ScopeRanged s → StateRanged (declared_in g m modules s ds)
   definition_ranged m modules s ds e h =
       defs_ranged ds (fold (with_import g modules) (fold marked_def s ds, Ok tt) m.imports) e
       (imports_ranged modules m.imports (fold marked_def s ds, Ok tt) (defs_marks marks ds s h))
 
 -- ---- into a procedure, and back
 
-blocks_more : {T : Type 0} (types : Types) (bs : List (Block T)) (b : Block T) → BlocksRanged types bs → NamesRanged types b.names → BlocksRanged types (bs ++ b ∷ [])
+blocks_more : {T : Type 0} (types : Types) (bs : List (Block T)) (b : Block T) → BlocksRanged types bs
+    → NamesRanged types b.names → BlocksRanged types (bs ++ b ∷ [])
 blocks_more types [] b p q = (q, tt)
 blocks_more types (x ∷ bs) b p q = (p.0, blocks_more types bs b p.1 q)
 
@@ -121,34 +132,54 @@ inwards_ranged s seen h = record {
   tables = h.tables;
 }
 
-formal_by : {T : Type 0} (types : Types) (b : Bool) (name : List ℕ) (k : Known T) (ns : List (List ℕ × Known T)) → KnownRanged types k → NamesRanged types ns → NamesRanged types (cond b ns (enter_name name k ns))
+formal_by : {T : Type 0} (types : Types) (b : Bool) (name : List ℕ) (k : Known T) (ns : List (List ℕ × Known T))
+    → KnownRanged types k → NamesRanged types ns → NamesRanged types (cond b ns (enter_name name k ns))
 formal_by types true name k ns p h = h
 formal_by types false name k ns p h = names_more types name k ns p h
 
-names_formals : {T : Type 0} (types : Types) (level : ℕ) (f : Result Formal T) (names : List Ident) (fs : Formals T) → NamesRanged types fs.0 → NamesRanged types (fold (with_formal level f) fs names).0
+names_formals : {T : Type 0} (types : Types) (level : ℕ) (f : Result Formal T) (names : List Ident) (fs : Formals T)
+    → NamesRanged types fs.0 → NamesRanged types (fold (with_formal level f) fs names).0
 names_formals types level f [] fs h = h
 names_formals types level f (x ∷ xs) fs h =
     names_formals types level f xs (with_formal level f fs x)
-    (formal_by types (is_some (find_name x.name fs.0)) x.name (Declared Here (formal_meaning level (length fs.1) f)) fs.0
-    (meant_holds (λ u. meaning.Local (record { level = level; number = length fs.1; kind = formal_kind u; of = u.of })) (λ u. tt) f) h)
+    (formal_by types (is_some (find_name x.name fs.0)) x.name (Declared Here (formal_meaning level (length fs.1) f))
+    fs.0
+    (meant_holds (λ u. meaning.Local (record { level = level; number = length fs.1; kind = formal_kind u; of = u.of }))
+    (λ u. tt) f) h)
 
-left_by : {T : Type 0} (types : Types) (bs : List (Block T)) → BlocksRanged types bs → BlocksRanged types (pop_block (split_last bs)).0 × NamesRanged types (pop_block (split_last bs)).1
+left_by : {T : Type 0} (types : Types) (bs : List (Block T)) → BlocksRanged types bs
+    → BlocksRanged types (pop_block (split_last bs)).0 × NamesRanged types (pop_block (split_last bs)).1
 left_by types [] p = (tt, tt)
 left_by types (b ∷ bs) p = last b (split_last bs) p.0 (left_by types bs p.1) where
-  last : {T : Type 0} (b : Block T) (o : Option (List (Block T) × Block T)) → NamesRanged types b.names → BlocksRanged types (pop_block o).0 × NamesRanged types (pop_block o).1
-      → BlocksRanged types (pop_block (elim o [ None ↦ Some ([], b) | Some p ↦ Some (b ∷ p.0, p.1) ])).0 × NamesRanged types (pop_block (elim o [ None ↦ Some ([], b) | Some p ↦ Some (b ∷ p.0, p.1) ])).1
+  last : {T : Type 0} (b : Block T) (o : Option (List (Block T) × Block T)) → NamesRanged types b.names
+      → BlocksRanged types (pop_block o).0 × NamesRanged types (pop_block o).1
+      → BlocksRanged types (pop_block (elim o [ None ↦ Some ([], b) | Some p ↦ Some (b ∷ p.0, p.1) ])).0
+      × NamesRanged types (pop_block (elim o [ None ↦ Some ([], b) | Some p ↦ Some (b ∷ p.0, p.1) ])).1
   last b None p q = (tt, p)
   last b (Some x) p q = ((p, q.0), q.1)
 
 pub left_ranged : {T : Type 0} (o : Outside) (s : Scope T) → ScopeRanged s → ScopeRanged (left_procedure o s)
-left_ranged o s h = let k = left_by s.types s.outer h.outer in record { types = h.types; own = h.own; others = h.others; names = k.1; outer = k.0; tables = h.tables }
+left_ranged o s h = let k = left_by s.types s.outer h.outer in
+    record { types = h.types; own = h.own; others = h.others; names = k.1; outer = k.0; tables = h.tables }
 
 module _ (g : Gathers) where
-  sections_formals : (s : Scope g.Reported) (types : Types) (xs : List Section) (fs : Formals g.Reported) → NamesRanged types fs.0 → NamesRanged types (fold (with_section g s) fs xs).0
+  sections_formals : (s : Scope g.Reported) (types : Types) (xs : List Section) (fs : Formals g.Reported)
+      → NamesRanged types fs.0 → NamesRanged types (fold (with_section g s) fs xs).0
   sections_formals s types [] fs h = h
-  sections_formals s types (x ∷ xs) fs h = sections_formals s types xs (with_section g s fs x) (names_formals types s.level (formal_of g s x.is_var x.of) x.names fs h)
+  sections_formals s types (x ∷ xs) fs h =
+      sections_formals s types xs (with_section g s fs x)
+      (names_formals types s.level (formal_of g s x.is_var x.of) x.names fs h)
 
-  pub entered_ranged : (s : Scope g.Reported) (seen : ℕ) (h : Heading) → ScopeRanged s → ScopeRanged (entered_procedure g s seen h).0
+  pub entered_ranged : (s : Scope g.Reported) (seen : ℕ) (h : Heading) → ScopeRanged s
+      → ScopeRanged (entered_procedure g s seen h).0
   entered_ranged s seen h p =
       let k : ScopeRanged (inwards s seen) = inwards_ranged s seen p in
-      record { types = k.types; own = k.own; others = k.others; names = sections_formals (inwards s seen) s.types h.formals ([], []) tt; outer = k.outer; tables = k.tables }
+      record {
+        types = k.types;
+        own = k.own;
+        others = k.others;
+        names =
+            sections_formals (inwards s seen) s.types h.formals ([], []) tt;
+        outer = k.outer;
+        tables = k.tables;
+      }

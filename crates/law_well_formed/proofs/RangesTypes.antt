@@ -48,9 +48,12 @@ same_homes (Module m) (Module n) e = ap Module (eqb-true m n e)
 
 pub same_types : (t u : TypeNo) → are_same t u ≡ true → t ≡ u
 same_types t u e =
-    let homes : t.home ≡ u.home = same_homes t.home u.home (both_left (is_one_home t.home u.home) (t.number == u.number) e) in
-    let numbers : t.number ≡ u.number = eqb-true t.number u.number (both_right (is_one_home t.home u.home) (t.number == u.number) e) in
-    ap (λ (h : Home). record { home = h; number = t.number }) homes ∙ ap (λ (i : ℕ). record { home = u.home; number = i }) numbers
+    let homes : t.home ≡ u.home = same_homes t.home u.home
+    (both_left (is_one_home t.home u.home) (t.number == u.number) e) in
+    let numbers : t.number ≡ u.number = eqb-true t.number u.number
+    (both_right (is_one_home t.home u.home) (t.number == u.number) e) in
+    ap (λ (h : Home). record { home = h; number = t.number }) homes
+    ∙ ap (λ (i : ℕ). record { home = u.home; number = i }) numbers
 
 -- ---- types that are kept
 
@@ -68,7 +71,11 @@ module _ (a b : Types) (kept : Kept a b) where
   value_kept (value.Text text) p = p
 
   pub based_kept : (r : Range) → IsBased a r → IsBased b r
-  based_kept r p = record { low = number_kept r.base r.base r.low p.low; high = number_kept r.base r.base r.high p.high }
+  based_kept r p = record {
+    low = number_kept r.base r.base r.low p.low;
+    high =
+        number_kept r.base r.base r.high p.high;
+  }
 
   shape_kept : (s : Shape) → ShapeBased a s → ShapeBased b s
   shape_kept (shape.Scalar r) p = based_kept r p
@@ -123,35 +130,49 @@ module _ (a b : Types) (kept : Kept a b) where
 
 -- ---- one type more
 
-scalar_more : (xs : List Made) (x : Made) (n : ℕ) (r : Range) → scalar_made (slice_get xs n) ≡ Some r → scalar_made (slice_get (xs ++ x ∷ []) n) ≡ Some r
+scalar_more : (xs : List Made) (x : Made) (n : ℕ) (r : Range) → scalar_made (slice_get xs n) ≡ Some r
+    → scalar_made (slice_get (xs ++ x ∷ []) n) ≡ Some r
 scalar_more [] x n r e = absurd cc
 scalar_more (y ∷ xs) x zero r e = e
 scalar_more (y ∷ xs) x (suc n) r e = scalar_more xs x n r e
 
 pub more_kept : (types : Types) (x : Made) → Kept types (record types { own = types.own ++ x ∷ [] })
 more_kept types x t r e = from t.home t.number e where
-  here : (b : Bool) (n : ℕ) (other : Option Made) → scalar_made (cond b (slice_get types.own n) other) ≡ Some r → scalar_made (cond b (slice_get (types.own ++ x ∷ []) n) other) ≡ Some r
+  here : (b : Bool) (n : ℕ) (other : Option Made) → scalar_made (cond b (slice_get types.own n) other) ≡ Some r
+      → scalar_made (cond b (slice_get (types.own ++ x ∷ []) n) other) ≡ Some r
   here true n other e = scalar_more types.own x n r e
   here false n other e = e
 
-  from : (h : Home) (n : ℕ) → scalar_from types h n ≡ Some r → scalar_from (record types { own = types.own ++ x ∷ [] }) h n ≡ Some r
+  from : (h : Home) (n : ℕ) → scalar_from types h n ≡ Some r
+      → scalar_from (record types { own = types.own ++ x ∷ [] }) h n ≡ Some r
   from Predeclared n e = e
   from (Module k) n e = here (k == types.home) n (in_list n (lookup (nat_eq k) types.others)) e
 
-ranged_more : (home k : ℕ) (ms : List Made) (x : Made) → AreRangedFrom home k ms → IsRanged (type_of home (k + length ms)) x.shape → AreRangedFrom home k (ms ++ x ∷ [])
+ranged_more : (home k : ℕ) (ms : List Made) (x : Made) → AreRangedFrom home k ms
+    → IsRanged (type_of home (k + length ms)) x.shape → AreRangedFrom home k (ms ++ x ∷ [])
 ranged_more home k [] x h p = (subst (λ (i : ℕ). IsRanged (type_of home i) x.shape) (omega arith) p, tt)
-ranged_more home k (m ∷ ms) x h p = (h.0, ranged_more home (suc k) ms x h.1 (subst (λ (i : ℕ). IsRanged (type_of home i) x.shape) (omega arith) p))
+ranged_more home k (m ∷ ms) x h p = (
+  h.0,
+  ranged_more home (suc k) ms x h.1
+      (subst (λ (i : ℕ). IsRanged (type_of home i) x.shape) (omega arith) p),
+)
 
-based_more : (types : Types) (ms : List Made) (x : Made) → AllBased types ms → ShapeBased types x.shape → AllBased types (ms ++ x ∷ [])
+based_more : (types : Types) (ms : List Made) (x : Made) → AllBased types ms → ShapeBased types x.shape
+    → AllBased types (ms ++ x ∷ [])
 based_more types [] x h p = (p, tt)
 based_more types (m ∷ ms) x h p = (h.0, based_more types ms x h.1 p)
 
-pub scope_more : {T : Type 0} (s : Scope T) (x : Made) → ScopeRanged s → IsRanged (next_type s) x.shape → ShapeBased (with_shape s x).types x.shape → ScopeRanged (with_shape s x)
+pub scope_more : {T : Type 0} (s : Scope T) (x : Made) → ScopeRanged s → IsRanged (next_type s) x.shape
+    → ShapeBased (with_shape s x).types x.shape → ScopeRanged (with_shape s x)
 scope_more s x h p q =
     let now : Types = (with_shape s x).types in
     let kept : Kept s.types now = more_kept s.types x in
     record {
-      types = record { own = ranged_more s.types.home 0 s.types.own x h.types.own (subst (λ (i : ℕ). IsRanged (type_of s.types.home i) x.shape) (omega arith) p); others = h.types.others };
+      types = record {
+        own = ranged_more s.types.home 0 s.types.own x h.types.own
+            (subst (λ (i : ℕ). IsRanged (type_of s.types.home i) x.shape) (omega arith) p);
+        others = h.types.others;
+      };
       own = based_more now s.types.own x (all_kept s.types now kept s.types.own h.own) q;
       others = others_kept s.types now kept s.types.others h.others;
       names = names_kept s.types now kept s.own h.names;
@@ -167,10 +188,13 @@ none_there (x ∷ xs) = none_there xs
 
 pub next_none : {T : Type 0} (s : Scope T) → scalar_at s.types (next_type s) ≡ None
 next_none s =
-    ap (λ (b : Bool). scalar_made (cond b (slice_get s.types.own (length s.types.own)) (in_list (length s.types.own) (lookup (nat_eq s.types.home) s.types.others)))) (same_home s.types.home s.types.home refl)
+    ap (λ (b : Bool). scalar_made (cond b (slice_get s.types.own (length s.types.own))
+    (in_list (length s.types.own) (lookup (nat_eq s.types.home) s.types.others))))
+    (same_home s.types.home s.types.home refl)
     ∙ none_there s.types.own
 
-pub next_other : {T : Type 0} (s : Scope T) (t : TypeNo) (r : Range) → scalar_at s.types t ≡ Some r → are_same (next_type s) t ≡ true → ⊥
+pub next_other : {T : Type 0} (s : Scope T) (t : TypeNo) (r : Range) → scalar_at s.types t ≡ Some r
+    → are_same (next_type s) t ≡ true → ⊥
 next_other s t r e same =
     let is : next_type s ≡ t = same_types (next_type s) t same in
     let none : scalar_at s.types t ≡ None = ap (λ (u : TypeNo). scalar_at s.types u) (sym is) ∙ next_none s in
@@ -181,15 +205,20 @@ last_there : (xs : List Made) (x : Made) → scalar_made (slice_get (xs ++ x ∷
 last_there [] x = refl
 last_there (y ∷ xs) x = last_there xs x
 
-pub next_is : {T : Type 0} (s : Scope T) (x : Made) → scalar_at (with_shape s x).types (next_type s) ≡ scalar_shape x.shape
+pub next_is : {T : Type 0} (s : Scope T) (x : Made)
+    → scalar_at (with_shape s x).types (next_type s) ≡ scalar_shape x.shape
 next_is s x =
-    ap (λ (b : Bool). scalar_made (cond b (slice_get (s.types.own ++ x ∷ []) (length s.types.own)) (in_list (length s.types.own) (lookup (nat_eq s.types.home) s.types.others)))) (same_home s.types.home s.types.home refl)
+    ap (λ (b : Bool). scalar_made (cond b (slice_get (s.types.own ++ x ∷ []) (length s.types.own))
+    (in_list (length s.types.own) (lookup (nat_eq s.types.home) s.types.others))))
+    (same_home s.types.home s.types.home refl)
     ∙ last_there s.types.own x
 
 -- ---- ranges
 
 -- numbers of a base that is there
-pub sub_range : {T : Type 0} (s : Scope T) → ScopeRanged s → (base : TypeNo) (low high : ℤ) → IsNumber s.types base base low → IsNumber s.types base base high → low ≤ℤ high → IsRange (next_type s) (record { base = base; low = low; high = high })
+pub sub_range : {T : Type 0} (s : Scope T) → ScopeRanged s → (base : TypeNo) (low high : ℤ)
+    → IsNumber s.types base base low → IsNumber s.types base base high → low ≤ℤ high
+    → IsRange (next_type s) (record { base = base; low = low; high = high })
 sub_range s h base low high p q some =
     let one : IsRange base p.range = range_at s.types h.types base p.range p.at in
     let two : IsRange base q.range = range_at s.types h.types base q.range q.at in

@@ -16,7 +16,8 @@ pub record Fits (found : Option Pos) (n : ℕ) : Type 0 where
   pub before : found ≡ None
   pub small : n < 2 ^ 31
 
-fits_by : (b : Bool) (found : Option Pos) (n : ℕ) (at : Pos) → nat_lt max_storage n ≡ b → (if b then Some (least_with found at) else found) ≡ None → Fits found n
+fits_by : (b : Bool) (found : Option Pos) (n : ℕ) (at : Pos) → nat_lt max_storage n ≡ b
+    → (if b then Some (least_with found at) else found) ≡ None → Fits found n
 fits_by true found n at h e = absurd cc
 fits_by false found n at h e = record { before = e; small = grind (arith, h) }
 
@@ -24,7 +25,8 @@ fits : (found : Option Pos) (n : ℕ) (at : Pos) → with_size found n at ≡ No
 fits found n at e = fits_by (nat_lt max_storage n) found n at refl e
 
 -- the same of the frames of a list
-all_fit : (m : TypedModule) (found : Option Pos) (rs : List Routine) → fold (with_frame m.types) found rs ≡ None → (found ≡ None) × AllByRecursion (HasRoom m) rs
+all_fit : (m : TypedModule) (found : Option Pos) (rs : List Routine) → fold (with_frame m.types) found rs ≡ None
+    → (found ≡ None) × AllByRecursion (HasRoom m) rs
 all_fit m found [] e = (e, tt)
 all_fit m found (r ∷ rs) e =
     let rest = all_fit m (with_frame m.types found r) rs e in

@@ -44,13 +44,16 @@ begun_unheaded (Some (Declared o m)) e = refl
 
 -- ---- one type more
 
-made_more : (types : Types) (x : Made) (t : TypeNo) (y : Made) → made_at types t ≡ Some y → made_at (record types { own = types.own ++ x ∷ [] }) t ≡ Some y
+made_more : (types : Types) (x : Made) (t : TypeNo) (y : Made) → made_at types t ≡ Some y
+    → made_at (record types { own = types.own ++ x ∷ [] }) t ≡ Some y
 made_more types x t y e = from t.home t.number e where
-  here : (b : Bool) (n : ℕ) (other : Option Made) → cond b (slice_get types.own n) other ≡ Some y → cond b (slice_get (types.own ++ x ∷ []) n) other ≡ Some y
+  here : (b : Bool) (n : ℕ) (other : Option Made) → cond b (slice_get types.own n) other ≡ Some y
+      → cond b (slice_get (types.own ++ x ∷ []) n) other ≡ Some y
   here true n other e = get_more types.own (x ∷ []) n y e
   here false n other e = e
 
-  from : (h : Home) (n : ℕ) → made_from types h n ≡ Some y → made_from (record types { own = types.own ++ x ∷ [] }) h n ≡ Some y
+  from : (h : Home) (n : ℕ) → made_from types h n ≡ Some y
+      → made_from (record types { own = types.own ++ x ∷ [] }) h n ≡ Some y
   from home.Predeclared n e = e
   from (home.Module k) n e = here (k == types.home) n _ e
 
@@ -83,19 +86,25 @@ module _ (m : TypedModule) (opens : ℕ → Bool) where
     procedures = λ n t e. q.procedures n t (p.procedures n t e);
     heads = λ name x e. q.heads name x (p.heads name x e);
     awaits = λ name e. q.awaits name (p.awaits name e);
-    awaited = λ name e. let k = q.awaited name e in k ∙ p.awaited name (ap (λ (o : Option (Known _)). holds_of is_awaiting o) (sym k) ∙ e);
+    awaited = λ name e. let k = q.awaited name e in
+        k ∙ p.awaited name (ap (λ (o : Option (Known _)). holds_of is_awaiting o) (sym k) ∙ e);
     formed = λ e r. q.formed (p.home ∙ e) (p.formed e r);
   }
 
-  names_by : {T : Type 0} (b : Bool) (k : Known T) (e : List ℕ × Known T) (es more : List (List ℕ × Known T)) → FormedKnown m opens k → AreFormedNames m opens (e ∷ es) → AreFormedNames m opens more → AreFormedNames m opens (cond b ((e.0, k) ∷ es) (e ∷ more))
+  names_by : {T : Type 0} (b : Bool) (k : Known T) (e : List ℕ × Known T) (es more : List (List ℕ × Known T))
+      → FormedKnown m opens k → AreFormedNames m opens (e ∷ es) → AreFormedNames m opens more
+      → AreFormedNames m opens (cond b ((e.0, k) ∷ es) (e ∷ more))
   names_by true k e es more p all q = (p, all.1)
   names_by false k e es more p all q = (all.0, q)
 
-  pub names_more : {T : Type 0} (name : List ℕ) (k : Known T) (es : List (List ℕ × Known T)) → FormedKnown m opens k → AreFormedNames m opens es → AreFormedNames m opens (enter_name name k es)
+  pub names_more : {T : Type 0} (name : List ℕ) (k : Known T) (es : List (List ℕ × Known T)) → FormedKnown m opens k
+      → AreFormedNames m opens es → AreFormedNames m opens (enter_name name k es)
   names_more name k [] p all = (p, tt)
-  names_more name k (e ∷ es) p all = names_by (same_name name e.0) k e es (enter_name name k es) p all (names_more name k es p all.1)
+  names_more name k (e ∷ es) p all = names_by (same_name name e.0) k e es (enter_name name k es) p all
+      (names_more name k es p all.1)
 
-  pub known_leads : {T : Type 0} (s : Scope T) (name : List ℕ) (k : Known T) → holds_of is_headed (find_name name s.own) ≡ false → is_awaiting k ≡ false
+  pub known_leads : {T : Type 0} (s : Scope T) (name : List ℕ) (k : Known T)
+      → holds_of is_headed (find_name name s.own) ≡ false → is_awaiting k ≡ false
       → (s.types.home ≡ m.types.home → FormedKnown m opens k) → Leads m opens s (with_known name k s)
   known_leads s name k e a p = record {
     tables = refl;

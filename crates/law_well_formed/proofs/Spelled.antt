@@ -95,24 +95,32 @@ said_fits p (lexeme.Name n) h = number_fits p 0 refl
 said_fits p (lexeme.Symbol s) h = number_fits p 0 refl
 said_fits p lexeme.End h = number_fits p 0 refl
 
-related_fits : (x : Expr) (o : Option (Token × Expr)) → fits x ≡ true → MaybeFits (λ (p : Token × Expr). (token_fits p.0 ≡ true) × (fits p.1 ≡ true)) o → fits (relation_or_operand x o) ≡ true
+related_fits : (x : Expr) (o : Option (Token × Expr)) → fits x ≡ true
+    → MaybeFits (λ (p : Token × Expr). (token_fits p.0 ≡ true) × (fits p.1 ≡ true)) o
+    → fits (relation_or_operand x o) ≡ true
 related_fits x None h k = h
 related_fits x (Some p) h k = relation_fits x _ p.1 h k.1
 
-adds_fit : (ps : List (Token × Expr)) → AllByRecursion (λ (p : Token × Expr). (token_fits p.0 ≡ true) × (fits p.1 ≡ true)) ps → AllByRecursion (λ (p : Operator AddOp × Expr). fits p.1 ≡ true) (map add_operand ps)
+adds_fit : (ps : List (Token × Expr)) → AllByRecursion
+    (λ (p : Token × Expr). (token_fits p.0 ≡ true) × (fits p.1 ≡ true)) ps
+    → AllByRecursion (λ (p : Operator AddOp × Expr). fits p.1 ≡ true) (map add_operand ps)
 adds_fit [] h = tt
 adds_fit (p ∷ ps) h = (h.0.1, adds_fit ps h.1)
 
-times_fit : (ps : List (Token × Expr)) → AllByRecursion (λ (p : Token × Expr). (token_fits p.0 ≡ true) × (fits p.1 ≡ true)) ps → AllByRecursion (λ (p : Operator MulOp × Expr). fits p.1 ≡ true) (map multiply_operand ps)
+times_fit : (ps : List (Token × Expr)) →
+    AllByRecursion (λ (p : Token × Expr). (token_fits p.0 ≡ true) × (fits p.1 ≡ true)) ps
+    → AllByRecursion (λ (p : Operator MulOp × Expr). fits p.1 ≡ true) (map multiply_operand ps)
 times_fit [] h = tt
 times_fit (p ∷ ps) h = (h.0.1, times_fit ps h.1)
 
-sum_tree : (o : Option (Operator Sign)) (x : Expr) (ps : List (Operator AddOp × Expr)) → fits x ≡ true → AllByRecursion (λ (p : Operator AddOp × Expr). fits p.1 ≡ true) ps → fits (sum_of o x ps) ≡ true
+sum_tree : (o : Option (Operator Sign)) (x : Expr) (ps : List (Operator AddOp × Expr)) → fits x ≡ true
+    → AllByRecursion (λ (p : Operator AddOp × Expr). fits p.1 ≡ true) ps → fits (sum_of o x ps) ≡ true
 sum_tree None x [] h k = h
 sum_tree None x (p ∷ ps) h k = sum_fits None x (p ∷ ps) h k
 sum_tree (Some s) x ps h k = sum_fits (Some s) x ps h k
 
-product_tree : (x : Expr) (ps : List (Operator MulOp × Expr)) → fits x ≡ true → AllByRecursion (λ (p : Operator MulOp × Expr). fits p.1 ≡ true) ps → fits (product_of x ps) ≡ true
+product_tree : (x : Expr) (ps : List (Operator MulOp × Expr)) → fits x ≡ true
+    → AllByRecursion (λ (p : Operator MulOp × Expr). fits p.1 ≡ true) ps → fits (product_of x ps) ≡ true
 product_tree x [] h k = h
 product_tree x (p ∷ ps) h k = term_fits x (p ∷ ps) h k
 
@@ -120,7 +128,10 @@ args_fit : (o : Option (List Expr)) → MaybeFits (AllFit fits) o → (es : List
 args_fit None h es q = absurd cc
 args_fit (Some xs) h es q = let same : xs ≡ es = cc in subst (λ (ys : List Expr). AllFit fits ys) same h
 
-begun_fits : (name : Ident) (x : (Pos × List Item) ⊎ (List Selector × Option (List Expr))) → EitherFits (λ (s : Pos × List Item). Unit {0}) (λ (p : List Selector × Option (List Expr)). Unit {0} × MaybeFits (AllFit fits) p.1) x → fits (begun_by name x) ≡ true
+begun_fits : (name : Ident) (x : (Pos × List Item) ⊎ (List Selector × Option (List Expr)))
+    → EitherFits (λ (s : Pos × List Item). Unit {0})
+    (λ (p : List Selector × Option (List Expr)). Unit {0} × MaybeFits (AllFit fits) p.1) x
+    → fits (begun_by name x) ≡ true
 begun_fits name (inl s) h = set_fits (Some name) s.0 s.1
 begun_fits name (inr p) h = use_fits (roll-Designator (record { name = name; selectors = p.0 })) p.1 (args_fit p.1 h.1)
 
@@ -131,7 +142,8 @@ factor_fits (inr (inr (inl s))) h = set_fits None s.0 s.1
 factor_fits (inr (inr (inr (inl p)))) h = not_fits p.0.pos p.1 h.1
 factor_fits (inr (inr (inr (inr p)))) h = bracketed_fits p.0.pos p.1 h.1
 
-if_any_fits : {X : Type 0} (P : X → Type 0) (o : Option (X × List X)) → MaybeFits (λ (p : X × List X). P p.0 × AllByRecursion P p.1) o → AllByRecursion P (if_any o)
+if_any_fits : {X : Type 0} (P : X → Type 0) (o : Option (X × List X))
+    → MaybeFits (λ (p : X × List X). P p.0 × AllByRecursion P p.1) o → AllByRecursion P (if_any o)
 if_any_fits P None h = tt
 if_any_fits P (Some p) h = (h.0, h.1)
 
@@ -140,20 +152,26 @@ if_any_fits P (Some p) h = (h.0, h.1)
 range_fits : (low high : Expr) → fits low ≡ true → fits high ≡ true → (fits low && fits high) ≡ true
 range_fits low high h k = and_both (fits low) (fits high) h k
 
-named_fits : (q : Qualified) (o : Option (Token × (Expr × Expr))) → MaybeFits (λ (p : Token × (Expr × Expr)). (token_fits p.0 ≡ true) × ((fits p.1.0 ≡ true) × (fits p.1.1 ≡ true))) o → fits_simple (named_simple q o) ≡ true
+named_fits : (q : Qualified) (o : Option (Token × (Expr × Expr)))
+    → MaybeFits (λ (p : Token × (Expr × Expr)). (token_fits p.0 ≡ true) × ((fits p.1.0 ≡ true) × (fits p.1.1 ≡ true))) o
+    → fits_simple (named_simple q o) ≡ true
 named_fits q None h = refl
 named_fits q (Some p) h = range_fits p.1.0 p.1.1 h.1.0 h.1.1
 
-simple_fits : (x : El (grammar simple_rule).shape) → PartFits (grammar simple_rule).shape x → fits_simple (simple_of x) ≡ true
+simple_fits : (x : El (grammar simple_rule).shape) → PartFits (grammar simple_rule).shape x
+    → fits_simple (simple_of x) ≡ true
 simple_fits (inl p) h = named_fits p.0 p.1 h.1
 simple_fits (inr (inl p)) h = h.1
 simple_fits (inr (inr p)) h = range_fits p.1.0 p.1.1 h.1.0 h.1.1
 
-element_fits : (x : (Simple × TypeExpr) ⊎ TypeExpr) → EitherFits (λ (p : Simple × TypeExpr). (fits_simple p.0 ≡ true) × (fits_type p.1 ≡ true)) (λ (t : TypeExpr). fits_type t ≡ true) x → fits_type (element_of x) ≡ true
+element_fits : (x : (Simple × TypeExpr) ⊎ TypeExpr)
+    → EitherFits (λ (p : Simple × TypeExpr). (fits_simple p.0 ≡ true) × (fits_type p.1 ≡ true))
+    (λ (t : TypeExpr). fits_type t ≡ true) x → fits_type (element_of x) ≡ true
 element_fits (inl p) h = array_fits _ p.0 p.1 h.0 h.1
 element_fits (inr t) h = h
 
-present_fit : {X : Type 0} (P : X → Type 0) (xs : List (Option X)) → AllByRecursion (MaybeFits P) xs → AllByRecursion P (present xs)
+present_fit : {X : Type 0} (P : X → Type 0) (xs : List (Option X)) → AllByRecursion (MaybeFits P) xs
+    → AllByRecursion P (present xs)
 present_fit P [] h = tt
 present_fit P (None ∷ xs) h = present_fit P xs h.1
 present_fit P (Some x ∷ xs) h = (h.0, present_fit P xs h.1)
@@ -161,7 +179,8 @@ present_fit P (Some x ∷ xs) h = (h.0, present_fit P xs h.1)
 type_fits : (x : El (grammar type_rule).shape) → PartFits (grammar type_rule).shape x → fits_type (type_of x) ≡ true
 type_fits (inl s) h = simple_type_fits s h
 type_fits (inr (inl p)) h = array_fits p.0.pos p.1.0 p.1.1 h.1.0 h.1.1
-type_fits (inr (inr (inl p))) h = record_fits p.0.pos (present (with_first p.1)) (present_fit (λ (f : Field). fits_list f ≡ true) (with_first p.1) (h.1.0, h.1.1))
+type_fits (inr (inr (inl p))) h = record_fits p.0.pos (present (with_first p.1))
+    (present_fit (λ (f : Field). fits_list f ≡ true) (with_first p.1) (h.1.0, h.1.1))
 type_fits (inr (inr (inr p))) h = procedure_fits p.0.pos (formals_of p.1).0 (formals_of p.1).1
 
 -- ---- declarations and modules
@@ -182,7 +201,8 @@ held_fits : (b : Bool) (x : Block) → fits_block x ≡ true → fits_contents (
 held_fits true x h = h
 held_fits false x h = h
 
-module_tree : (x : El (grammar module_rule).shape) → PartFits (grammar module_rule).shape x → fits_module (module_of x) ≡ true
+module_tree : (x : El (grammar module_rule).shape) → PartFits (grammar module_rule).shape x
+    → fits_module (module_of x) ≡ true
 module_tree (inl p) h = all_true fits_def p.1.1 h.1.1
 module_tree (inr p) h = held_fits (is_there p.0) p.1.1.1 h.1.1.1
 
@@ -237,7 +257,8 @@ rest_fits (t ∷ ts) us h = rest_fits ts us h.1
 pub spelled_fits : {a : Ty} {g : Gr a} {x : El a} {ts : List Token} → Spells a g x ts → TokensFit ts → PartFits a x
 spelled_fits (one i) h = h.0
 spelled_fits (made {r = r} {x = x} d) h = tree_fits r x (spelled_fits d h)
-spelled_fits (pair {ts = ts} {us = us} d c) h = (spelled_fits d (front_fits ts us h), spelled_fits c (rest_fits ts us h))
+spelled_fits (pair {ts = ts} {us = us} d c) h =
+    (spelled_fits d (front_fits ts us h), spelled_fits c (rest_fits ts us h))
 spelled_fits (left d) h = spelled_fits d h
 spelled_fits (right d) h = spelled_fits d h
 spelled_fits (before k d) h = spelled_fits d h.1
@@ -245,13 +266,18 @@ spelled_fits (behind {ts = ts} t d k) h = spelled_fits d (front_fits ts (t ∷ [
 spelled_fits absent h = tt
 spelled_fits (there_is d) h = spelled_fits d h
 spelled_fits none h = tt
-spelled_fits (more {ts = ts} {us = us} d c) h = (spelled_fits d (front_fits ts us h), spelled_fits c (rest_fits ts us h))
+spelled_fits (more {ts = ts} {us = us} d c) h =
+    (spelled_fits d (front_fits ts us h), spelled_fits c (rest_fits ts us h))
 spelled_fits (nested d) h = spelled_fits d h
 spelled_fits (closed {ts = ts} t u k d l) h = (h.0, spelled_fits d (front_fits ts (u ∷ []) h.1))
 
 pub tokens_from : (ts : List Token) → list_all token_fits ts ≡ true → TokensFit ts
 tokens_from [] e = tt
-tokens_from (t ∷ ts) e = (left_of (token_fits t) (list_all token_fits ts) e, tokens_from ts (right_of (token_fits t) (list_all token_fits ts) e)) where
+tokens_from (t ∷ ts) e = (
+  left_of (token_fits t) (list_all token_fits ts) e,
+  tokens_from ts
+      (right_of (token_fits t) (list_all token_fits ts) e),
+) where
   left_of : (a b : Bool) → (a && b) ≡ true → a ≡ true
   left_of true b q = refl
   left_of false b q = absurd cc
@@ -260,5 +286,6 @@ tokens_from (t ∷ ts) e = (left_of (token_fits t) (list_all token_fits ts) e, t
   right_of true b q = q
   right_of false b q = absurd cc
 
-pub module_fits : (ts : List Token) (m : Module) → list_all token_fits ts ≡ true → Spells (ast module_rule) (rule module_rule) m ts → fits_module m ≡ true
+pub module_fits : (ts : List Token) (m : Module) → list_all token_fits ts ≡ true
+    → Spells (ast module_rule) (rule module_rule) m ts → fits_module m ≡ true
 module_fits ts m e d = spelled_fits d (tokens_from ts e)

@@ -35,7 +35,8 @@ use Rattle.law_well_formed.proofs.Order.{has, keys, keys_entered, Distinct, dist
 
 -- ---- keys
 
-pub mark_more : (name : List ℕ) (b : Bool) (ks : List (List ℕ)) → (more : List (List ℕ)) × (cond b ks (ks ++ name ∷ []) ≡ ks ++ more)
+pub mark_more : (name : List ℕ) (b : Bool) (ks : List (List ℕ)) → (more : List (List ℕ))
+    × (cond b ks (ks ++ name ∷ []) ≡ ks ++ more)
 mark_more name true ks = ([], sym (append-nil ks))
 mark_more name false ks = (name ∷ [], refl)
 
@@ -49,7 +50,15 @@ pub record Goes {T : Type 0} (s s' : Scope T) : Type 0 where
 
 module _ {T : Type 0} where
   pub same_goes : (s : Scope T) → Goes s s
-  same_goes s = record { procedures = refl; distinct = λ d. d; taken = λ y h. h; more = []; keys_are = sym (append-nil (keys s.own)); order = λ c p. p }
+  same_goes s = record {
+    procedures = refl;
+    distinct = λ d. d;
+    taken = λ y h. h;
+    more = [];
+    keys_are =
+        sym (append-nil (keys s.own));
+    order = λ c p. p;
+  }
 
   infixl 10 ◌⨾◌
   pub ◌⨾◌ : {a b c : Scope T} → Goes b c → Goes a b → Goes a c
@@ -58,11 +67,13 @@ module _ {T : Type 0} where
     distinct = λ d. q.distinct (p.distinct d);
     taken = λ y h. q.taken y (p.taken y h);
     more = p.more ++ q.more;
-    keys_are = q.keys_are ∙ ap (λ (ks : List (List ℕ)). ks ++ q.more) p.keys_are ∙ append_assoc (keys a.own) p.more q.more;
+    keys_are = q.keys_are ∙ ap (λ (ks : List (List ℕ)). ks ++ q.more) p.keys_are
+        ∙ append_assoc (keys a.own) p.more q.more;
     order = λ n h. q.order n (p.order n h);
   }
 
-  pub known_goes : (name : List ℕ) (k : Known T) (s : Scope T) → number_of k ≡ None → is_taken k ≡ true → holds_of is_done (find_name name s.own) ≡ false → Goes s (with_known name k s)
+  pub known_goes : (name : List ℕ) (k : Known T) (s : Scope T) → number_of k ≡ None → is_taken k ≡ true
+      → holds_of is_done (find_name name s.own) ≡ false → Goes s (with_known name k s)
   known_goes name k s n t d =
       let m = mark_more name (has name (keys s.own)) (keys s.own) in
       record {
@@ -101,14 +112,30 @@ module _ {T : Type 0} where
   -- ---- types that are made
 
   shape_goes : (s : Scope T) (m : Made) → Goes s (with_shape s m)
-  shape_goes s m = record { procedures = refl; distinct = λ d. d; taken = λ y h. h; more = []; keys_are = sym (append-nil (keys s.own)); order = λ c p. p }
+  shape_goes s m = record {
+    procedures = refl;
+    distinct = λ d. d;
+    taken = λ y h. h;
+    more = [];
+    keys_are =
+        sym (append-nil (keys s.own));
+    order = λ c p. p;
+  }
 
   pub made_goes : (s : Scope T) (r : Result Made T) → Goes s (with_made s r).0
   made_goes s (Ok m) = shape_goes s m
   made_goes s (Err e) = same_goes s
 
   variable_type_goes : (s : Scope T) (t : Result TypeNo T) → Goes s (with_variable_type s t)
-  variable_type_goes s (Ok t) = record { procedures = refl; distinct = λ d. d; taken = λ y h. h; more = []; keys_are = sym (append-nil (keys s.own)); order = λ c p. p }
+  variable_type_goes s (Ok t) = record {
+    procedures = refl;
+    distinct = λ d. d;
+    taken = λ y h. h;
+    more = [];
+    keys_are =
+        sym (append-nil (keys s.own));
+    order = λ c p. p;
+  }
   variable_type_goes s (Err e) = same_goes s
 
   variable_none : (home n : ℕ) (t : Result TypeNo T) → number_if (variable_meaning home n t) ≡ None
@@ -159,19 +186,24 @@ module _ (g : Gathers) where
   pub type_of_goes : (t : TypeExpr) (s : Scope g.Reported) → Goes s (type_of g t s).0
   type_of_goes = type_keeps g shapes
 
-  pub field_list_goes : (f : Field) (st : Scope g.Reported × Fields × Result (Unit {0}) g.Reported) → Goes st.0 (field_list g f st).0
+  pub field_list_goes : (f : Field) (st : Scope g.Reported × Fields × Result (Unit {0}) g.Reported)
+      → Goes st.0 (field_list g f st).0
   field_list_goes = field_list_keeps g shapes
 
   -- a name whose declaration was begun is finished
-  pub constant_ends : (b : Scope g.Reported) (c : Constant) → Goes b (finish_name b c.name (constant_meaning (constant g b (part g c.value))))
+  pub constant_ends : (b : Scope g.Reported) (c : Constant)
+      → Goes b (finish_name b c.name (constant_meaning (constant g b (part g c.value))))
   constant_ends b c = finish_keeps order b c.name _ (names.constant_ends b c)
 
-  pub type_finished : (b : Scope g.Reported) (d : TypeDecl) → Goes (type_of g d.of b).0 (finish_name (type_of g d.of b).0 d.name (type_meaning (type_of g d.of b).1 (brings_with d.of)))
+  pub type_finished : (b : Scope g.Reported) (d : TypeDecl)
+      → Goes (type_of g d.of b).0 (finish_name (type_of g d.of b).0 d.name
+      (type_meaning (type_of g d.of b).1 (brings_with d.of)))
   type_finished b d =
       let t = type_of g d.of b in
       finish_keeps order t.0 d.name _ (names.type_ends t.0 d.name.name t.1 (brings_with d.of))
 
-  pub type_ends : (b : Scope g.Reported) (d : TypeDecl) → Goes b (finish_name (type_of g d.of b).0 d.name (type_meaning (type_of g d.of b).1 (brings_with d.of)))
+  pub type_ends : (b : Scope g.Reported) (d : TypeDecl)
+      → Goes b (finish_name (type_of g d.of b).0 d.name (type_meaning (type_of g d.of b).1 (brings_with d.of)))
   type_ends b d = type_finished b d ⨾ type_of_goes d.of b
 
   pub constant_goes : (st : State (Unit {0}) g.Reported) (c : Constant) → Goes st.0 (with_constant g st c).0
@@ -180,10 +212,12 @@ module _ (g : Gathers) where
   pub type_decl_goes : (st : State (Unit {0}) g.Reported) (d : TypeDecl) → Goes st.0 (with_type g st d).0
   type_decl_goes = type_decl_keeps g names
 
-  pub begun_all_go : (names : List Ident) (st : State (Unit {0}) g.Reported) → Goes st.0 (fold (begun_name g) st names).0
+  pub begun_all_go : (names : List Ident) (st : State (Unit {0}) g.Reported)
+      → Goes st.0 (fold (begun_name g) st names).0
   begun_all_go = begun_all g names
 
-  pub variables_end : (b : Scope g.Reported) (v : Variables) → Goes (type_of g v.of b).0 (fold (finished_variable (type_of g v.of b).1) (type_of g v.of b).0 v.names)
+  pub variables_end : (b : Scope g.Reported) (v : Variables)
+      → Goes (type_of g v.of b).0 (fold (finished_variable (type_of g v.of b).1) (type_of g v.of b).0 v.names)
   variables_end b v =
       let t = type_of g v.of b in
       steps order (λ s. s) (finished_variable t.1)
@@ -204,5 +238,6 @@ module _ (g : Gathers) where
         λ s name n m e. known_goes name (Declared (Export n) (Ok m)) s refl refl (free_undone (find_name name s.own) e);
   }
 
-  pub import_goes : (modules : List (List ℕ × ℕ)) (is : List Import) (st : State (Unit {0}) g.Reported) → Goes st.0 (fold (with_import g modules) st is).0
+  pub import_goes : (modules : List (List ℕ × ℕ)) (is : List Import) (st : State (Unit {0}) g.Reported)
+      → Goes st.0 (fold (with_import g modules) st is).0
   import_goes = imports_keep g imports

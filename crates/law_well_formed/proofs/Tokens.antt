@@ -25,7 +25,8 @@ text_fits : (text : List ℕ) → list_all is_printable text ≡ true → list_a
 text_fits [] e = refl
 text_fits (c ∷ text) e =
     let l : c ≤ 126 = printable_small c (both_left (is_printable c) (list_all is_printable text) e) in
-    and_both (fits_character c) (list_all fits_character text) (to_le c 255 (omega (arith, l))) (text_fits text (both_right (is_printable c) (list_all is_printable text) e))
+    and_both (fits_character c) (list_all fits_character text) (to_le c 255 (omega (arith, l)))
+    (text_fits text (both_right (is_printable c) (list_all is_printable text) e))
 
 lexeme_from : (w : Text) (l : Lexeme) → Spells w l → lexeme_fits l ≡ true
 lexeme_from w (lexeme.Number n) h = let l : n < 4294967296 = h.2 in to_le n 4294967295 (omega (arith, l))
@@ -35,17 +36,23 @@ lexeme_from w (lexeme.Name n) h = refl
 lexeme_from w (lexeme.Symbol s) h = refl
 lexeme_from w lexeme.End h = refl
 
-members_fit : (text front : Text) (ms : List Member) (rest : Text) → Divides text ms rest → list_all token_fits (tokens_behind front ms) ≡ true
+members_fit : (text front : Text) (ms : List Member) (rest : Text) → Divides text ms rest
+    → list_all token_fits (tokens_behind front ms) ≡ true
 members_fit text front [] rest h = refl
 members_fit text front ((w, None) ∷ ms) rest h = members_fit h.0 (front ++ w) ms rest h.4
-members_fit text front ((w, Some t) ∷ ms) rest h = and_both (lexeme_fits t) (list_all token_fits (tokens_behind (front ++ w) ms)) (lexeme_from w t h.3) (members_fit h.0 (front ++ w) ms rest h.4)
+members_fit text front ((w, Some t) ∷ ms) rest h =
+    and_both (lexeme_fits t) (list_all token_fits (tokens_behind (front ++ w) ms)) (lexeme_from w t h.3)
+    (members_fit h.0 (front ++ w) ms rest h.4)
 
-with_end : (ts : List Token) (t : Token) → list_all token_fits ts ≡ true → token_fits t ≡ true → list_all token_fits (ts ++ t ∷ []) ≡ true
+with_end : (ts : List Token) (t : Token) → list_all token_fits ts ≡ true → token_fits t ≡ true
+    → list_all token_fits (ts ++ t ∷ []) ≡ true
 with_end [] t h k = and_both (token_fits t) true k refl
 with_end (x ∷ ts) t h k =
-    and_both (token_fits x) (list_all token_fits (ts ++ t ∷ [])) (both_left (token_fits x) (list_all token_fits ts) h) (with_end ts t (both_right (token_fits x) (list_all token_fits ts) h) k)
+    and_both (token_fits x) (list_all token_fits (ts ++ t ∷ [])) (both_left (token_fits x) (list_all token_fits ts) h)
+    (with_end ts t (both_right (token_fits x) (list_all token_fits ts) h) k)
 
 pub tokens_fit : (text : Text) (ts : List Token) → HasTokens text ts → list_all token_fits ts ≡ true
 tokens_fit text ts h =
     subst (λ (us : List Token). list_all token_fits us ≡ true) (sym h.2)
-    (with_end (tokens_behind [] h.0) (record { lexeme = lexeme.End; pos = place text }) (members_fit text [] h.0 [] h.1) refl)
+    (with_end (tokens_behind [] h.0) (record { lexeme = lexeme.End; pos = place text }) (members_fit text [] h.0 [] h.1)
+    refl)

@@ -64,7 +64,8 @@ use Rattle.law_well_formed.proofs.ModulesBegins.{own_await, own_formed, around_f
 
 -- ---- lists
 
-each_place : {X : Type 0} (P : X → Type 0) (xs : List X) → ((n : ℕ) (x : X) → slice_get xs n ≡ Some x → P x) → AllByRecursion P xs
+each_place : {X : Type 0} (P : X → Type 0) (xs : List X) → ((n : ℕ) (x : X) → slice_get xs n ≡ Some x → P x)
+    → AllByRecursion P xs
 each_place P [] k = tt
 each_place P (x ∷ xs) k = (k 0 x refl, each_place P xs (λ n y e. k (suc n) y e))
 
@@ -80,7 +81,8 @@ unfilled_outermost (h ∷ hs) (suc n) r e = unfilled_outermost hs n r e
 
 unfilled_bodies : (m : TypedModule) (hs : List TypeNo) → AreBodies m (map empty_routine hs)
 unfilled_bodies m [] n r e = absurd cc
-unfilled_bodies m (h ∷ hs) zero r e = subst (λ (x : Routine). IsBody m x) (same_Some (empty_routine h) r e) (record { body = no_stmts 0 false })
+unfilled_bodies m (h ∷ hs) zero r e = subst (λ (x : Routine). IsBody m x) (same_Some (empty_routine h) r e)
+    (record { body = no_stmts 0 false })
 unfilled_bodies m (h ∷ hs) (suc n) r e = unfilled_bodies m hs n r e
 
 unfilled_headings : (hs : List TypeNo) → Headings hs (map empty_routine hs)
@@ -100,7 +102,9 @@ pub record Starts {T : Type 0} (s : Scope T) (tables : List Table) (es : List (L
   pub numbers : AreNumberedBy (exported_headings es) es
   pub others : AreTables s.types.home tables
 
-module _ (g : Gathers) (elaborates : Elaborates g.Reported) (forms : FormsStatements g elaborates) (s : Scope g.Reported) (m : Module) (decls : List Decl) (body : Option (List Stmt)) (ends : List ℕ) (counted : ends ≡ procedure_ends decls) where
+module _ (g : Gathers) (elaborates : Elaborates g.Reported) (forms : FormsStatements g elaborates)
+    (s : Scope g.Reported) (m : Module) (decls : List Decl) (body : Option (List Stmt)) (ends : List ℕ)
+    (counted : ends ≡ procedure_ends decls) where
   abbrev modules : List (List ℕ × ℕ)
   modules = (numbered_modules s.tables).0
 
@@ -120,7 +124,12 @@ module _ (g : Gathers) (elaborates : Elaborates g.Reported) (forms : FormsStatem
   course = fold declared_by (marks.0, imported.1, 0) xs
 
   abbrev start : Walk g.Reported
-  start = record { scope = course.0; so_far = beside g course.1 (reported_of_lack g m.name.pos course.0); bodies = no_bodies course.0.procedures }
+  start = record {
+    scope = course.0;
+    so_far = beside g course.1 (reported_of_lack g m.name.pos course.0);
+    bodies =
+        no_bodies course.0.procedures;
+  }
 
   abbrev end : Walk g.Reported
   end = from g elaborates ends None marks.1 (start, 0) xs
@@ -141,15 +150,19 @@ module _ (g : Gathers) (elaborates : Elaborates g.Reported) (forms : FormsStatem
   imported_keeps = import_keeps g modules m.imports (s, Ok tt)
 
   start_tables : start.scope.tables ≡ s.tables
-  start_tables = course_leads.tables ∙ (marks_lead other nothing_open).tables ∙ ap (λ (p : List Table × ℕ). p.0) imported_keeps
+  start_tables = course_leads.tables ∙ (marks_lead other nothing_open).tables
+      ∙ ap (λ (p : List Table × ℕ). p.0) imported_keeps
 
   start_home : start.scope.types.home ≡ s.types.home
-  start_home = course_leads.home ∙ (marks_lead other nothing_open).home ∙ ap (λ (p : List Table × ℕ). p.1) imported_keeps
+  start_home = course_leads.home ∙ (marks_lead other nothing_open).home
+      ∙ ap (λ (p : List Table × ℕ). p.1) imported_keeps
 
   end_home : s.types.home ≡ end.scope.types.home
   end_home = sym (end_keeps.home ∙ start_home)
 
-  module _ (own : Option Table) (ys : List TypedStmt) (tables : List Table) (es : List (List ℕ × Meaning)) (starts : Starts s tables es) (ok : end.so_far ≡ Ok tt) (given : statements_of elaborates end.scope None body ≡ Ok ys) where
+  module _ (own : Option Table) (ys : List TypedStmt) (tables : List Table) (es : List (List ℕ × Meaning))
+      (starts : Starts s tables es) (ok : end.so_far ≡ Ok tt)
+      (given : statements_of elaborates end.scope None body ≡ Ok ys) where
     abbrev made : TypedModule
     made = typed_module end.scope modules own m end.bodies ys
 
@@ -161,7 +174,9 @@ module _ (g : Gathers) (elaborates : Elaborates g.Reported) (forms : FormsStatem
 
     imports_open : OpensAll made opens g modules m.imports
     imports_open =
-        subst (λ (us : List Table). OpensAll made (open_in s.tables (typed_imports modules us (all_imports modules us own m.imports))) g modules m.imports) (sym (end_keeps.tables ∙ start_tables))
+        subst (λ (us : List Table). OpensAll made
+        (open_in s.tables (typed_imports modules us (all_imports modules us own m.imports))) g modules m.imports)
+        (sym (end_keeps.tables ∙ start_tables))
         (opens_all modules s.tables made g own m.imports)
 
     imports_leads : Leads made opens s imported.0
@@ -172,15 +187,19 @@ module _ (g : Gathers) (elaborates : Elaborates g.Reported) (forms : FormsStatem
 
     begun_awaits : AwaitsOwn s
     begun_awaits name p e =
-        let k = own_await g.Reported s.types.home (exported_headings es) es starts.exports starts.numbers name p (ap (λ (ns : List (List ℕ × Known g.Reported)). name_standing (find_name name ns)) (sym starts.own) ∙ e) in
+        let k = own_await g.Reported s.types.home (exported_headings es) es starts.exports starts.numbers name p
+        (ap (λ (ns : List (List ℕ × Known g.Reported)). name_standing (find_name name ns)) (sym starts.own) ∙ e) in
         (k.0, ap (λ (hs : List TypeNo). slice_get hs p.number) starts.procedures ∙ k.1)
 
     course_ok : course.1 ≡ Ok tt
-    course_ok = beside_left g course.1 (reported_of_lack g m.name.pos course.0) (checked_reported g elaborates ends None marks.1 ps (start, 0) ok)
+    course_ok = beside_left g course.1 (reported_of_lack g m.name.pos course.0)
+        (checked_reported g elaborates ends None marks.1 ps (start, 0) ok)
 
     heads : ModuleHeadsIn g elaborates ends course.0.own course.0.types course.0.procedures ps
-    heads = heads_in g elaborates ends course.0.own course.0.types course.0.procedures ps (marks.0, imported.1, 0) course.0 refl refl refl refl
-        (ap (λ (n : ℕ). n == 0) marked_leads.level ∙ starts.level) (awaits_kept g made opens s marks.0 marked_leads begun_awaits) course_ok
+    heads = heads_in g elaborates ends course.0.own course.0.types course.0.procedures ps (marks.0, imported.1, 0)
+        course.0 refl refl refl refl
+        (ap (λ (n : ℕ). n == 0) marked_leads.level ∙ starts.level)
+        (awaits_kept g made opens s marks.0 marked_leads begun_awaits) course_ok
 
     start_outer : start.scope.outer ≡ predeclared_block ∷ []
     start_outer = course_leads.outer ∙ marked_leads.outer ∙ starts.outer
@@ -201,7 +220,8 @@ module _ (g : Gathers) (elaborates : Elaborates g.Reported) (forms : FormsStatem
     numbers = numbers_in g elaborates forms ends None decls counted
 
     goes : Goes g elaborates ends None course.0.own course.0.types course.0.procedures start end
-    goes = all_go g elaborates ends None course.0.own course.0.types course.0.procedures marks.1 ps (start, 0) 0 stands heads numbers ok
+    goes = all_go g elaborates ends None course.0.own course.0.types course.0.procedures marks.1 ps (start, 0) 0 stands
+        heads numbers ok
 
     headings : Headings course.0.procedures end.bodies.procedures
     headings = goes.headings (unfilled_headings course.0.procedures)
@@ -209,25 +229,31 @@ module _ (g : Gathers) (elaborates : Elaborates g.Reported) (forms : FormsStatem
     -- ---- names
 
     own_there : (n : ℕ) (t : TypeNo) → slice_get (exported_headings es) n ≡ Some t → IsRoutine end.bodies.procedures n t
-    own_there n t e = headings n t (course_leads.procedures n t (marked_leads.procedures n t (ap (λ (hs : List TypeNo). slice_get hs n) starts.procedures ∙ e)))
+    own_there n t e = headings n t (course_leads.procedures n t
+        (marked_leads.procedures n t (ap (λ (hs : List TypeNo). slice_get hs n) starts.procedures ∙ e)))
 
     begun_formed : AreFormedNames made opens s.own
     begun_formed =
         subst (λ (ns : List (List ℕ × Known g.Reported)). AreFormedNames made opens ns) (sym starts.own)
-        (own_formed made opens s.types.home (exported_headings es) end_home own_there g.Reported es starts.exports starts.numbers)
+        (own_formed made opens s.types.home (exported_headings es) end_home own_there g.Reported es starts.exports
+        starts.numbers)
 
     headed_leads : Leads made opens marks.0 course.0
     headed_leads =
-        heads_formed g elaborates ends course.0.own course.0.types course.0.procedures made opens (sym end_keeps.home) headings ps (marks.0, imported.1, 0) course.0 refl refl heads
+        heads_formed g elaborates ends course.0.own course.0.types course.0.procedures made opens (sym end_keeps.home)
+        headings ps (marks.0, imported.1, 0) course.0 refl refl heads
 
     names_formed : AreFormedNames made opens course.0.own
     names_formed = headed_leads.formed (marked_leads.home ∙ end_home) (marked_leads.formed end_home begun_formed)
 
-    members : (us : List Table) → us ≡ s.tables → (k : ℕ) (name : Ident) → opens k ≡ true → Holds (FormedMeaning made opens 0) (exported_meaning g us k name)
-    members us e k name h = subst (λ (us : List Table). Holds (FormedMeaning made opens 0) (exported_meaning g us k name)) (sym e) (members_formed made opens g s.tables tables_open k name h)
+    members : (us : List Table) → us ≡ s.tables → (k : ℕ) (name : Ident) → opens k ≡ true
+        → Holds (FormedMeaning made opens 0) (exported_meaning g us k name)
+    members us e k name h = subst (λ (us : List Table). Holds (FormedMeaning made opens 0)
+        (exported_meaning g us k name)) (sym e) (members_formed made opens g s.tables tables_open k name h)
 
     blocks : (bs : List (Around g.Reported)) → bs ≡ predeclared_block ∷ [] → AreFormedBlocks made opens bs
-    blocks bs e = subst (λ (bs : List (Around g.Reported)). AreFormedBlocks made opens bs) (sym e) (around_formed made opens g.Reported)
+    blocks bs e = subst (λ (bs : List (Around g.Reported)). AreFormedBlocks made opens bs) (sym e)
+        (around_formed made opens g.Reported)
 
     suits : Suits g made opens start end
     suits = record {
@@ -242,17 +268,21 @@ module _ (g : Gathers) (elaborates : Elaborates g.Reported) (forms : FormsStatem
     -- ---- bodies
 
     formed : FormedTo g elaborates ends None course.0.own course.0.types course.0.procedures made opens start end
-    formed = all_formed_to g elaborates ends None course.0.own course.0.types course.0.procedures marks.1 made opens ps (start, 0) 0 stands heads numbers ok suits names_formed
+    formed = all_formed_to g elaborates ends None course.0.own course.0.types course.0.procedures marks.1 made opens ps
+        (start, 0) 0 stands heads numbers ok suits names_formed
 
     end_formed : IsFormed g made opens 0 end.scope
     end_formed = scope_formed made opens g end.scope (λ t x e. e)
-        (subst (λ (ns : List (List ℕ × Known g.Reported)). AreFormedNames made opens ns) (sym (all_own g elaborates ends None marks.1 ps (start, 0))) names_formed)
+        (subst (λ (ns : List (List ℕ × Known g.Reported)). AreFormedNames made opens ns)
+        (sym (all_own g elaborates ends None marks.1 ps (start, 0))) names_formed)
         (blocks end.scope.outer (end_keeps.outer ∙ start_outer))
         (end_keeps.withs ∙ start_withs)
         (members end.scope.tables (end_keeps.tables ∙ start_tables))
 
     body_is : AreStmts made false 0 false ys
-    body_is = holds_at (statements_of elaborates end.scope None body) (body_formed g elaborates forms ends made opens end.scope end_formed (end_keeps.withs ∙ start_withs) None body) ys given
+    body_is = holds_at (statements_of elaborates end.scope None body)
+        (body_formed g elaborates forms ends made opens end.scope end_formed (end_keeps.withs ∙ start_withs) None body)
+        ys given
 
     nested_at : (n : ℕ) (r : Routine) → slice_get end.bodies.locals n ≡ Some r → 1 < r.level
     nested_at n r e =
@@ -261,7 +291,8 @@ module _ (g : Gathers) (elaborates : Elaborates g.Reported) (forms : FormsStatem
 
     pub well_formed : IsWellFormed made
     well_formed = record {
-      levels = all_places (λ (r : Routine). r.level ≡ 1) end.bodies.procedures (goes.outermost (unfilled_outermost course.0.procedures));
+      levels = all_places (λ (r : Routine). r.level ≡ 1) end.bodies.procedures
+          (goes.outermost (unfilled_outermost course.0.procedures));
       nested = all_places (λ (r : Routine). 1 < r.level) end.bodies.locals nested_at;
       procedures = all_places (IsBody made) end.bodies.procedures (formed.1 (unfilled_bodies made course.0.procedures));
       locals = all_places (IsBody made) end.bodies.locals (λ n r e. formed.0 n r (omega arith) e);
@@ -269,13 +300,16 @@ module _ (g : Gathers) (elaborates : Elaborates g.Reported) (forms : FormsStatem
     }
 
 module _ (g : Gathers) where
-  both_formed : (a : Result (Unit {0}) g.Reported) (r : Result (List TypedStmt) g.Reported) (f : List TypedStmt → TypedModule) → ((ys : List TypedStmt) → a ≡ Ok tt → r ≡ Ok ys → IsWellFormed (f ys)) → Holds IsWellFormed (both g a r ▷ λ p. Ok (f p.1))
+  both_formed : (a : Result (Unit {0}) g.Reported) (r : Result (List TypedStmt) g.Reported)
+      (f : List TypedStmt → TypedModule) → ((ys : List TypedStmt) → a ≡ Ok tt → r ≡ Ok ys → IsWellFormed (f ys))
+      → Holds IsWellFormed (both g a r ▷ λ p. Ok (f p.1))
   both_formed (Ok u) (Ok ys) f k = fine (f ys) (k ys refl refl)
   both_formed (Ok u) (Err e) f k = broken e
   both_formed (Err e) (Ok ys) f k = broken e
   both_formed (Err e) (Err x) f k = broken (g.join e x)
 
-  module _ (elaborates : Elaborates g.Reported) (forms : FormsStatements g elaborates) (s : Scope g.Reported) (own : Option Table) (m : Module) (b : Block) where
+  module _ (elaborates : Elaborates g.Reported) (forms : FormsStatements g elaborates) (s : Scope g.Reported)
+      (own : Option Table) (m : Module) (b : Block) where
     abbrev ds : List Decl
     ds = (out-Block b).decls
 
@@ -285,36 +319,78 @@ module _ (g : Gathers) where
     abbrev behind : Declared g.Reported → Checked g.Reported
     behind d =
         with_statements elaborates None body
-        (bodies_checked g elaborates (procedure_ends ds) None d.2 (record { scope = d.0; so_far = beside g d.1 (reported_of_lack g m.name.pos d.0); bodies = no_bodies d.0.procedures }) ds)
+        (bodies_checked g elaborates (procedure_ends ds) None d.2
+        (record {
+          scope = d.0;
+          so_far = beside g d.1 (reported_of_lack g m.name.pos d.0);
+          bodies =
+              no_bodies d.0.procedures;
+        }) ds)
 
     abbrev last : Walk g.Reported
     last = end g elaborates forms s m ds body (procedure_ends ds) refl
 
-    walk_is : ◌≡◌ {A = Checked g.Reported} (walk_body g elaborates (numbered_modules s.tables).0 (procedure_ends ds) s m b) (last, statements_of elaborates last.scope None body)
+    walk_is : ◌≡◌ {A = Checked g.Reported}
+        (walk_body g elaborates (numbered_modules s.tables).0 (procedure_ends ds) s m b)
+        (last, statements_of elaborates last.scope None body)
     walk_is =
-        ap behind (declared_is g elaborates forms (procedure_ends ds) (imported g elaborates forms s m ds body (procedure_ends ds) refl) 0 ds)
+        ap behind (declared_is g elaborates forms (procedure_ends ds)
+        (imported g elaborates forms s m ds body (procedure_ends ds) refl) 0 ds)
         ∙ ap (λ (w : Walk g.Reported). with_statements elaborates None body w)
-        (bodies_are g elaborates forms (procedure_ends ds) None (marks g elaborates forms s m ds body (procedure_ends ds) refl).1 (start g elaborates forms s m ds body (procedure_ends ds) refl) ds)
+        (bodies_are g elaborates forms (procedure_ends ds) None
+        (marks g elaborates forms s m ds body (procedure_ends ds) refl).1
+        (start g elaborates forms s m ds body (procedure_ends ds) refl) ds)
 
-    of_body_formed : (tables : List Table) (es : List (List ℕ × Meaning)) → Starts s tables es → Holds IsWellFormed (of_body g elaborates s own m b)
+    of_body_formed : (tables : List Table) (es : List (List ℕ × Meaning)) → Starts s tables es
+        → Holds IsWellFormed (of_body g elaborates s own m b)
     of_body_formed tables es starts =
-        subst (λ (c : Checked g.Reported). Holds IsWellFormed (module_or g (numbered_modules s.tables).0 own m c)) (sym walk_is)
-        (both_formed last.so_far (statements_of elaborates last.scope None body) (λ ys. typed_module last.scope (numbered_modules s.tables).0 own m last.bodies ys)
-        (λ ys ok given. well_formed g elaborates forms s m ds body (procedure_ends ds) refl own ys tables es starts ok given))
+        subst (λ (c : Checked g.Reported). Holds IsWellFormed (module_or g (numbered_modules s.tables).0 own m c))
+        (sym walk_is)
+        (both_formed last.so_far (statements_of elaborates last.scope None body)
+        (λ ys. typed_module last.scope (numbered_modules s.tables).0 own m last.bodies ys)
+        (λ ys ok given. well_formed g elaborates forms s m ds body (procedure_ends ds) refl own ys tables es starts ok
+        given))
 
-  module _ (elaborates : Elaborates g.Reported) (forms : FormsStatements g elaborates) (number : ℕ) (m : Module) (tables : List Table) where
-    implementation_formed : (own : Option Table) (b : Block) → AreForOwn own tables → Holds IsWellFormed (of_implementation g elaborates m own (tables ++ console ∷ []) b)
+  module _ (elaborates : Elaborates g.Reported) (forms : FormsStatements g elaborates) (number : ℕ) (m : Module)
+      (tables : List Table) where
+    implementation_formed : (own : Option Table) (b : Block) → AreForOwn own tables
+        → Holds IsWellFormed (of_implementation g elaborates m own (tables ++ console ∷ []) b)
     implementation_formed None b k = reported_holds g m.name.pos rule.LonelyModule
     implementation_formed (Some t) b k =
         of_body_formed elaborates forms (implementation_scope t (tables ++ console ∷ [])) (Some t) m b tables t.exported
-        (record { tables_are = refl; outer = refl; level = refl; withs = refl; own = refl; procedures = refl; exports = k.0.exports; numbers = k.0.numbers; others = k.1 })
+        (record {
+          tables_are = refl;
+          outer = refl;
+          level = refl;
+          withs = refl;
+          own = refl;
+          procedures = refl;
+          exports =
+              k.0.exports;
+          numbers = k.0.numbers;
+          others = k.1;
+        })
 
-    contents_formed : (own : Option Table) (c : Contents) → AreFor number own tables c → Holds IsWellFormed (of_contents g elaborates number m own (tables ++ console ∷ []) c)
+    contents_formed : (own : Option Table) (c : Contents) → AreFor number own tables c
+        → Holds IsWellFormed (of_contents g elaborates number m own (tables ++ console ∷ []) c)
     contents_formed own (contents.Definition defs) k = reported_holds g m.name.pos rule.LonelyModule
     contents_formed own (contents.Implementation b) k = implementation_formed own b k
     contents_formed own (contents.Program b) k =
         of_body_formed elaborates forms (first_scope number (tables ++ console ∷ [])) None m b tables []
-        (record { tables_are = refl; outer = refl; level = refl; withs = refl; own = refl; procedures = refl; exports = tt; numbers = tt; others = k })
+        (record {
+          tables_are = refl;
+          outer = refl;
+          level = refl;
+          withs = refl;
+          own = refl;
+          procedures = refl;
+          exports =
+              tt;
+          numbers = tt;
+          others = k;
+        })
 
-pub modules_formed : (g : Gathers) (number : ℕ) (m : Module) (own : Option Table) (tables : List Table) → AreFor number own tables m.contents → Holds IsWellFormed (body_module g number m own tables)
-modules_formed g number m own tables k = contents_formed g (elaborate_body g) (elaborated_formed g) number m tables own m.contents k
+pub modules_formed : (g : Gathers) (number : ℕ) (m : Module) (own : Option Table) (tables : List Table)
+    → AreFor number own tables m.contents → Holds IsWellFormed (body_module g number m own tables)
+modules_formed g number m own tables k =
+    contents_formed g (elaborate_body g) (elaborated_formed g) number m tables own m.contents k

@@ -13,7 +13,8 @@ module _ (parts : List Part) where
   pub first_none : AreFirst parts 0
   first_none n p lt at = absurd (omega arith)
 
-  pub first_more : (k : ℕ) (x : Part) → k < length parts → x ≡ get_or parts k x → x.is_program ≡ (k == 0) → AreFirst parts k → AreFirst parts (k + 1)
+  pub first_more : (k : ℕ) (x : Part) → k < length parts → x ≡ get_or parts k x → x.is_program ≡ (k == 0)
+      → AreFirst parts k → AreFirst parts (k + 1)
   first_more k x lt is here so_far n p below at = ⊎_elim
       (λ same. let found : slice_get parts k ≡ Some p = subst (λ (m : ℕ). slice_get parts m ≡ Some p) same at in
       let one : x ≡ p = is ∙ get_or_from_slice_get parts k p x found in
@@ -21,7 +22,8 @@ module _ (parts : List Part) where
       (λ other. so_far n p (omega arith) at)
       (cases_eq n k)
 
-  pub all_first : (k : ℕ) → length parts ≤ k → AreFirst parts k → (n : ℕ) (p : Part) → slice_get parts n ≡ Some p → p.is_program ≡ (n == 0)
+  pub all_first : (k : ℕ) → length parts ≤ k → AreFirst parts k → (n : ℕ) (p : Part) → slice_get parts n ≡ Some p
+      → p.is_program ≡ (n == 0)
   all_first k long so_far n p at = so_far n p (let lt = slice_get_within parts n p at in omega arith) at
 
   pub there : (k : ℕ) (x : Part) → k < length parts → x ≡ get_or parts k x → slice_get parts k ≡ Some x

@@ -7,4 +7,5 @@ use Rattle.std.proofs.lemmas.Str.Ascii.{IsAscii-from_all}
 use Rattle.m2c.specs.Names.{IsName}
 
 pub name_utf8 : (name : List ℕ) → IsName name → IsUtf8 name
-name_utf8 name h = IsUtf8-from_ascii name (IsAscii-from_all name (All-weaker (λ b. (48 ≤ b) × (b < 123)) (λ b. b < 128) (λ b w. omega (arith, w.1)) name h.1))
+name_utf8 name h = IsUtf8-from_ascii name
+    (IsAscii-from_all name (All-weaker (λ b. (48 ≤ b) × (b < 123)) (λ b. b < 128) (λ b w. omega (arith, w.1)) name h.1))

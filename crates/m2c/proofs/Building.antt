@@ -19,10 +19,14 @@ use Rattle.m2c.specs.Compiles.{IsRefused, IsSaved}
 
 module _ {S : Type 0} (reported : S → Option (List ℕ)) (failed : S → ℕ) where
   -- one more thing is printed
-  pub said_more : {X : Type 0} (text : X → List ℕ) (xs : List X) (k : ℕ) (x : X) (before between after : S) → k < length xs → x ≡ get_or xs k x
-      → Printed reported failed (flat_map text (take k xs)) before between → Printed reported failed (text x) between after → Printed reported failed (flat_map text (take (k + 1) xs)) before after
+  pub said_more : {X : Type 0} (text : X → List ℕ) (xs : List X) (k : ℕ) (x : X) (before between after : S)
+      → k < length xs → x ≡ get_or xs k x
+      → Printed reported failed (flat_map text (take k xs)) before between
+      → Printed reported failed (text x) between after
+      → Printed reported failed (flat_map text (take (k + 1) xs)) before after
   said_more {X = X} text xs k x before between after h is so_far next =
-      subst (λ (b : List ℕ). Printed reported failed b before after) (sym split) (says_more reported failed true (flat_map text (take k xs)) (text x) before between after so_far next)
+      subst (λ (b : List ℕ). Printed reported failed b before after) (sym split)
+      (says_more reported failed true (flat_map text (take k xs)) (text x) before between after so_far next)
     where
       split : flat_map text (take (k + 1) xs) ≡ flat_map text (take k xs) ++ text x
       split =
@@ -31,9 +35,12 @@ module _ {S : Type 0} (reported : S → Option (List ℕ)) (failed : S → ℕ) 
           ∙ ap (λ (t : List ℕ). flat_map text (take k xs) ++ t) (append-nil (text (get_or xs k x)))
           ∙ ap (λ (y : X). flat_map text (take k xs) ++ text y) (sym is)
 
-module _ {D S : Type 0} (calls : D → Option (List Call)) (failures : D → ℕ) (reported : S → Option (List ℕ)) (failed : S → ℕ) (files : List SourceFile) (pages : ℕ) where
-  pub is_refused : (all : Bool) (refusals : Vec Refusal) (slice : List Refusal) → slice ≡ refusals.items → IsBuilt files pages (outcome.Refused refusals)
-      → (dir : D) (out after : S) → Says reported failed all (flat_map line_of slice) out after → IsRefused calls failures reported failed files pages all dir dir out after
+module _ {D S : Type 0} (calls : D → Option (List Call)) (failures : D → ℕ) (reported : S → Option (List ℕ))
+    (failed : S → ℕ) (files : List SourceFile) (pages : ℕ) where
+  pub is_refused : (all : Bool) (refusals : Vec Refusal) (slice : List Refusal) → slice ≡ refusals.items
+      → IsBuilt files pages (outcome.Refused refusals)
+      → (dir : D) (out after : S) → Says reported failed all (flat_map line_of slice) out after
+      → IsRefused calls failures reported failed files pages all dir dir out after
   is_refused all refusals slice e built dir out after says = record {
     refusals = refusals;
     built = built;
@@ -41,14 +48,17 @@ module _ {D S : Type 0} (calls : D → Option (List Call)) (failures : D → ℕ
     same = refl;
   }
 
-  pub is_saved : (answer : Result ⊤ SaveFault) (link : Vec ℕ) (modules : Vec (String Global × Vec ℕ)) (link_slice : List ℕ) (slice : List (String Global × Vec ℕ)) → link_slice ≡ link.items → slice ≡ modules.items
-      → IsBuilt files pages (outcome.Built link modules) → (dir after : D) (out : S) → Saves calls failures link_slice (map module_file slice) answer dir after
+  pub is_saved : (answer : Result ⊤ SaveFault) (link : Vec ℕ) (modules : Vec (String Global × Vec ℕ))
+      (link_slice : List ℕ) (slice : List (String Global × Vec ℕ)) → link_slice ≡ link.items → slice ≡ modules.items
+      → IsBuilt files pages (outcome.Built link modules) → (dir after : D) (out : S)
+      → Saves calls failures link_slice (map module_file slice) answer dir after
       → IsSaved calls failures reported failed files pages answer dir after out out
   is_saved answer link modules link_slice slice e f built dir after out saves = record {
     link = link;
     modules = modules;
     built = built;
-    saves = subst (λ (ms : List (String Global × Vec ℕ)). Saves calls failures link.items (map module_file ms) answer dir after) f
+    saves = subst (λ (ms : List (String Global × Vec ℕ)). Saves calls failures link.items (map module_file ms) answer
+        dir after) f
         (subst (λ (l : List ℕ). Saves calls failures l (map module_file slice) answer dir after) e saves);
     same = refl;
   }

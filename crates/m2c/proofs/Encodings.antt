@@ -56,7 +56,8 @@ record IsText (m : Module) : Type 0 where
   text : List ℕ
   has : HasTree text m
 
-text_at : (files : List SourceFile) (reads : List Read) → AreRead files reads → (k : ℕ) (m : Module) → slice_get (modules (trees_of files reads)) k ≡ Some m → IsText m
+text_at : (files : List SourceFile) (reads : List Read) → AreRead files reads → (k : ℕ) (m : Module)
+    → slice_get (modules (trees_of files reads)) k ≡ Some m → IsText m
 text_at [] reads h k m e = absurd cc
 text_at (f ∷ fs) [] h k m e = absurd cc
 text_at (f ∷ fs) (read.Refused pos number ∷ rs) h k m e = text_at fs rs h.1 k m e
@@ -64,14 +65,17 @@ text_at (f ∷ fs) (read.Parsed tree ∷ rs) h zero m e =
     let same : arc_value tree ≡ m = cc in subst IsText same (record { text = f.bytes.items; has = h.0 })
 text_at (f ∷ fs) (read.Parsed tree ∷ rs) h (suc k) m e = text_at fs rs h.1 k m e
 
-text_of : (files : List SourceFile) (fs : List (List ℕ × Module)) → AreTrees files fs → (k : ℕ) (m : Module) → slice_get (modules fs) k ≡ Some m → IsText m
-text_of files fs are k m e = text_at files are.reads are.are_read k m (subst (λ (xs : List (List ℕ × Module)). slice_get (modules xs) k ≡ Some m) are.all e)
+text_of : (files : List SourceFile) (fs : List (List ℕ × Module)) → AreTrees files fs → (k : ℕ) (m : Module)
+    → slice_get (modules fs) k ≡ Some m → IsText m
+text_of files fs are k m e = text_at files are.reads are.are_read k m
+    (subst (λ (xs : List (List ℕ × Module)). slice_get (modules xs) k ≡ Some m) are.all e)
 
 once_by : (o : Option Table) → ((t : Table) → o ≡ Some t → ExportsOnce (Some t)) → ExportsOnce o
 once_by None k = tt
 once_by (Some t) k = k t refl
 
-all_from : (P : TypedModule → Type 0) (ms : List TypedModule) → ((k : ℕ) (m : TypedModule) → slice_get ms k ≡ Some m → P m) → All P ms
+all_from : (P : TypedModule → Type 0) (ms : List TypedModule)
+    → ((k : ℕ) (m : TypedModule) → slice_get ms k ≡ Some m → P m) → All P ms
 all_from P [] h = All-nil P
 all_from P (m ∷ ms) h = All-cons P m ms (h zero m refl) (all_from P ms (λ k n e. h (suc k) n e))
 
@@ -82,7 +86,8 @@ begin_is (m ∷ ms) = ap (λ (n : ℕ). size (module_row m) + characters (module
 
 -- ---- the program
 
-module _ (files : List SourceFile) (fs : List (List ℕ × Module)) (numbers : List ℕ) (jobs : List (List ℕ)) (starts : List ℕ) (have : HaveGraph files fs numbers jobs starts) (none : refused_by fs numbers jobs ≡ []) where
+module _ (files : List SourceFile) (fs : List (List ℕ × Module)) (numbers : List ℕ) (jobs : List (List ℕ))
+    (starts : List ℕ) (have : HaveGraph files fs numbers jobs starts) (none : refused_by fs numbers jobs ≡ []) where
   pub as_many : length numbers ≡ length jobs
   as_many = jobs_count _ numbers jobs starts have.is_graph
 
@@ -111,7 +116,8 @@ module _ (files : List SourceFile) (fs : List (List ℕ × Module)) (numbers : L
         parsed = read.has.is_tree;
         number = typed.job;
         own = own;
-        own_once = once_by own (λ o e. (own_known fs numbers jobs starts have.is_graph typed.tree tables o (needed_tables fs numbers jobs starts have.is_graph typed.job) e).0.once);
+        own_once = once_by own (λ o e. (own_known fs numbers jobs starts have.is_graph typed.tree tables o
+            (needed_tables fs numbers jobs starts have.is_graph typed.job) e).0.once);
         tables = tables_behind own tables;
         accepted = typed.typed;
       }
@@ -124,7 +130,8 @@ module _ (files : List SourceFile) (fs : List (List ℕ × Module)) (numbers : L
 
   storage_at : (k : ℕ) (m : TypedModule) → slice_get whole.program k ≡ Some m → HasStorage m
   storage_at k m e =
-      let known = graphs_coherent fs numbers jobs starts have.is_graph have.each (trees_fit files fs have.are_trees) whole.program (bodies_in fs numbers jobs starts whole.program whole.typed) k m e in
+      let known = graphs_coherent fs numbers jobs starts have.is_graph have.each (trees_fit files fs have.are_trees)
+      whole.program (bodies_in fs numbers jobs starts whole.program whole.typed) k m e in
       record {
         types = all_fit m.types known.1.1 known.1.0;
         storage = all_fits m (each_at IsFit whole.program whole.small k m e).small;
@@ -132,7 +139,8 @@ module _ (files : List SourceFile) (fs : List (List ℕ × Module)) (numbers : L
 
   sizes_at : (k : ℕ) (m : TypedModule) → slice_get whole.program k ≡ Some m → sizes_fit m.types ≡ true
   sizes_at k m e =
-      let known = graphs_coherent fs numbers jobs starts have.is_graph have.each (trees_fit files fs have.are_trees) whole.program (bodies_in fs numbers jobs starts whole.program whole.typed) k m e in
+      let known = graphs_coherent fs numbers jobs starts have.is_graph have.each (trees_fit files fs have.are_trees)
+      whole.program (bodies_in fs numbers jobs starts whole.program whole.typed) k m e in
       sizes_kept m.types known.1.1 known.1.0
 
   pub sizes_all : All (λ m. sizes_fit m.types ≡ true) whole.program
@@ -140,24 +148,30 @@ module _ (files : List SourceFile) (fs : List (List ℕ × Module)) (numbers : L
 
   -- ---- in pages with room
 
-  module _ (pages : ℕ) (some : 1 ≤ pages) (most : pages ≤ 1024) (fits : stack_begin (map part_of whole.program) + 4096 ≤ 65536 * pages) where
+  module _ (pages : ℕ) (some : 1 ≤ pages) (most : pages ≤ 1024)
+      (fits : stack_begin (map part_of whole.program) + 4096 ≤ 65536 * pages) where
     pub linkable : IsLinkable whole.program pages
     linkable = record {
       distinct = distinct_all fs numbers jobs have.each as_many none starts are;
-      imports = subst (λ (ns : List (List ℕ)). All (λ m. All (λ n. list_any (λ other. bytes_eq other n) ns ≡ true) (imported_names m)) whole.program) (sym whole.names)
-          (all_modules fs numbers jobs starts have.is_graph (at_places (modules fs) starts) starts whole.program whole.typed are.closed);
+      imports = subst (λ (ns : List (List ℕ)). All
+          (λ m. All (λ n. list_any (λ other. bytes_eq other n) ns ≡ true) (imported_names m)) whole.program)
+          (sym whole.names)
+          (all_modules fs numbers jobs starts have.is_graph (at_places (modules fs) starts) starts whole.program
+          whole.typed are.closed);
       memory = some;
       room = omega (arith, fits);
     }
 
     pub modules_are : AreModules whole.program
     modules_are =
-        are_modules fs numbers jobs starts have.is_graph have.each (trees_fit files fs have.are_trees) (trees_whole files fs have.are_trees) whole.program
+        are_modules fs numbers jobs starts have.is_graph have.each (trees_fit files fs have.are_trees)
+        (trees_whole files fs have.are_trees) whole.program
         (bodies_in fs numbers jobs starts whole.program whole.typed) whole.small pages fits most
 
     pub typed_are : AreTypedModules whole.program pages
     typed_are =
-        are_typed fs numbers jobs starts have.is_graph have.each (trees_fit files fs have.are_trees) (trees_whole files fs have.are_trees) whole.program
+        are_typed fs numbers jobs starts have.is_graph have.each (trees_fit files fs have.are_trees)
+        (trees_whole files fs have.are_trees) whole.program
         (bodies_in fs numbers jobs starts whole.program whole.typed) pages fits most
 
     is_small : IsSmallProgram whole.program pages
@@ -165,7 +179,8 @@ module _ (files : List SourceFile) (fs : List (List ℕ × Module)) (numbers : L
 
     pub encodings : list_all module_fits (all whole.program pages) ≡ true
     encodings =
-        least_fit whole.program pages modules_are typed_are (accepted_all starts whole.program whole.typed) (all_from HasStorage whole.program storage_at) is_small
+        least_fit whole.program pages modules_are typed_are (accepted_all starts whole.program whole.typed)
+        (all_from HasStorage whole.program storage_at) is_small
 
 -- ---- the law
 
@@ -174,6 +189,8 @@ programs_fit files fs numbers jobs starts have none p typed pages some most fits
     let w = whole files fs numbers jobs starts have none in
     let same : w.program ≡ p = one_program (modules fs) numbers jobs starts w.program p w.typed typed in
     let room : stack_begin (map part_of w.program) + 4096 ≤ 65536 * pages =
-    subst (λ (n : ℕ). n + 4096 ≤ 65536 * pages) (sym (begin_is w.program)) (subst (λ (q : Modules). data_and_stack q ≤ 65536 * pages) (sym same) fits)
+    subst (λ (n : ℕ). n + 4096 ≤ 65536 * pages) (sym (begin_is w.program))
+    (subst (λ (q : Modules). data_and_stack q ≤ 65536 * pages) (sym same) fits)
     in
-    subst (λ (q : Modules). list_all module_fits (all q pages) ≡ true) same (encodings files fs numbers jobs starts have none pages some most room)
+    subst (λ (q : Modules). list_all module_fits (all q pages) ≡ true) same
+    (encodings files fs numbers jobs starts have none pages some most room)

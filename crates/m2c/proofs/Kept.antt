@@ -27,7 +27,8 @@ module _ (types : Types) (o : AreOrdered types) (ranged : AreRanged types) where
   few : (u : TypeNo) → is_known types u ≡ true → size (tree types u) < 4294967295
   few u k = let s = own_small types o ranged u k in omega (arith, s.0, s.1)
 
-  elements_few : (t : TypeNo) (s : Shape) → AreKnown types (named_by s) → size (element_tree (shape_tree types (known_trees types) t s)) < 4294967295
+  elements_few : (t : TypeNo) (s : Shape) → AreKnown types (named_by s)
+      → size (element_tree (shape_tree types (known_trees types) t s)) < 4294967295
   unfolding size
   elements_few t (shape.Scalar s) h = omega arith
   elements_few t shape.Set h = omega arith
@@ -37,29 +38,38 @@ module _ (types : Types) (o : AreOrdered types) (ranged : AreRanged types) where
   elements_few t (shape.Procedure p) h = omega arith
   elements_few t (shape.Open e) h = omega arith
 
-  one_fits : (t : TypeNo) (m : Made) → made_at types t ≡ Some m → is_known types t ≡ true → size_fits (tree types t) ≡ true
+  one_fits : (t : TypeNo) (m : Made) → made_at types t ≡ Some m → is_known types t ≡ true
+      → size_fits (tree types t) ≡ true
   one_fits t m e k =
-      let elements : size (element_tree (tree types t)) < 4294967295 = subst (λ (y : Ty). size (element_tree y) < 4294967295) (sym (tree_shaped types o t m e)) (elements_few t m.shape (named_known types o t m e)) in
+      let elements : size (element_tree (tree types t)) < 4294967295 =
+      subst (λ (y : Ty). size (element_tree y) < 4294967295) (sym (tree_shaped types o t m e))
+      (elements_few t m.shape (named_known types o t m e)) in
       and_both _ _ (lt-ltb _ _ (few t k)) (lt-ltb _ _ elements)
 
-  first_ones : (home count : ℕ) → ((n : ℕ) → n < count → size_fits (tree types (made_type home n)) ≡ true) → first_fit types home count ≡ true
+  first_ones : (home count : ℕ) → ((n : ℕ) → n < count → size_fits (tree types (made_type home n)) ≡ true)
+      → first_fit types home count ≡ true
   first_ones home zero h = refl
-  first_ones home (suc n) h = and_both (first_fit types home n) (size_fits (tree types (made_type home n))) (first_ones home n (λ j l. h j (omega (arith, l)))) (h n (omega arith))
+  first_ones home (suc n) h = and_both (first_fit types home n) (size_fits (tree types (made_type home n)))
+      (first_ones home n (λ j l. h j (omega (arith, l)))) (h n (omega arith))
 
-  others_fit : (rest before : List (ℕ × List Made)) → before ++ rest ≡ types.others → OthersOrdered before rest → fold (module_fits types) true rest ≡ true
+  others_fit : (rest before : List (ℕ × List Made)) → before ++ rest ≡ types.others → OthersOrdered before rest
+      → fold (module_fits types) true rest ≡ true
   others_fit [] before e h = refl
   others_fit (x ∷ rest) before e h =
-      let found : at x.0 types.others ≡ Some x.1 = ap (λ (es : List (ℕ × List Made)). at x.0 es) (sym e) ∙ at_placed x.0 before x.1 rest h.0 in
+      let found : at x.0 types.others ≡ Some x.1 = ap (λ (es : List (ℕ × List Made)). at x.0 es) (sym e)
+      ∙ at_placed x.0 before x.1 rest h.0 in
       let fit : first_fit types x.0 (length x.1) ≡ true = first_ones x.0 (length x.1) (λ n l.
       let y = some_of (slice_get x.1 n) (there types o ranged x.1 n l) in
       let made = has_others types o ranged x.0 x.1 found n y.0 y.1 in
       one_fits (made_type x.0 n) y.0 made (ap is_some made)) in
-      ap (λ (b : Bool). fold (module_fits types) b rest) fit ∙ others_fit rest (before ++ x ∷ []) (append_more before x rest ∙ e) h.1.1
+      ap (λ (b : Bool). fold (module_fits types) b rest) fit
+      ∙ others_fit rest (before ++ x ∷ []) (append_more before x rest ∙ e) h.1.1
 
   pub sizes_kept : sizes_fit types ≡ true
   unfolding sizes_fit
   sizes_kept =
-      and_both (fold (module_fits types) true types.others) (first_fit types types.home (length types.own)) (others_fit types.others [] refl o.others)
+      and_both (fold (module_fits types) true types.others) (first_fit types types.home (length types.own))
+      (others_fit types.others [] refl o.others)
       (first_ones types.home (length types.own) (λ n l.
       let y = some_of (slice_get types.own n) (there types o ranged types.own n l) in
       let made = has_own types o ranged n y.0 y.1 in

@@ -47,18 +47,25 @@ abbrev Named : Module → Type 0
 Named m = IsWord m.name.name
 
 name_of : (name : List ℕ) → IsWord name → IsName name
-name_of name w = (w.few, All-weaker (λ b. is_run_byte b ≡ true) (λ b. (48 ≤ b) × (b < 123)) run_bound name (AllPass-from_list_all is_run_byte name w.run))
+name_of name w = (
+  w.few,
+  All-weaker (λ b. is_run_byte b ≡ true) (λ b. (48 ≤ b) × (b < 123)) run_bound name
+      (AllPass-from_list_all is_run_byte name w.run),
+)
 
 -- ---- the trees of files
 
-read_named : (files : List SourceFile) (reads : List Read) → AreRead files reads → AllByRecursion Named (modules (trees_of files reads))
+read_named : (files : List SourceFile) (reads : List Read) → AreRead files reads
+    → AllByRecursion Named (modules (trees_of files reads))
 read_named [] reads h = tt
 read_named (f ∷ fs) [] h = tt
 read_named (f ∷ fs) (read.Refused pos number ∷ rs) h = read_named fs rs h.1
 read_named (f ∷ fs) (read.Parsed tree ∷ rs) h = (name_word _ (arc_value tree) h.0, read_named fs rs h.1)
 
-trees_named : (files : List SourceFile) (fs : List (List ℕ × Module)) → AreTrees files fs → AllByRecursion Named (modules fs)
-trees_named files fs are = subst (λ (xs : List (List ℕ × Module)). AllByRecursion Named (modules xs)) (sym are.all) (read_named files are.reads are.are_read)
+trees_named : (files : List SourceFile) (fs : List (List ℕ × Module)) → AreTrees files fs
+    → AllByRecursion Named (modules fs)
+trees_named files fs are = subst (λ (xs : List (List ℕ × Module)). AllByRecursion Named (modules xs)) (sym are.all)
+    (read_named files are.reads are.are_read)
 
 -- ---- those that start
 
@@ -67,32 +74,41 @@ some_named [] h k m e = absurd cc
 some_named (x ∷ ms) h zero m e = let same : x ≡ m = cc in subst Named same h.0
 some_named (x ∷ ms) h (suc k) m e = some_named ms h.1 k m e
 
-places_named : (ms : List Module) → AllByRecursion Named ms → (starts : List ℕ) → AllByRecursion IsWord (names_of (at_places ms starts))
+places_named : (ms : List Module) → AllByRecursion Named ms → (starts : List ℕ)
+    → AllByRecursion IsWord (names_of (at_places ms starts))
 places_named ms h [] = tt
 places_named ms h (s ∷ ss) = by (slice_get ms s) refl (places_named ms h ss)
   where
-    by : (o : Option Module) → slice_get ms s ≡ o → AllByRecursion IsWord (names_of (at_places ms ss)) → AllByRecursion IsWord (names_of (at_places ms (s ∷ ss)))
+    by : (o : Option Module) → slice_get ms s ≡ o → AllByRecursion IsWord (names_of (at_places ms ss))
+        → AllByRecursion IsWord (names_of (at_places ms (s ∷ ss)))
     by None e more = rw e more
     by (Some m) e more = rw e (some_named ms h s m e, more)
 
-emitted_named : (p : Modules) → AllByRecursion IsWord (linked.names p) → AllByRecursion (λ (x : ModuleBytes). IsName x.name) (map emitted p)
+emitted_named : (p : Modules) → AllByRecursion IsWord (linked.names p)
+    → AllByRecursion (λ (x : ModuleBytes). IsName x.name) (map emitted p)
 unfolding emitted
 emitted_named [] h = tt
 emitted_named (t ∷ ts) h = (name_of t.name h.0, emitted_named ts h.1)
 
-pub started_named : (files : List SourceFile) (fs : List (List ℕ × Module)) (numbers : List ℕ) (jobs : List (List ℕ)) (starts : List ℕ) → HaveGraph files fs numbers jobs starts → refused_by fs numbers jobs ≡ []
+pub started_named : (files : List SourceFile) (fs : List (List ℕ × Module)) (numbers : List ℕ) (jobs : List (List ℕ))
+    (starts : List ℕ) → HaveGraph files fs numbers jobs starts → refused_by fs numbers jobs ≡ []
     → All (λ (x : ModuleBytes). IsName x.name) (start_modules fs numbers jobs starts)
 started_named files fs numbers jobs starts have none =
     let w = whole files fs numbers jobs starts have none in
     let those = places_named (modules fs) (trees_named files fs have.are_trees) starts in
     let names = subst (AllByRecursion IsWord) (sym w.names) those in
-    subst (All (λ (x : ModuleBytes). IsName x.name)) (sym w.are) (All-from_recursion (λ (x : ModuleBytes). IsName x.name) (map emitted w.program) (emitted_named w.program names))
+    subst (All (λ (x : ModuleBytes). IsName x.name)) (sym w.are)
+    (All-from_recursion (λ (x : ModuleBytes). IsName x.name) (map emitted w.program)
+    (emitted_named w.program names))
 
 -- the same of borrowed ones
-pub borrowed_named : (ms : List (Bor ModuleBytes)) → All (λ (x : ModuleBytes). IsName x.name) (map (λ m. m.now) ms) → All (λ (m : Bor ModuleBytes). IsName m.now.name) ms
+pub borrowed_named : (ms : List (Bor ModuleBytes)) → All (λ (x : ModuleBytes). IsName x.name) (map (λ m. m.now) ms)
+    → All (λ (m : Bor ModuleBytes). IsName m.now.name) ms
 borrowed_named [] h = All-nil (λ (m : Bor ModuleBytes). IsName m.now.name)
 borrowed_named (m ∷ ms) h =
-    All-cons (λ (m : Bor ModuleBytes). IsName m.now.name) m ms (All-head (λ (x : ModuleBytes). IsName x.name) m.now (map (λ m. m.now) ms) h) (borrowed_named ms (All-tail (λ (x : ModuleBytes). IsName x.name) m.now (map (λ m. m.now) ms) h))
+    All-cons (λ (m : Bor ModuleBytes). IsName m.now.name) m ms
+    (All-head (λ (x : ModuleBytes). IsName x.name) m.now (map (λ m. m.now) ms) h)
+    (borrowed_named ms (All-tail (λ (x : ModuleBytes). IsName x.name) m.now (map (λ m. m.now) ms) h))
 
 -- ---- the names by which an executor finds them
 
@@ -118,7 +134,8 @@ letters_and_digits : (bs : List ℕ) → list_all is_run_byte bs ≡ true → li
 letters_and_digits [] e = refl
 letters_and_digits (b ∷ bs) e =
     let both = and_parts (is_run_byte b) (list_all is_run_byte bs) e in
-    and_from (is_ascii_alphanumeric b) (list_all is_ascii_alphanumeric bs) (letter_or_digit b both.0) (letters_and_digits bs both.1)
+    and_from (is_ascii_alphanumeric b) (list_all is_ascii_alphanumeric bs) (letter_or_digit b both.0)
+    (letters_and_digits bs both.1)
 
 letter_first : (name : List ℕ) → Begins name → begins_with_letter name ≡ true
 letter_first [] h = absurd h
@@ -127,27 +144,33 @@ letter_first (b ∷ bs) h = h
 other_than_link : (name : List ℕ) → same_name name (codes "link") ≡ false → not (bytes_eq name link_name) ≡ true
 other_than_link name e = by (bytes_eq name link_name) refl where
   by : (b : Bool) → bytes_eq name link_name ≡ b → not b ≡ true
-  by true q = absurd (false≢true (sym e ∙ ap (λ (n : List ℕ). same_name n (codes "link")) ((bytes_eq-Decides name link_name).0 q)))
+  by true q = absurd (false≢true (sym e ∙ ap (λ (n : List ℕ). same_name n (codes "link"))
+      ((bytes_eq-Decides name link_name).0 q)))
   by false q = refl
 
 module_word : (name : List ℕ) → IsWord name → same_name name (codes "link") ≡ false → is_module_name name ≡ true
 module_word name w e =
-    and_from _ _ (and_from _ _ (and_from _ _ (letter_first name w.begins) (letters_and_digits name w.run)) (le-leb (length name) 64 w.few)) (other_than_link name e)
+    and_from _ _ (and_from _ _ (and_from _ _ (letter_first name w.begins) (letters_and_digits name w.run))
+    (le-leb (length name) 64 w.few)) (other_than_link name e)
 
-module _ (fs : List (List ℕ × Module)) (numbers : List ℕ) (jobs : List (List ℕ)) (starts : List ℕ) (graph : IsGraph (number_files 0 fs) numbers jobs starts) where
+module _ (fs : List (List ℕ × Module)) (numbers : List ℕ) (jobs : List (List ℕ)) (starts : List ℕ)
+    (graph : IsGraph (number_files 0 fs) numbers jobs starts) where
   not_link : (m : Module) (k : ℕ) → slice_get (modules fs) k ≡ Some m → same_name m.name.name (codes "link") ≡ false
   not_link m k e =
       let a = given_among fs graph.0 graph.1 m (k, e) in
       let f = tree_at graph.0 a.0 m a.1 in
       let fine = (fine_file graph.0 graph.2.fine a.0 f.0 f.1).first in
-      let free = (or_none (is_console f.0.tree.name.name) (same_name f.0.tree.name.name (codes "link")) (or_none _ (is_built_in f.0.tree.name.name) fine).1).1 in
+      let free = (or_none (is_console f.0.tree.name.name) (same_name f.0.tree.name.name (codes "link"))
+      (or_none _ (is_built_in f.0.tree.name.name) fine).1).1 in
       subst (λ (x : Module). same_name x.name.name (codes "link") ≡ false) f.2 free
 
-  words_at : AllByRecursion Named (modules fs) → (ss : List ℕ) → AllByRecursion (λ n. is_module_name n ≡ true) (names_of (at_places (modules fs) ss))
+  words_at : AllByRecursion Named (modules fs) → (ss : List ℕ)
+      → AllByRecursion (λ n. is_module_name n ≡ true) (names_of (at_places (modules fs) ss))
   words_at h [] = tt
   words_at h (s ∷ ss) = by (slice_get (modules fs) s) refl (words_at h ss)
     where
-      by : (o : Option Module) → slice_get (modules fs) s ≡ o → AllByRecursion (λ n. is_module_name n ≡ true) (names_of (at_places (modules fs) ss))
+      by : (o : Option Module) → slice_get (modules fs) s ≡ o
+          → AllByRecursion (λ n. is_module_name n ≡ true) (names_of (at_places (modules fs) ss))
           → AllByRecursion (λ n. is_module_name n ≡ true) (names_of (at_places (modules fs) (s ∷ ss)))
       by None e more = rw e more
       by (Some m) e more = rw e (module_word m.name.name (some_named (modules fs) h s m e) (not_link m s e), more)
@@ -157,13 +180,16 @@ pub record AreFound (p : Modules) : Type 0 where
   pub words : AllByRecursion (λ n. is_module_name n ≡ true) (linked.names p)
   pub distinct : AreDistinct (linked.names p)
 
-pub program_found : (files : List SourceFile) (fs : List (List ℕ × Module)) (numbers : List ℕ) (jobs : List (List ℕ)) (starts : List ℕ) → HaveGraph files fs numbers jobs starts → refused_by fs numbers jobs ≡ []
+pub program_found : (files : List SourceFile) (fs : List (List ℕ × Module)) (numbers : List ℕ) (jobs : List (List ℕ))
+    (starts : List ℕ) → HaveGraph files fs numbers jobs starts → refused_by fs numbers jobs ≡ []
     → (p : Modules) → AreTyped (modules fs) numbers jobs starts p → AreFound p
 program_found files fs numbers jobs starts have none p typed =
     let w = whole files fs numbers jobs starts have none in
     let same : w.program ≡ p = one_program (modules fs) numbers jobs starts w.program p w.typed typed in
     subst AreFound same
     (record {
-      words = subst (AllByRecursion (λ n. is_module_name n ≡ true)) (sym w.names) (words_at fs numbers jobs starts have.is_graph (trees_named files fs have.are_trees) starts);
-      distinct = distinct_all fs numbers jobs have.each (as_many files fs numbers jobs starts have none) none starts (are files fs numbers jobs starts have none);
+      words = subst (AllByRecursion (λ n. is_module_name n ≡ true)) (sym w.names)
+          (words_at fs numbers jobs starts have.is_graph (trees_named files fs have.are_trees) starts);
+      distinct = distinct_all fs numbers jobs have.each (as_many files fs numbers jobs starts have none) none starts
+          (are files fs numbers jobs starts have none);
     })

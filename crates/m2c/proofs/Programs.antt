@@ -50,10 +50,12 @@ use Rattle.m2c.proofs.Unrefused.{IsUnrefused, compiled_is, needed, one, result_i
 
 -- ---- a typed body has the name of its module
 
-module_name : (ms : List (List ℕ × ℕ)) (own : Option Table) (m : Module) (c : Checked Breach) (t : TypedModule) → bodies.module_or least ms own m c ≡ Ok t → t.name ≡ m.name.name
+module_name : (ms : List (List ℕ × ℕ)) (own : Option Table) (m : Module) (c : Checked Breach) (t : TypedModule)
+    → bodies.module_or least ms own m c ≡ Ok t → t.name ≡ m.name.name
 module_name ms own m c t e = by (both least c.0.so_far c.1) e
   where
-    by : (r : Result (Unit {0} × List TypedStmt) Breach) → (r ▷ λ p. Ok (routines.typed_module c.0.scope ms own m c.0.bodies p.1)) ≡ Ok t → t.name ≡ m.name.name
+    by : (r : Result (Unit {0} × List TypedStmt) Breach)
+        → (r ▷ λ p. Ok (routines.typed_module c.0.scope ms own m c.0.bodies p.1)) ≡ Ok t → t.name ≡ m.name.name
     by (Ok p) e = sym (ap named e)
       where
         named : Result TypedModule Breach → List ℕ
@@ -61,17 +63,23 @@ module_name ms own m c t e = by (both least c.0.so_far c.1) e
         named (Err f) = []
     by (Err f) e = absurd (cc e)
 
-contents_name : (n : ℕ) (m : Module) (own : Option Table) (ts : List Table) (c : Contents) (t : TypedModule) → bodies.of_contents least (elaborate_body least) n m own ts c ≡ Ok t → t.name ≡ m.name.name
+contents_name : (n : ℕ) (m : Module) (own : Option Table) (ts : List Table) (c : Contents) (t : TypedModule)
+    → bodies.of_contents least (elaborate_body least) n m own ts c ≡ Ok t → t.name ≡ m.name.name
 contents_name n m own ts (contents.Definition ds) t e = absurd (cc e)
 contents_name n m None ts (contents.Implementation b) t e = absurd (cc e)
 contents_name n m (Some own) ts (contents.Implementation b) t e =
     let s : Scope Breach = implementation_scope own ts in
-    module_name (numbered_modules s.tables).0 (Some own) m (bodies.walk_body least (elaborate_body least) (numbered_modules s.tables).0 (procedure_ends (out-Block b).decls) s m b) t e
+    module_name (numbered_modules s.tables).0 (Some own) m
+    (bodies.walk_body least (elaborate_body least) (numbered_modules s.tables).0
+    (procedure_ends (out-Block b).decls) s m b) t e
 contents_name n m own ts (contents.Program b) t e =
     let s : Scope Breach = first_scope n ts in
-    module_name (numbered_modules s.tables).0 None m (bodies.walk_body least (elaborate_body least) (numbered_modules s.tables).0 (procedure_ends (out-Block b).decls) s m b) t e
+    module_name (numbered_modules s.tables).0 None m
+    (bodies.walk_body least (elaborate_body least) (numbered_modules s.tables).0
+    (procedure_ends (out-Block b).decls) s m b) t e
 
-pub typed_name : (n : ℕ) (m : Module) (ts : List Table) (t : TypedModule) → typed_body m n ts ≡ Ok t → t.name ≡ m.name.name
+pub typed_name : (n : ℕ) (m : Module) (ts : List Table) (t : TypedModule) → typed_body m n ts ≡ Ok t
+    → t.name ≡ m.name.name
 typed_name n m ts t e = contents_name n m (own_table m ts) _ m.contents t e
 
 -- ---- a body that is not refused is built
@@ -82,29 +90,37 @@ record IsBody (m : Module) (n : ℕ) (ts : List Table) (c : Compiled) : Type 0 w
   small : too_large typed ≡ None
   becomes : c ≡ Built (emitted typed)
 
-from_fit : (m : Module) (n : ℕ) (ts : List Table) (t : TypedModule) → typed_body m n ts ≡ Ok t → (o : Option Pos) → too_large t ≡ o → IsUnrefused (of_fit t o) → IsBody m n ts (of_fit t o)
+from_fit : (m : Module) (n : ℕ) (ts : List Table) (t : TypedModule) → typed_body m n ts ≡ Ok t → (o : Option Pos)
+    → too_large t ≡ o → IsUnrefused (of_fit t o) → IsBody m n ts (of_fit t o)
 from_fit m n ts t e None small h = record { typed = t; is = e; small = small; becomes = refl }
 from_fit m n ts t e (Some at) small h = absurd (h _ refl)
 
-from_checked : (m : Module) (n : ℕ) (ts : List Table) (r : Result TypedModule Breach) → typed_body m n ts ≡ r → IsUnrefused (of_checked r) → IsBody m n ts (of_checked r)
+from_checked : (m : Module) (n : ℕ) (ts : List Table) (r : Result TypedModule Breach) → typed_body m n ts ≡ r
+    → IsUnrefused (of_checked r) → IsBody m n ts (of_checked r)
 from_checked m n ts (Ok t) e h = from_fit m n ts t e (too_large t) refl h
 from_checked m n ts (Err f) e h = absurd (h f refl)
 
-from_contents : (m : Module) (n : ℕ) (ts : List Table) (c : Contents) → is_definition_part c ≡ false → IsUnrefused (of_contents m n ts c) → IsBody m n ts (of_contents m n ts c)
+from_contents : (m : Module) (n : ℕ) (ts : List Table) (c : Contents) → is_definition_part c ≡ false
+    → IsUnrefused (of_contents m n ts c) → IsBody m n ts (of_contents m n ts c)
 from_contents m n ts (contents.Definition ds) is h = absurd (false≢true (sym is))
 from_contents m n ts (contents.Implementation b) is h = from_checked m n ts (typed_body m n ts) refl h
 from_contents m n ts (contents.Program b) is h = from_checked m n ts (typed_body m n ts) refl h
 
-body_of : (m : Module) (n : ℕ) (others : List Compiled) → is_definition m ≡ false → list_all is_sound others ≡ true → IsUnrefused (compilation_of m n others) → IsBody m n (tables_of others) (compilation_of m n others)
+body_of : (m : Module) (n : ℕ) (others : List Compiled) → is_definition m ≡ false → list_all is_sound others ≡ true
+    → IsUnrefused (compilation_of m n others) → IsBody m n (tables_of others) (compilation_of m n others)
 body_of m n others is sound h =
     let e = compiled_is m n others sound in
-    subst (IsBody m n (tables_of others)) (sym e) (from_contents m n (tables_of others) m.contents is (subst IsUnrefused e h))
+    subst (IsBody m n (tables_of others)) (sym e)
+    (from_contents m n (tables_of others) m.contents is (subst IsUnrefused e h))
 
 -- ---- all that start
 
-module _ (fs : List (List ℕ × Module)) (numbers : List ℕ) (jobs : List (List ℕ)) (each : CompileEach (number_files 0 fs) numbers) (same : length numbers ≡ length jobs) (none : refused_by fs numbers jobs ≡ []) where
+module _ (fs : List (List ℕ × Module)) (numbers : List ℕ) (jobs : List (List ℕ))
+    (each : CompileEach (number_files 0 fs) numbers) (same : length numbers ≡ length jobs)
+    (none : refused_by fs numbers jobs ≡ []) where
   within : (j k : ℕ) → slice_get numbers j ≡ Some k → k < length fs
-  within j k e = subst (λ (n : ℕ). n < length fs) (get_or_from_slice_get numbers j k 0 e) (all_within fs numbers each j 0 (slice_get_within numbers j k e))
+  within j k e = subst (λ (n : ℕ). n < length fs) (get_or_from_slice_get numbers j k 0 e)
+      (all_within fs numbers each j 0 (slice_get_within numbers j k e))
 
   there : (j : ℕ) → j < length numbers → (k : ℕ) × (slice_get numbers j ≡ Some k)
   there j l = some_at numbers j l
@@ -122,13 +138,18 @@ module _ (fs : List (List ℕ × Module)) (numbers : List ℕ) (jobs : List (Lis
 
   start : (s : ℕ) (m : Module) → slice_get (modules fs) s ≡ Some m → is_definition m ≡ false → Starts m s
   start s m is body =
-      let lt : s < length fs = (let w = slice_get_within (modules fs) s m is in omega (arith, w, length-map fs (λ (f : List ℕ × Module). f.1))) in
+      let lt : s < length fs = (let w = slice_get_within (modules fs) s m is in
+      omega (arith, w, length-map fs (λ (f : List ℕ × Module). f.1))) in
       let j = file_job fs numbers each s lt in
       let l : j.0 < length jobs = (let w = slice_get_within numbers j.0 s j.1 in omega (arith, w, same)) in
       let place : slice_index_or numbers j.0 0 ≡ s = get_or_from_slice_get numbers j.0 s 0 j.1 in
-      let its : one fs numbers jobs j.0 ≡ compilation_of m j.0 (needed fs numbers jobs j.0) = ap (λ (k : ℕ). compile_in_place (slice_get (modules fs) k) j.0 (needed fs numbers jobs j.0)) place ∙ ap (λ (o : Option Module). compile_in_place o j.0 (needed fs numbers jobs j.0)) is in
-      let sound : list_all is_sound (needed fs numbers jobs j.0) ≡ true = all_sound fs numbers jobs each same none within there j.0 l in
-      let fine : IsUnrefused (compilation_of m j.0 (needed fs numbers jobs j.0)) = subst IsUnrefused its (none_refused fs numbers jobs each same none within there j.0 l) in
+      let its : one fs numbers jobs j.0 ≡ compilation_of m j.0 (needed fs numbers jobs j.0) =
+      ap (λ (k : ℕ). compile_in_place (slice_get (modules fs) k) j.0 (needed fs numbers jobs j.0)) place
+      ∙ ap (λ (o : Option Module). compile_in_place o j.0 (needed fs numbers jobs j.0)) is in
+      let sound : list_all is_sound (needed fs numbers jobs j.0) ≡ true =
+      all_sound fs numbers jobs each same none within there j.0 l in
+      let fine : IsUnrefused (compilation_of m j.0 (needed fs numbers jobs j.0)) =
+      subst IsUnrefused its (none_refused fs numbers jobs each same none within there j.0 l) in
       let b = body_of m j.0 (needed fs numbers jobs j.0) body sound fine in
       record {
         typed = b.typed;
@@ -148,21 +169,27 @@ module _ (fs : List (List ℕ × Module)) (numbers : List ℕ) (jobs : List (Lis
     pub small : AllByRecursion IsFit program
     pub are : modules_at result starts ≡ map emitted program
 
-  pub built_all : (starts : List ℕ) → All Within starts → All (λ m. is_definition m ≡ false) (at_places (modules fs) starts) → AreBuilt starts
+  pub built_all : (starts : List ℕ) → All Within starts
+      → All (λ m. is_definition m ≡ false) (at_places (modules fs) starts) → AreBuilt starts
   built_all [] lt bodies = record { program = []; typed = tt; names = refl; small = tt; are = refl }
   built_all (s ∷ ss) lt bodies =
       let t = some_at (modules fs) s (All-head Within s ss lt) in
       let m : Module = t.0 in
       let here : at_places (modules fs) (s ∷ ss) ≡ m ∷ at_places (modules fs) ss = rw (t.1) refl in
       let bodies' = subst (All (λ (x : Module). is_definition x ≡ false)) here bodies in
-      let b = start s m t.1 (All-head (λ (x : Module). is_definition x ≡ false) m (at_places (modules fs) ss) bodies') in
-      let rest = built_all ss (All-tail Within s ss lt) (All-tail (λ (x : Module). is_definition x ≡ false) m (at_places (modules fs) ss) bodies') in
+      let b = start s m t.1 (All-head (λ (x : Module). is_definition x ≡ false) m (at_places (modules fs) ss) bodies')
+      in
+      let rest = built_all ss (All-tail Within s ss lt)
+      (All-tail (λ (x : Module). is_definition x ≡ false) m (at_places (modules fs) ss) bodies') in
       record {
         program = b.typed ∷ rest.program;
         typed = (b.is, rest.typed);
         small = (record { small = b.small }, rest.small);
-        names = ap (λ (n : List ℕ). n ∷ linked.names rest.program) b.name ∙ ap (λ (ns : List (List ℕ)). m.name.name ∷ ns) rest.names ∙ sym (ap (λ (ms : List Module). names_of ms) here);
-        are = ap (λ (o : Option Compiled). module_in o ++ modules_at result ss) b.becomes ∙ ap (λ (ms : List ModuleBytes). emitted b.typed ∷ ms) rest.are;
+        names = ap (λ (n : List ℕ). n ∷ linked.names rest.program) b.name
+            ∙ ap (λ (ns : List (List ℕ)). m.name.name ∷ ns) rest.names
+            ∙ sym (ap (λ (ms : List Module). names_of ms) here);
+        are = ap (λ (o : Option Compiled). module_in o ++ modules_at result ss) b.becomes
+            ∙ ap (λ (ms : List ModuleBytes). emitted b.typed ∷ ms) rest.are;
       }
 
 apart_distinct : (xs : List (List ℕ)) → AreApart xs → AreDistinct xs
@@ -173,20 +200,27 @@ places_count : (trees : List Module) (starts : List ℕ) → length (at_places t
 places_count trees [] = omega arith
 places_count trees (s ∷ ss) = by (slice_get trees s) refl (places_count trees ss)
   where
-    by : (o : Option Module) → slice_get trees s ≡ o → length (at_places trees ss) ≤ length ss → length (at_places trees (s ∷ ss)) ≤ length (s ∷ ss)
+    by : (o : Option Module) → slice_get trees s ≡ o → length (at_places trees ss) ≤ length ss
+        → length (at_places trees (s ∷ ss)) ≤ length (s ∷ ss)
     by None e le = rw e (omega (arith, le))
     by (Some m) e le = rw e (omega (arith, le))
 
-module _ (fs : List (List ℕ × Module)) (numbers : List ℕ) (jobs : List (List ℕ)) (each : CompileEach (number_files 0 fs) numbers) (same : length numbers ≡ length jobs) (none : refused_by fs numbers jobs ≡ []) (starts : List ℕ) (started : AreStarted (modules fs) starts) where
+module _ (fs : List (List ℕ × Module)) (numbers : List ℕ) (jobs : List (List ℕ))
+    (each : CompileEach (number_files 0 fs) numbers) (same : length numbers ≡ length jobs)
+    (none : refused_by fs numbers jobs ≡ []) (starts : List ℕ) (started : AreStarted (modules fs) starts) where
   pub all_built : AreBuilt fs numbers jobs each same none starts
   all_built = built_all fs numbers jobs each same none starts started.within started.bodies
 
   pub distinct_all : AreDistinct (linked.names all_built.program)
-  distinct_all = subst AreDistinct (sym all_built.names) (apart_distinct (names_of (at_places (modules fs) starts)) started.distinct)
+  distinct_all = subst AreDistinct (sym all_built.names)
+      (apart_distinct (names_of (at_places (modules fs) starts)) started.distinct)
 
   pub count_all : length all_built.program ≤ 1024
   count_all =
-      let a : length (linked.names all_built.program) ≡ length all_built.program = length-map all_built.program (λ (t : TypedModule). t.name) in
-      let b : length (names_of (at_places (modules fs) starts)) ≡ length (at_places (modules fs) starts) = length-map (at_places (modules fs) starts) (λ (m : Module). m.name.name) in
-      let c : length (linked.names all_built.program) ≡ length (names_of (at_places (modules fs) starts)) = ap length all_built.names in
+      let a : length (linked.names all_built.program) ≡ length all_built.program =
+      length-map all_built.program (λ (t : TypedModule). t.name) in
+      let b : length (names_of (at_places (modules fs) starts)) ≡ length (at_places (modules fs) starts) =
+      length-map (at_places (modules fs) starts) (λ (m : Module). m.name.name) in
+      let c : length (linked.names all_built.program) ≡ length (names_of (at_places (modules fs) starts)) =
+      ap length all_built.names in
       omega (arith, a, b, c, places_count (modules fs) starts, started.few)

@@ -18,13 +18,26 @@ abbrev HasRead : List ℕ → Type 0
 HasRead text = (r : Read) × IsRead text r
 
 -- A tree is shared at some place in memory. Which one does not matter.
-tree_read : (text : List ℕ) (tokens : List Token) → AreTokens text tokens → (r : Result Module ParseRefusal) → IsParsed tokens r → HasRead text
-tree_read text tokens are (Ok tree) h = (Parsed (record { ptr = null_ptr; value = tree }), record { tokens = tokens; divides = are; is_tree = h })
-tree_read text tokens are (Err r) h = (Refused r.pos r.number, inr (record { tokens = tokens; divides = are; refusal = r; reported = h; place = refl; rule = refl }))
+tree_read : (text : List ℕ) (tokens : List Token) → AreTokens text tokens → (r : Result Module ParseRefusal)
+    → IsParsed tokens r → HasRead text
+tree_read text tokens are (Ok tree) h = (
+  Parsed (record { ptr = null_ptr; value = tree }),
+  record { tokens = tokens; divides = are; is_tree = h },
+)
+tree_read text tokens are (Err r) h = (
+  Refused r.pos r.number,
+  inr
+      (record { tokens = tokens; divides = are; refusal = r; reported = h; place = refl; rule = refl }),
+)
 
 text_read : (text : List ℕ) (r : Result (List Token) ScanRefusal) → IsScanned text r → HasRead text
-text_read text (Ok tokens) h = let p = tokens_are_parsed tokens in tree_read text tokens (record { short = h.0; divides = h.1 }) p.0 p.1.has
-text_read text (Err r) h = (Refused r.pos (number_of r.broken), inl (record { refusal = r; refuses = h; place = refl; rule = refl }))
+text_read text (Ok tokens) h = let p = tokens_are_parsed tokens in
+    tree_read text tokens (record { short = h.0; divides = h.1 }) p.0 p.1.has
+text_read text (Err r) h = (
+  Refused r.pos (number_of r.broken),
+  inl
+      (record { refusal = r; refuses = h; place = refl; rule = refl }),
+)
 
 file_read : (text : List ℕ) → HasRead text
 file_read text = let s = texts_are_scanned text in text_read text s.0 s.1.has

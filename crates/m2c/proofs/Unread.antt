@@ -25,12 +25,15 @@ refusals_of [] rs = []
 refusals_of (f ∷ fs) [] = []
 refusals_of (f ∷ fs) (r ∷ rs) = refusal_in f r ++ refusals_of fs rs
 
-reported_more : (f : SourceFile) (r : Read) (more : List Refusal) (all : List Reported) → map report_of more ≡ all → map report_of (refusal_in f r ++ more) ≡ refused_in (string_bytes f.name) r ++ all
+reported_more : (f : SourceFile) (r : Read) (more : List Refusal) (all : List Reported) → map report_of more ≡ all
+    → map report_of (refusal_in f r ++ more) ≡ refused_in (string_bytes f.name) r ++ all
 unfolding refusal_in
 reported_more f (Parsed tree) more all e = e
-reported_more f (Refused pos number) more all e = ap (λ (xs : List Reported). report_of (record { file = f.name; pos = pos; number = number }) ∷ xs) e
+reported_more f (Refused pos number) more all e =
+    ap (λ (xs : List Reported). report_of (record { file = f.name; pos = pos; number = number }) ∷ xs) e
 
-reported : (files : List SourceFile) (reads : List Read) → map report_of (refusals_of files reads) ≡ refused_of files reads
+reported : (files : List SourceFile) (reads : List Read)
+    → map report_of (refusals_of files reads) ≡ refused_of files reads
 unfolding refusals_of
 reported [] rs = refl
 reported (f ∷ fs) [] = refl
@@ -38,14 +41,16 @@ reported (f ∷ fs) (r ∷ rs) = reported_more f r (refusals_of fs rs) (refused_
 
 -- Refusals have an order in which they are reported.
 pub in_order : (found : List Refusal) → (refusals : List Refusal) × AreInOrder found refusals
-in_order found = let s = sort is_before (by_key (λ (r : Refusal). string_bytes r.file)) found in (s.all, record { same = s.same; sorted = s.sorted; stable = s.stable })
+in_order found = let s = sort is_before (by_key (λ (r : Refusal). string_bytes r.file)) found in
+    (s.all, record { same = s.same; sorted = s.sorted; stable = s.stable })
 
 pub trees_or_refusals : TreesOrRefusals
 trees_or_refusals files = by (refused_of files reads.0) refl where
   reads : (rs : List Read) × AreRead files rs
   reads = files_are_read files
 
-  by : (rs : List Reported) → refused_of files reads.0 ≡ rs → ((trees : List (List ℕ × Module)) × AreTrees files trees) ⊎ ((refusals : List Refusal) × AreUnread files refusals)
+  by : (rs : List Reported) → refused_of files reads.0 ≡ rs → ((trees : List (List ℕ × Module)) × AreTrees files trees)
+      ⊎ ((refusals : List Refusal) × AreUnread files refusals)
   by [] none = inl (trees_of files reads.0, record { reads = reads.0; are_read = reads.1; fine = none; all = refl })
   by (r ∷ rs) some =
       let found = refusals_of files reads.0 in

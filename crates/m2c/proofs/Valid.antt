@@ -21,12 +21,15 @@ held : {A T : Type 0} (P : A → Type 0) (r : Result A T) (x : A) → Holds P r 
 held P _ x (fine y p) e = let same : y ≡ x = cc in subst P same p
 held P _ x (broken y) e = absurd cc
 
-module _ (fs : List (List ℕ × Module)) (numbers : List ℕ) (jobs : List (List ℕ)) (starts : List ℕ) (graph : IsGraph (number_files 0 fs) numbers jobs starts) where
+module _ (fs : List (List ℕ × Module)) (numbers : List ℕ) (jobs : List (List ℕ)) (starts : List ℕ)
+    (graph : IsGraph (number_files 0 fs) numbers jobs starts) where
   one_valid : (s : ℕ) (t : TypedModule) → IsTyped (modules fs) numbers jobs s t → Valid t
   one_valid s t typed = held Valid _ t (programs_valid fs numbers jobs starts graph typed.tree typed.job) typed.typed
 
-  pub all_valid : (ss : List ℕ) (p : Modules) → AreTyped (modules fs) numbers jobs ss p → All IsValid (map typed_module p)
+  pub all_valid : (ss : List ℕ) (p : Modules) → AreTyped (modules fs) numbers jobs ss p
+      → All IsValid (map typed_module p)
   all_valid [] [] typed = All-nil IsValid
   all_valid [] (t ∷ ts) typed = absurd typed
   all_valid (s ∷ ss) [] typed = absurd typed
-  all_valid (s ∷ ss) (t ∷ ts) typed = All-cons IsValid (typed_module t) (map typed_module ts) (one_valid s t typed.0) (all_valid ss ts typed.1)
+  all_valid (s ∷ ss) (t ∷ ts) typed = All-cons IsValid (typed_module t) (map typed_module ts) (one_valid s t typed.0)
+      (all_valid ss ts typed.1)

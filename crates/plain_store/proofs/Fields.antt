@@ -12,24 +12,30 @@ appended : {A B : Type 0} (f : A → B) (bs : List B) (xs : List A) → fold (λ
 appended f bs [] = sym (append-nil bs)
 appended f bs (x ∷ xs) = appended f (bs ++ f x ∷ []) xs ∙ append_assoc bs (f x ∷ []) (map f xs)
 
-pub fields_are : (known : List Kept) (bs : List Blank) (fs : List (List ℕ × TypeNo)) → bs ≡ fold (λ bs f. bs ++ field_blank known f ∷ []) [] fs → bs ≡ map (field_blank known) fs
+pub fields_are : (known : List Kept) (bs : List Blank) (fs : List (List ℕ × TypeNo))
+    → bs ≡ fold (λ bs f. bs ++ field_blank known f ∷ []) [] fs → bs ≡ map (field_blank known) fs
 fields_are known bs fs h = h ∙ appended (field_blank known) [] fs
 
-pub frame_parts : (known : List Kept) (a b c : List Blank) (fs : List Formal) (ts : List TypeNo) → a ≡ header_blank ∷ [] → b ≡ a ++ map (formal_blank known) fs → c ≡ b ++ map (blank_in known) ts
+pub frame_parts : (known : List Kept) (a b c : List Blank) (fs : List Formal) (ts : List TypeNo) → a ≡ header_blank ∷ []
+    → b ≡ a ++ map (formal_blank known) fs → c ≡ b ++ map (blank_in known) ts
     → c ≡ header_blank ∷ (map (formal_blank known) fs ++ map (blank_in known) ts)
 frame_parts known a b c fs ts e f g =
-    g ∙ ap (λ (x : List Blank). x ++ map (blank_in known) ts) (f ∙ ap (λ (x : List Blank). x ++ map (formal_blank known) fs) e)
+    g ∙ ap (λ (x : List Blank). x ++ map (blank_in known) ts)
+    (f ∙ ap (λ (x : List Blank). x ++ map (formal_blank known) fs) e)
 
-step : {A X : Type 0} (f : A → X → A) (a : A) (xs : List X) (i : ℕ) → if_some f (fold f a (take i xs)) (slice_get xs i) ≡ fold f a (take (suc i) xs)
+step : {A X : Type 0} (f : A → X → A) (a : A) (xs : List X) (i : ℕ)
+    → if_some f (fold f a (take i xs)) (slice_get xs i) ≡ fold f a (take (suc i) xs)
 step f a [] zero = refl
 step f a [] (suc i) = refl
 step f a (x ∷ xs) zero = refl
 step f a (x ∷ xs) (suc i) = step f (f a x) xs i
 
-step_at : {A X : Type 0} (f : A → X → A) (a : A) (xs : List X) (i : ℕ) → if_some f (fold f a (take i xs)) (slice_get xs i) ≡ fold f a (take (i + 1) xs)
+step_at : {A X : Type 0} (f : A → X → A) (a : A) (xs : List X) (i : ℕ)
+    → if_some f (fold f a (take i xs)) (slice_get xs i) ≡ fold f a (take (i + 1) xs)
 step_at f a xs i = step f a xs i ∙ ap (λ (n : ℕ). fold f a (take n xs)) (sym (add-one i))
 
 -- one more entry in a walk over a list
 pub walked : {A X : Type 0} (f : A → X → A) (a : A) (xs : List X) (i : ℕ) (old new : A) (o : Option X)
     → old ≡ fold f a (take i xs) → o ≡ slice_get xs i → new ≡ if_some f old o → new ≡ fold f a (take (i + 1) xs)
-walked f a xs i old new o h k e = e ∙ ap (λ o. if_some f old o) k ∙ ap (λ x. if_some f x (slice_get xs i)) h ∙ step_at f a xs i
+walked f a xs i old new o h k e = e ∙ ap (λ o. if_some f old o) k ∙ ap (λ x. if_some f x (slice_get xs i)) h
+    ∙ step_at f a xs i

@@ -9,12 +9,14 @@ use Rattle.plain_store.specs.Contents.{Contents, or_rest, in_parts, in_array, la
 
 at : (h : Held) (x : Held-F Held) → out-Held h ≡ x → contents h ≡ layer_contents (map-Held Held Contents contents x)
 unfolding contents
-at h x e = fold_out-Held Contents layer_contents h ∙ ap (λ (y : Held-F Held). layer_contents (map-Held Held Contents contents y)) e
+at h x e = fold_out-Held Contents layer_contents h
+    ∙ ap (λ (y : Held-F Held). layer_contents (map-Held Held Contents contents y)) e
 
 pub same : (v : ℤ) → contents (Same v) ≡ (λ r. v)
 same v = at (Same v) (layer.Same v) (outs-Same v)
 
-pub parts : (own : ℤ) (ps : List Held) (rest : Held) → contents (Parts own ps rest) ≡ in_parts own (map contents ps) (contents rest)
+pub parts : (own : ℤ) (ps : List Held) (rest : Held)
+    → contents (Parts own ps rest) ≡ in_parts own (map contents ps) (contents rest)
 parts own ps rest = at (Parts own ps rest) (layer.Parts own ps rest) (outs-Parts own ps rest)
 
 pub array : (n : ℕ) (one : Held) → contents (Array n one) ≡ in_array n (contents one)
@@ -26,26 +28,32 @@ at_same v r = ap (λ (f : Contents). f r) (same v)
 pub own_part : (own : ℤ) (ps : List Held) (rest : Held) → contents (Parts own ps rest) [] ≡ own
 own_part own ps rest = ap (λ (f : Contents). f []) (parts own ps rest)
 
-get_none : (ps : List Held) (k : ℕ) (f : Contents) (r : Location) → slice_get ps k ≡ None → or_rest (slice_get (map contents ps) k) f r ≡ f r
+get_none : (ps : List Held) (k : ℕ) (f : Contents) (r : Location) → slice_get ps k ≡ None
+    → or_rest (slice_get (map contents ps) k) f r ≡ f r
 get_none [] k f r e = refl
 get_none (p ∷ ps) zero f r e = cc e
 get_none (p ∷ ps) (suc k) f r e = get_none ps k f r e
 
-get_some : (ps : List Held) (k : ℕ) (f : Contents) (r : Location) (p : Held) → slice_get ps k ≡ Some p → or_rest (slice_get (map contents ps) k) f r ≡ contents p r
+get_some : (ps : List Held) (k : ℕ) (f : Contents) (r : Location) (p : Held) → slice_get ps k ≡ Some p
+    → or_rest (slice_get (map contents ps) k) f r ≡ contents p r
 get_some [] k f r p e = cc e
 get_some (q ∷ ps) zero f r p e = let same : q ≡ p = cc e in ap (λ (h : Held). contents h r) same
 get_some (q ∷ ps) (suc k) f r p e = get_some ps k f r p e
 
-pub rest_part : (own : ℤ) (ps : List Held) (rest : Held) (k : ℕ) (r : Location) → slice_get ps k ≡ None → contents (Parts own ps rest) (k ∷ r) ≡ contents rest r
+pub rest_part : (own : ℤ) (ps : List Held) (rest : Held) (k : ℕ) (r : Location) → slice_get ps k ≡ None
+    → contents (Parts own ps rest) (k ∷ r) ≡ contents rest r
 rest_part own ps rest k r e = ap (λ (f : Contents). f (k ∷ r)) (parts own ps rest) ∙ get_none ps k (contents rest) r e
 
-pub one_part : (own : ℤ) (ps : List Held) (rest : Held) (k : ℕ) (r : Location) (p : Held) → slice_get ps k ≡ Some p → contents (Parts own ps rest) (k ∷ r) ≡ contents p r
-one_part own ps rest k r p e = ap (λ (f : Contents). f (k ∷ r)) (parts own ps rest) ∙ get_some ps k (contents rest) r p e
+pub one_part : (own : ℤ) (ps : List Held) (rest : Held) (k : ℕ) (r : Location) (p : Held) → slice_get ps k ≡ Some p
+    → contents (Parts own ps rest) (k ∷ r) ≡ contents p r
+one_part own ps rest k r p e = ap (λ (f : Contents). f (k ∷ r)) (parts own ps rest)
+    ∙ get_some ps k (contents rest) r p e
 
 pub own_array : (n : ℕ) (one : Held) → contents (Array n one) [] ≡ pos 0
 own_array n one = ap (λ (f : Contents). f []) (array n one)
 
-pub one_array : (n : ℕ) (one : Held) (k : ℕ) (r : Location) → contents (Array n one) (k ∷ r) ≡ (if nat_lt k n then contents one r else pos 0)
+pub one_array : (n : ℕ) (one : Held) (k : ℕ) (r : Location)
+    → contents (Array n one) (k ∷ r) ≡ (if nat_lt k n then contents one r else pos 0)
 one_array n one k r = ap (λ (f : Contents). f (k ∷ r)) (array n one)
 
 -- a component of each variant

@@ -28,20 +28,36 @@ module _ (name : Bor (List ℕ)) (bytes slice : List ℕ) (same : slice ≡ byte
   unencoded SegmentOutside e = (refl, Unencoded bytes SegmentOutside (ap module_at (sym same) ∙ e))
   unencoded NoMemory e = (refl, Memory bytes)
 
-  pub not_valid : (tree : WModule) (fault : WFault) → Encodes slice tree → ((fault ≡ Invalid) × (IsValid tree → ⊥)) ⊎ (fault ≡ NoMemory) → IsMissing reads name.now (Refused name fault)
-  not_valid tree fault s (inl e) = (refl, subst (λ (f : WFault). IsRefused (file_of name.now) reads f) (sym e.0) (NotValid bytes tree (subst (λ (b : List ℕ). Encodes b tree) same s) e.1))
-  not_valid tree fault s (inr e) = (refl, subst (λ (f : WFault). IsRefused (file_of name.now) reads f) (sym e) (Memory bytes))
+  pub not_valid : (tree : WModule) (fault : WFault) → Encodes slice tree → ((fault ≡ Invalid) × (IsValid tree → ⊥))
+      ⊎ (fault ≡ NoMemory) → IsMissing reads name.now (Refused name fault)
+  not_valid tree fault s (inl e) = (
+    refl,
+    subst (λ (f : WFault). IsRefused (file_of name.now) reads f) (sym e.0)
+        (NotValid bytes tree (subst (λ (b : List ℕ). Encodes b tree) same s) e.1),
+  )
+  not_valid tree fault s (inr e) = (
+    refl,
+    subst (λ (f : WFault). IsRefused (file_of name.now) reads f) (sym e)
+        (Memory bytes),
+  )
 
 -- memory was refused behind a module that is there
-pub refused_behind : (read : FileRead) (name : Bor (List ℕ)) (tree : WModule) → IsModule read name.now tree → IsMissing (read ∷ []) name.now (Refused name NoMemory)
-refused_behind read name tree h = (refl, subst (λ (r : FileRead). IsRefused (file_of name.now) (r ∷ []) NoMemory) (sym h.is_read) (Memory h.bytes))
+pub refused_behind : (read : FileRead) (name : Bor (List ℕ)) (tree : WModule) → IsModule read name.now tree
+    → IsMissing (read ∷ []) name.now (Refused name NoMemory)
+refused_behind read name tree h = (
+  refl,
+  subst (λ (r : FileRead). IsRefused (file_of name.now) (r ∷ []) NoMemory)
+      (sym h.is_read) (Memory h.bytes),
+)
 
 -- ---- the modules so far
 
-and_one : (reads : List FileRead) (names : List (List ℕ)) (trees : List WModule) (read : FileRead) (name : List ℕ) (tree : WModule) → AreModules reads names trees → IsModule read name tree
+and_one : (reads : List FileRead) (names : List (List ℕ)) (trees : List WModule) (read : FileRead) (name : List ℕ)
+    (tree : WModule) → AreModules reads names trees → IsModule read name tree
     → AreModules (reads ++ read ∷ []) (names ++ name ∷ []) (trees ++ tree ∷ [])
 and_one _ _ _ read name tree Empty h = More read name tree [] [] [] h Empty
-and_one _ _ _ read name tree (More r n t rs ns ts first others) h = More r n t (rs ++ read ∷ []) (ns ++ name ∷ []) (ts ++ tree ∷ []) first (and_one rs ns ts read name tree others h)
+and_one _ _ _ read name tree (More r n t rs ns ts first others) h =
+    More r n t (rs ++ read ∷ []) (ns ++ name ∷ []) (ts ++ tree ∷ []) first (and_one rs ns ts read name tree others h)
 
 module _ {D : Type 0} (noted : D → Option (List FileRead)) (gives : D → Files) where
   -- behind the first ones the modules of these names
@@ -53,8 +69,10 @@ module _ {D : Type 0} (noted : D → Option (List FileRead)) (gives : D → File
   pub none_so_far : (dir : D) (first : List WModule) → NamedSoFar dir dir first [] first
   none_so_far dir first = ([], none_read noted gives dir, [], sym (append-nil first), Empty)
 
-  pub one_behind : (dir now after : D) (first : List WModule) (names more : List (List ℕ)) (name : List ℕ) (modules new : List WModule) → NamedSoFar dir now first names modules → more ≡ names ++ name ∷ []
-      → (read : FileRead) × HasRead noted gives (read ∷ []) now after × (tree : WModule) × (new ≡ modules ++ tree ∷ []) × IsModule read name tree → NamedSoFar dir after first more new
+  pub one_behind : (dir now after : D) (first : List WModule) (names more : List (List ℕ)) (name : List ℕ)
+      (modules new : List WModule) → NamedSoFar dir now first names modules → more ≡ names ++ name ∷ []
+      → (read : FileRead) × HasRead noted gives (read ∷ []) now after × (tree : WModule) × (new ≡ modules ++ tree ∷ [])
+      × IsModule read name tree → NamedSoFar dir after first more new
   one_behind dir now after first names more name modules new so_far is found = (
     so_far.0 ++ found.0 ∷ [],
     more_read noted gives so_far.0 (found.0 ∷ []) dir now after so_far.1 found.1,
@@ -65,10 +83,13 @@ module _ {D : Type 0} (noted : D → Option (List FileRead)) (gives : D → File
   )
 
   -- what comes of the modules behind link
-  pub comes_behind : {S : Type 0} (reported : S → Option (List ℕ)) (failed : S → ℕ) (dir now after : D) (link_tree : WModule)
+  pub comes_behind : {S : Type 0} (reported : S → Option (List ℕ)) (failed : S → ℕ) (dir now after : D)
+      (link_tree : WModule)
       → (read : FileRead) × HasRead noted gives (read ∷ []) dir now × IsModule read link_name link_tree
-      → (steps : ℕ) (r : Report) (before out : S) (first : List WModule) (names : List (List ℕ)) → first ≡ link_tree ∷ [] → names ≡ module_names link_tree.exports
-      → (reads : List FileRead) × HasRead noted gives reads now after × ComesOf reported failed reads first names steps r before out
+      → (steps : ℕ) (r : Report) (before out : S) (first : List WModule) (names : List (List ℕ))
+      → first ≡ link_tree ∷ [] → names ≡ module_names link_tree.exports
+      → (reads : List FileRead) × HasRead noted gives reads now after
+      × ComesOf reported failed reads first names steps r before out
       → (reads : List FileRead) × HasRead noted gives reads dir after × Comes reported failed reads steps r before out
   comes_behind reported failed dir now after link_tree held steps r before out first names alone are h = (
     held.0 ∷ h.0,
@@ -86,7 +107,8 @@ module _ {D : Type 0} (noted : D → Option (List FileRead)) (gives : D → File
 
 -- ---- a list that is looked at through f
 
-module _ {X Y : Type 0} (f : X → Y) (xs : List X) (k : ℕ) (x : X) (y : Y) (h : k < length xs) (is : x ≡ get_or xs k x) (of : y ≡ f x) where
+module _ {X Y : Type 0} (f : X → Y) (xs : List X) (k : ℕ) (x : X) (y : Y) (h : k < length xs) (is : x ≡ get_or xs k x)
+    (of : y ≡ f x) where
   pub map_one_more : map f (take (k + 1) xs) ≡ map f (take k xs) ++ y ∷ []
   map_one_more = map_more f xs k x h ∙ ap (λ (z : _). map f (take k xs) ++ z ∷ []) (sym (of ∙ ap f is))
 
@@ -99,8 +121,10 @@ module _ {X Y : Type 0} (f : X → Y) (xs : List X) (k : ℕ) (x : X) (y : Y) (h
 
 -- all before one that is missing are there
 module _ {D : Type 0} (noted : D → Option (List FileRead)) (gives : D → Files) where
-  pub stops_at : {X : Type 0} (f : X → List ℕ) (xs : List X) (k : ℕ) (x : X) (name : List ℕ) → k < length xs → x ≡ get_or xs k x → name ≡ f x
-      → (dir now after : D) (first modules : List WModule) → NamedSoFar noted gives dir now first (map f (take k xs)) modules
+  pub stops_at : {X : Type 0} (f : X → List ℕ) (xs : List X) (k : ℕ) (x : X) (name : List ℕ) → k < length xs
+      → x ≡ get_or xs k x → name ≡ f x
+      → (dir now after : D) (first modules : List WModule)
+      → NamedSoFar noted gives dir now first (map f (take k xs)) modules
       → (r : Report) → (reads : List FileRead) × HasRead noted gives reads now after × IsMissing reads name r
       → (reads : List FileRead) × HasRead noted gives reads dir after × FirstMissing reads (map f xs) r
   stops_at f xs k x name h is of dir now after first modules so_far r missing = (

@@ -48,20 +48,28 @@ if_some {A = A} false a n e = absurd (none_some e)
     none_some e = search rules
 
 word_ascii : (name : List ℕ) → list_all is_ascii_alphanumeric name ≡ true → IsAscii name
-word_ascii name e = IsAscii-from_all name (All-weaker (λ b. is_ascii_alphanumeric b ≡ true) (λ b. b < 128) byte_small name (AllPass-from_list_all is_ascii_alphanumeric name e))
+word_ascii name e = IsAscii-from_all name
+    (All-weaker (λ b. is_ascii_alphanumeric b ≡ true) (λ b. b < 128) byte_small name
+    (AllPass-from_list_all is_ascii_alphanumeric name e))
 
 pub name_utf8 : (export name : List ℕ) → module_named export ≡ Some name → IsUtf8 name
 name_utf8 export name e =
-    let both = if_some (bytes_eq (take 4 export) (codes "tab.") && is_module_name (drop 4 export)) (drop 4 export) name e in
-    let is_name : is_module_name (drop 4 export) ≡ true = second (bytes_eq (take 4 export) (codes "tab.")) (is_module_name (drop 4 export)) both.0 in
-    let word = second_of_four (begins_with_letter (drop 4 export)) (list_all is_ascii_alphanumeric (drop 4 export)) (nat_le (length (drop 4 export)) 64) (not (bytes_eq (drop 4 export) link_name)) is_name in
+    let both = if_some (bytes_eq (take 4 export) (codes "tab.") && is_module_name (drop 4 export)) (drop 4 export) name
+    e in
+    let is_name : is_module_name (drop 4 export) ≡ true =
+    second (bytes_eq (take 4 export) (codes "tab.")) (is_module_name (drop 4 export)) both.0 in
+    let word = second_of_four (begins_with_letter (drop 4 export)) (list_all is_ascii_alphanumeric (drop 4 export))
+    (nat_le (length (drop 4 export)) 64) (not (bytes_eq (drop 4 export) link_name)) is_name in
     subst (λ (n : List ℕ). IsUtf8 n) both.1 (IsUtf8-from_ascii (drop 4 export) (word_ascii (drop 4 export) word))
 
 -- one name more
-pub name_added : {T : Type 0} (bytes : T → List ℕ) (old new : List T) (t : T) (export slice : List ℕ) (found : Option (Bor (List ℕ))) (name : Bor (List ℕ))
-    → new ≡ old ++ t ∷ [] → slice ≡ export → bytes_of found ≡ module_named slice → found ≡ Some name → (IsUtf8 name.now → bytes t ≡ name.now)
+pub name_added : {T : Type 0} (bytes : T → List ℕ) (old new : List T) (t : T) (export slice : List ℕ)
+    (found : Option (Bor (List ℕ))) (name : Bor (List ℕ))
+    → new ≡ old ++ t ∷ [] → slice ≡ export → bytes_of found ≡ module_named slice → found ≡ Some name
+    → (IsUtf8 name.now → bytes t ≡ name.now)
     → map bytes new ≡ map bytes old ++ option_to_list (module_named export)
 name_added bytes old new t export slice found name items same value is text =
     let named : module_named export ≡ Some name.now = ap module_named (sym same) ∙ sym value ∙ ap bytes_of is in
-    ap (map bytes) items ∙ map-append bytes old (t ∷ []) ∙ ap (λ (b : List ℕ). map bytes old ++ b ∷ []) (text (name_utf8 export name.now named))
+    ap (map bytes) items ∙ map-append bytes old (t ∷ [])
+    ∙ ap (λ (b : List ℕ). map bytes old ++ b ∷ []) (text (name_utf8 export name.now named))
     ∙ ap (λ (o : Option (List ℕ)). map bytes old ++ option_to_list o) (sym named)

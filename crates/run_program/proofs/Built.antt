@@ -30,12 +30,18 @@ abbrev fault_in : BuildFault → Result Outcome BuildFault → BuildFault
 fault_in other (Ok x) = other
 fault_in other (Err f) = f
 
-module _ (o : Options) (r : Result Outcome BuildFault) (workers : (r ≡ Err Workers) ↔ ((o.workers < 1) ⊎ (max_workers < o.workers))) (pages : AreWorkers o.workers → (r ≡ Err Pages) ↔ ((o.pages < 1) ⊎ (max_pages < o.pages))) where
+module _ (o : Options) (r : Result Outcome BuildFault)
+    (workers : (r ≡ Err Workers) ↔ ((o.workers < 1) ⊎ (max_workers < o.workers)))
+    (pages : AreWorkers o.workers → (r ≡ Err Pages) ↔ ((o.pages < 1) ⊎ (max_pages < o.pages))) where
   few : (r ≡ Err Workers → ⊥) → AreWorkers o.workers
   few not_so = within o.workers 1 max_workers (λ wrong. not_so (workers.1 wrong))
 
   fine : (r ≡ Err Workers → ⊥) → (r ≡ Err Pages → ⊥) → AreFine o
-  fine no_workers no_pages = (few no_workers, within o.pages 1 max_pages (λ wrong. no_pages ((pages (few no_workers)).1 wrong)))
+  fine no_workers no_pages = (
+    few no_workers,
+    within o.pages 1 max_pages
+        (λ wrong. no_pages ((pages (few no_workers)).1 wrong)),
+  )
 
   is_other : (fault other : BuildFault) → r ≡ Err fault → (fault ≡ other → ⊥) → r ≡ Err other → ⊥
   is_other fault other is not_so e = not_so (ap (fault_in fault) (sym is ∙ e))
@@ -50,5 +56,6 @@ module _ (o : Options) (r : Result Outcome BuildFault) (workers : (r ≡ Err Wor
   named_as NoMemory is = fine (is_other NoMemory Workers is (λ e. cc)) (is_other NoMemory Pages is (λ e. cc))
 
   -- a fault comes with these options
-  pub comes_with : (fault : BuildFault) (reported : ProgramFault) → r ≡ Err fault → reported ≡ fault_of fault → IsUnbuilt reported o
+  pub comes_with : (fault : BuildFault) (reported : ProgramFault) → r ≡ Err fault → reported ≡ fault_of fault
+      → IsUnbuilt reported o
   comes_with fault reported is same = subst (λ (f : ProgramFault). IsUnbuilt f o) (sym same) (named_as fault is)

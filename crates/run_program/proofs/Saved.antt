@@ -44,14 +44,16 @@ file m = (file_of m.name, bytes_of m)
 
 -- ---- the files of modules
 
-files_built : (ms : List (String Global × Vec ℕ)) (p : Modules) → map name_bytes ms ≡ map built_of p → map module_file ms ≡ map file p
+files_built : (ms : List (String Global × Vec ℕ)) (p : Modules) → map name_bytes ms ≡ map built_of p
+    → map module_file ms ≡ map file p
 files_built [] [] e = refl
 files_built [] (m ∷ p) e = absurd cc
 files_built (x ∷ ms) [] e = absurd cc
 files_built (x ∷ ms) (m ∷ p) e =
     let first : (string_bytes x.0, x.1.items) ≡ (m.name, bytes_of m) = cc in
     let rest : map name_bytes ms ≡ map built_of p = cc in
-    ap (λ (n : List ℕ × List ℕ). (file_of n.0, n.1) ∷ map module_file ms) first ∙ ap (λ (fs : List File). file m ∷ fs) (files_built ms p rest)
+    ap (λ (n : List ℕ × List ℕ). (file_of n.0, n.1) ∷ map module_file ms) first
+    ∙ ap (λ (fs : List File). file m ∷ fs) (files_built ms p rest)
 
 -- ---- names
 
@@ -71,24 +73,30 @@ module _ (all : List Call) (link : List ℕ) where
   abbrev AreLast : Modules → Type 0
   AreLast p = AllByRecursion (λ m. IsLast all (file_of m.name) (bytes_of m)) p
 
-  each_last : (front : List Call) (p : Modules) → all ≡ front ++ (map write_call (map file p) ++ Write link_file link true ∷ []) → AllByRecursion (λ n. is_module_name n ≡ true) (names p) → AreDistinct (names p)
+  each_last : (front : List Call) (p : Modules)
+      → all ≡ front ++ (map write_call (map file p) ++ Write link_file link true ∷ [])
+      → AllByRecursion (λ n. is_module_name n ≡ true) (names p) → AreDistinct (names p)
       → AreLast p
   each_last front [] e words distinct = tt
   each_last front (m ∷ p) e words distinct =
       let back : List Call = map write_call (map file p) ++ Write link_file link true ∷ [] in (
         record { front = front; back = back; are = e; others = others_behind m.name link p words.0 distinct.0 },
-        each_last (front ++ Write (file_of m.name) (bytes_of m) true ∷ []) p (e ∙ sym (append_assoc front (Write (file_of m.name) (bytes_of m) true ∷ []) back)) words.1 distinct.1,
+        each_last (front ++ Write (file_of m.name) (bytes_of m) true ∷ []) p
+            (e ∙ sym (append_assoc front (Write (file_of m.name) (bytes_of m) true ∷ []) back)) words.1 distinct.1,
       )
 
 -- ---- what the exports of link name
 
-names_from : (g : ℕ) (p : Modules) → AllByRecursion (λ n. is_module_name n ≡ true) (names p) → (more : List Export) → module_names more ≡ [] → module_names (exports_from g (map part_of p) ++ more) ≡ names p
+names_from : (g : ℕ) (p : Modules) → AllByRecursion (λ n. is_module_name n ≡ true) (names p) → (more : List Export)
+    → module_names more ≡ [] → module_names (exports_from g (map part_of p) ++ more) ≡ names p
 names_from g [] words more none = none
 names_from g (m ∷ p) words more none =
-    ap (λ (b : Bool). option_to_list (if b then Some m.name else None) ++ module_names (exports_from (g + 3) (map part_of p) ++ more)) words.0
+    ap (λ (b : Bool). option_to_list (if b then Some m.name else None)
+    ++ module_names (exports_from (g + 3) (map part_of p) ++ more)) words.0
     ∙ ap (λ (ns : List (List ℕ)). m.name ∷ ns) (names_from (g + 3) p words.1 more none)
 
-link_names : (p : Modules) (pages : ℕ) → AllByRecursion (λ n. is_module_name n ≡ true) (names p) → module_names (typed_link p pages).exports ≡ names p
+link_names : (p : Modules) (pages : ℕ) → AllByRecursion (λ n. is_module_name n ≡ true) (names p)
+    → module_names (typed_link p pages).exports ≡ names p
 link_names p pages words = names_from 1 p words _ refl
 
 -- ---- what is read
@@ -115,35 +123,44 @@ module _ (p : Modules) (pages : ℕ) (link : List ℕ) (gives : Files) where
   bytes_in (Read name bytes) = bytes
 
   -- a module that is read is the one that was saved
-  one_is : (name bytes : List ℕ) (saved tree : WModule) (read : FileRead) → Gives (file_of name) bytes → Encodes bytes saved → IsModule read name tree → MayBe gives read → tree ≡ saved
+  one_is : (name bytes : List ℕ) (saved tree : WModule) (read : FileRead) → Gives (file_of name) bytes
+      → Encodes bytes saved → IsModule read name tree → MayBe gives read → tree ≡ saved
   one_is name bytes saved tree read given encodes is may =
       let from : gives (file_of name) (Some is.bytes) = subst (MayBe gives) is.is_read may in
       one_module bytes tree saved (subst (λ (b : List ℕ). Encodes b tree) (given is.bytes from) is.encoded) encodes
 
-  all_are : (reads : List FileRead) (q : Modules) (trees : List WModule) → AllByRecursion IsThere q → AllByRecursion (MayBe gives) reads → AreModules reads (names q) trees → trees ≡ map typed_module q
+  all_are : (reads : List FileRead) (q : Modules) (trees : List WModule) → AllByRecursion IsThere q
+      → AllByRecursion (MayBe gives) reads → AreModules reads (names q) trees → trees ≡ map typed_module q
   all_are reads [] trees there may Empty = refl
   all_are reads (m ∷ q) trees there may (More read name tree rest others more is are) =
-      ap (λ (t : WModule). t ∷ more) (one_is m.name (bytes_of m) (typed_module m) tree read there.0.given there.0.encodes is may.0)
+      ap (λ (t : WModule). t ∷ more) (one_is m.name (bytes_of m) (typed_module m) tree read there.0.given
+      there.0.encodes is may.0)
       ∙ ap (λ (ts : List WModule). typed_module m ∷ ts) (all_are rest q more there.1 may.1 are)
 
   -- ---- what is missing
 
   -- only for want of memory, or if it cannot be read
-  refused : (name bytes : List ℕ) (tree : WModule) (reads : List FileRead) (f : WFault) → Gives (file_of name) bytes → Encodes bytes tree → IsValid tree → AllByRecursion (MayBe gives) reads → IsRefused (file_of name) reads f → f ≡ fault.NoMemory
+  refused : (name bytes : List ℕ) (tree : WModule) (reads : List FileRead) (f : WFault) → Gives (file_of name) bytes
+      → Encodes bytes tree → IsValid tree → AllByRecursion (MayBe gives) reads → IsRefused (file_of name) reads f
+      → f ≡ fault.NoMemory
   refused name bytes tree reads f given encodes valid may Unasked = refl
   refused name bytes tree reads f given encodes valid may (Memory read) = refl
-  refused name bytes tree reads f given encodes valid may (Unencoded read e is) = absurd (none_encoded read e is tree (subst (λ (b : List ℕ). Encodes b tree) (sym (given read may.0)) encodes))
+  refused name bytes tree reads f given encodes valid may (Unencoded read e is) =
+      absurd (none_encoded read e is tree (subst (λ (b : List ℕ). Encodes b tree) (sym (given read may.0)) encodes))
   refused name bytes tree reads f given encodes valid may (NotValid read other is not_so) =
-      absurd (not_so (subst IsValid (sym (one_module bytes other tree (subst (λ (b : List ℕ). Encodes b other) (given read may.0) is) encodes)) valid))
+      absurd (not_so (subst IsValid (sym (one_module bytes other tree
+      (subst (λ (b : List ℕ). Encodes b other) (given read may.0) is) encodes)) valid))
 
   module _ {S : Type 0} (reported : S → Option (List ℕ)) (failed : S → ℕ) (steps : ℕ) where
     abbrev Result_of : Report → (before after : S) → Type 0
     Result_of r before after = IsOfProgram reported failed p pages steps r before after
 
-    missing : (name bytes : List ℕ) (tree : WModule) (reads : List FileRead) (r : Report) (before after : S) → Gives (file_of name) bytes → Encodes bytes tree → IsValid tree → AllByRecursion (MayBe gives) reads
+    missing : (name bytes : List ℕ) (tree : WModule) (reads : List FileRead) (r : Report) (before after : S)
+        → Gives (file_of name) bytes → Encodes bytes tree → IsValid tree → AllByRecursion (MayBe gives) reads
         → IsMissing reads name r → Printed reported failed [] before after → Result_of r before after
     missing name bytes tree reads (report.Unread other) before after given encodes valid may is printed = printed
-    missing name bytes tree reads (report.Refused other f) before after given encodes valid may is printed = (refused name bytes tree reads f given encodes valid may is.1, printed)
+    missing name bytes tree reads (report.Refused other f) before after given encodes valid may is printed =
+        (refused name bytes tree reads f given encodes valid may is.1, printed)
     missing name bytes tree reads (report.Ran end) before after given encodes valid may is printed = absurd is
     missing name bytes tree reads (report.Broken f) before after given encodes valid may is printed = absurd is
 
@@ -157,17 +174,22 @@ module _ (p : Modules) (pages : ℕ) (link : List ℕ) (gives : Files) where
       same : of.name ≡ name
       there : IsThere of
 
-    named_at : (q : Modules) (before : List (List ℕ)) (name : List ℕ) (after : List (List ℕ)) → AllByRecursion IsThere q → names q ≡ before ++ name ∷ after → Named name
+    named_at : (q : Modules) (before : List (List ℕ)) (name : List ℕ) (after : List (List ℕ)) → AllByRecursion IsThere q
+        → names q ≡ before ++ name ∷ after → Named name
     named_at [] [] name after there e = absurd cc
     named_at [] (b ∷ bs) name after there e = absurd cc
     named_at (m ∷ q) [] name after there e = record { of = m; same = cc; there = there.0 }
-    named_at (m ∷ q) (b ∷ bs) name after there e = let rest : names q ≡ bs ++ name ∷ after = cc in named_at q bs name after there.1 rest
+    named_at (m ∷ q) (b ∷ bs) name after there e = let rest : names q ≡ bs ++ name ∷ after = cc in
+        named_at q bs name after there.1 rest
 
-    first_missing : (reads : List FileRead) (r : Report) (before after : S) → AllByRecursion IsThere p → AllByRecursion (MayBe gives) reads → FirstMissing reads (names p) r → Printed reported failed [] before after → Result_of r before after
+    first_missing : (reads : List FileRead) (r : Report) (before after : S) → AllByRecursion IsThere p
+        → AllByRecursion (MayBe gives) reads → FirstMissing reads (names p) r → Printed reported failed [] before after
+        → Result_of r before after
     first_missing reads r before after there may m printed =
         let x = named_at p m.before m.name m.after there m.are in
         let last = may_behind m.reads_before m.last (subst (AllByRecursion (MayBe gives)) m.all_reads may) in
-        missing x.of.name (bytes_of x.of) (typed_module x.of) m.last r before after x.there.given x.there.encodes x.there.valid last (subst (λ (n : List ℕ). IsMissing m.last n r) (sym x.same) m.missing) printed
+        missing x.of.name (bytes_of x.of) (typed_module x.of) m.last r before after x.there.given x.there.encodes
+        x.there.valid last (subst (λ (n : List ℕ). IsMissing m.last n r) (sym x.same) m.missing) printed
 
     -- ---- what comes of it
 
@@ -180,12 +202,14 @@ module _ (p : Modules) (pages : ℕ) (link : List ℕ) (gives : Files) where
       memory_alone fault.SegmentOutside e = let no : Ok c ≡ Err fault.SegmentOutside = sym links ∙ e in absurd cc
       memory_alone fault.NoMemory e = refl
 
-module _ (files : List SourceFile) (pages : ℕ) (link : Vec ℕ) (modules : Vec (String Global × Vec ℕ)) (built : IsProgram files pages link.items (map name_bytes modules.items)) where
+module _ (files : List SourceFile) (pages : ℕ) (link : Vec ℕ) (modules : Vec (String Global × Vec ℕ))
+    (built : IsProgram files pages link.items (map name_bytes modules.items)) where
   abbrev pub its : Modules
   its = built.program
 
   found : AreFound its
-  found = program_found files built.trees built.numbers built.all_jobs built.starts built.graph built.none its built.typed
+  found = program_found files built.trees built.numbers built.all_jobs built.starts built.graph built.none its
+      built.typed
 
   pub files_are : map module_file modules.items ≡ map file its
   files_are = files_built modules.items its built.code.body_bytes
@@ -194,19 +218,30 @@ module _ (files : List SourceFile) (pages : ℕ) (link : Vec ℕ) (modules : Vec
     abbrev Comes_to : Report → (before after : S) → Type 0
     Comes_to r before after = IsOfProgram reported failed its pages steps r before after
 
-    ran : (r : Report) (before after : S) → IsOf reported failed (modules_of its pages) steps r before after → Comes_to r before after
-    ran (report.Ran end) before after is =
-        (is, right its pages built.behaves.0 built.behaves.1 built.behaves.2 end steps is.bytes is.config is.is_end is.has_run)
+    ran : (r : Report) (before after : S) → IsOf reported failed (modules_of its pages) steps r before after
+        → Comes_to r before after
+    ran (report.Ran end) before after is = (
+      is,
+      right its pages built.behaves.0 built.behaves.1 built.behaves.2 end steps is.bytes is.config is.is_end
+          is.has_run,
+    )
     ran (report.Broken f) before after is =
         (is, begins its pages built.behaves.0 built.behaves.1 built.behaves.2 is.made is.bytes is.config is.has_run)
     ran (report.Refused name f) before after is =
         (memory_alone its pages link.items gives reported failed steps built.links.0 built.links.1 f is.1, is.2)
     ran (report.Unread name) before after is = absurd is
 
-    all_there : (q : Modules) → AllByRecursion (λ m. Gives its pages link.items gives (file_of m.name) (bytes_of m)) q → AreEncoded (map bytes_of q) (map typed_module q) → All IsValid (map typed_module q) → AllByRecursion (IsThere its pages link.items gives) q
+    all_there : (q : Modules) → AllByRecursion (λ m. Gives its pages link.items gives (file_of m.name) (bytes_of m)) q
+        → AreEncoded (map bytes_of q) (map typed_module q) → All IsValid (map typed_module q)
+        → AllByRecursion (IsThere its pages link.items gives) q
     all_there [] given encoded valid = tt
     all_there (m ∷ q) given encoded valid = (
-      record { given = given.0; encodes = encoded.0; valid = All-head IsValid (typed_module m) (map typed_module q) valid },
+      record {
+        given = given.0;
+        encodes = encoded.0;
+        valid =
+            All-head IsValid (typed_module m) (map typed_module q) valid;
+      },
       all_there q given.1 encoded.1 (All-tail IsValid (typed_module m) (map typed_module q) valid),
     )
 
@@ -214,47 +249,63 @@ module _ (files : List SourceFile) (pages : ℕ) (link : Vec ℕ) (modules : Vec
     seconds [] = refl
     seconds (m ∷ q) = ap (λ (bs : List (List ℕ)). bytes_of m ∷ bs) (seconds q)
 
-    module _ (of_link : Gives its pages link.items gives (file_of link_name) link.items) (of_modules : AllByRecursion (λ m. Gives its pages link.items gives (file_of m.name) (bytes_of m)) its) where
+    module _ (of_link : Gives its pages link.items gives (file_of link_name) link.items)
+        (of_modules : AllByRecursion (λ m. Gives its pages link.items gives (file_of m.name) (bytes_of m)) its) where
       encoded : AreEncoded (map bytes_of its) (map typed_module its)
       encoded =
-          subst (λ (bs : List (List ℕ)). AreEncoded bs (map typed_module its)) (ap (λ (ms : List (List ℕ × List ℕ)). map (λ m. m.1) ms) built.code.body_bytes ∙ seconds its)
+          subst (λ (bs : List (List ℕ)). AreEncoded bs (map typed_module its))
+          (ap (λ (ms : List (List ℕ × List ℕ)). map (λ m. m.1) ms) built.code.body_bytes ∙ seconds its)
           built.code.encoded
 
       there : AllByRecursion (IsThere its pages link.items gives) its
-      there = all_there its of_modules encoded (All-tail IsValid (typed_link its pages) (map typed_module its) built.valid)
+      there = all_there its of_modules encoded
+          (All-tail IsValid (typed_link its pages) (map typed_module its) built.valid)
 
       link_valid : IsValid (typed_link its pages)
       link_valid = All-head IsValid (typed_link its pages) (map typed_module its) built.valid
 
-      of_names : (reads : List FileRead) (r : Report) (before after : S) → AllByRecursion (MayBe gives) reads → ComesOf reported failed reads (typed_link its pages ∷ []) (names its) steps r before after → Comes_to r before after
+      of_names : (reads : List FileRead) (r : Report) (before after : S) → AllByRecursion (MayBe gives) reads
+          → ComesOf reported failed reads (typed_link its pages ∷ []) (names its) steps r before after
+          → Comes_to r before after
       of_names reads r before after may (inl x) =
           let same : x.0 ≡ map typed_module its = all_are its pages link.items gives reads its x.0 there may x.1 in
-          ran r before after (subst (λ (ts : List WModule). IsOf reported failed (typed_link its pages ∷ ts) steps r before after) same x.2)
-      of_names reads r before after may (inr x) = first_missing its pages link.items gives reported failed steps reads r before after there may x.0 x.1
+          ran r before after (subst (λ (ts : List WModule). IsOf reported failed (typed_link its pages ∷ ts) steps r
+          before after) same x.2)
+      of_names reads r before after may (inr x) =
+          first_missing its pages link.items gives reported failed steps reads r before after there may x.0 x.1
 
-      behind_link : (reads : List FileRead) (r : Report) (before after : S) (tree : WModule) → tree ≡ typed_link its pages → AllByRecursion (MayBe gives) reads
-          → ComesOf reported failed reads (tree ∷ []) (module_names tree.exports) steps r before after → Comes_to r before after
+      behind_link : (reads : List FileRead) (r : Report) (before after : S) (tree : WModule)
+          → tree ≡ typed_link its pages → AllByRecursion (MayBe gives) reads
+          → ComesOf reported failed reads (tree ∷ []) (module_names tree.exports) steps r before after
+          → Comes_to r before after
       behind_link reads r before after tree same may x =
           of_names reads r before after may
-          (subst (λ (ns : List (List ℕ)). ComesOf reported failed reads (typed_link its pages ∷ []) ns steps r before after) (link_names its pages found.words)
-          (subst (λ (t : WModule). ComesOf reported failed reads (t ∷ []) (module_names t.exports) steps r before after) same x))
+          (subst (λ (ns : List (List ℕ)). ComesOf reported failed reads (typed_link its pages ∷ []) ns steps r before
+          after) (link_names its pages found.words)
+          (subst (λ (t : WModule). ComesOf reported failed reads (t ∷ []) (module_names t.exports) steps r before after)
+          same x))
 
-      pub comes_to : (reads : List FileRead) (r : Report) (before after : S) → AllByRecursion (MayBe gives) reads → Comes reported failed reads steps r before after → Comes_to r before after
+      pub comes_to : (reads : List FileRead) (r : Report) (before after : S) → AllByRecursion (MayBe gives) reads
+          → Comes reported failed reads steps r before after → Comes_to r before after
       comes_to reads r before after may (inl x) =
           let all = subst (AllByRecursion (MayBe gives)) x.all_reads may in
-          let same = one_is its pages link.items gives link_name link.items (typed_link its pages) x.link_tree x.first of_link built.code.link_encoded x.link_is all.0 in
+          let same = one_is its pages link.items gives link_name link.items (typed_link its pages) x.link_tree x.first
+          of_link built.code.link_encoded x.link_is all.0 in
           behind_link x.others r before after x.link_tree same all.1 x.comes
       comes_to reads r before after may (inr x) =
-          missing its pages link.items gives reported failed steps link_name link.items (typed_link its pages) reads r before after of_link built.code.link_encoded link_valid may x.0 x.1
+          missing its pages link.items gives reported failed steps link_name link.items (typed_link its pages) reads r
+          before after of_link built.code.link_encoded link_valid may x.0 x.1
 
   -- ---- what was written is given
 
-  module _ (gives : Files) (earlier all : List Call) (calls_are : all ≡ earlier ++ all_calls link.items (map file its)) (holds : Holds all gives) where
+  module _ (gives : Files) (earlier all : List Call) (calls_are : all ≡ earlier ++ all_calls link.items (map file its))
+      (holds : Holds all gives) where
     abbrev front : List Call
     front = earlier ++ Remove link_file true ∷ []
 
     behind_front : all ≡ front ++ (map write_call (map file its) ++ Write link_file link.items true ∷ [])
-    behind_front = calls_are ∙ sym (append_assoc earlier (Remove link_file true ∷ []) (map write_call (map file its) ++ Write link_file link.items true ∷ []))
+    behind_front = calls_are ∙ sym (append_assoc earlier (Remove link_file true ∷ [])
+        (map write_call (map file its) ++ Write link_file link.items true ∷ []))
 
     pub link_given : Gives its pages link.items gives (file_of link_name) link.items
     link_given read is = holds link_file link.items read (record {
@@ -264,13 +315,16 @@ module _ (files : List SourceFile) (pages : ℕ) (link : Vec ℕ) (modules : Vec
       others = tt;
     }) is
 
-    given_by : (q : Modules) → AreLast all link.items q → AllByRecursion (λ m. Gives its pages link.items gives (file_of m.name) (bytes_of m)) q
+    given_by : (q : Modules) → AreLast all link.items q
+        → AllByRecursion (λ m. Gives its pages link.items gives (file_of m.name) (bytes_of m)) q
     given_by [] h = tt
     given_by (m ∷ q) h = ((λ read is. holds (file_of m.name) (bytes_of m) read h.0 is), given_by q h.1)
 
     pub modules_given : AllByRecursion (λ m. Gives its pages link.items gives (file_of m.name) (bytes_of m)) its
     modules_given = given_by its (each_last all link.items front its behind_front found.words found.distinct)
 
-pub calls_known : (before after : Option (List Call)) (made earlier all : List Call) → after ≡ with_calls before made → before ≡ Some earlier → after ≡ Some all → all ≡ earlier ++ made
+pub calls_known : (before after : Option (List Call)) (made earlier all : List Call) → after ≡ with_calls before made
+    → before ≡ Some earlier → after ≡ Some all → all ≡ earlier ++ made
 calls_known before after made earlier all e is_before is_after =
-    let same : Some all ≡ Some (earlier ++ made) = sym is_after ∙ e ∙ ap (λ (b : Option (List Call)). with_calls b made) is_before in cc
+    let same : Some all ≡ Some (earlier ++ made) = sym is_after ∙ e
+    ∙ ap (λ (b : Option (List Call)). with_calls b made) is_before in cc

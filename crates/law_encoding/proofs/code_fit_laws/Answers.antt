@@ -24,10 +24,12 @@ pub returns-clause-locals : goal.returns-clause-locals
 returns-clause-locals c = λ m. functions_few m
 
 pub returns-clause-least_locals : goal.returns-clause-least_locals
-returns-clause-least_locals c = λ text ts m l h d number own tables. accepted_few (bounded least text ts m l h d (modules_small least number m own tables))
+returns-clause-least_locals c = λ text ts m l h d number own tables. accepted_few
+    (bounded least text ts m l h d (modules_small least number m own tables))
 
 pub returns-clause-every_locals : goal.returns-clause-every_locals
-returns-clause-every_locals c = λ text ts m l h d number own tables. accepted_few (bounded every text ts m l h d (modules_small every number m own tables))
+returns-clause-every_locals c = λ text ts m l h d number own tables. accepted_few
+    (bounded every text ts m l h d (modules_small every number m own tables))
 
 pub returns-clause-body_modules : goal.returns-clause-body_modules
 returns-clause-body_modules c = λ m h. body_has_room m h

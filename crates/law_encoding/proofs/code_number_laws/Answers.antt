@@ -11,7 +11,8 @@ pub returns-clause-indexes : goal.returns-clause-indexes
 returns-clause-indexes c = λ m formed p. (module_uses m formed p, λ e. module_numbers m formed p e)
 
 pub returns-clause-constants : goal.returns-clause-constants
-returns-clause-constants c = λ x fs small result ws l a b xs p numbered s counts h g e. constants_fit x fs small result ws l a b xs p numbered s counts h g e
+returns-clause-constants c = λ x fs small result ws l a b xs p numbered s counts h g e. constants_fit x fs small result
+    ws l a b xs p numbered s counts h g e
 
 pub returns-clause-modules : goal.returns-clause-modules
 returns-clause-modules c = λ p pages place m ranged typed small. functions_const p pages place m ranged typed small

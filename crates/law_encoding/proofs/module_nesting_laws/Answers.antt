@@ -11,7 +11,9 @@ pub returns-clause-every : goal.returns-clause-every
 returns-clause-every c = λ number m own tables. modules_shallow every number m own tables
 
 pub returns-clause-least_accepted : goal.returns-clause-least_accepted
-returns-clause-least_accepted c = λ ts m d number own tables. accepted_low _ (tree_below ts m d) (modules_shallow least number m own tables)
+returns-clause-least_accepted c = λ ts m d number own tables. accepted_low _ (tree_below ts m d)
+    (modules_shallow least number m own tables)
 
 pub returns-clause-every_accepted : goal.returns-clause-every_accepted
-returns-clause-every_accepted c = λ ts m d number own tables. accepted_low _ (tree_below ts m d) (modules_shallow every number m own tables)
+returns-clause-every_accepted c = λ ts m d number own tables. accepted_low _ (tree_below ts m d)
+    (modules_shallow every number m own tables)

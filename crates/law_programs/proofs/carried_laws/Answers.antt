@@ -40,10 +40,12 @@ pub returns-clause-every_modules : goal.returns-clause-every_modules
 returns-clause-every_modules c = module_carries_on every
 
 pub returns-clause-least_procedures : goal.returns-clause-least_procedures
-returns-clause-least_procedures c = λ s. (λ seen h. (refl, λ p. entered_words least s seen h p), λ o. (refl, λ p. left_words o s p))
+returns-clause-least_procedures c = λ s.
+    (λ seen h. (refl, λ p. entered_words least s seen h p), λ o. (refl, λ p. left_words o s p))
 
 pub returns-clause-every_procedures : goal.returns-clause-every_procedures
-returns-clause-every_procedures c = λ s. (λ seen h. (refl, λ p. entered_words every s seen h p), λ o. (refl, λ p. left_words o s p))
+returns-clause-every_procedures c = λ s.
+    (λ seen h. (refl, λ p. entered_words every s seen h p), λ o. (refl, λ p. left_words o s p))
 
 pub returns-clause-tables : goal.returns-clause-tables
 returns-clause-tables c = (λ home tables p. first_indexed home tables p, λ types h. reached_indexed types h)
@@ -79,10 +81,20 @@ pub returns-clause-least_own : goal.returns-clause-least_own
 returns-clause-least_own c = λ own tables p q. implementation_words own tables p q
 
 pub returns-clause-least_free : goal.returns-clause-least_free
-returns-clause-least_free c = (λ s e h. exports_free s e h, λ home tables. (tt, tt), λ own tables p. implementation_slots least.Reported own tables p)
+returns-clause-least_free c = (
+  λ s e h. exports_free s e h,
+  λ home tables. (tt, tt),
+  λ own tables p.
+      implementation_slots least.Reported own tables p,
+)
 
 pub returns-clause-every_own : goal.returns-clause-every_own
 returns-clause-every_own c = λ own tables p q. implementation_words own tables p q
 
 pub returns-clause-every_free : goal.returns-clause-every_free
-returns-clause-every_free c = (λ s e h. exports_free s e h, λ home tables. (tt, tt), λ own tables p. implementation_slots every.Reported own tables p)
+returns-clause-every_free c = (
+  λ s e h. exports_free s e h,
+  λ home tables. (tt, tt),
+  λ own tables p.
+      implementation_slots every.Reported own tables p,
+)

@@ -6,7 +6,9 @@ pub returns-clause-programs : goal.returns-clause-programs
 returns-clause-programs c = λ trees files jobs fit p w place m there. coherent trees files jobs fit p w place m there
 
 pub returns-clause-graphs : goal.returns-clause-graphs
-returns-clause-graphs c = λ fs files jobs starts graph each fit p b. graphs_whole fs files jobs starts graph each fit p b
+returns-clause-graphs c = λ fs files jobs starts graph each fit p b. graphs_whole fs files jobs starts graph each fit p
+    b
 
 pub returns-clause-coherent : goal.returns-clause-coherent
-returns-clause-coherent c = λ fs files jobs starts graph each fit p b place m e. graphs_coherent fs files jobs starts graph each fit p b place m e
+returns-clause-coherent c = λ fs files jobs starts graph each fit p b place m e. graphs_coherent fs files jobs starts
+    graph each fit p b place m e

@@ -35,7 +35,9 @@ pub returns-clause-variables : goal.returns-clause-variables
 returns-clause-variables c = variable_there
 
 pub returns-clause-least_names : goal.returns-clause-least_names
-returns-clause-least_names c = λ x opens types vs slots level kss es h. block_typed x opens types vs slots level kss es h
+returns-clause-least_names c = λ x opens types vs slots level kss es h. block_typed x opens types vs slots level kss es
+    h
 
 pub returns-clause-every_names : goal.returns-clause-every_names
-returns-clause-every_names c = λ x opens types vs slots level kss es h. block_typed x opens types vs slots level kss es h
+returns-clause-every_names c = λ x opens types vs slots level kss es h. block_typed x opens types vs slots level kss es
+    h

@@ -11,7 +11,8 @@ pub returns-clause-open_arrays : goal.returns-clause-open_arrays
 returns-clause-open_arrays c k set p ask kss has slot t there = open_locates k set kss has slot t there
 
 pub returns-clause-open_elements : goal.returns-clause-open_elements
-returns-clause-open_elements c k set p ask kss has slot t there i value ha = open_reaches k set kss has slot t i.of there i.code value ha
+returns-clause-open_elements c k set p ask kss has slot t there i value ha =
+    open_reaches k set kss has slot t i.of there i.code value ha
 
 pub returns-clause-highs : goal.returns-clause-highs
 returns-clause-highs c k set p ask kss has slot t there = high_agrees k set kss has slot t there

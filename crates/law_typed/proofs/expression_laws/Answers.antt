@@ -6,7 +6,9 @@ use Rattle.law_typed.proofs.Expressions.{expression_typed}
 use Rattle.law_typed.proofs.expression_laws.Goals as goal
 
 pub returns-clause-every_rule : goal.returns-clause-every_rule
-returns-clause-every_rule c = λ names exports senses s k n e v x q h. if_answered (expression_typed every all_of_them all_lawful names exports senses s k n e).coded q x h
+returns-clause-every_rule c = λ names exports senses s k n e v x q h. if_answered
+    (expression_typed every all_of_them all_lawful names exports senses s k n e).coded q x h
 
 pub returns-clause-least_rule : goal.returns-clause-least_rule
-returns-clause-least_rule c = λ names exports senses s k n e v x q h. if_answered (expression_typed least the_least least_lawful names exports senses s k n e).coded q x h
+returns-clause-least_rule c = λ names exports senses s k n e v x q h. if_answered
+    (expression_typed least the_least least_lawful names exports senses s k n e).coded q x h

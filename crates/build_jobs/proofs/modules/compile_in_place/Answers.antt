@@ -13,13 +13,16 @@ use Rattle.build_jobs.proofs.modules.compile_in_place.Goals as goal
 abbrev tree_of : Bor (List ℕ) × Bor Module → Module
 tree_of t = t.1.now
 
-in_place : {E : Type 0} (r : Result Compiled E) (o : Option Module) (m : Module) (job : ℕ) (needed : List Compiled) → o ≡ Some m
+in_place : {E : Type 0} (r : Result Compiled E) (o : Option Module) (m : Module) (job : ℕ) (needed : List Compiled)
+    → o ≡ Some m
     → IfOk r (λ x. x ≡ compilation_of m job needed) → IfOk r (λ x. x ≡ compile_in_place o job needed)
 in_place r o m job needed e h = subst (λ (p : Option Module). IfOk r (λ x. x ≡ compile_in_place p job needed)) (sym e) h
 
 pub returns-in-Some : goal.returns-in-Some
 returns-in-Some c =
     let some : slice_get (modules_borrowed c.args.trees.now) c.args.file ≡ Some c.in-Some.tree.now.1.now =
-    slice_get-map tree_of c.args.trees.now c.args.file ∙ ap (option_map tree_of) (sym c.at.ensures ∙ ap option_copied c.in-Some.is)
+    slice_get-map tree_of c.args.trees.now c.args.file
+    ∙ ap (option_map tree_of) (sym c.at.ensures ∙ ap option_copied c.in-Some.is)
     in
-    in_place c.compile.result (slice_get (modules_borrowed c.args.trees.now) c.args.file) c.in-Some.tree.now.1.now c.args.job (map (λ (n : Bor Compiled). n.now) c.args.needed.now) some c.compile.ensures
+    in_place c.compile.result (slice_get (modules_borrowed c.args.trees.now) c.args.file) c.in-Some.tree.now.1.now
+    c.args.job (map (λ (n : Bor Compiled). n.now) c.args.needed.now) some c.compile.ensures

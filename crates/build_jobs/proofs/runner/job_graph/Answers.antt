@@ -8,4 +8,6 @@ pub graph_of-requires : goal.graph_of-requires
 graph_of-requires c = pool_takes (map (λ row. row.items) c.jobs.result.now) c.jobs.ensures.prerequisites
 
 pub returns-clause-sound : goal.returns-clause-sound
-returns-clause-sound c = pool_takes (map (λ row. row.items) c.args.graph.now.jobs.items) (subst (λ (js : List (Vec ℕ)). AreJobs (map (λ row. row.items) js)) c.jobs.ensures.jobs c.jobs.ensures.prerequisites)
+returns-clause-sound c = pool_takes (map (λ row. row.items) c.args.graph.now.jobs.items)
+    (subst (λ (js : List (Vec ℕ)). AreJobs (map (λ row. row.items) js)) c.jobs.ensures.jobs
+    c.jobs.ensures.prerequisites)

@@ -12,5 +12,17 @@ pub invariant_of-result : goal.invariant_of-result
 invariant_of-result c =
     let g = c.args.graph.now in
     let count = jobs_count _ g.files.items (map items_of g.jobs.items) g.starts.items c.requires.graph in
-    let few = few_jobs (borrow_trees c.args.trees.now) g.files.items (map items_of g.jobs.items) g.starts.items c.requires.graph c.requires.each in
-    record { each = ap (λ (xs : List ℕ). length xs) c.files.ensures ∙ count ∙ length-map g.jobs.items items_of ∙ ap (λ (xs : List (Vec ℕ)). length xs) (sym c.jobs.ensures.jobs); few = omega (arith, few, length-map g.jobs.items items_of, ap (λ (xs : List (Vec ℕ)). length xs) c.jobs.ensures.jobs) }
+    let few = few_jobs (borrow_trees c.args.trees.now) g.files.items (map items_of g.jobs.items) g.starts.items
+    c.requires.graph c.requires.each in
+    record {
+      each = ap (λ (xs : List ℕ). length xs) c.files.ensures ∙ count ∙ length-map g.jobs.items items_of
+          ∙ ap (λ (xs : List (Vec ℕ)). length xs) (sym c.jobs.ensures.jobs);
+      few =
+          omega (
+            arith,
+            few,
+            length-map g.jobs.items items_of,
+            ap (λ (xs : List (Vec ℕ)). length xs)
+                c.jobs.ensures.jobs,
+          );
+    }

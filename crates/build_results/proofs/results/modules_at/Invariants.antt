@@ -6,4 +6,5 @@ use Rattle.build_results.specs.Results.{modules_at}
 use Rattle.build_results.proofs.results.modules_at.Given as goal
 
 abbrev pub invariant-loop-file : goal.invariant-loop-file
-invariant-loop-file l = map (λ m. m.now) l.modules.items ≡ modules_at (λ file. option_and_then (slice_get l.results) (place_of l.places file)) (take l.file-index l.starts)
+invariant-loop-file l = map (λ m. m.now) l.modules.items
+    ≡ modules_at (λ file. option_and_then (slice_get l.results) (place_of l.places file)) (take l.file-index l.starts)

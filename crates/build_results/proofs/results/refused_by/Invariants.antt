@@ -9,5 +9,7 @@ use Rattle.build_results.proofs.results.refused_by.Given as goal
 
 abbrev pub invariant-loop-file : goal.invariant-loop-file
 invariant-loop-file l =
-    map report_of l.refusals.items ++ refused_from (λ file. option_and_then (slice_get l.results) (place_of l.places file)) l.file (borrow_trees (drop l.file l.trees))
+    map report_of l.refusals.items ++ refused_from
+    (λ file. option_and_then (slice_get l.results) (place_of l.places file)) l.file
+    (borrow_trees (drop l.file l.trees))
     ≡ refused_from (λ file. option_and_then (slice_get l.results) (place_of l.places file)) 0 (borrow_trees l.trees)

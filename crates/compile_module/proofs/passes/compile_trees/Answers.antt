@@ -20,27 +20,45 @@ pub of_graph-requires-clause-graph : goal.of_graph-requires-clause-graph
 of_graph-requires-clause-graph c =
     let g = c.in-Ok.graph in
     let is : borrow_trees c.deref-2.result.now ≡ with_stands (borrow_trees c.args.trees.now) =
-    ap borrow_trees c.deref-2.ensures.value ∙ all_are c.args.trees.now (borrow_trees c.in_ok-all.all.items) c.in_ok-stands.stands.items c.deref.result.now c.deref.ensures.value c.in_ok-stands.ensures c.in_ok-all.ensures
+    ap borrow_trees c.deref-2.ensures.value
+    ∙ all_are c.args.trees.now (borrow_trees c.in_ok-all.all.items) c.in_ok-stands.stands.items c.deref.result.now
+    c.deref.ensures.value c.in_ok-stands.ensures c.in_ok-all.ensures
     in
-    subst (λ (ts : List (List ℕ × Module)). IsGraph (number_files 0 ts) g.files.items (map items_of g.jobs.items) g.starts.items) is c.in-Ok.ensures.graph
+    subst (λ (ts : List (List ℕ × Module)). IsGraph (number_files 0 ts) g.files.items (map items_of g.jobs.items)
+    g.starts.items) is c.in-Ok.ensures.graph
 
 pub of_graph-requires-clause-each : goal.of_graph-requires-clause-each
 of_graph-requires-clause-each c =
     let is : borrow_trees c.deref-2.result.now ≡ with_stands (borrow_trees c.args.trees.now) =
-    ap borrow_trees c.deref-2.ensures.value ∙ all_are c.args.trees.now (borrow_trees c.in_ok-all.all.items) c.in_ok-stands.stands.items c.deref.result.now c.deref.ensures.value c.in_ok-stands.ensures c.in_ok-all.ensures
+    ap borrow_trees c.deref-2.ensures.value
+    ∙ all_are c.args.trees.now (borrow_trees c.in_ok-all.all.items) c.in_ok-stands.stands.items c.deref.result.now
+    c.deref.ensures.value c.in_ok-stands.ensures c.in_ok-all.ensures
     in
-    subst (λ (ts : List (List ℕ × Module)). CompileEach (number_files 0 ts) c.in-Ok.graph.files.items) is c.in-Ok.ensures.each
+    subst (λ (ts : List (List ℕ × Module)). CompileEach (number_files 0 ts) c.in-Ok.graph.files.items) is
+    c.in-Ok.ensures.each
 
 pub of_graph-requires-clause-count : goal.of_graph-requires-clause-count
 of_graph-requires-clause-count c =
     let is : borrow_trees c.in_ok-all.all.items ≡ with_stands (borrow_trees c.args.trees.now) =
-    all_are c.args.trees.now (borrow_trees c.in_ok-all.all.items) c.in_ok-stands.stands.items c.deref.result.now c.deref.ensures.value c.in_ok-stands.ensures c.in_ok-all.ensures
+    all_are c.args.trees.now (borrow_trees c.in_ok-all.all.items) c.in_ok-stands.stands.items c.deref.result.now
+    c.deref.ensures.value c.in_ok-stands.ensures c.in_ok-all.ensures
     in
-    omega (arith, c.len.ensures, c.in_ok-all.all.ok.0, ap (λ (ts : List (List ℕ × Module)). length ts) is, length-map c.in_ok-all.all.items pair)
+    omega (
+      arith,
+      c.len.ensures,
+      c.in_ok-all.all.ok.0,
+      ap (λ (ts : List (List ℕ × Module)). length ts) is,
+      length-map
+          c.in_ok-all.all.items pair,
+    )
 
 pub returns : goal.returns
 returns c =
     let is : borrow_trees c.deref-2.result.now ≡ with_stands (borrow_trees c.args.trees.now) =
-    ap borrow_trees c.deref-2.ensures.value ∙ all_are c.args.trees.now (borrow_trees c.in_ok-all.all.items) c.in_ok-stands.stands.items c.deref.result.now c.deref.ensures.value c.in_ok-stands.ensures c.in_ok-all.ensures
+    ap borrow_trees c.deref-2.ensures.value
+    ∙ all_are c.args.trees.now (borrow_trees c.in_ok-all.all.items) c.in_ok-stands.stands.items c.deref.result.now
+    c.deref.ensures.value c.in_ok-stands.ensures c.in_ok-all.ensures
     in
-    c.of_error.ensures (borrow_trees c.args.trees.now) (subst (λ (ts : List (List ℕ × Module)). IsRefusal (number_files 0 ts) c.in-Err.error) is c.in-Err.ensures.refused)
+    c.of_error.ensures (borrow_trees c.args.trees.now)
+    (subst (λ (ts : List (List ℕ × Module)). IsRefusal (number_files 0 ts) c.in-Err.error) is
+    c.in-Err.ensures.refused)

@@ -13,12 +13,15 @@ items_of v = v.items
 pub compile_in_turn-requires-clause-each : goal.compile_in_turn-requires-clause-each
 compile_in_turn-requires-clause-each c =
     let g = c.args.graph.now in
-    ap (λ (xs : List ℕ). length xs) c.files.ensures ∙ jobs_count _ g.files.items (map items_of g.jobs.items) g.starts.items c.requires.graph ∙ length-map g.jobs.items items_of ∙ ap (λ (xs : List (Vec ℕ)). length xs) (sym c.jobs.ensures.jobs)
+    ap (λ (xs : List ℕ). length xs) c.files.ensures
+    ∙ jobs_count _ g.files.items (map items_of g.jobs.items) g.starts.items c.requires.graph
+    ∙ length-map g.jobs.items items_of ∙ ap (λ (xs : List (Vec ℕ)). length xs) (sym c.jobs.ensures.jobs)
 
 pub compile_in_turn-requires-clause-few : goal.compile_in_turn-requires-clause-few
 compile_in_turn-requires-clause-few c =
     let g = c.args.graph.now in
-    let few = few_jobs (with_stands (borrow_trees c.args.trees.now)) g.files.items (map items_of g.jobs.items) g.starts.items c.requires.graph c.requires.each in
+    let few = few_jobs (with_stands (borrow_trees c.args.trees.now)) g.files.items (map items_of g.jobs.items)
+    g.starts.items c.requires.graph c.requires.each in
     omega (arith, few, length-map g.jobs.items items_of, ap (λ (xs : List (Vec ℕ)). length xs) c.jobs.ensures.jobs)
 
 pub of_results-requires-clause-results : goal.of_results-requires-clause-results

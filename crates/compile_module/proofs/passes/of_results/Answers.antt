@@ -20,14 +20,18 @@ items_of v = v.items
 pub places_of-requires : goal.places_of-requires
 places_of-requires c =
     let all = all_within (with_stands (borrow_trees c.args.trees.now)) c.args.graph.now.files.items c.requires.each in
-    subst (λ (ns : List ℕ). All (λ k. k < c.args.count) ns) (sym c.files.ensures) (subst (λ (n : ℕ). All (λ k. k < n) c.args.graph.now.files.items) c.requires.count all)
+    subst (λ (ns : List ℕ). All (λ k. k < c.args.count) ns) (sym c.files.ensures)
+    (subst (λ (n : ℕ). All (λ k. k < n) c.args.graph.now.files.items) c.requires.count all)
 
 pub returns-then-not-is_empty : goal.returns-then-not-is_empty
 returns-then-not-is_empty c =
     let g = c.args.graph.now in
     let rs = c.in_ok-refusals.refusals in
-    let all : map report_of rs.items ≡ refused_by (borrow_trees c.args.trees.now) g.files.items (map items_of g.jobs.items) =
-    refusals_are c.args.trees.now g.files.items (map items_of g.jobs.items) c.in_ok-places.places.items _ c.args.results.now (subst (λ (fs : List ℕ). ArePlaces fs c.in_ok-places.places.items) c.files.ensures c.in_ok-places.ensures) c.deref.ensures.value c.requires.results _ c.in_ok-refusals.ensures
+    let all : map report_of rs.items ≡ refused_by (borrow_trees c.args.trees.now) g.files.items
+    (map items_of g.jobs.items) =
+    refusals_are c.args.trees.now g.files.items (map items_of g.jobs.items) c.in_ok-places.places.items _
+    c.args.results.now (subst (λ (fs : List ℕ). ArePlaces fs c.in_ok-places.places.items) c.files.ensures
+    c.in_ok-places.ensures) c.deref.ensures.value c.requires.results _ c.in_ok-refusals.ensures
     in
     inr (record {
       numbers = g.files.items;
@@ -44,14 +48,21 @@ pub of_first-requires : goal.of_first-requires
 of_first-requires c =
     let g = c.args.graph.now in
     let rs = c.in_ok-refusals.refusals in
-    let all : map report_of rs.items ≡ refused_by (borrow_trees c.args.trees.now) g.files.items (map items_of g.jobs.items) =
-    refusals_are c.args.trees.now g.files.items (map items_of g.jobs.items) c.in_ok-places.places.items _ c.args.results.now (subst (λ (fs : List ℕ). ArePlaces fs c.in_ok-places.places.items) c.files.ensures c.in_ok-places.ensures) c.deref.ensures.value c.requires.results _ c.in_ok-refusals.ensures
+    let all : map report_of rs.items ≡ refused_by (borrow_trees c.args.trees.now) g.files.items
+    (map items_of g.jobs.items) =
+    refusals_are c.args.trees.now g.files.items (map items_of g.jobs.items) c.in_ok-places.places.items _
+    c.args.results.now (subst (λ (fs : List ℕ). ArePlaces fs c.in_ok-places.places.items) c.files.ensures
+    c.in_ok-places.ensures) c.deref.ensures.value c.requires.results _ c.in_ok-refusals.ensures
     in
-    let empty : rs.items ≡ [] = no_items rs.items (let zero : vec_len rs ≡ 0 = eqb-true (vec_len rs) 0 (sym c.is_empty.ensures ∙ c.if-not-is_empty.false) in omega (arith, rs.ok.0, zero)) in
+    let empty : rs.items ≡ [] = no_items rs.items
+    (let zero : vec_len rs ≡ 0 = eqb-true (vec_len rs) 0 (sym c.is_empty.ensures ∙ c.if-not-is_empty.false) in
+    omega (arith, rs.ok.0, zero)) in
     record {
       numbers = g.files.items;
       needs = map items_of g.jobs.items;
       have = record { starts = g.starts.items; is_graph = c.requires.graph };
       none = sym all ∙ ap (map report_of) empty;
-      is = result_is c.args.trees.now g.files.items (map items_of g.jobs.items) c.in_ok-places.places.items _ c.args.results.now (subst (λ (fs : List ℕ). ArePlaces fs c.in_ok-places.places.items) c.files.ensures c.in_ok-places.ensures) c.deref-2.ensures.value c.requires.results _ 0 c.result_of.ensures;
+      is = result_is c.args.trees.now g.files.items (map items_of g.jobs.items) c.in_ok-places.places.items _
+          c.args.results.now (subst (λ (fs : List ℕ). ArePlaces fs c.in_ok-places.places.items) c.files.ensures
+          c.in_ok-places.ensures) c.deref-2.ensures.value c.requires.results _ 0 c.result_of.ensures;
     }

@@ -5,4 +5,5 @@ pub loop-number-init : goal.loop-number-init
 loop-number-init c = no_arms c.args.text.now.items c.args.bytes.now
 
 pub loop-number-preserved : goal.loop-number-preserved
-loop-number-preserved c = next_arm c.args.text.now.items c.args.bytes.now c.loop-number.text.items c.put_arm.new.text.items c.loop-number.number c.loop-number.invariant c.in_ok-put_arm.ensures
+loop-number-preserved c = next_arm c.args.text.now.items c.args.bytes.now c.loop-number.text.items
+    c.put_arm.new.text.items c.loop-number.number c.loop-number.invariant c.in_ok-put_arm.ensures

@@ -7,4 +7,6 @@ pub returns : goal.returns
 unfolding text_of
 returns c = whole (front c.args.bytes.now) (arms c.args.bytes.now (parts_of c.args.bytes.now)) back
     c.in_ok-text.text.items c.put_arms.new.text.items c.extend_from_slice.new.self.items
-    c.in_ok-text.ensures c.in_ok-put_arms.ensures (subst (λ (p : List ℕ). c.extend_from_slice.new.self.items ≡ c.put_arms.new.text.items ++ p) c.as_bytes.ensures.value c.in_ok-extend_from_slice.ensures.items)
+    c.in_ok-text.ensures c.in_ok-put_arms.ensures
+    (subst (λ (p : List ℕ). c.extend_from_slice.new.self.items ≡ c.put_arms.new.text.items ++ p)
+    c.as_bytes.ensures.value c.in_ok-extend_from_slice.ensures.items)

@@ -5,7 +5,9 @@ use Rattle.law_rules.proofs.Implementing.{implementation_imports}
 use Rattle.law_rules.proofs.importing.implementation_import_laws.Goals as goal
 
 pub returns-clause-every_rule : goal.returns-clause-every_rule
-returns-clause-every_rule c = λ exported s e imports. implementation_imports every all_of_them all_lawful exported s e imports
+returns-clause-every_rule c = λ exported s e imports. implementation_imports every all_of_them all_lawful exported s e
+    imports
 
 pub returns-clause-least_rule : goal.returns-clause-least_rule
-returns-clause-least_rule c = λ exported s e imports. implementation_imports least the_least least_lawful exported s e imports
+returns-clause-least_rule c = λ exported s e imports. implementation_imports least the_least least_lawful exported s e
+    imports

@@ -4,14 +4,22 @@ use Rattle.link_parts.proofs.fitting.check_program.Goals.{then-part+else-number-
 use Rattle.link_parts.proofs.fitting.check_program.Goals as goal
 
 pub returns-then-number-gt0-clause-fault : goal.returns-then-number-gt0-clause-fault
-returns-then-number-gt0-clause-fault c =
-    (c.index-parts-number.result, there c.args.parts.now c.loop-number.number c.index-parts-number.result c.loop-number-test.true c.index-parts-number.is, c.if-part.true, c.if-number-gt0.true)
+returns-then-number-gt0-clause-fault c = (
+  c.index-parts-number.result,
+  there c.args.parts.now c.loop-number.number c.index-parts-number.result
+      c.loop-number-test.true c.index-parts-number.is,
+  c.if-part.true,
+  c.if-number-gt0.true,
+)
 
 pub loop-number-preserved : goal.loop-number-preserved
-loop-number-preserved c = first_more c.args.parts.now c.loop-number.number c.index-parts-number.result c.loop-number-test.true c.index-parts-number.is
+loop-number-preserved c = first_more c.args.parts.now c.loop-number.number c.index-parts-number.result
+    c.loop-number-test.true c.index-parts-number.is
     (elim c.if-part.branch [
-      | then-part+else-number-gt0 w ↦ here_first c.loop-number.number c.index-parts-number.result.is_program w.if-part.true w.if-number-gt0.false
-      | else-part+else-number-eq0 w ↦ here_other c.loop-number.number c.index-parts-number.result.is_program w.if-part.false (let n = w.if-number-eq0.false in omega arith)
+      | then-part+else-number-gt0 w ↦ here_first c.loop-number.number c.index-parts-number.result.is_program
+          w.if-part.true w.if-number-gt0.false
+      | else-part+else-number-eq0 w ↦ here_other c.loop-number.number c.index-parts-number.result.is_program
+          w.if-part.false (let n = w.if-number-eq0.false in omega arith)
     ])
     c.loop-number.invariant
 

@@ -9,6 +9,9 @@ use Rattle.link_parts.proofs.linking.graph_of.Goals as goal
 pub returns-in-Err-Refused-clause-fault : goal.returns-in-Err-Refused-clause-fault
 returns-in-Err-Refused-clause-fault c = (
   c.in-Err-Refused.refusals,
-  subst (λ (fs : List File). IsRefusal fs (Refused c.in-Err-Refused.refusals)) (ap files_of c.deref.ensures.value ∙ ap (number_files 0) c.in_ok-trees.ensures) (subst (λ (e : GraphError). IsRefusal (files_of c.deref.result.now) e) c.in-Err-Refused.field-0-is c.in-Err-Refused.ensures.refused),
+  subst (λ (fs : List File). IsRefusal fs (Refused c.in-Err-Refused.refusals))
+      (ap files_of c.deref.ensures.value ∙ ap (number_files 0) c.in_ok-trees.ensures)
+      (subst (λ (e : GraphError). IsRefusal (files_of c.deref.result.now) e) c.in-Err-Refused.field-0-is
+      c.in-Err-Refused.ensures.refused),
   c.first_number.ensures ∙ ap first_number c.deref-in-Err-Refused.ensures.value,
 )

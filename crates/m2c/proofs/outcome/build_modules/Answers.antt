@@ -23,7 +23,8 @@ copies_of-requires c =
     let fs = borrow_trees c.args.trees.now in
     let jobs = map items_of g.jobs.items in
     borrowed_named c.args.modules.now
-    (subst (All (λ (x : ModuleBytes). IsName x.name)) (sym c.requires.modules) (started_named c.args.files.now fs g.files.items jobs g.starts.items c.requires.graph c.requires.none))
+    (subst (All (λ (x : ModuleBytes). IsName x.name)) (sym c.requires.modules)
+    (started_named c.args.files.now fs g.files.items jobs g.starts.items c.requires.graph c.requires.none))
 
 pub returns : goal.returns
 returns c =
@@ -31,9 +32,14 @@ returns c =
     let fs = borrow_trees c.args.trees.now in
     let whole = start_modules fs g.files.items (map items_of g.jobs.items) g.starts.items in
     let link_is : c.in_ok-link.link.items ≡ code_bytes (cut_module (link_of (parts whole) c.args.pages)) =
-    c.in_ok-link.ensures ∙ ap (λ (ms : List ModuleBytes). code_bytes (cut_module (link_of (parts ms) c.args.pages))) c.requires.modules
+    c.in_ok-link.ensures ∙ ap (λ (ms : List ModuleBytes). code_bytes (cut_module (link_of (parts ms) c.args.pages)))
+    c.requires.modules
     in
-    let built_are : map name_bytes c.in_ok-modules.modules.items ≡ map named_bytes whole = c.in_ok-modules.ensures ∙ copies_borrowed c.args.modules.now ∙ ap (map named_bytes) c.requires.modules in
-    let fits : stack_begin (parts whole) + 4096 ≤ 65536 * c.args.pages = subst (λ (ms : List ModuleBytes). stack_begin (parts ms) + 4096 ≤ 65536 * c.args.pages) c.requires.modules c.requires.fits in
-    is_program c.args.files.now fs g.files.items (map items_of g.jobs.items) g.starts.items c.requires.graph c.requires.none c.args.pages c.requires.least c.requires.most fits
+    let built_are : map name_bytes c.in_ok-modules.modules.items ≡ map named_bytes whole = c.in_ok-modules.ensures
+    ∙ copies_borrowed c.args.modules.now ∙ ap (map named_bytes) c.requires.modules in
+    let fits : stack_begin (parts whole) + 4096 ≤ 65536 * c.args.pages =
+    subst (λ (ms : List ModuleBytes). stack_begin (parts ms) + 4096 ≤ 65536 * c.args.pages) c.requires.modules
+    c.requires.fits in
+    is_program c.args.files.now fs g.files.items (map items_of g.jobs.items) g.starts.items c.requires.graph
+    c.requires.none c.args.pages c.requires.least c.requires.most fits
     c.in_ok-link.link.items (map name_bytes c.in_ok-modules.modules.items) link_is built_are

@@ -23,8 +23,10 @@ pub returns-then-not-is_empty : goal.returns-then-not-is_empty
 returns-then-not-is_empty c =
     let g = c.args.graph.now in
     let rs = c.in_ok-refusals.refusals in
-    let all : map report_of rs.items ≡ refused_by (borrow_trees c.args.trees.now) g.files.items (map items_of g.jobs.items) =
-    refusals_are c.args.trees.now g.files.items (map items_of g.jobs.items) c.in_ok-places.places.items _ c.args.results.now c.in_ok-places.ensures c.deref.ensures.value c.requires.results _ c.in_ok-refusals.ensures
+    let all : map report_of rs.items ≡ refused_by (borrow_trees c.args.trees.now) g.files.items
+    (map items_of g.jobs.items) =
+    refusals_are c.args.trees.now g.files.items (map items_of g.jobs.items) c.in_ok-places.places.items _
+    c.args.results.now c.in_ok-places.ensures c.deref.ensures.value c.requires.results _ c.in_ok-refusals.ensures
     in
     inr (inr (inl (record {
       trees = borrow_trees c.args.trees.now;
@@ -32,7 +34,8 @@ returns-then-not-is_empty c =
       all_jobs = map items_of g.jobs.items;
       starts = g.starts.items;
       graph = c.requires.graph;
-      ruled = all_ruled (borrow_trees c.args.trees.now) g.files.items (map items_of g.jobs.items) g.starts.items c.requires.graph.is_graph;
+      ruled = all_ruled (borrow_trees c.args.trees.now) g.files.items (map items_of g.jobs.items) g.starts.items
+          c.requires.graph.is_graph;
       some = λ e. let none : rs.items ≡ [] = none_reported rs.items (all ∙ e) in
           let zero : vec_len rs ≡ 0 = omega (arith, rs.ok.0, ap (λ (xs : List Refusal). length xs) none) in
           let empty : c.is_empty.result ≡ true = c.is_empty.ensures ∙ eq-eqb (vec_len rs) 0 zero in
@@ -44,13 +47,20 @@ pub program-requires-clause-none : goal.program-requires-clause-none
 program-requires-clause-none c =
     let g = c.args.graph.now in
     let rs = c.in_ok-refusals.refusals in
-    let all : map report_of rs.items ≡ refused_by (borrow_trees c.args.trees.now) g.files.items (map items_of g.jobs.items) =
-    refusals_are c.args.trees.now g.files.items (map items_of g.jobs.items) c.in_ok-places.places.items _ c.args.results.now c.in_ok-places.ensures c.deref.ensures.value c.requires.results _ c.in_ok-refusals.ensures
+    let all : map report_of rs.items ≡ refused_by (borrow_trees c.args.trees.now) g.files.items
+    (map items_of g.jobs.items) =
+    refusals_are c.args.trees.now g.files.items (map items_of g.jobs.items) c.in_ok-places.places.items _
+    c.args.results.now c.in_ok-places.ensures c.deref.ensures.value c.requires.results _ c.in_ok-refusals.ensures
     in
-    let empty : rs.items ≡ [] = no_items rs.items (let zero : vec_len rs ≡ 0 = eqb-true (vec_len rs) 0 (sym c.is_empty.ensures ∙ c.if-not-is_empty.false) in omega (arith, rs.ok.0, zero)) in
+    let empty : rs.items ≡ [] = no_items rs.items
+    (let zero : vec_len rs ≡ 0 = eqb-true (vec_len rs) 0 (sym c.is_empty.ensures ∙ c.if-not-is_empty.false) in
+    omega (arith, rs.ok.0, zero)) in
     sym all ∙ ap (map report_of) empty
 
 pub program-requires-clause-modules : goal.program-requires-clause-modules
 program-requires-clause-modules c =
     let g = c.args.graph.now in
-    ap (λ (bs : List (Bor ModuleBytes)). map (λ m. m.now) bs) c.deref-3.ensures.value ∙ started_are c.args.trees.now g.files.items (map items_of g.jobs.items) c.in_ok-places.places.items _ c.args.results.now c.in_ok-places.ensures c.deref-2.ensures.value c.requires.results _ _ g.starts.items c.in_ok-modules.ensures c.start_order.ensures
+    ap (λ (bs : List (Bor ModuleBytes)). map (λ m. m.now) bs) c.deref-3.ensures.value
+    ∙ started_are c.args.trees.now g.files.items (map items_of g.jobs.items) c.in_ok-places.places.items _
+    c.args.results.now c.in_ok-places.ensures c.deref-2.ensures.value c.requires.results _ _ g.starts.items
+    c.in_ok-modules.ensures c.start_order.ensures

@@ -14,4 +14,5 @@ pub places_of-requires : goal.places_of-requires
 places_of-requires c =
     let all = all_within (borrow_trees c.args.trees.now) c.args.graph.now.files.items c.requires in
     let count : length (borrow_trees c.args.trees.now) ≡ length c.args.trees.now = length-map c.args.trees.now pair in
-    subst (λ (ns : List ℕ). All (λ k. k < length c.args.trees.now) ns) (sym c.files.ensures) (subst (λ (n : ℕ). All (λ k. k < n) c.args.graph.now.files.items) count all)
+    subst (λ (ns : List ℕ). All (λ k. k < length c.args.trees.now) ns) (sym c.files.ensures)
+    (subst (λ (n : ℕ). All (λ k. k < n) c.args.graph.now.files.items) count all)

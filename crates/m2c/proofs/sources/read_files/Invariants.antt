@@ -4,4 +4,5 @@ use Rattle.m2c.proofs.Readable.{GivenSoFar}
 use Rattle.m2c.proofs.sources.read_files.Given as goal
 
 abbrev pub invariant-loop-name : goal.invariant-loop-name
-invariant-loop-name g l = GivenSoFar g.I.InDir.reads g.I.InDir.gives l.fn.dir l.dir (map string_bytes (take l.name-index l.names)) l.files.items
+invariant-loop-name g l = GivenSoFar g.I.InDir.reads g.I.InDir.gives l.fn.dir l.dir
+    (map string_bytes (take l.name-index l.names)) l.files.items

@@ -71,25 +71,33 @@ abbrev pub decreases-for_turns : goal.decreases-for_turns
 decreases-for_turns l = l.room
 
 abbrev pub invariant-links_value-loop-link : goal.invariant-links_value-loop-link
-invariant-links_value-loop-link l = links_in l.around (drop l.link-index l.links) l.x (view_of l.st) ≡ links_in l.around l.links l.first (view_of l.initial.st)
+invariant-links_value-loop-link l = links_in l.around (drop l.link-index l.links) l.x (view_of l.st)
+    ≡ links_in l.around l.links l.first (view_of l.initial.st)
 
 abbrev pub invariant-reached_all-loop-component : goal.invariant-reached_all-loop-component
-invariant-reached_all-loop-component l = components_in l.around (drop l.component-index l.components) l.l (view_of l.st) ≡ components_in l.around l.components l.fn.first (view_of l.initial.st)
+invariant-reached_all-loop-component l =
+    components_in l.around (drop l.component-index l.components) l.l (view_of l.st)
+    ≡ components_in l.around l.components l.fn.first (view_of l.initial.st)
 
 abbrev pub invariant-steps-loop-stmt : goal.invariant-steps-loop-stmt
-invariant-steps-loop-stmt l = steps_in l.around (drop l.stmt-index l.body) (view_of l.st) ≡ steps_in l.around l.body (view_of l.initial.st)
+invariant-steps-loop-stmt l = steps_in l.around (drop l.stmt-index l.body) (view_of l.st)
+    ≡ steps_in l.around l.body (view_of l.initial.st)
 
 abbrev pub invariant-while_turns-loop : goal.invariant-while_turns-loop
-invariant-while_turns-loop l = while_in l.around l.e l.body (l.around.program.now.bound - l.counter) (view_of l.st) ≡ while_in l.around l.e l.body l.around.program.now.bound (view_of l.initial.st)
+invariant-while_turns-loop l = while_in l.around l.e l.body (l.around.program.now.bound - l.counter) (view_of l.st)
+    ≡ while_in l.around l.e l.body l.around.program.now.bound (view_of l.initial.st)
 
 abbrev pub invariant-repeat_turns-loop : goal.invariant-repeat_turns-loop
-invariant-repeat_turns-loop l = repeat_in l.around l.body l.e (l.around.program.now.bound - l.counter) (view_of l.st) ≡ repeat_in l.around l.body l.e l.around.program.now.bound (view_of l.initial.st)
+invariant-repeat_turns-loop l = repeat_in l.around l.body l.e (l.around.program.now.bound - l.counter) (view_of l.st)
+    ≡ repeat_in l.around l.body l.e l.around.program.now.bound (view_of l.initial.st)
 
 abbrev pub invariant-loop_turns-loop : goal.invariant-loop_turns-loop
-invariant-loop_turns-loop l = loop_in l.around l.body (l.around.program.now.bound - l.counter) (view_of l.st) ≡ loop_in l.around l.body l.around.program.now.bound (view_of l.initial.st)
+invariant-loop_turns-loop l = loop_in l.around l.body (l.around.program.now.bound - l.counter) (view_of l.st)
+    ≡ loop_in l.around l.body l.around.program.now.bound (view_of l.initial.st)
 
 abbrev pub invariant-for_turns-loop : goal.invariant-for_turns-loop
-invariant-for_turns-loop l = for_in l.around l.t l.by l.body l.of.l l.of.last (l.around.program.now.bound - l.counter) (view_of l.st) ≡ for_in l.around l.t l.by l.body l.of.l l.of.last l.around.program.now.bound (view_of l.initial.st)
+invariant-for_turns-loop l = for_in l.around l.t l.by l.body l.of.l l.of.last (l.around.program.now.bound - l.counter)
+    (view_of l.st) ≡ for_in l.around l.t l.by l.body l.of.l l.of.last l.around.program.now.bound (view_of l.initial.st)
 
 abbrev pub decreases-function_value : goal.decreases-function_value
 decreases-function_value l = l.room

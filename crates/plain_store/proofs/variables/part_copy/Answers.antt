@@ -5,4 +5,5 @@ pub returns-in-None : goal.returns-in-None
 returns-in-None c = no_part c.args.store.now c.args.from.now c.in-None.ensures
 
 pub returns-in-Some : goal.returns-in-Some
-returns-in-Some c = ok_part c.args.store.now c.in-Some.held.now c.args.from.now c.copy.result c.in-Some.ensures c.copy.ensures
+returns-in-Some c = ok_part c.args.store.now c.in-Some.held.now c.args.from.now c.copy.result c.in-Some.ensures
+    c.copy.ensures

@@ -15,7 +15,11 @@ returns-in_default g c =
       report = Refused (record { ref_ptr = (0, 0); now = link_name }) NoMemory;
       reads = found.0 ∷ [];
       has_read = found.1;
-      comes = inr (refused_behind found.0 (record { ref_ptr = (0, 0); now = link_name }) c.in-Ok.link found.2, nothing g.S.Sink.reported g.S.Sink.failed c.args.out.now);
+      comes = inr (
+        refused_behind found.0 (record { ref_ptr = (0, 0); now = link_name }) c.in-Ok.link found.2,
+        nothing
+            g.S.Sink.reported g.S.Sink.failed c.args.out.now,
+      );
       answers = c.write_report-in_default.ensures.status;
       all_said = c.write_report-in_default.ensures.says.0;
       says = c.write_report-in_default.ensures.says.1;
@@ -28,7 +32,11 @@ returns-in_default-alone g c =
       report = Refused (record { ref_ptr = (0, 0); now = link_name }) NoMemory;
       reads = found.0 ∷ [];
       has_read = found.1;
-      comes = inr (refused_behind found.0 (record { ref_ptr = (0, 0); now = link_name }) c.in-Ok.link found.2, nothing g.S.Sink.reported g.S.Sink.failed c.args.out.now);
+      comes = inr (
+        refused_behind found.0 (record { ref_ptr = (0, 0); now = link_name }) c.in-Ok.link found.2,
+        nothing
+            g.S.Sink.reported g.S.Sink.failed c.args.out.now,
+      );
       answers = c.write_report-in_default-alone.ensures.status;
       all_said = c.write_report-in_default-alone.ensures.says.0;
       says = c.write_report-in_default-alone.ensures.says.1;
@@ -49,8 +57,12 @@ returns-in-Err g c =
 
 pub returns : goal.returns
 returns g c =
-    let all = comes_behind g.D.InDir.reads g.D.InDir.gives g.S.Sink.reported g.S.Sink.failed c.args.dir.now c.module_of.new.dir c.run_named-report.new.dir c.in-Ok.link c.in-Ok.ensures.ok c.args.steps c.run_named-report.result c.args.out.now c.run_named-report.new.out
-    c.in-Ok-alone.first.items (map string_bytes c.deref.result.now) c.in-Ok-alone.ensures (ap (map string_bytes) c.deref.ensures.value ∙ c.in-Ok-module_names.ensures ∙ ap module_names c.exports.ensures) c.run_named-report.ensures in
+    let all = comes_behind g.D.InDir.reads g.D.InDir.gives g.S.Sink.reported g.S.Sink.failed c.args.dir.now
+    c.module_of.new.dir c.run_named-report.new.dir c.in-Ok.link c.in-Ok.ensures.ok c.args.steps
+    c.run_named-report.result c.args.out.now c.run_named-report.new.out
+    c.in-Ok-alone.first.items (map string_bytes c.deref.result.now) c.in-Ok-alone.ensures
+    (ap (map string_bytes) c.deref.ensures.value ∙ c.in-Ok-module_names.ensures ∙ ap module_names c.exports.ensures)
+    c.run_named-report.ensures in
     record {
       report = c.run_named-report.result;
       reads = all.0;

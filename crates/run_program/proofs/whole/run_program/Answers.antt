@@ -5,10 +5,12 @@ pub returns-in-Err-clause-options : goal.returns-in-Err-clause-options
 returns-in-Err-clause-options g c = comes_unbuilt c.args.options c.in-Err.fault c.in-Err.ensures.options
 
 pub returns-in-Err-clause-breaks : goal.returns-in-Err-clause-breaks
-returns-in-Err-clause-breaks g c = unbuilt g.S.Sink.reported g.S.Sink.failed c.args.files.now c.args.options.pages c.args.steps c.args.sink.now c.args.options c.in-Err.fault c.in-Err.ensures.options
+returns-in-Err-clause-breaks g c = unbuilt g.S.Sink.reported g.S.Sink.failed c.args.files.now c.args.options.pages
+    c.args.steps c.args.sink.now c.args.options c.in-Err.fault c.in-Err.ensures.options
 
 pub returns-in-Ok-clause-options : goal.returns-in-Ok-clause-options
-returns-in-Ok-clause-options g c = comes_of_run c.args.options c.in-Ok.ensures.options c.end_of.result c.end_of.ensures.faults
+returns-in-Ok-clause-options g c = comes_of_run c.args.options c.in-Ok.ensures.options c.end_of.result
+    c.end_of.ensures.faults
 
 pub returns-in-Ok-clause-ends : goal.returns-in-Ok-clause-ends
 returns-in-Ok-clause-ends g c = c.end_of.ensures.ends c.args.files.now c.args.options.pages c.in-Ok.ensures.loaded

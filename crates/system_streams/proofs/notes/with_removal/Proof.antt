@@ -41,9 +41,13 @@ use Rattle.system_streams.proofs.notes.with_removal.Code as code
 use Rattle.system_streams.specs.contracts.notes.Notes as made
 
 abbrev stayed : Stays (f.ended).signature.params (f.ended).kept
-stayed = (stay_none_ref (0 ∷ []) tt (plain (λ _. made.the_row)) yes, (stay_none_slice (1 ∷ []) tt (plain (λ _. u8)) yes, (stay_none (λ _. bool) yes, tt)))
+stayed = (
+  stay_none_ref (0 ∷ []) tt (plain (λ _. made.the_row)) yes,
+  (stay_none_slice (1 ∷ []) tt (plain (λ _. u8)) yes, (stay_none (λ _. bool) yes, tt)),
+)
 
-module _ {M : Type 1} {𝓤 : Ura M} (𝓛 : Logic 𝓤) (mem : Memory → SProp 𝓤) (run : Routine → Fun 𝓤) (C : Calls 𝓤 𝓛.H) (Λ : Loops 𝓤 𝓛.H) where
+module _ {M : Type 1} {𝓤 : Ura M} (𝓛 : Logic 𝓤) (mem : Memory → SProp 𝓤) (run : Routine → Fun 𝓤) (C : Calls 𝓤 𝓛.H)
+    (Λ : Loops 𝓤 𝓛.H) where
   open 𝓛 use {H}
 
   module _ (κs : Lfts 2) (qs : Shares 2) (a : Args f.signature κs) where
@@ -65,26 +69,36 @@ module _ {M : Type 1} {𝓤 : Ura M} (𝓛 : Logic 𝓤) (mem : Memory → SProp
     abbrev passed : Fml
     passed = owns (types_at f.signature.params κs) a (notes ∷ [], (name ∷ [], (answer ∷ [], tt)))
 
-    walk : length a.1.0.now < 2 ^ 64 → ent 𝓤 (on_entry 𝓛 f.signature κs qs a (notes ∷ [], (name ∷ [], (answer ∷ [], tt))))
-        (WpFn 𝓤 H C Λ code.function (notes ∷ name ∷ answer ∷ []) ((walk_of 𝓛 f.ended stayed (f.clauses 𝓛 mem run)).post bound))
+    walk : length a.1.0.now < 2 ^ 64 → ent 𝓤
+        (on_entry 𝓛 f.signature κs qs a (notes ∷ [], (name ∷ [], (answer ∷ [], tt))))
+        (WpFn 𝓤 H C Λ code.function (notes ∷ name ∷ answer ∷ [])
+        ((walk_of 𝓛 f.ended stayed (f.clauses 𝓛 mem run)).post bound))
     walk fit =
-        qed 𝓛 (raw (alive 𝓛 f.signature κs qs) ∷ ‵ passed ∷ []) ∵ enter ! C Λ code.function (notes ∷ name ∷ answer ∷ []) _ $
-        alloc_all ! (λ l. pass_all ! refl ((tt, tt), ((tt, (tt, (record { fits = fit }, tt))), ((tt, tt), tt))) $ sets ! (agg ! (no_more !)) refl (tt, tt) $
+        qed 𝓛 (raw (alive 𝓛 f.signature κs qs) ∷ ‵ passed ∷ []) ∵ enter ! C Λ code.function (notes ∷ name ∷ answer ∷ [])
+        _ $
+        alloc_all ! (λ l. pass_all ! refl ((tt, tt), ((tt, (tt, (record { fits = fit }, tt))), ((tt, tt), tt))) $ sets !
+        (agg ! (no_more !)) refl (tt, tt) $
         returns ! (look_at ! 0 refl) $ free_all ! refl $
-        suffices ! _ (ends_at 𝓛 f.ended stayed (f.clauses 𝓛 mem run) bound (vstruct vnil) noted (tt, (tt, (tt, tt))) (tt, (tt, (tt, tt)))) $
-        says ! refl $ pure_i ! (made.the_row.own_val noted (vstruct vnil ∷ [])) ((λ vss. (tt, tt)), tt) ((tt, (refl, tt)), tt) $
+        suffices ! _ (ends_at 𝓛 f.ended stayed (f.clauses 𝓛 mem run) bound (vstruct vnil) noted (tt, (tt, (tt, tt)))
+        (tt, (tt, (tt, tt)))) $
+        says ! refl $ pure_i ! (made.the_row.own_val noted (vstruct vnil ∷ [])) ((λ vss. (tt, tt)), tt)
+        ((tt, (refl, tt)), tt) $
         move ! (1 ∷ 2 ∷ 0 ∷ []) $ done !)
 
   walks : Walks 𝓛 f.ended stayed (WpFn 𝓤 H C Λ code.function) (f.clauses 𝓛 mem run)
   walks =
-      walked 𝓛 f.ended stayed (f.clauses 𝓛 mem run) (WpFn 𝓤 H C Λ code.function) (λ κs. (shr_vals, (shr_slice_vals, (bool_vals, tt))))
+      walked 𝓛 f.ended stayed (f.clauses 𝓛 mem run) (WpFn 𝓤 H C Λ code.function)
+      (λ κs. (shr_vals, (shr_slice_vals, (bool_vals, tt))))
       (λ κs. (shr_Tells (named 0) κs.0 made.the_row, (shr_slice_Tells (named 1) κs.1.0 u8, (bool_Tells, tt))))
       (λ κs qs bounds a g are. via 𝓤 _ (fst∗ 𝓤 _ (emp 𝓤)) (walk κs qs a are.1.0.0.1.0))
 
 meets : {M : Type 1} {𝓤 : Ura M} (𝓛 : Logic 𝓤) (mem : Memory → SProp 𝓤) (run : Routine → Fun 𝓤) (𝓣 : Tables 𝓤 𝓛.H)
     → Meets 𝓛 f.signature (WpFn 𝓤 𝓛.H 𝓣.C 𝓣.Λ code.function) (f.spec 𝓛 mem run)
 meets {𝓤 = 𝓤} 𝓛 mem run 𝓣 =
-    walk_Meets 𝓛 f.ended stayed (Goes-none_ref 𝓛 2 (0 ∷ []) tt (plain (λ _. made.the_row)) yes, (Goes-none_slice 𝓛 2 (1 ∷ []) tt (plain (λ _. u8)) yes, (Goes-none 𝓛 2 (λ _. bool) yes (λ κs x f. refl), tt)))
+    walk_Meets 𝓛 f.ended stayed (
+      Goes-none_ref 𝓛 2 (0 ∷ []) tt (plain (λ _. made.the_row)) yes,
+      (Goes-none_slice 𝓛 2 (1 ∷ []) tt (plain (λ _. u8)) yes, (Goes-none 𝓛 2 (λ _. bool) yes (λ κs x f. refl), tt)),
+    )
     (f.clauses 𝓛 mem run) (WpFn 𝓤 𝓛.H 𝓣.C 𝓣.Λ code.function)
     (WpFn-mono 𝓤 𝓛.H 𝓛.laws 𝓣 code.function) (walks 𝓛 mem run 𝓣.C 𝓣.Λ)
 

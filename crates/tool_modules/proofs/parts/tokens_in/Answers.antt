@@ -12,6 +12,9 @@ pub returns-in-Some : goal.returns-in-Some
 returns-in-Some c =
     let found = c.in-Some.ensures.lookup in
     let files = c.args.files.now in
-    let there : slice_get files c.args.file ≡ Some c.in-Some.file.now = slice_get_read files (length files) c.args.file c.in-Some.file.now refl (ltb-true c.args.file (length files) (sym found.0)) found.1 in
+    let there : slice_get files c.args.file ≡ Some c.in-Some.file.now =
+    slice_get_read files (length files) c.args.file c.in-Some.file.now refl
+    (ltb-true c.args.file (length files) (sym found.0)) found.1 in
     subst (λ (o : Option SourceFile). IfOk c.interface_sum.result (λ sum. IsTokensSum o (string_bytes sum))) (sym there)
-    (subst (λ (bytes : List ℕ). IfOk c.interface_sum.result (λ sum. IsInterfaceSum bytes (string_bytes sum))) c.deref.ensures.value c.interface_sum.ensures)
+    (subst (λ (bytes : List ℕ). IfOk c.interface_sum.result (λ sum. IsInterfaceSum bytes (string_bytes sum)))
+    c.deref.ensures.value c.interface_sum.ensures)

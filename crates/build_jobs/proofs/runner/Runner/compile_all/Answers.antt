@@ -28,6 +28,9 @@ returns g c =
     IfOk-weaker c.run.result _ (λ all. all.items ≡ all_compiled trees graph.files.items (rows graph.jobs.items))
     (λ all h.
     each_compiled trees graph.files.items (rows graph.jobs.items) all.items c.in_ok-jobs.ensures.sound
-    (subst (λ (ts : List (Bor (List ℕ) × Bor Module)). AreResults (rows graph.jobs.items) (Defines (modules_borrowed ts) graph.files.items) all.items) c.modules_of.ensures.trees
-    (subst (λ (fs : List ℕ). AreResults (rows graph.jobs.items) (Defines (modules_borrowed modules.trees.now) fs) all.items) c.modules_of.ensures.files
-    (subst (λ (js : List (Vec ℕ)). AreResults (rows js) (Defines (modules_borrowed modules.trees.now) modules.files.now) all.items) c.modules_of.ensures.jobs h)))) c.run.ensures
+    (subst (λ (ts : List (Bor (List ℕ) × Bor Module)). AreResults (rows graph.jobs.items)
+    (Defines (modules_borrowed ts) graph.files.items) all.items) c.modules_of.ensures.trees
+    (subst (λ (fs : List ℕ). AreResults (rows graph.jobs.items) (Defines (modules_borrowed modules.trees.now) fs)
+    all.items) c.modules_of.ensures.files
+    (subst (λ (js : List (Vec ℕ)). AreResults (rows js) (Defines (modules_borrowed modules.trees.now) modules.files.now)
+    all.items) c.modules_of.ensures.jobs h)))) c.run.ensures
