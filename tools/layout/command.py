@@ -3,13 +3,14 @@ import glob
 import os
 import sys
 
-from . import clauses, files
+from . import clauses, files, proofs
 from .lines import WIDTH
 
 ROOT = os.path.dirname(os.path.dirname(os.path.dirname(os.path.abspath(__file__))))
 PATTERNS = ("crates/*/specs/**/*.antt", "crates/*/src/**/*.rt")
 LAYOUTS = {".antt": files.laid_out, ".rt": clauses.laid_out}
 CHECK = "--check"
+PROOFS = "--proofs"
 
 
 def read(path):
@@ -41,6 +42,8 @@ def long_lines(path, text):
 
 
 def main(words, usage):
+    if words[:1] == [PROOFS] and all(os.path.isdir(f"{ROOT}/crates/{it}") for it in words[1:]):
+        return proofs.main(ROOT, words[1:])
     paths = files_of(words)
     if paths is None:
         print(usage, file=sys.stderr)
