@@ -1,0 +1,12 @@
+pub mod Single
+pub mod Circles
+pub mod Thinning
+pub mod Naming
+pub mod Standing
+pub mod Finding
+pub mod Pairing
+pub mod Linking
+pub mod Counting
+pub mod Alone
+pub mod Passed
+pub mod Accepted
