@@ -1,0 +1,2 @@
+//! Laws alone: other numbers of modules.
+#![tactic(auto)]
