@@ -1,2 +1,0 @@
-//! Laws alone: other numbers of modules.
-#![tactic(auto)]

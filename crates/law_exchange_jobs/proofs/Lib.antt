@@ -1,0 +1,6 @@
+pub mod Extending
+pub mod Matching
+pub mod Jobbing
+pub mod Twins
+pub mod Moving
+pub mod Coming
