@@ -1,0 +1,18 @@
+pub mod Lists
+pub mod Rolled
+pub mod Fusion
+pub mod Numbers
+pub mod Lookups
+pub mod Shaped
+pub mod StmtFusion
+mod Texted
+mod Stored
+mod Signing
+mod Pieces
+mod ExprSeen
+mod Casing
+mod StmtSeen
+mod Addressed
+mod Functioned
+mod Emitting
+pub mod Variants

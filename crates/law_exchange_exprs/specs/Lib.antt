@@ -1,0 +1,4 @@
+pub mod Steps
+pub mod Moving
+pub mod Laws
+pub mod InTurn

@@ -1,0 +1,8 @@
+pub mod Pieces
+pub mod Scopes
+pub mod Constants
+pub mod Trees
+pub mod Values
+pub mod Types
+pub mod Statements
+pub mod Laws
