@@ -270,10 +270,10 @@ module _ (alone others : List Tree) (numbers : List ℕ) (needs : List (List ℕ
 
   module _ (Holds : Module → ℕ → List Compiled → Type 0)
       (moves : (m : Module) (number : ℕ) (needed : List Compiled) → Holds m number needed
-          → compilation_of m (x_alone.there number) (map (moved_compiled x_alone) needed)
-          ≡ moved_compiled x_alone (compilation_of m number needed))
+      → compilation_of m (x_alone.there number) (map (moved_compiled x_alone) needed)
+      ≡ moved_compiled x_alone (compilation_of m number needed))
       (holds : (j : ℕ) (m : Module) → slice_get (given_trees alone) (slice_index_or numbers j 0) ≡ Some m
-          → Holds m j (needed_of (given_trees alone) numbers needs j)) where
+      → Holds m j (needed_of (given_trees alone) numbers needs j)) where
     pub alone_where : comes_of others other_jobs other_place
         ≡ option_map (moved_compiled x_alone) (result_at alone numbers needs place)
     alone_where = comes_where (with_stands alone) others jobs_alone other_jobs place other_place root shared_alone

@@ -1,0 +1,10 @@
+pub mod Around
+pub mod Control
+pub mod Entering
+pub mod Labelled
+pub mod Labels
+pub mod Meant
+pub mod Pieces
+pub mod Points
+pub mod Simple
+pub mod Statements

@@ -1,0 +1,2 @@
+pub mod MovedStatements
+pub mod Laws
