@@ -6,7 +6,7 @@ pub mod Lookups
 pub mod Shaped
 pub mod StmtFusion
 mod Texted
-mod Stored
+pub mod Stored
 mod Signing
 mod Pieces
 mod ExprSeen
@@ -14,5 +14,5 @@ mod Casing
 mod StmtSeen
 mod Addressed
 mod Functioned
-mod Emitting
+pub mod Emitting
 pub mod Variants

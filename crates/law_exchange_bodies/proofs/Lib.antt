@@ -1,0 +1,15 @@
+pub mod Agreeing
+pub mod Bodies
+pub mod Checked
+pub mod Declarations
+pub mod Declaring
+pub mod Headings
+pub mod Imports
+pub mod Inner
+pub mod Inside
+pub mod Naming
+pub mod Own
+pub mod Pieces
+pub mod Predeclared
+pub mod Routines
+pub mod Whole
