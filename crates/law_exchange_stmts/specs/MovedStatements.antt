@@ -14,8 +14,11 @@ module _ (x : Exchange) where
       record { gives = option_map (map_ok (moved_type x)) w.gives; in_loop = w.in_loop }
 
   abbrev pub moved_control : Control → Control
-  moved_control c =
-      record { «of» = moved_type x c.«of»; base = moved_type x c.base; place = moved_place x c.place }
+  moved_control c = record {
+    «of» = moved_type x c.«of»;
+    base = moved_type x c.base;
+    place = moved_place x c.place;
+  }
 
   abbrev pub moved_course : Course → Course
   moved_course c = record {

@@ -16,6 +16,8 @@ ghost use Rattle.law_exchange_stmts.specs.Laws.{StatementMoves, RestMoves, State
 
 /// Statements, what follows the first part of an IF, lists of statements, and the arms of a CASE.
 pub fn statement_laws()
-    ensures every_rule { StatementMoves every × RestMoves every × StatementsMove every × ArmsMove every }
-    ensures least_rule { StatementMoves least × RestMoves least × StatementsMove least × ArmsMove least }
+    ensures every_rule { StatementMoves every × RestMoves every × StatementsMove every
+        × ArmsMove every }
+    ensures least_rule { StatementMoves least × RestMoves least × StatementsMove least
+        × ArmsMove least }
 {}
