@@ -9,7 +9,8 @@ use Rattle.typed_tree.specs.declared.computed.TypedExpr.{TypedExpr, TypedExpr-F,
 use Rattle.def_exchange.specs.Moved.{Exchange}
 use Rattle.def_exchange.specs.MovedTrees.{moved_called, argument_moved, call_moved, component_moved, link_moved, expr_moved, place_moved}
 pub use Rattle.def_exchange.specs.MovedTrees.{moved_root}
-unfoldable pub use Rattle.def_exchange.specs.MovedTrees.{moved_argument, moved_call, moved_component, moved_link, moved_expr, moved_place}
+unfoldable pub use Rattle.def_exchange.specs.MovedTrees.{moved_argument, moved_call, moved_component}
+unfoldable pub use Rattle.def_exchange.specs.MovedTrees.{moved_link, moved_expr, moved_place}
 
 module _ (x : Exchange) where
   abbrev pub moved_inner : LocalProcedure → LocalProcedure
