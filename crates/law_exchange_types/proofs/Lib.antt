@@ -37,5 +37,3 @@ pub mod Suits
 pub mod Trees
 pub mod Types
 pub mod Valued
-pub mod Statements
-pub mod Effects

@@ -1,30 +1,24 @@
 -- The checker answers the same with other numbers of modules.
-use Rattle.std.specs.Prelude.{◌≡◌, ℕ, List, map, Result}
-use Rattle.m2_tree.specs.declared.pos.Pos.{Pos}
+use Rattle.std.specs.Prelude.{◌≡◌, ℕ, List, map}
 use Rattle.m2_tree.specs.declared.name.Ident.{Ident}
 use Rattle.m2_tree.specs.declared.expr.Expr.{Expr}
 use Rattle.m2_tree.specs.declared.decl.TypeExpr.{TypeExpr}
 use Rattle.m2_tree.specs.declared.decl.Heading.{Heading}
 use Rattle.m2_tree.specs.declared.decl.Module.{Module}
-use Rattle.typed_tree.specs.declared.known_types.Types.{Types}
 use Rattle.typed_tree.specs.declared.table.Table.{Table}
 use Rattle.check_scope.specs.Elaborated.{least}
 use Rattle.check_scope.specs.declared.scope.Scope.{Scope}
 use Rattle.check_scope.specs.Scopes.{looked_up}
 use Rattle.check_const.specs.Parts.{constant}
-use Rattle.check_value.specs.declared.computed.Computed.{Computed}
-use Rattle.check_value.specs.declared.effect.Target.{Target}
-use Rattle.check_value.specs.Effects.{assignment_of}
 use Rattle.check_expr.specs.Meanings.{meanings_of, part}
 use Rattle.check_type_expr.specs.Headings.{heading_of}
 use Rattle.check_type_expr.specs.Made.{type_of}
 use Rattle.check_definition.specs.Predeclared.{console}
 use Rattle.check_definition.specs.Compiled.{definition_table}
-use Rattle.def_exchange.specs.Moved.{Exchange, moved_type, moved_made, moved_types, moved_value, moved_meaning, moved_table}
+use Rattle.def_exchange.specs.Moved.{Exchange, moved_type, moved_made, moved_value, moved_meaning, moved_table}
 use Rattle.law_exchange_types.specs.Pieces.{map_ok}
 use Rattle.law_exchange_types.specs.Scopes.{moved_scope, moved_state_of}
-use Rattle.law_exchange_types.specs.Values.{moved_computed, moved_designated}
-use Rattle.law_exchange_types.specs.Statements.{moved_stmt, moved_target}
+use Rattle.law_exchange_types.specs.Values.{moved_designated}
 
 abbrev pub NamesMove : Type 0
 NamesMove =
@@ -42,15 +36,6 @@ ExpressionsMove =
     (x : Exchange) (s : Scope (least).Reported) (e : Expr)
     → (meanings_of least e).means (moved_scope x s)
     ≡ map_ok (moved_designated x) ((meanings_of least e).means s)
-
--- what assignments are
-abbrev pub AssignmentsMove : Type 0
-AssignmentsMove =
-    (x : Exchange) (types : Types) (left : Result Target (least).Reported) (at : Pos)
-    (value : Result Computed (least).Reported)
-    → assignment_of least (moved_types x types) (map_ok (moved_target x) left) at
-    (map_ok (moved_computed x) value)
-    ≡ map_ok (moved_stmt x) (assignment_of least types left at value)
 
 -- a type that is made has the number of the module, which moves too
 abbrev pub TypesMove : Type 0

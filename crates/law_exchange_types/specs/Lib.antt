@@ -4,5 +4,4 @@ pub mod Constants
 pub mod Trees
 pub mod Values
 pub mod Types
-pub mod Statements
 pub mod Laws

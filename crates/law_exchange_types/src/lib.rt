@@ -11,14 +11,13 @@
 //!   marks and imports, and `Defs` the table of a definition.
 #![tactic(auto)]
 
-ghost use Rattle.law_exchange_types.specs.Laws.{NamesMove, ConstantsMove, ExpressionsMove, AssignmentsMove, TypesMove, HeadingsMove, DefinitionsMove};
+ghost use Rattle.law_exchange_types.specs.Laws.{NamesMove, ConstantsMove, ExpressionsMove, TypesMove, HeadingsMove, DefinitionsMove};
 
-/// What names and expressions mean, and what assignments are.
+/// What names and expressions mean.
 pub fn expression_laws()
     ensures names { NamesMove }
     ensures constants { ConstantsMove }
     ensures expressions { ExpressionsMove }
-    ensures assignments { AssignmentsMove }
 {}
 
 /// Types that are written, headings, and the table of a definition. The number of Console stays, since its table is the checker's
