@@ -19,9 +19,11 @@ use Rattle.check_block.specs.Nesting.{decl_layer, block_layer, append_names, wit
 abbrev Counts : Type 0
 Counts = List ℕ
 
-at : (d : Decl) (x : Decl-F Decl Block) → out-Decl d ≡ x → within_decl d ≡ decl_layer (map-Decl Decl Block Counts Counts within_decl within x)
+at : (d : Decl) (x : Decl-F Decl Block) → out-Decl d ≡ x
+    → within_decl d ≡ decl_layer (map-Decl Decl Block Counts Counts within_decl within x)
 unfolding within_decl within
-at d x h = fold_out-Decl Counts Counts decl_layer block_layer d ∙ ap (λ (y : Decl-F Decl Block). decl_layer (map-Decl Decl Block Counts Counts within_decl within y)) h
+at d x h = fold_out-Decl Counts Counts decl_layer block_layer d
+    ∙ ap (λ (y : Decl-F Decl Block). decl_layer (map-Decl Decl Block Counts Counts within_decl within y)) h
 
 within_Constants : (cs : List Constant) → within_decl (decl.Constants cs) ≡ []
 within_Constants cs = at (decl.Constants cs) (layer.Constants cs) (decl.outs-Constants cs)
@@ -40,7 +42,8 @@ and_within so d = so ++ within_decl d
 
 within_block : (b : Block) → within b ≡ fold and_within [] (out-Block b).decls
 unfolding within_decl within
-within_block b = fold_out-Block Counts Counts decl_layer block_layer b ∙ fold-map append_names within_decl [] (out-Block b).decls
+within_block b = fold_out-Block Counts Counts decl_layer block_layer b
+    ∙ fold-map append_names within_decl [] (out-Block b).decls
 
 -- ---- numbers
 
@@ -48,21 +51,25 @@ ends_append : (n : ℕ) (xs ys : List ℕ) → ends_from n (xs ++ ys) ≡ ends_f
 ends_append n [] ys = let e : n + 0 ≡ n = omega arith in ap (λ (m : ℕ). ends_from m ys) (sym e)
 ends_append n (x ∷ xs) ys =
     let e : n + 1 + length xs ≡ n + suc (length xs) = omega arith in
-    ap (λ (r : List ℕ). (n + 1 + x) ∷ r) (ends_append (n + 1) xs ys ∙ ap (λ (m : ℕ). ends_from (n + 1) xs ++ ends_from m ys) e)
+    ap (λ (r : List ℕ). (n + 1 + x) ∷ r) (ends_append (n + 1) xs ys
+    ∙ ap (λ (m : ℕ). ends_from (n + 1) xs ++ ends_from m ys) e)
 
 ends_length : (n : ℕ) (xs : List ℕ) → length (ends_from n xs) ≡ length xs
 ends_length n [] = refl
 ends_length n (x ∷ xs) = ap suc (ends_length (n + 1) xs)
 
 -- one more declaration
-ends_more : (so ks ls : List ℕ) → (so ++ ends_from (length so) ks) ++ ends_from (length (so ++ ends_from (length so) ks)) ls ≡ so ++ ends_from (length so) (ks ++ ls)
+ends_more : (so ks ls : List ℕ) → (so ++ ends_from (length so) ks)
+    ++ ends_from (length (so ++ ends_from (length so) ks)) ls ≡ so ++ ends_from (length so) (ks ++ ls)
 ends_more so ks ls =
-    let long : length (so ++ ends_from (length so) ks) ≡ length so + length ks = length-append so (ends_from (length so) ks) ∙ ap (λ (n : ℕ). length so + n) (ends_length (length so) ks) in
+    let long : length (so ++ ends_from (length so) ks) ≡ length so + length ks =
+    length-append so (ends_from (length so) ks) ∙ ap (λ (n : ℕ). length so + n) (ends_length (length so) ks) in
     ap (λ (n : ℕ). (so ++ ends_from (length so) ks) ++ ends_from n ls) long
     ∙ append_assoc so (ends_from (length so) ks) (ends_from (length so + length ks) ls)
     ∙ ap (λ (r : List ℕ). so ++ r) (sym (ends_append (length so) ks ls))
 
-ends_folded : (so ks : List ℕ) (ds : List Decl) → fold with_ends_within (so ++ ends_from (length so) ks) ds ≡ so ++ ends_from (length so) (fold and_within ks ds)
+ends_folded : (so ks : List ℕ) (ds : List Decl)
+    → fold with_ends_within (so ++ ends_from (length so) ks) ds ≡ so ++ ends_from (length so) (fold and_within ks ds)
 ends_folded so ks [] = refl
 ends_folded so ks (d ∷ ds) =
     ap (λ (r : List ℕ). fold with_ends_within r ds) (ends_more so ks (within_decl d))
@@ -98,19 +105,24 @@ set_at (o ∷ old) more x y = ap (λ (r : List ℕ). o ∷ r) (set_at old more x
 whole : (so : List ℕ) (b : Block) → with_ends (so ++ 0 ∷ []) b ≡ so ++ 0 ∷ ends_from (length so + 1) (within b)
 whole so b =
     let long : length (so ++ 0 ∷ []) ≡ length so + 1 = length-append so (0 ∷ []) in
-    ap (λ (n : ℕ). (so ++ 0 ∷ []) ++ ends_from n (within b)) long ∙ append_assoc so (0 ∷ []) (ends_from (length so + 1) (within b))
+    ap (λ (n : ℕ). (so ++ 0 ∷ []) ++ ends_from n (within b)) long
+    ∙ append_assoc so (0 ∷ []) (ends_from (length so + 1) (within b))
 
 pub ends_set : (so mid new end : List ℕ) (place last : ℕ) (d : Decl) (h : Heading) (b held : Block) (ds : List Decl)
     → d ≡ decl.Procedure h b → held ≡ b → ds ≡ (out-Block held).decls
-    → place ≡ length so → mid ≡ so ++ 0 ∷ [] → new ≡ fold with_ends_within mid ds → last ≡ length new → end ≡ slice_set new place last
+    → place ≡ length so → mid ≡ so ++ 0 ∷ [] → new ≡ fold with_ends_within mid ds → last ≡ length new
+    → end ≡ slice_set new place last
     → end ≡ with_ends_within so d
 ends_set so mid new end place last d h b held ds i j k p m n l e =
     let r : List ℕ = ends_from (length so + 1) (within b) in
     let same : ds ≡ (out-Block b).decls = k ∙ ap (λ (x : Block). (out-Block x).decls) j in
-    let all : new ≡ so ++ 0 ∷ r = n ∙ ap (λ (x : List Decl). fold with_ends_within mid x) same ∙ ap (λ (x : List ℕ). fold with_ends_within x (out-Block b).decls) m ∙ ends_block (so ++ 0 ∷ []) b ∙ whole so b in
+    let all : new ≡ so ++ 0 ∷ r = n ∙ ap (λ (x : List Decl). fold with_ends_within mid x) same
+    ∙ ap (λ (x : List ℕ). fold with_ends_within x (out-Block b).decls) m ∙ ends_block (so ++ 0 ∷ []) b
+    ∙ whole so b in
     let sum : length so + suc (length (within b)) ≡ length so + 1 + length (within b) = omega arith in
     let long : length new ≡ length so + 1 + length (within b) =
-    ap length all ∙ length-append so (0 ∷ r) ∙ ap (λ (x : ℕ). length so + suc x) (ends_length (length so + 1) (within b)) ∙ sum in
+    ap length all ∙ length-append so (0 ∷ r)
+    ∙ ap (λ (x : ℕ). length so + suc x) (ends_length (length so + 1) (within b)) ∙ sum in
     e ∙ ap (λ (x : ℕ). slice_set new x last) p ∙ ap (λ (x : ℕ). slice_set new (length so) x) (l ∙ long)
     ∙ ap (λ (x : List ℕ). slice_set x (length so) (length so + 1 + length (within b))) all
     ∙ set_at so r 0 (length so + 1 + length (within b))
@@ -118,10 +130,12 @@ ends_set so mid new end place last d h b held ds i j k p m n l e =
     ∙ sym (ap (λ (x : Decl). with_ends_within so x) i)
 
 -- the list only grows
-ends_grown : (so : List ℕ) (ds : List Decl) → fold with_ends_within so ds ≡ so ++ ends_from (length so) (fold and_within [] ds)
+ends_grown : (so : List ℕ) (ds : List Decl)
+    → fold with_ends_within so ds ≡ so ++ ends_from (length so) (fold and_within [] ds)
 ends_grown so ds = ap (λ (r : List ℕ). fold with_ends_within r ds) (sym (append-nil so)) ∙ ends_folded so [] ds
 
-pub ends_reach : (so mid new : List ℕ) (place : ℕ) (ds : List Decl) → place ≡ length so → mid ≡ so ++ 0 ∷ [] → new ≡ fold with_ends_within mid ds → place < length new
+pub ends_reach : (so mid new : List ℕ) (place : ℕ) (ds : List Decl) → place ≡ length so → mid ≡ so ++ 0 ∷ []
+    → new ≡ fold with_ends_within mid ds → place < length new
 ends_reach so mid new place ds p m n =
     let r : List ℕ = ends_from (length mid) (fold and_within [] ds) in
     let long : length new ≡ length mid + length r = ap length (n ∙ ends_grown mid ds) ∙ length-append mid r in
@@ -129,7 +143,8 @@ ends_reach so mid new place ds p m n =
     omega (arith, p, long, first)
 
 pub ends_decl : (so new : List ℕ) (d : Decl) (h : Heading) (b held : Block) (ds : List Decl)
-    → d ≡ decl.Procedure h b → held ≡ b → ds ≡ (out-Block held).decls → new ≡ fold with_ends_within so ds → new ≡ with_decl_ends so d
+    → d ≡ decl.Procedure h b → held ≡ b → ds ≡ (out-Block held).decls → new ≡ fold with_ends_within so ds
+    → new ≡ with_decl_ends so d
 ends_decl so new d h b held ds i j k n =
     n ∙ ap (λ (x : List Decl). fold with_ends_within so x) (k ∙ ap (λ (x : Block). (out-Block x).decls) j)
     ∙ ends_block so b

@@ -7,10 +7,16 @@ use Rattle.check_block.specs.Inner.{split_last, pop_block}
 
 pub split_push : {A : Type 0} (xs : List A) (x : A) → split_last (xs ++ x ∷ []) ≡ Some (xs, x)
 split_push [] x = refl
-split_push {A = A} (y ∷ xs) x = ap (λ (o : Option (List A × A)). elim o [ None ↦ Some ([], y) | Some p ↦ Some (y ∷ p.0, p.1) ]) (split_push xs x)
+split_push {A = A} (y ∷ xs) x = ap (λ (o : Option (List A × A)). elim o
+    [ None ↦ Some ([], y) | Some p ↦ Some (y ∷ p.0, p.1) ]) (split_push xs x)
 
-pub pop_some : (old new : List (Block Breach)) (b : Block Breach) → old ≡ new ++ b ∷ [] → (new, b.names) ≡ pop_block (split_last old)
-pop_some old new b e = sym (ap (λ (bs : List (Block Breach)). pop_block (split_last bs)) e ∙ ap (pop_block {T = Breach}) (split_push new b))
+pub pop_some : (old new : List (Block Breach)) (b : Block Breach) → old ≡ new ++ b ∷ []
+    → (new, b.names) ≡ pop_block (split_last old)
+pop_some old new b e = sym (ap (λ (bs : List (Block Breach)). pop_block (split_last bs)) e
+    ∙ ap (pop_block {T = Breach}) (split_push new b))
 
-pub pop_none : (old new : List (Block Breach)) (names : List (List ℕ × Known Breach)) → old ≡ [] → new ≡ [] → names ≡ [] → (new, names) ≡ pop_block (split_last old)
-pop_none old new names e n k = ap (λ (bs : List (Block Breach)). (bs, names)) n ∙ ap (λ (ns : List (List ℕ × Known Breach)). ([], ns)) k ∙ sym (ap (λ (bs : List (Block Breach)). pop_block (split_last bs)) e)
+pub pop_none : (old new : List (Block Breach)) (names : List (List ℕ × Known Breach)) → old ≡ [] → new ≡ [] → names ≡ []
+    → (new, names) ≡ pop_block (split_last old)
+pop_none old new names e n k = ap (λ (bs : List (Block Breach)). (bs, names)) n
+    ∙ ap (λ (ns : List (List ℕ × Known Breach)). ([], ns)) k
+    ∙ sym (ap (λ (bs : List (Block Breach)). pop_block (split_last bs)) e)

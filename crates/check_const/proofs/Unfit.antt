@@ -11,7 +11,8 @@ use Rattle.check_scope.specs.Elaborated.{least, report}
 use Rattle.check_const.specs.Operands.{number_value}
 use Rattle.check_const.specs.Numbers.{fits, number_at}
 
-not_between : (l n h : ℤ) → FitsSigned w64 l → FitsSigned w64 h → ¬ FitsSigned w64 n → (int_le l n && int_le n h) ≡ false
+not_between : (l n h : ℤ) → FitsSigned w64 l → FitsSigned w64 h → ¬ FitsSigned w64 n
+    → (int_le l n && int_le n h) ≡ false
 not_between l n h p q none = grind (arith, ints, none)
 
 no_integer : (n : ℤ) → ¬ FitsSigned w64 n → (int_le (negsuc 2147483647) n && int_le n (pos 2147483647)) ≡ false
@@ -34,7 +35,10 @@ unfit (Some t) n none = either (is_integer t) _ _ (no_integer n none) (no_cardin
 pub no_fit : (E : ℤ → ℤ → ℤ) (x y : ℤ) → FitsSigned w64 x → FitsSigned w64 y
     → ¬ FitsSigned w64 (E (to_z w64 (of_z w64 x)) (to_z w64 (of_z w64 y))) → ¬ FitsSigned w64 (E x y)
 no_fit E x y p q h =
-    subst (λ (n : ℤ). ¬ FitsSigned w64 (E n y)) (to_z-of_z w64 x p) (subst (λ (n : ℤ). ¬ FitsSigned w64 (E (to_z w64 (of_z w64 x)) n)) (to_z-of_z w64 y q) h)
+    subst (λ (n : ℤ). ¬ FitsSigned w64 (E n y)) (to_z-of_z w64 x p)
+    (subst (λ (n : ℤ). ¬ FitsSigned w64 (E (to_z w64 (of_z w64 x)) n)) (to_z-of_z w64 y q) h)
 
-pub reported_of : (at : Pos) (sort : Option TypeNo) (n : ℤ) → ¬ FitsSigned w64 n → number_at least at sort n ≡ report least at rule.OutOfRange
-reported_of at sort n none = ap (λ (b : Bool). cond (not b) (report least at rule.OutOfRange) (Ok (number_value sort n))) (unfit sort n none)
+pub reported_of : (at : Pos) (sort : Option TypeNo) (n : ℤ) → ¬ FitsSigned w64 n
+    → number_at least at sort n ≡ report least at rule.OutOfRange
+reported_of at sort n none = ap (λ (b : Bool). cond (not b) (report least at rule.OutOfRange)
+    (Ok (number_value sort n))) (unfit sort n none)

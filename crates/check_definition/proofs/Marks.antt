@@ -27,15 +27,19 @@ module _ (s : Scope Breach) where
   pub marks_Simple : (t : Simple) → marked_in (type.Simple t) s ≡ marked_simple t s
   marks_Simple t = at s (type.Simple t) (layer.Simple t) (type.outs-Simple t)
 
-  pub marks_Array : (p : Pos) (i : Simple) (of : TypeExpr) → marked_in (type.Array p i of) s ≡ marked_in of (marked_simple i s)
+  pub marks_Array : (p : Pos) (i : Simple) (of : TypeExpr)
+      → marked_in (type.Array p i of) s ≡ marked_in of (marked_simple i s)
   marks_Array p i of = at s (type.Array p i of) (layer.Array p i of) (type.outs-Array p i of)
 
   pub marks_Record : (p : Pos) (fs : List Field) → marked_in (type.Record p fs) s ≡ fold marked_with_field s fs
-  marks_Record p fs = at s (type.Record p fs) (layer.Record p fs) (type.outs-Record p fs) ∙ fold-map then_marks marked_field s fs
+  marks_Record p fs = at s (type.Record p fs) (layer.Record p fs) (type.outs-Record p fs)
+      ∙ fold-map then_marks marked_field s fs
 
   pub marks_Procedure : (p : Pos) (ps : List Parameter) (r : Option Qualified) → marked_in (type.Procedure p ps r) s ≡ s
-  marks_Procedure p ps None = at s (type.Procedure p ps None) (layer.Procedure p ps None) (type.outs-Procedure p ps None)
-  marks_Procedure p ps (Some q) = at s (type.Procedure p ps (Some q)) (layer.Procedure p ps (Some q)) (type.outs-Procedure p ps (Some q))
+  marks_Procedure p ps None = at s (type.Procedure p ps None) (layer.Procedure p ps None)
+      (type.outs-Procedure p ps None)
+  marks_Procedure p ps (Some q) = at s (type.Procedure p ps (Some q)) (layer.Procedure p ps (Some q))
+      (type.outs-Procedure p ps (Some q))
 
   pub marks_field : (f : Field) → marked_field f s ≡ marked_in (out-Field f).of s
   unfolding marked_in marked_field

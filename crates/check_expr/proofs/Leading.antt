@@ -15,12 +15,15 @@ use Rattle.check_value.specs.Values.{designated_by}
 use Rattle.check_expr.specs.Meanings.{first_name, leading_meaning, leading_name}
 
 module _ (g : Gathers) (s : Scope g.Reported) (name : Ident) where
-  pub leading_mapped : {X Y : Type 0} (f : X → Y) (xs : List X) → leading_name g s name (map f xs) ≡ leading_name g s name xs
+  pub leading_mapped : {X Y : Type 0} (f : X → Y) (xs : List X)
+      → leading_name g s name (map f xs) ≡ leading_name g s name xs
   leading_mapped f [] = refl
   leading_mapped f (x ∷ xs) = refl
 
-  module _ (P : Result Designated (Meaningless g.Reported) → Type 0) (nothing : (e : Meaningless g.Reported) → P (Err e)) where
-    by_meaning : (m : Meaning) → P (plain (designated_by g s.level name.pos m)) → P (leading_meaning g s.level name.pos m)
+  module _ (P : Result Designated (Meaningless g.Reported) → Type 0)
+      (nothing : (e : Meaningless g.Reported) → P (Err e)) where
+    by_meaning : (m : Meaning) → P (plain (designated_by g s.level name.pos m))
+        → P (leading_meaning g s.level name.pos m)
     by_meaning (meaning.Constant v) p = p
     by_meaning (meaning.Type t n) p = p
     by_meaning (meaning.Variable v) p = p
@@ -32,7 +35,8 @@ module _ (g : Gathers) (s : Scope g.Reported) (name : Ident) where
     by_meaning (meaning.Standard f) p = p
     by_meaning (meaning.Module k) p = p
 
-    by_look : (r : Result Meaning (Meaningless g.Reported)) → P (r ▷ λ m. plain (designated_by g s.level name.pos m)) → P (r ▷ leading_meaning g s.level name.pos)
+    by_look : (r : Result Meaning (Meaningless g.Reported)) → P (r ▷ λ m. plain (designated_by g s.level name.pos m))
+        → P (r ▷ leading_meaning g s.level name.pos)
     by_look (Ok m) p = by_meaning m p
     by_look (Err e) p = p
 

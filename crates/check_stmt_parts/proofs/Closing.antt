@@ -11,4 +11,5 @@ front_push (y ∷ []) x = refl
 front_push (y ∷ z ∷ xs) x = ap (λ ys. y ∷ ys) (front_push (z ∷ xs) x)
 
 pub closed_opened : {T : Type 0} (s : Scope T) (t : TypeNo) → out_of_record (into_record s t) ≡ s
-closed_opened s t = ap (λ (xs : List OpenedRecord). record s { withs = xs }) (front_push s.withs (record { number = length s.withs; of = t }))
+closed_opened s t = ap (λ (xs : List OpenedRecord). record s { withs = xs })
+    (front_push s.withs (record { number = length s.withs; of = t }))

@@ -9,7 +9,8 @@ use Rattle.check_stmt_parts.specs.declared.ranges.Point.{Point}
 use Rattle.check_stmt_parts.specs.Ranges.{point_cmp, is_below, is_at_most}
 
 pub points_total : IsTotalOrder point_cmp
-points_total = then_total (on_total (λ (p : Point). p.home) (options_total nat_cmp_total)) (then_total (on_total (λ (p : Point). p.place) nat_cmp_total) (on_total (λ (p : Point). p.number) int_cmp_total))
+points_total = then_total (on_total (λ (p : Point). p.home) (options_total nat_cmp_total))
+    (then_total (on_total (λ (p : Point). p.place) nat_cmp_total) (on_total (λ (p : Point). p.number) int_cmp_total))
 
 less_of : (o : Ordering) → is_lt o ≡ true → o ≡ Less
 less_of Less h = refl
@@ -35,7 +36,8 @@ flipped a b = le_reversed (point_cmp a b) ∙ ap (λ (o : Ordering). not (is_lt 
 pub chain : (a b c : Point) → is_below a b ≡ true → is_below b c ≡ true → is_below a c ≡ true
 chain a b c h k = ap is_lt (points_total.trans a b c (less_of (point_cmp a b) h) (less_of (point_cmp b c) k))
 
-below_by : (a b c : Point) (o : Ordering) → point_cmp b c ≡ o → is_le o ≡ true → is_below a b ≡ true → is_below a c ≡ true
+below_by : (a b c : Point) (o : Ordering) → point_cmp b c ≡ o → is_le o ≡ true → is_below a b ≡ true
+    → is_below a c ≡ true
 below_by a b c Less e h k = ap is_lt (points_total.trans a b c (less_of (point_cmp a b) k) e)
 below_by a b c Equal e h k = ap is_lt (sym (alike_right points_total b c a e)) ∙ k
 below_by a b c Greater e h k = absurd (cc h)
@@ -43,7 +45,8 @@ below_by a b c Greater e h k = absurd (cc h)
 pub below_end : (a b c : Point) → is_below a b ≡ true → is_at_most b c ≡ true → is_below a c ≡ true
 below_end a b c h k = below_by a b c (point_cmp b c) refl k h
 
-at_most_by : (a b c : Point) (o : Ordering) → point_cmp a b ≡ o → is_le o ≡ true → is_at_most b c ≡ true → is_at_most a c ≡ true
+at_most_by : (a b c : Point) (o : Ordering) → point_cmp a b ≡ o → is_le o ≡ true → is_at_most b c ≡ true
+    → is_at_most a c ≡ true
 at_most_by a b c Less e h k = weaker a c (below_end a b c (ap is_lt e) k)
 at_most_by a b c Equal e h k = ap is_le (points_total.congr a b c e) ∙ k
 at_most_by a b c Greater e h k = absurd (cc h)

@@ -9,8 +9,10 @@ use Rattle.check_const.specs.declared.operand.Ordinal.{Ordinal}
 use Rattle.check_expr.specs.Meanings.{Meant}
 use Rattle.check_stmt_parts.specs.Labels.{bound_of, label_range, label_between}
 
-pub range_is : (s : Scope Breach) (base : Option TypeNo) (low high : Meant Breach) (at at' : Pos) (first last : Result (Option Ordinal) Breach)
-    → at ≡ low.fixed.at → at' ≡ high.fixed.at → first ≡ bound_of least s base at low → last ≡ bound_of least s base at high
+pub range_is : (s : Scope Breach) (base : Option TypeNo) (low high : Meant Breach) (at at' : Pos)
+    (first last : Result (Option Ordinal) Breach)
+    → at ≡ low.fixed.at → at' ≡ high.fixed.at → first ≡ bound_of least s base at low
+    → last ≡ bound_of least s base at high
     → label_range least base at first at' last ≡ label_between least s base low (Some high)
 range_is s base low high at at' first last p q f l =
     ap (λ x. label_range least base at x at' last) f

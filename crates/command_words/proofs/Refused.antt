@@ -17,5 +17,6 @@ too_large (c ∷ cs) most small unfit true e = absurd (unfit (omega arith, grind
 pub refused : {E : Type 0} → (bs : List ℕ) (most : ℕ) (e : E) → ParsesUnsigned 64 10 bs (Err e) → most < 2 ^ 64
     → list_all is_ascii_digit bs ≡ true → None ≡ number_of bs most
 refused bs most e h small digits =
-    let unfit : (0 < length bs) × (digits_value 10 bs < 2 ^ 64) → ⊥ = parse_digits (numerals_by_value (λ ds. list_all is_ascii_digit ds ≡ true) (search rules)) 64 bs (Err e) h digits
+    let unfit : (0 < length bs) × (digits_value 10 bs < 2 ^ 64) → ⊥ =
+    parse_digits (numerals_by_value (λ ds. list_all is_ascii_digit ds ≡ true) (search rules)) 64 bs (Err e) h digits
     in rw (digits, too_large bs most small unfit _ refl) refl

@@ -6,7 +6,8 @@ use Rattle.def_grammar.specs.Grammar.{El}
 use Rattle.def_grammar.specs.Spelling.{Spells, made, pair, left, right, absent, there_is}
 use Rattle.def_grammar.specs.Factored.{plain_shape, plain_factor, plain_tree, IsPlainFactor, IsFactor}
 
-regroup : {y : El plain_shape} (ts us vs : List Token) → Spells plain_shape plain_factor y ((ts ++ us) ++ vs) → Spells plain_shape plain_factor y (ts ++ (us ++ vs))
+regroup : {y : El plain_shape} (ts us vs : List Token) → Spells plain_shape plain_factor y ((ts ++ us) ++ vs)
+    → Spells plain_shape plain_factor y (ts ++ (us ++ vs))
 regroup {y} ts us vs p = subst (λ (ws : List Token). Spells plain_shape plain_factor y ws) (append_assoc ts us vs) p
 
 ungroup : {x : Expr} (ts us vs : List Token) → IsFactor x (ts ++ (us ++ vs)) → IsFactor x ((ts ++ us) ++ vs)

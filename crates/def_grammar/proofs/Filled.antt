@@ -43,13 +43,19 @@ pub record Filled {a : Ty} (g : Gr a) : Type 0 where
 fill_rule : {r : Rule} → Filled (grammar r).form → Filled (rule r)
 fill_rule {r} f = record { value = tree r f.value; text = f.text; spelt = made f.spelt }
 
-either_empty : {a b : Ty} (g : Gr a) (h : Gr b) → (nullable g ≡ true) ⊎ (nullable h ≡ true) → (nullable g ≡ true → (x : El a) × Spells a g x []) → (nullable h ≡ true → (y : El b) × Spells b h y [])
+either_empty : {a b : Ty} (g : Gr a) (h : Gr b) → (nullable g ≡ true) ⊎ (nullable h ≡ true)
+    → (nullable g ≡ true → (x : El a) × Spells a g x []) → (nullable h ≡ true → (y : El b) × Spells b h y [])
     → (z : El (either a b)) × Spells (either a b) (g ∣ h) z []
 either_empty g h (inl e) f s = let x = f e in (inl x.0, left x.1)
 either_empty g h (inr e) f s = let y = s e in (inr y.0, right y.1)
 
 f_tok : {k : Kind} {ks : List Kind} → Filled (tok k ks)
-f_tok {k} {ks} = record { value = token_of k; text = token_of k ∷ []; spelt = one (subst (λ (j : Kind). Among j (k ∷ ks)) (sym (kind_token k)) here) }
+f_tok {k} {ks} = record {
+  value = token_of k;
+  text = token_of k ∷ [];
+  spelt =
+      one (subst (λ (j : Kind). Among j (k ∷ ks)) (sym (kind_token k)) here);
+}
 
 f_pair : {a b : Ty} {g : Gr a} {h : Gr b} → Filled g → Filled h → Filled (g · h)
 f_pair f s = record { value = (f.value, s.value); text = f.text ++ s.text; spelt = pair f.spelt s.spelt }
@@ -61,7 +67,12 @@ f_before : {a : Ty} {k : Kind} {g : Gr a} → Filled g → Filled (lead k g)
 f_before {k = k} f = record { value = f.value; text = token_of k ∷ f.text; spelt = before (kind_token k) f.spelt }
 
 f_behind : {a : Ty} {g : Gr a} {k : Kind} → Filled g → Filled (trail g k)
-f_behind {k = k} f = record { value = f.value; text = f.text ++ token_of k ∷ []; spelt = behind (token_of k) f.spelt (kind_token k) }
+f_behind {k = k} f = record {
+  value = f.value;
+  text = f.text ++ token_of k ∷ [];
+  spelt =
+      behind (token_of k) f.spelt (kind_token k);
+}
 
 f_opt : {a : Ty} {g : Gr a} → Filled (opt g)
 f_opt = record { value = None; text = []; spelt = absent }
@@ -73,7 +84,13 @@ f_nest : {a : Ty} {g : Gr a} → Filled g → Filled (nest g)
 f_nest f = record { value = f.value; text = f.text; spelt = nested f.spelt }
 
 f_named : {a : Ty} {g : Gr a} → Filled g → Filled (named g)
-f_named f = record { value = (token_of the.Name, f.value); text = token_of the.Name ∷ f.text ++ token_of the.Name ∷ []; spelt = closed (token_of the.Name) (token_of the.Name) refl f.spelt refl }
+f_named f = record {
+  value = (token_of the.Name, f.value);
+  text =
+      token_of the.Name ∷ f.text ++ token_of the.Name ∷ [];
+  spelt =
+      closed (token_of the.Name) (token_of the.Name) refl f.spelt refl;
+}
 
 -- the productions, each after those that its shortest text has
 factor_filled : Filled (rule factor_rule)
@@ -122,7 +139,8 @@ block_filled : Filled (rule block_rule)
 block_filled = fill_rule (f_pair f_many (f_behind f_opt))
 
 pub filled : (r : Rule) → Filled (rule r)
-filled module_rule = fill_rule (f_behind (f_left (f_before (f_before (f_behind (f_named (f_before (f_pair f_many (f_behind f_many)))))))))
+filled module_rule = fill_rule (f_behind
+    (f_left (f_before (f_before (f_behind (f_named (f_before (f_pair f_many (f_behind f_many)))))))))
 filled import_rule = fill_rule (f_pair f_opt (f_before (f_behind idents_filled)))
 filled idents_rule = idents_filled
 filled def_rule = fill_rule (f_left (f_left (f_before f_many)))
@@ -137,7 +155,13 @@ filled formal_rule = formal_filled
 filled qual_rule = qual_filled
 filled simple_rule = simple_filled
 filled type_rule = type_filled
-filled dims_rule = fill_rule (f_pair simple_filled (record { value = inr type_filled.value; text = token_of (the.Symbol Of) ∷ type_filled.text; spelt = right (before refl type_filled.spelt) }))
+filled dims_rule = fill_rule (f_pair simple_filled
+    (record {
+      value = inr type_filled.value;
+      text = token_of (the.Symbol Of) ∷ type_filled.text;
+      spelt =
+          right (before refl type_filled.spelt);
+    }))
 filled parameter_rule = fill_rule (f_pair f_opt formal_filled)
 filled field_rule = fill_rule (f_pair idents_filled (f_before type_filled))
 filled stmts_rule = stmts_filled
@@ -178,7 +202,8 @@ empty_rule _ e = absurd cc
 pub empty : {a : Ty} (g : Gr a) → nullable g ≡ true → (x : El a) × Spells a g x []
 empty (tok k ks) e = absurd cc
 empty (rule r) e = empty_rule r e
-empty (g · h) e = let p = and_both (nullable g) (nullable h) e in let x = empty g p.0 in let y = empty h p.1 in ((x.0, y.0), pair x.1 y.1)
+empty (g · h) e = let p = and_both (nullable g) (nullable h) e in let x = empty g p.0 in let y = empty h p.1 in
+    ((x.0, y.0), pair x.1 y.1)
 empty (g ∣ h) e = either_empty g h (or_either (nullable g) (nullable h) e) (empty g) (empty h)
 empty (lead k g) e = absurd cc
 empty (trail g k) e = absurd cc

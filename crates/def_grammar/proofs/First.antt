@@ -29,20 +29,24 @@ is-among {k} (there {j = j} {ks = ks} a) = or_right (same_kind k j) (is_among k 
 pub of_word : (t : Token) (k : Kind) → (kind_of t) ≡ k → is_among (kind_of t) (k ∷ []) ≡ true
 of_word t k e = or_left (same_kind (kind_of t) k) false (is-same_kind (kind_of t) k e)
 
-pub skip_first : (b : Bool) (k : Kind) (xs ys : List Kind) → is_among k xs ≡ true → is_among k (cond b (xs ++ ys) xs) ≡ true
+pub skip_first : (b : Bool) (k : Kind) (xs ys : List Kind) → is_among k xs ≡ true
+    → is_among k (cond b (xs ++ ys) xs) ≡ true
 skip_first true k xs ys e = among_left k xs ys e
 skip_first false k xs ys e = e
 
-pub reach_second : (b : Bool) (k : Kind) (xs ys : List Kind) → b ≡ true → is_among k ys ≡ true → is_among k (cond b (xs ++ ys) xs) ≡ true
+pub reach_second : (b : Bool) (k : Kind) (xs ys : List Kind) → b ≡ true → is_among k ys ≡ true
+    → is_among k (cond b (xs ++ ys) xs) ≡ true
 reach_second true k xs ys e d = among_right k xs ys d
 reach_second false k xs ys e d = absurd cc
 
-pair_first : {a b : Ty} (g : Gr a) (h : Gr b) (ts us : List Token) → FirstOf g ts → FirstOf h us → FirstOf (g · h) (ts ++ us)
+pair_first : {a b : Ty} (g : Gr a) (h : Gr b) (ts us : List Token) → FirstOf g ts → FirstOf h us
+    → FirstOf (g · h) (ts ++ us)
 pair_first g h [] [] p q = rw (p, q) refl
 pair_first g h [] (u ∷ us) p q = reach_second (nullable g) (kind_of u) (first g) (first h) p q
 pair_first g h (t ∷ ts) us p q = skip_first (nullable g) (kind_of t) (first g) (first h) p
 
-behind_first : {a : Ty} (k : Kind) (g : Gr a) (ts : List Token) (t : Token) → FirstOf g ts → (kind_of t) ≡ k → FirstOf (trail g k) (ts ++ t ∷ [])
+behind_first : {a : Ty} (k : Kind) (g : Gr a) (ts : List Token) (t : Token) → FirstOf g ts → (kind_of t) ≡ k
+    → FirstOf (trail g k) (ts ++ t ∷ [])
 behind_first k g [] t p e = reach_second (nullable g) (kind_of t) (first g) (k ∷ []) p (of_word t k e)
 behind_first k g (u ∷ ts) t p e = skip_first (nullable g) (kind_of u) (first g) (k ∷ []) p
 
@@ -90,22 +94,27 @@ first_of_text (closed t u e p f) = of_word t the.Name e
 IsReal : (Rule → List Kind) → Type 0
 IsReal ρ = (r : Rule) (t : Token) → is_among (kind_of t) (ρ r) ≡ true → CanBegin (rule r) t
 
-pick : (b : Bool) (k : Kind) (xs ys : List Kind) → is_among k (cond b (xs ++ ys) xs) ≡ true → (is_among k xs ≡ true) ⊎ ((b ≡ true) × (is_among k ys ≡ true))
+pick : (b : Bool) (k : Kind) (xs ys : List Kind) → is_among k (cond b (xs ++ ys) xs) ≡ true → (is_among k xs ≡ true)
+    ⊎ ((b ≡ true) × (is_among k ys ≡ true))
 pick true k xs ys e = elim (among_either k xs ys e) [ inl p ↦ inl p | inr q ↦ inr (refl, q) ]
 pick false k xs ys e = inl e
 
-pair_real : {a b : Ty} (g : Gr a) (h : Gr b) (t : Token) (xs ys : List Kind) → (is_among (kind_of t) xs ≡ true → CanBegin g t) → (is_among (kind_of t) ys ≡ true → CanBegin h t)
+pair_real : {a b : Ty} (g : Gr a) (h : Gr b) (t : Token) (xs ys : List Kind)
+    → (is_among (kind_of t) xs ≡ true → CanBegin g t) → (is_among (kind_of t) ys ≡ true → CanBegin h t)
     → (is_among (kind_of t) xs ≡ true) ⊎ ((nullable g ≡ true) × (is_among (kind_of t) ys ≡ true)) → CanBegin (g · h) t
 pair_real g h t xs ys f s (inl e) = let x = f e in let y = fill h in ((x.0, y.value), x.1 ++ y.text, pair x.2 y.spelt)
 pair_real g h t xs ys f s (inr e) = let x = empty g e.0 in let y = s e.1 in ((x.0, y.0), y.1, pair x.1 y.2)
 
-either_real : {a b : Ty} (g : Gr a) (h : Gr b) (t : Token) (xs ys : List Kind) → (is_among (kind_of t) xs ≡ true → CanBegin g t) → (is_among (kind_of t) ys ≡ true → CanBegin h t)
+either_real : {a b : Ty} (g : Gr a) (h : Gr b) (t : Token) (xs ys : List Kind)
+    → (is_among (kind_of t) xs ≡ true → CanBegin g t) → (is_among (kind_of t) ys ≡ true → CanBegin h t)
     → (is_among (kind_of t) xs ≡ true) ⊎ (is_among (kind_of t) ys ≡ true) → CanBegin (g ∣ h) t
 either_real g h t xs ys f s (inl e) = let x = f e in (inl x.0, x.1, left x.2)
 either_real g h t xs ys f s (inr e) = let y = s e in (inr y.0, y.1, right y.2)
 
-behind_real : {a : Ty} (g : Gr a) (k : Kind) (t : Token) (xs : List Kind) → (is_among (kind_of t) xs ≡ true → CanBegin g t)
-    → (is_among (kind_of t) xs ≡ true) ⊎ ((nullable g ≡ true) × (is_among (kind_of t) (k ∷ []) ≡ true)) → CanBegin (trail g k) t
+behind_real : {a : Ty} (g : Gr a) (k : Kind) (t : Token) (xs : List Kind)
+    → (is_among (kind_of t) xs ≡ true → CanBegin g t)
+    → (is_among (kind_of t) xs ≡ true) ⊎ ((nullable g ≡ true) × (is_among (kind_of t) (k ∷ []) ≡ true))
+    → CanBegin (trail g k) t
 behind_real g k t xs f (inl e) = let x = f e in (x.0, x.1 ++ token_of k ∷ [], behind (token_of k) x.2 (kind_token k))
 behind_real g k t xs f (inr e) = let x = empty g e.0 in (x.0, [], behind t x.1 (among_one (kind_of t) k e.1))
 
@@ -114,14 +123,22 @@ module _ (ρ : Rule → List Kind) (real : IsReal ρ) where
   unfolding IsReal
   real_by (tok k ks) t e = (t, [], one (among_is (kind_of t) (k ∷ ks) e))
   real_by (rule r) t e = real r t e
-  real_by (g · h) t e = pair_real g h t (first_by ρ g) (first_by ρ h) (real_by g t) (real_by h t) (pick (nullable g) (kind_of t) (first_by ρ g) (first_by ρ h) e)
-  real_by (g ∣ h) t e = either_real g h t (first_by ρ g) (first_by ρ h) (real_by g t) (real_by h t) (among_either (kind_of t) (first_by ρ g) (first_by ρ h) e)
+  real_by (g · h) t e = pair_real g h t (first_by ρ g) (first_by ρ h) (real_by g t) (real_by h t)
+      (pick (nullable g) (kind_of t) (first_by ρ g) (first_by ρ h) e)
+  real_by (g ∣ h) t e = either_real g h t (first_by ρ g) (first_by ρ h) (real_by g t) (real_by h t)
+      (among_either (kind_of t) (first_by ρ g) (first_by ρ h) e)
   real_by (lead k g) t e = let f = fill g in (f.value, f.text, before (among_one (kind_of t) k e) f.spelt)
-  real_by (trail g k) t e = behind_real g k t (first_by ρ g) (real_by g t) (pick (nullable g) (kind_of t) (first_by ρ g) (k ∷ []) e)
+  real_by (trail g k) t e = behind_real g k t (first_by ρ g) (real_by g t)
+      (pick (nullable g) (kind_of t) (first_by ρ g) (k ∷ []) e)
   real_by (opt g) t e = let x = real_by g t e in (Some x.0, x.1, there_is x.2)
   real_by (many g) t e = let x = real_by g t e in (x.0 ∷ [], x.1 ++ [], more x.2 none)
   real_by (nest g) t e = let x = real_by g t e in (x.0, x.1, nested x.2)
-  real_by (named g) t e = let f = fill g in ((t, f.value), f.text ++ token_of the.Name ∷ [], closed t (token_of the.Name) (among_one (kind_of t) the.Name e) f.spelt refl)
+  real_by (named g) t e = let f = fill g in (
+    (t, f.value),
+    f.text ++ token_of the.Name
+        ∷ [],
+    closed t (token_of the.Name) (among_one (kind_of t) the.Name e) f.spelt refl,
+  )
 
 made_real : (r : Rule) (t : Token) → CanBegin (grammar r).form t → CanBegin (rule r) t
 made_real r t x = (tree r x.0, x.1, made x.2)

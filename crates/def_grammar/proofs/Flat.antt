@@ -44,11 +44,13 @@ flats qual_rule e = refl
 flats parameter_rule e = refl
 flats _ e = absurd cc
 
-same_by : (n b : ℕ) → ((r : Rule) → is_flat r ≡ true → rank r < b → read_rule n r ≡ read_rule 0 r) → {a : Ty} (g : Gr a) → all_flat b g ≡ true → read g n ≡ read g 0
+same_by : (n b : ℕ) → ((r : Rule) → is_flat r ≡ true → rank r < b → read_rule n r ≡ read_rule 0 r) → {a : Ty} (g : Gr a)
+    → all_flat b g ≡ true → read g n ≡ read g 0
 same_by n b h (tok k ks) e = refl
 same_by n b h (rule r) e = let p = and_both _ _ e in h r p.0 (ltb-true (rank r) b p.1)
 same_by n b h (g · l) e = let p = and_both _ _ e in ap₂ in_turn (same_by n b h g p.0) (same_by n b h l p.1)
-same_by n b h (g ∣ l) e = let p = and_both _ _ e in ap₂ (either_of (first g)) (same_by n b h g p.0) (same_by n b h l p.1)
+same_by n b h (g ∣ l) e = let p = and_both _ _ e in
+    ap₂ (either_of (first g)) (same_by n b h g p.0) (same_by n b h l p.1)
 same_by n b h (lead k g) e = ap (after_word k) (same_by n b h g e)
 same_by n b h (trail g k) e = ap (λ p. with_end p k) (same_by n b h g e)
 same_by n b h (opt g) e = ap (if_begun (first g)) (same_by n b h g e)
@@ -59,7 +61,8 @@ same_by n b h (named g) e = ap with_names (same_by n b h g e)
 same_below : (n k : ℕ) (r : Rule) → is_flat r ≡ true → rank r < k → read_rule n r ≡ read_rule 0 r
 same_below n zero r f lt = absurd (omega arith)
 same_below n (suc k) r f lt =
-    read_rule-solves n r ∙ ap (made_of r) (same_by n (rank r) (λ s g l. same_below n k s g (omega arith)) (grammar r).form (flats r f)) ∙ sym (read_rule-solves 0 r)
+    read_rule-solves n r ∙ ap (made_of r) (same_by n (rank r) (λ s g l. same_below n k s g (omega arith))
+    (grammar r).form (flats r f)) ∙ sym (read_rule-solves 0 r)
 
 -- a part whose productions are all flat
 part_flat : {a : Ty} (n : ℕ) (g : Gr a) (ts : List Token) → all_flat 16 g ≡ true → read g n ts ≡ read g 0 ts

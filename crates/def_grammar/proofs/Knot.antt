@@ -62,7 +62,8 @@ rank_small _ = lit< tt
 
 -- ---- what a part reads depends on the readers of its productions alone
 
-all_same : (ρ σ : Readers) (n : ℕ) → ((m : ℕ) (r : Rule) → m ≤ n → ρ m r ≡ σ m r) → {a : Ty} (g : Gr a) → read_by ρ g n ≡ read_by σ g n
+all_same : (ρ σ : Readers) (n : ℕ) → ((m : ℕ) (r : Rule) → m ≤ n → ρ m r ≡ σ m r) → {a : Ty} (g : Gr a)
+    → read_by ρ g n ≡ read_by σ g n
 all_same ρ σ n h (tok k ks) = refl
 all_same ρ σ n h (rule r) = h n r (omega arith)
 all_same ρ σ n h (g · l) = ap₂ in_turn (all_same ρ σ n h g) (all_same ρ σ n h l)
@@ -75,11 +76,15 @@ all_same ρ σ zero h (nest g) = refl
 all_same ρ σ (suc n) h (nest g) = all_same ρ σ n (λ m r le. h m r (omega arith)) g
 all_same ρ σ n h (named g) = ap with_names (all_same ρ σ n h g)
 
-same : (ρ σ : Readers) (n b : ℕ) → ((r : Rule) → rank r < b → ρ n r ≡ σ n r) → ((m : ℕ) (r : Rule) → m < n → ρ m r ≡ σ m r) → {a : Ty} (g : Gr a) → below b g ≡ true → read_by ρ g n ≡ read_by σ g n
+same : (ρ σ : Readers) (n b : ℕ) → ((r : Rule) → rank r < b → ρ n r ≡ σ n r)
+    → ((m : ℕ) (r : Rule) → m < n → ρ m r ≡ σ m r) → {a : Ty} (g : Gr a) → below b g ≡ true
+    → read_by ρ g n ≡ read_by σ g n
 same ρ σ n b here under (tok k ks) e = refl
 same ρ σ n b here under (rule r) e = here r (ltb-true (rank r) b e)
-same ρ σ n b here under (g · l) e = let p = and_both _ _ e in ap₂ in_turn (same ρ σ n b here under g p.0) (same ρ σ n b here under l p.1)
-same ρ σ n b here under (g ∣ l) e = let p = and_both _ _ e in ap₂ (either_of (first g)) (same ρ σ n b here under g p.0) (same ρ σ n b here under l p.1)
+same ρ σ n b here under (g · l) e = let p = and_both _ _ e in
+    ap₂ in_turn (same ρ σ n b here under g p.0) (same ρ σ n b here under l p.1)
+same ρ σ n b here under (g ∣ l) e = let p = and_both _ _ e in
+    ap₂ (either_of (first g)) (same ρ σ n b here under g p.0) (same ρ σ n b here under l p.1)
 same ρ σ n b here under (lead k g) e = ap (after_word k) (same ρ σ n b here under g e)
 same ρ σ n b here under (trail g k) e = ap (λ p. with_end p k) (same ρ σ n b here under g e)
 same ρ σ n b here under (opt g) e = ap (if_begun (first g)) (same ρ σ n b here under g e)

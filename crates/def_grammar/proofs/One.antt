@@ -27,7 +27,8 @@ abbrev pub OneOf : List Kind → List Token → Outcome Token → Type 0
 OneOf ks ts (Ok p) = (ts ≡ p.0 ∷ p.1) × (is_among (kind_of p.0) ks ≡ true)
 OneOf ks ts (Err e) = e ≡ (ts, Unfit)
 
-one_by : (ks : List Kind) (t : Token) (ts : List Token) (b : Bool) → is_among (kind_of t) ks ≡ b → OneOf ks (t ∷ ts) (cond b (Ok (t, ts)) (Err (t ∷ ts, Unfit)))
+one_by : (ks : List Kind) (t : Token) (ts : List Token) (b : Bool) → is_among (kind_of t) ks ≡ b
+    → OneOf ks (t ∷ ts) (cond b (Ok (t, ts)) (Err (t ∷ ts, Unfit)))
 one_by ks t ts true e = (refl, e)
 one_by ks t ts false e = refl
 

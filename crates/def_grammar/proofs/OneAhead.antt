@@ -1,4 +1,5 @@
--- The grammar is read by one token ahead: what a part begins with and goes on with, and the test that these never clash.
+-- The grammar is read by one token ahead: what a part begins with and goes on with, and the test that these never
+-- clash.
 use Rattle.std.proofs.Common.{◌≡◌, ℕ, zero, suc, Bool, true, not, ◌&&◌, cond, List, [], ◌∷◌, ◌++◌, refl}
 use Rattle.def_grammar.specs.declared.kind.Kind.{Kind}
 use Rattle.def_grammar.specs.declared.kind.Kind.TheVariants as the

@@ -21,13 +21,46 @@ pub record Onward {a : Ty} (g : Gr a) (ts at : List Token) : Type 0 where
   pub spelt : Spells a g value (front ++ next ∷ rest)
 
 -- behind a text of another part
-later : (us ts front : List Token) (next : Token) (tail : List Token) → ts ≡ front ++ next ∷ tail → us ++ ts ≡ (us ++ front) ++ next ∷ tail
+later : (us ts front : List Token) (next : Token) (tail : List Token) → ts ≡ front ++ next ∷ tail
+    → us ++ ts ≡ (us ++ front) ++ next ∷ tail
 later us ts front next tail e = ap (λ (vs : List Token). us ++ vs) e ∙ sym (append_assoc us front (next ∷ tail))
 
 pub onward : {a : Ty} {g : Gr a} {n : ℕ} {ts at : List Token} {f : GrammarRule} → Breaks a g n ts at f → Onward g ts at
-onward (too_deep {t = t} {ts = ts} x) = record { front = []; next = t; tail = ts; parts = refl; here = refl; rest = x.1; value = x.0; spelt = nested x.2 }
-onward (misnamed {x = x} {ts = ts} t u us ti p ui d) = record { front = t ∷ ts; next = u; tail = us; parts = refl; here = refl; rest = []; value = (t, x); spelt = closed t u ti p ui }
-onward (in_rule {r = r} p) = let o = onward p in record { front = o.front; next = o.next; tail = o.tail; parts = o.parts; here = o.here; rest = o.rest; value = tree r o.value; spelt = made o.spelt }
+onward (too_deep {t = t} {ts = ts} x) = record {
+  front = [];
+  next = t;
+  tail = ts;
+  parts = refl;
+  here = refl;
+  rest =
+      x.1;
+  value = x.0;
+  spelt = nested x.2;
+}
+onward (misnamed {x = x} {ts = ts} t u us ti p ui d) =
+    record {
+      front = t ∷ ts;
+      next = u;
+      tail = us;
+      parts = refl;
+      here = refl;
+      rest = [];
+      value = (t, x);
+      spelt =
+          closed t u ti p ui;
+    }
+onward (in_rule {r = r} p) = let o = onward p in
+    record {
+      front = o.front;
+      next = o.next;
+      tail = o.tail;
+      parts = o.parts;
+      here = o.here;
+      rest = o.rest;
+      value =
+          tree r o.value;
+      spelt = made o.spelt;
+    }
 onward (in_first {g = g} {h = h} p) = let o = onward p in let s = fill h in record {
   front = o.front;
   next = o.next;
@@ -48,9 +81,42 @@ onward (in_second {x = x} {us = us} {ts = ts} q p) = let o = onward p in record 
   value = (x, o.value);
   spelt = rw (append_assoc us o.front (o.next ∷ o.rest)) (pair q o.spelt);
 }
-onward (in_left p) = let o = onward p in record { front = o.front; next = o.next; tail = o.tail; parts = o.parts; here = o.here; rest = o.rest; value = inl o.value; spelt = left o.spelt }
-onward (in_right p) = let o = onward p in record { front = o.front; next = o.next; tail = o.tail; parts = o.parts; here = o.here; rest = o.rest; value = inr o.value; spelt = right o.spelt }
-onward (in_rest {t = t} is p) = let o = onward p in record { front = t ∷ o.front; next = o.next; tail = o.tail; parts = ap (λ (us : List Token). t ∷ us) o.parts; here = o.here; rest = o.rest; value = o.value; spelt = before is o.spelt }
+onward (in_left p) = let o = onward p in
+    record {
+      front = o.front;
+      next = o.next;
+      tail = o.tail;
+      parts = o.parts;
+      here = o.here;
+      rest = o.rest;
+      value =
+          inl o.value;
+      spelt = left o.spelt;
+    }
+onward (in_right p) = let o = onward p in
+    record {
+      front = o.front;
+      next = o.next;
+      tail = o.tail;
+      parts = o.parts;
+      here = o.here;
+      rest = o.rest;
+      value =
+          inr o.value;
+      spelt = right o.spelt;
+    }
+onward (in_rest {t = t} is p) = let o = onward p in
+    record {
+      front = t ∷ o.front;
+      next = o.next;
+      tail = o.tail;
+      parts = ap (λ (us : List Token). t ∷ us) o.parts;
+      here =
+          o.here;
+      rest = o.rest;
+      value = o.value;
+      spelt = before is o.spelt;
+    }
 onward (in_front {k = k} p) = let o = onward p in record {
   front = o.front;
   next = o.next;
@@ -61,7 +127,17 @@ onward (in_front {k = k} p) = let o = onward p in record {
   value = o.value;
   spelt = rw (← append_assoc o.front (o.next ∷ o.rest) (token_of k ∷ [])) (behind (token_of k) o.spelt (kind_token k));
 }
-onward (in_opt p) = let o = onward p in record { front = o.front; next = o.next; tail = o.tail; parts = o.parts; here = o.here; rest = o.rest; value = Some o.value; spelt = there_is o.spelt }
+onward (in_opt p) = let o = onward p in record {
+  front = o.front;
+  next = o.next;
+  tail = o.tail;
+  parts = o.parts;
+  here =
+      o.here;
+  rest = o.rest;
+  value = Some o.value;
+  spelt = there_is o.spelt;
+}
 onward (in_turn_now p) = let o = onward p in record {
   front = o.front;
   next = o.next;
@@ -82,7 +158,18 @@ onward (in_turn_later {x = x} {us = us} {ts = ts} q p) = let o = onward p in rec
   value = x ∷ o.value;
   spelt = rw (append_assoc us o.front (o.next ∷ o.rest)) (more q o.spelt);
 }
-onward (in_nest p) = let o = onward p in record { front = o.front; next = o.next; tail = o.tail; parts = o.parts; here = o.here; rest = o.rest; value = o.value; spelt = nested o.spelt }
+onward (in_nest p) = let o = onward p in
+    record {
+      front = o.front;
+      next = o.next;
+      tail = o.tail;
+      parts = o.parts;
+      here = o.here;
+      rest = o.rest;
+      value =
+          o.value;
+      spelt = nested o.spelt;
+    }
 onward (in_named {t = t} is p) = let o = onward p in record {
   front = t ∷ o.front;
   next = o.next;
@@ -91,5 +178,6 @@ onward (in_named {t = t} is p) = let o = onward p in record {
   here = o.here;
   rest = o.rest ++ token_of the.Name ∷ [];
   value = (t, o.value);
-  spelt = rw (← append_assoc o.front (o.next ∷ o.rest) (token_of the.Name ∷ [])) (closed t (token_of the.Name) is o.spelt refl);
+  spelt = rw (← append_assoc o.front (o.next ∷ o.rest) (token_of the.Name ∷ []))
+      (closed t (token_of the.Name) is o.spelt refl);
 }

@@ -42,7 +42,8 @@ pub among_right : (k : Kind) (xs ys : List Kind) → is_among k ys ≡ true → 
 among_right k [] ys e = e
 among_right k (x ∷ xs) ys e = or_right (same_kind k x) (is_among k (xs ++ ys)) (among_right k xs ys e)
 
-pub among_either : (k : Kind) (xs ys : List Kind) → is_among k (xs ++ ys) ≡ true → (is_among k xs ≡ true) ⊎ (is_among k ys ≡ true)
+pub among_either : (k : Kind) (xs ys : List Kind) → is_among k (xs ++ ys) ≡ true → (is_among k xs ≡ true)
+    ⊎ (is_among k ys ≡ true)
 among_either k [] ys e = inr e
 among_either k (x ∷ xs) ys e =
     elim (or_either (same_kind k x) (is_among k (xs ++ ys)) e) [
@@ -53,7 +54,8 @@ among_either k (x ∷ xs) ys e =
       ]
     ]
 
-pub among_neither : (k : Kind) (xs ys : List Kind) → is_among k (xs ++ ys) ≡ false → (is_among k xs ≡ false) × (is_among k ys ≡ false)
+pub among_neither : (k : Kind) (xs ys : List Kind) → is_among k (xs ++ ys) ≡ false → (is_among k xs ≡ false)
+    × (is_among k ys ≡ false)
 among_neither k xs ys e = (
   false_from (is_among k xs) (λ p. clash (is_among k (xs ++ ys)) (among_left k xs ys p) e),
   false_from (is_among k ys) (λ p. clash (is_among k (xs ++ ys)) (among_right k xs ys p) e),
@@ -71,12 +73,14 @@ within-among k (x ∷ xs) ys w e =
 pub within-not : (k : Kind) (xs ys : List Kind) → within xs ys ≡ true → is_among k ys ≡ false → is_among k xs ≡ false
 within-not k xs ys w e = false_from (is_among k xs) (λ p. clash (is_among k ys) (within-among k xs ys w p) e)
 
-disjoint-clash : (k : Kind) (xs ys : List Kind) → disjoint xs ys ≡ true → is_among k xs ≡ true → is_among k ys ≡ true → ⊥
+disjoint-clash : (k : Kind) (xs ys : List Kind) → disjoint xs ys ≡ true → is_among k xs ≡ true → is_among k ys ≡ true
+    → ⊥
 disjoint-clash k [] ys d e f = absurd cc
 disjoint-clash k (x ∷ xs) ys d e f =
     let p = and_both (not (is_among x ys)) (disjoint xs ys) d in
     elim (or_either (same_kind k x) (is_among k xs) e) [
-      | inl s ↦ clash (is_among x ys) (subst (λ (j : Kind). is_among j ys ≡ true) (same_kind-is k x s) f) (not_true (is_among x ys) p.0)
+      | inl s ↦ clash (is_among x ys) (subst (λ (j : Kind). is_among j ys ≡ true) (same_kind-is k x s) f)
+          (not_true (is_among x ys) p.0)
       | inr q ↦ disjoint-clash k xs ys p.1 q f
     ]
 

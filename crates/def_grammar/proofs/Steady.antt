@@ -31,7 +31,8 @@ Moves t tail other (Err e) o = (left : List Token) → e.0 ≡ left ++ t ∷ tai
 
 pub record IsSteady {A : Type 0} (p : Reader A) : Type 0 where
   pub trims : (ts : List Token) → Trims ts (p ts)
-  pub moves : (t : Token) (tail other front : List Token) → Moves t tail other (p (front ++ t ∷ tail)) (p (front ++ t ∷ other))
+  pub moves : (t : Token) (tail other front : List Token)
+      → Moves t tail other (p (front ++ t ∷ tail)) (p (front ++ t ∷ other))
 
 -- ---- the steps
 
@@ -39,15 +40,19 @@ trims_on : {B : Type 0} (ts mid u : List Token) (q : Outcome B) → ts ≡ u ++ 
 trims_on ts mid u (Ok p) e r = (u ++ r.0, e ∙ ap (λ (us : List Token). u ++ us) r.1 ∙ sym (append_assoc u r.0 p.1))
 trims_on ts mid u (Err d) e r = (u ++ r.0, e ∙ ap (λ (us : List Token). u ++ us) r.1 ∙ sym (append_assoc u r.0 d.0))
 
-then_trims : {A B : Type 0} (ts : List Token) (o : Outcome A) (f : A → Reader B) → Trims ts o → ((x : A) → IsSteady (f x)) → Trims ts (and_then o f)
+then_trims : {A B : Type 0} (ts : List Token) (o : Outcome A) (f : A → Reader B) → Trims ts o
+    → ((x : A) → IsSteady (f x)) → Trims ts (and_then o f)
 then_trims ts (Ok p) f s h = trims_on ts p.1 s.0 (f p.0 p.1) s.1 ((h p.0).trims p.1)
 then_trims ts (Err e) f s h = s
 
-same_left : (front left : List Token) (t : Token) (tail other : List Token) → front ++ t ∷ tail ≡ left ++ t ∷ tail → front ++ t ∷ other ≡ left ++ t ∷ other
-same_left front left t tail other e = ap (λ (us : List Token). us ++ t ∷ other) (append_cancel_right front left (t ∷ tail) e)
+same_left : (front left : List Token) (t : Token) (tail other : List Token) → front ++ t ∷ tail ≡ left ++ t ∷ tail
+    → front ++ t ∷ other ≡ left ++ t ∷ other
+same_left front left t tail other e = ap (λ (us : List Token). us ++ t ∷ other)
+    (append_cancel_right front left (t ∷ tail) e)
 
 module _ (t : Token) (tail other : List Token) where
-  chain : {B : Type 0} (mid : List Token) (q r : Outcome B) (next : List Token → Outcome B) → Trims mid q → ((left : List Token) → mid ≡ left ++ t ∷ tail → Moves t tail other q (next left))
+  chain : {B : Type 0} (mid : List Token) (q r : Outcome B) (next : List Token → Outcome B) → Trims mid q
+      → ((left : List Token) → mid ≡ left ++ t ∷ tail → Moves t tail other q (next left))
       → ((left : List Token) → mid ≡ left ++ t ∷ tail → r ≡ next left) → Moves t tail other q r
   chain mid (Ok p) r next s m n = λ left e.
       let whole = s.1 ∙ ap (λ (us : List Token). s.0 ++ us) e ∙ sym (append_assoc s.0 left (t ∷ tail)) in
@@ -56,10 +61,12 @@ module _ (t : Token) (tail other : List Token) where
       let whole = s.1 ∙ ap (λ (us : List Token). s.0 ++ us) e ∙ sym (append_assoc s.0 left (t ∷ tail)) in
       n (s.0 ++ left) whole ∙ m (s.0 ++ left) whole left e
 
-  then_moves : {A B : Type 0} (o r : Outcome A) (f : A → Reader B) → Moves t tail other o r → ((x : A) → IsSteady (f x)) → Moves t tail other (and_then o f) (and_then r f)
+  then_moves : {A B : Type 0} (o r : Outcome A) (f : A → Reader B) → Moves t tail other o r → ((x : A) → IsSteady (f x))
+      → Moves t tail other (and_then o f) (and_then r f)
   then_moves (Ok p) r f m h =
       chain p.1 (f p.0 p.1) (and_then r f) (λ left. f p.0 (left ++ t ∷ other)) ((h p.0).trims p.1)
-      (λ left e. subst (λ (us : List Token). Moves t tail other (f p.0 us) (f p.0 (left ++ t ∷ other))) (sym e) ((h p.0).moves t tail other left))
+      (λ left e. subst (λ (us : List Token). Moves t tail other (f p.0 us) (f p.0 (left ++ t ∷ other))) (sym e)
+      ((h p.0).moves t tail other left))
       (λ left e. ap (λ q. and_then q f) (m left e))
   then_moves (Err e) r f m h = λ left is. ap (λ q. and_then q f) (m left is)
 
@@ -67,28 +74,35 @@ module _ (t : Token) (tail other : List Token) where
   begins_same ks [] = refl
   begins_same ks (u ∷ front) = refl
 
-  cond_moves : {A : Type 0} (b : Bool) (p q r s : Outcome A) → Moves t tail other p r → Moves t tail other q s → Moves t tail other (cond b p q) (cond b r s)
+  cond_moves : {A : Type 0} (b : Bool) (p q r s : Outcome A) → Moves t tail other p r → Moves t tail other q s
+      → Moves t tail other (cond b p q) (cond b r s)
   cond_moves true p q r s m n = m
   cond_moves false p q r s m n = n
 
-cond_trims : {A : Type 0} (ts : List Token) (b : Bool) (p q : Outcome A) → Trims ts p → Trims ts q → Trims ts (cond b p q)
+cond_trims : {A : Type 0} (ts : List Token) (b : Bool) (p q : Outcome A) → Trims ts p → Trims ts q
+    → Trims ts (cond b p q)
 cond_trims ts true p q m n = m
 cond_trims ts false p q m n = n
 
-steady_then : {A B : Type 0} (p : Reader A) (f : A → Reader B) → IsSteady p → ((x : A) → IsSteady (f x)) → IsSteady (λ ts. and_then (p ts) f)
+steady_then : {A B : Type 0} (p : Reader A) (f : A → Reader B) → IsSteady p → ((x : A) → IsSteady (f x))
+    → IsSteady (λ ts. and_then (p ts) f)
 steady_then p f s h = record {
   trims = λ ts. then_trims ts (p ts) f (s.trims ts) h;
-  moves = λ t tail other front. then_moves t tail other (p (front ++ t ∷ tail)) (p (front ++ t ∷ other)) f (s.moves t tail other front) h;
+  moves = λ t tail other front. then_moves t tail other (p (front ++ t ∷ tail)) (p (front ++ t ∷ other)) f
+      (s.moves t tail other front) h;
 }
 
-ok_moves : {A : Type 0} (x : A) (t : Token) (tail other front : List Token) → Moves t tail other (Ok (x, front ++ t ∷ tail)) (Ok (x, front ++ t ∷ other))
+ok_moves : {A : Type 0} (x : A) (t : Token) (tail other front : List Token)
+    → Moves t tail other (Ok (x, front ++ t ∷ tail)) (Ok (x, front ++ t ∷ other))
 ok_moves x t tail other front = λ left e. ap (λ us. Ok (x, us)) (same_left front left t tail other e)
 
-err_moves : {A : Type 0} (f : GrammarRule) (t : Token) (tail other front : List Token) → Moves {A = A} t tail other (Err (front ++ t ∷ tail, f)) (Err (front ++ t ∷ other, f))
+err_moves : {A : Type 0} (f : GrammarRule) (t : Token) (tail other front : List Token)
+    → Moves {A = A} t tail other (Err (front ++ t ∷ tail, f)) (Err (front ++ t ∷ other, f))
 err_moves f t tail other front = λ left e. ap (λ us. Err (us, f)) (same_left front left t tail other e)
 
 -- the token itself was taken
-past_moves : {A : Type 0} (x : A) (t : Token) (tail other : List Token) (o : Outcome A) → Moves t tail other (Ok (x, tail)) o
+past_moves : {A : Type 0} (x : A) (t : Token) (tail other : List Token) (o : Outcome A)
+    → Moves t tail other (Ok (x, tail)) o
 past_moves x t tail other o = λ left e. absurd (omega (arith, ap length e, length-append left (t ∷ tail)))
 
 steady_ok : {A : Type 0} (x : A) → IsSteady (λ ts. Ok (x, ts))
@@ -97,22 +111,30 @@ steady_ok x = record { trims = λ ts. ([], refl); moves = ok_moves x }
 steady_err : {A : Type 0} (f : GrammarRule) → IsSteady {A = A} (λ ts. Err (ts, f))
 steady_err f = record { trims = λ ts. ([], refl); moves = err_moves f }
 
-steady_cond : {A : Type 0} (ks : List Kind) (p q : Reader A) → IsSteady p → IsSteady q → IsSteady (λ ts. cond (begins ks ts) (p ts) (q ts))
+steady_cond : {A : Type 0} (ks : List Kind) (p q : Reader A) → IsSteady p → IsSteady q
+    → IsSteady (λ ts. cond (begins ks ts) (p ts) (q ts))
 steady_cond ks p q s r = record {
   trims = λ ts. cond_trims ts (begins ks ts) (p ts) (q ts) (s.trims ts) (r.trims ts);
-  moves = λ t tail other front. subst (λ (b : Bool). Moves t tail other (cond (begins ks (front ++ t ∷ tail)) (p (front ++ t ∷ tail)) (q (front ++ t ∷ tail))) (cond b (p (front ++ t ∷ other)) (q (front ++ t ∷ other)))) (begins_same t tail other ks front)
-      (cond_moves t tail other (begins ks (front ++ t ∷ tail)) _ _ _ _ (s.moves t tail other front) (r.moves t tail other front));
+  moves = λ t tail other front. subst (λ (b : Bool). Moves t tail other
+      (cond (begins ks (front ++ t ∷ tail)) (p (front ++ t ∷ tail)) (q (front ++ t ∷ tail)))
+      (cond b (p (front ++ t ∷ other)) (q (front ++ t ∷ other)))) (begins_same t tail other ks front)
+      (cond_moves t tail other (begins ks (front ++ t ∷ tail)) _ _ _ _ (s.moves t tail other front)
+      (r.moves t tail other front));
 }
 
 -- ---- one token
 
 one_trims : (ks : List Kind) (ts : List Token) → Trims ts (one_token ks ts)
 one_trims ks [] = ([], refl)
-one_trims ks (t ∷ ts) = cond_trims (t ∷ ts) (is_among (kind_of t) ks) (Ok (t, ts)) (Err (t ∷ ts, Unfit)) (t ∷ [], refl) ([], refl)
+one_trims ks (t ∷ ts) = cond_trims (t ∷ ts) (is_among (kind_of t) ks) (Ok (t, ts)) (Err (t ∷ ts, Unfit)) (t ∷ [], refl)
+    ([], refl)
 
-one_moves : (ks : List Kind) (t : Token) (tail other front : List Token) → Moves t tail other (one_token ks (front ++ t ∷ tail)) (one_token ks (front ++ t ∷ other))
-one_moves ks t tail other [] = cond_moves t tail other (is_among (kind_of t) ks) _ _ _ _ (past_moves t t tail other (Ok (t, other))) (err_moves Unfit t tail other [])
-one_moves ks t tail other (u ∷ front) = cond_moves t tail other (is_among (kind_of u) ks) _ _ _ _ (ok_moves u t tail other front) (err_moves Unfit t tail other (u ∷ front))
+one_moves : (ks : List Kind) (t : Token) (tail other front : List Token)
+    → Moves t tail other (one_token ks (front ++ t ∷ tail)) (one_token ks (front ++ t ∷ other))
+one_moves ks t tail other [] = cond_moves t tail other (is_among (kind_of t) ks) _ _ _ _
+    (past_moves t t tail other (Ok (t, other))) (err_moves Unfit t tail other [])
+one_moves ks t tail other (u ∷ front) = cond_moves t tail other (is_among (kind_of u) ks) _ _ _ _
+    (ok_moves u t tail other front) (err_moves Unfit t tail other (u ∷ front))
 
 steady_one : (ks : List Kind) → IsSteady (one_token ks)
 steady_one ks = record { trims = one_trims ks; moves = one_moves ks }
@@ -120,11 +142,13 @@ steady_one ks = record { trims = one_trims ks; moves = one_moves ks }
 -- ---- a closing name
 
 close_at : List ℕ → Token → List Token → Bool → Outcome Token
-close_at name u ts b = and_then (cond b (Ok (u, ts)) (Err (u ∷ ts, Unfit))) (λ v rest. cond (bytes_eq name (name_of v)) (Ok (v, rest)) (Err (u ∷ ts, Misnamed)))
+close_at name u ts b = and_then (cond b (Ok (u, ts)) (Err (u ∷ ts, Unfit)))
+    (λ v rest. cond (bytes_eq name (name_of v)) (Ok (v, rest)) (Err (u ∷ ts, Misnamed)))
 
 close_trims_at : (name : List ℕ) (u : Token) (ts : List Token) (b : Bool) → Trims (u ∷ ts) (close_at name u ts b)
 unfolding close_at
-close_trims_at name u ts true = cond_trims (u ∷ ts) (bytes_eq name (name_of u)) (Ok (u, ts)) (Err (u ∷ ts, Misnamed)) (u ∷ [], refl) ([], refl)
+close_trims_at name u ts true = cond_trims (u ∷ ts) (bytes_eq name (name_of u)) (Ok (u, ts)) (Err (u ∷ ts, Misnamed))
+    (u ∷ [], refl) ([], refl)
 close_trims_at name u ts false = ([], refl)
 
 close_trims : (name : List ℕ) (ts : List Token) → Trims ts (closing name ts)
@@ -135,15 +159,19 @@ close_trims name (u ∷ ts) = close_trims_at name u ts (is_among (kind_of u) (th
 module _ (o : List ℕ) (t : Token) (tail other : List Token) where
   close_here : (b : Bool) → Moves t tail other (close_at o t tail b) (close_at o t other b)
   unfolding close_at
-  close_here true = cond_moves t tail other (bytes_eq o (name_of t)) _ _ _ _ (past_moves t t tail other (Ok (t, other))) (err_moves Misnamed t tail other [])
+  close_here true = cond_moves t tail other (bytes_eq o (name_of t)) _ _ _ _ (past_moves t t tail other (Ok (t, other)))
+      (err_moves Misnamed t tail other [])
   close_here false = err_moves Unfit t tail other []
 
-  close_later : (u : Token) (front : List Token) (b : Bool) → Moves t tail other (close_at o u (front ++ t ∷ tail) b) (close_at o u (front ++ t ∷ other) b)
+  close_later : (u : Token) (front : List Token) (b : Bool)
+      → Moves t tail other (close_at o u (front ++ t ∷ tail) b) (close_at o u (front ++ t ∷ other) b)
   unfolding close_at
-  close_later u front true = cond_moves t tail other (bytes_eq o (name_of u)) _ _ _ _ (ok_moves u t tail other front) (err_moves Misnamed t tail other (u ∷ front))
+  close_later u front true = cond_moves t tail other (bytes_eq o (name_of u)) _ _ _ _ (ok_moves u t tail other front)
+      (err_moves Misnamed t tail other (u ∷ front))
   close_later u front false = err_moves Unfit t tail other (u ∷ front)
 
-  close_moves : (front : List Token) → Moves t tail other (closing o (front ++ t ∷ tail)) (closing o (front ++ t ∷ other))
+  close_moves : (front : List Token) → Moves t tail other (closing o (front ++ t ∷ tail))
+      (closing o (front ++ t ∷ other))
   unfolding close_at
   close_moves [] = close_here (is_among (kind_of t) (the.Name ∷ []))
   close_moves (u ∷ front) = close_later u front (is_among (kind_of u) (the.Name ∷ []))
@@ -155,11 +183,16 @@ steady_close o = record { trims = close_trims o; moves = λ t tail other front. 
 
 deep_trims : (A : Type 0) (ks : List Kind) (ts : List Token) → Trims {A = A} ts (no_deeper ks ts)
 deep_trims A ks [] = ([], refl)
-deep_trims A ks (t ∷ ts) = cond_trims (t ∷ ts) (is_among (kind_of t) ks) (Err (t ∷ ts, TooDeep)) (Err (t ∷ ts, Unfit)) ([], refl) ([], refl)
+deep_trims A ks (t ∷ ts) = cond_trims (t ∷ ts) (is_among (kind_of t) ks) (Err (t ∷ ts, TooDeep)) (Err (t ∷ ts, Unfit))
+    ([], refl) ([], refl)
 
-deep_moves : (A : Type 0) (ks : List Kind) (t : Token) (tail other front : List Token) → Moves {A = A} t tail other (no_deeper ks (front ++ t ∷ tail)) (no_deeper ks (front ++ t ∷ other))
-deep_moves A ks t tail other [] = cond_moves t tail other (is_among (kind_of t) ks) _ _ _ _ (err_moves TooDeep t tail other []) (err_moves Unfit t tail other [])
-deep_moves A ks t tail other (u ∷ front) = cond_moves t tail other (is_among (kind_of u) ks) _ _ _ _ (err_moves TooDeep t tail other (u ∷ front)) (err_moves Unfit t tail other (u ∷ front))
+deep_moves : (A : Type 0) (ks : List Kind) (t : Token) (tail other front : List Token)
+    → Moves {A = A} t tail other (no_deeper ks (front ++ t ∷ tail)) (no_deeper ks (front ++ t ∷ other))
+deep_moves A ks t tail other [] = cond_moves t tail other (is_among (kind_of t) ks) _ _ _ _
+    (err_moves TooDeep t tail other []) (err_moves Unfit t tail other [])
+deep_moves A ks t tail other (u ∷ front) =
+    cond_moves t tail other (is_among (kind_of u) ks) _ _ _ _ (err_moves TooDeep t tail other (u ∷ front))
+    (err_moves Unfit t tail other (u ∷ front))
 
 steady_deep : {A : Type 0} (ks : List Kind) → IsSteady {A = A} (no_deeper ks)
 steady_deep {A} ks = record { trims = deep_trims A ks; moves = deep_moves A ks }
@@ -169,19 +202,25 @@ steady_deep {A} ks = record { trims = deep_trims A ks; moves = deep_moves A ks }
 steady_turns : {A : Type 0} (ks : List Kind) (p : Reader A) → IsSteady p → (m : ℕ) → IsSteady (turns ks p m)
 unfolding turns
 steady_turns ks p s zero = steady_ok []
-steady_turns ks p s (suc m) = steady_cond ks (λ ts. and_then (p ts) (λ x mid. and_then (turns ks p m mid) (λ xs rest. Ok (x ∷ xs, rest)))) (λ ts. Ok ([], ts))
-    (steady_then p _ s (λ x. steady_then (turns ks p m) _ (steady_turns ks p s m) (λ xs. steady_ok (x ∷ xs)))) (steady_ok [])
+steady_turns ks p s (suc m) = steady_cond ks
+    (λ ts. and_then (p ts) (λ x mid. and_then (turns ks p m mid) (λ xs rest. Ok (x ∷ xs, rest)))) (λ ts. Ok ([], ts))
+    (steady_then p _ s (λ x. steady_then (turns ks p m) _ (steady_turns ks p s m) (λ xs. steady_ok (x ∷ xs))))
+    (steady_ok [])
 
-module _ {A : Type 0} (ks : List Kind) (p : Reader A) (s : IsSteady p) (shorter : (ts : List Token) → IsShorter ts (p ts)) (no_end : is_among the.End ks ≡ false) where
+module _ {A : Type 0} (ks : List Kind) (p : Reader A) (s : IsSteady p)
+    (shorter : (ts : List Token) → IsShorter ts (p ts)) (no_end : is_among the.End ks ≡ false) where
   repeated_turns : (m : ℕ) (ts : List Token) → length ts ≤ m → turns ks p m ts ≡ repetition_of ks p ts
   unfolding repetition_of
   repeated_turns m ts le = turns_same ks p shorter no_end m (length ts) ts le (omega arith)
 
-  repeated_moves : (t : Token) (tail other front : List Token) → Moves t tail other (repetition_of ks p (front ++ t ∷ tail)) (repetition_of ks p (front ++ t ∷ other))
+  repeated_moves : (t : Token) (tail other front : List Token)
+      → Moves t tail other (repetition_of ks p (front ++ t ∷ tail)) (repetition_of ks p (front ++ t ∷ other))
   repeated_moves t tail other front =
       let m = length (front ++ t ∷ tail) + length (front ++ t ∷ other) in
-      subst (λ (o : Outcome (List A)). Moves t tail other o (repetition_of ks p (front ++ t ∷ other))) (repeated_turns m (front ++ t ∷ tail) (omega arith))
-      (subst (λ (o : Outcome (List A)). Moves t tail other (turns ks p m (front ++ t ∷ tail)) o) (repeated_turns m (front ++ t ∷ other) (omega arith))
+      subst (λ (o : Outcome (List A)). Moves t tail other o (repetition_of ks p (front ++ t ∷ other)))
+      (repeated_turns m (front ++ t ∷ tail) (omega arith))
+      (subst (λ (o : Outcome (List A)). Moves t tail other (turns ks p m (front ++ t ∷ tail)) o)
+      (repeated_turns m (front ++ t ∷ other) (omega arith))
       ((steady_turns ks p s m).moves t tail other front))
 
   steady_repeated : IsSteady (repetition_of ks p)
@@ -190,37 +229,48 @@ module _ {A : Type 0} (ks : List Kind) (p : Reader A) (s : IsSteady p) (shorter 
 
 -- ---- the grammar
 
-module _ (ρ : Readers) (all_right : (n : ℕ) (r : Rule) → IsRight (rule r) n (ρ n r)) (all : (n : ℕ) (r : Rule) → IsSteady (ρ n r)) where
+module _ (ρ : Readers) (all_right : (n : ℕ) (r : Rule) → IsRight (rule r) n (ρ n r))
+    (all : (n : ℕ) (r : Rule) → IsSteady (ρ n r)) where
   by_steady : {a : Ty} (g : Gr a) (n : ℕ) → one_ahead g ≡ true → IsSteady (read_by ρ g n)
   by_steady (tok k ks) n l = steady_one (k ∷ ks)
   by_steady (rule r) n l = all n r
   by_steady (g · h) n l =
       let b = and_both (one_ahead g) _ l in
       let c = and_both (one_ahead h) _ b.1 in
-      steady_then (read_by ρ g n) _ (by_steady g n b.0) (λ x. steady_then (read_by ρ h n) _ (by_steady h n c.0) (λ y. steady_ok (x, y)))
+      steady_then (read_by ρ g n) _ (by_steady g n b.0)
+      (λ x. steady_then (read_by ρ h n) _ (by_steady h n c.0) (λ y. steady_ok (x, y)))
   by_steady (g ∣ h) n l =
       let b = and_both (one_ahead g) _ l in
       let c = and_both (one_ahead h) _ b.1 in
-      steady_cond (first g) _ _ (steady_then (read_by ρ g n) _ (by_steady g n b.0) (λ x. steady_ok (inl x))) (steady_then (read_by ρ h n) _ (by_steady h n c.0) (λ y. steady_ok (inr y)))
+      steady_cond (first g) _ _ (steady_then (read_by ρ g n) _ (by_steady g n b.0) (λ x. steady_ok (inl x)))
+      (steady_then (read_by ρ h n) _ (by_steady h n c.0) (λ y. steady_ok (inr y)))
   by_steady (lead k g) n l = steady_then (one_token (k ∷ [])) _ (steady_one (k ∷ [])) (λ t. by_steady g n l)
-  by_steady (trail g k) n l = steady_then (read_by ρ g n) _ (by_steady g n (and_both (one_ahead g) _ l).0) (λ x. steady_then (one_token (k ∷ [])) _ (steady_one (k ∷ [])) (λ t. steady_ok x))
-  by_steady (opt g) n l = steady_cond (first g) _ _ (steady_then (read_by ρ g n) _ (by_steady g n (and_both (one_ahead g) _ l).0) (λ x. steady_ok (Some x))) (steady_ok None)
+  by_steady (trail g k) n l = steady_then (read_by ρ g n) _ (by_steady g n (and_both (one_ahead g) _ l).0)
+      (λ x. steady_then (one_token (k ∷ [])) _ (steady_one (k ∷ [])) (λ t. steady_ok x))
+  by_steady (opt g) n l = steady_cond (first g) _ _
+      (steady_then (read_by ρ g n) _ (by_steady g n (and_both (one_ahead g) _ l).0) (λ x. steady_ok (Some x)))
+      (steady_ok None)
   by_steady (many g) n l =
       let b = and_both (one_ahead g) _ l in
       let c = and_both (disjoint (ext g) (first g)) _ b.1 in
       let d = and_both (not (nullable g)) _ c.1 in
-      steady_repeated (first g) (read_by ρ g n) (by_steady g n b.0) (λ ts. right_shorter g n ts (read_by ρ g n ts) (not_true (nullable g) d.0) (by_right ρ all_right g n ts)) (not_true (is_among the.End (first g)) d.1)
+      steady_repeated (first g) (read_by ρ g n) (by_steady g n b.0)
+      (λ ts. right_shorter g n ts (read_by ρ g n ts) (not_true (nullable g) d.0) (by_right ρ all_right g n ts))
+      (not_true (is_among the.End (first g)) d.1)
   by_steady (nest g) zero l = steady_deep (first g)
   by_steady (nest g) (suc n) l = by_steady g n (and_both (one_ahead g) _ l).0
   by_steady (named g) n l =
-      steady_then (one_token (the.Name ∷ [])) _ (steady_one (the.Name ∷ [])) (λ t. steady_then (read_by ρ g n) _ (by_steady g n (and_both (one_ahead g) _ l).0)
+      steady_then (one_token (the.Name ∷ [])) _ (steady_one (the.Name ∷ []))
+      (λ t. steady_then (read_by ρ g n) _ (by_steady g n (and_both (one_ahead g) _ l).0)
       (λ x. steady_then (closing (name_of t)) _ (steady_close (name_of t)) (λ u. steady_ok (t, x))))
 
 within_steady : (k n : ℕ) (r : Rule) → IsSteady (read_within k n r)
 unfolding read_within
 within_steady zero n r = steady_err Unfit
 within_steady (suc k) n r =
-    steady_then (read_by (read_within k) (grammar r).form n) _ (by_steady (read_within k) (within_right k) (within_steady k) (grammar r).form n (tabled r).ahead) (λ x. steady_ok (tree r x))
+    steady_then (read_by (read_within k) (grammar r).form n) _
+    (by_steady (read_within k) (within_right k) (within_steady k) (grammar r).form n (tabled r).ahead)
+    (λ x. steady_ok (tree r x))
 
 pub rule_steady : (n : ℕ) (r : Rule) → IsSteady (read_rule n r)
 unfolding read_rule

@@ -1,4 +1,5 @@
--- What is known of a part's end with one bound, and of its end with a greater one: they are alike, or the first goes on.
+-- What is known of a part's end with one bound, and of its end with a greater one: they are alike, or the first goes
+-- on.
 use Rattle.std.proofs.Common.{ℕ, Bool, true, false, List, [], ◌++◌, refl, sym, ap, ◌∙◌, append_assoc}
 use Rattle.std.specs.Prelude.{if◌then◌else◌}
 use Rattle.std.proofs.lemmas.List.{append-nil}
@@ -18,7 +19,11 @@ pub begins_more : (xs more : List ℕ) → Begins xs (xs ++ more)
 begins_more xs more = record { more = more; rest = refl }
 
 pub joined : {xs ys zs : List ℕ} → Begins xs ys → Begins ys zs → Begins xs zs
-joined {xs = xs} b c = record { more = b.more ++ c.more; rest = sym (append_assoc xs b.more c.more) ∙ ap (λ (us : List ℕ). us ++ c.more) b.rest ∙ c.rest }
+joined {xs = xs} b c = record {
+  more = b.more ++ c.more;
+  rest = sym (append_assoc xs b.more c.more)
+      ∙ ap (λ (us : List ℕ). us ++ c.more) b.rest ∙ c.rest;
+}
 
 -- ---- the ends of expressions and of statements, where this was printed before
 
@@ -33,7 +38,8 @@ pub data Later {A : Type 0} (out : List ℕ) : Answer A → Answer A → Type 0 
 
 pub data After (out : List ℕ) : Outcome → Outcome → Type 0 where
   same : (x : Outcome) → Begins out (output_of x) → After out x x
-  open_yet : (more : List ℕ) (x : Outcome) → Begins out more → Begins more (output_of x) → After out (StillRunning more) x
+  open_yet : (more : List ℕ) (x : Outcome) → Begins out more → Begins more (output_of x)
+      → After out (StillRunning more) x
 
 -- ---- the second of both
 
@@ -131,24 +137,28 @@ end_reported : (function : Bool) (st : State) → Begins st.out (reported (at_en
 end_reported true st = begins st.out
 end_reported false st = begins st.out
 
-result_reported : {more : List ℕ} (function : Bool) (x : Outcome) → Begins more (output_of x) → Begins more (reported (result function x))
+result_reported : {more : List ℕ} (function : Bool) (x : Outcome) → Begins more (output_of x)
+    → Begins more (reported (result function x))
 result_reported function (Value Normal st) b = joined b (end_reported function st)
 result_reported function (Value Exited st) b = joined b (end_reported function st)
 result_reported function (Value (Returned v) st) b = b
 result_reported function (Ended n out) b = b
 result_reported function (StillRunning out) b = b
 
-pub result_later : {out : List ℕ} {x y : Outcome} (function : Bool) → After out x y → Later out (result function x) (result function y)
+pub result_later : {out : List ℕ} {x y : Outcome} (function : Bool) → After out x y
+    → Later out (result function x) (result function y)
 result_later function (same x b) = alike (result function x) (result_reported function x b)
 result_later function (open_yet more x b c) = going more (result function x) b (result_reported function x c)
 
 -- ---- choices
 
-pub if_later : {A : Type 0} {out : List ℕ} {x y x' y' : Answer A} (b : Bool) → Later out x y → Later out x' y' → Later out (if b then x else x') (if b then y else y')
+pub if_later : {A : Type 0} {out : List ℕ} {x y x' y' : Answer A} (b : Bool) → Later out x y → Later out x' y'
+    → Later out (if b then x else x') (if b then y else y')
 if_later true p q = p
 if_later false p q = q
 
-pub if_after : {out : List ℕ} {x y x' y' : Outcome} (b : Bool) → After out x y → After out x' y' → After out (if b then x else x') (if b then y else y')
+pub if_after : {out : List ℕ} {x y x' y' : Outcome} (b : Bool) → After out x y → After out x' y'
+    → After out (if b then x else x') (if b then y else y')
 if_after true p q = p
 if_after false p q = q
 

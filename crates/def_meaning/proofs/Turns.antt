@@ -43,45 +43,61 @@ looped_later h (suc n) (suc m) q = λ st. left_later (looped_later h n m (omega 
 -- ---- WHILE
 
 -- no turn is left: a condition that is met still runs
-no_turn : {t u : State → Answer ℤ} {g : State → Outcome} → Tests t u → Alike g g → Alike (λ st. t st ▷ λ v st. if is_true v then StillRunning st.out else Value Normal st) (λ st. u st ▷ λ v st. if is_true v then g st else Value Normal st)
+no_turn : {t u : State → Answer ℤ} {g : State → Outcome} → Tests t u → Alike g g
+    → Alike (λ st. t st ▷ λ v st. if is_true v then StillRunning st.out else Value Normal st)
+    (λ st. u st ▷ λ v st. if is_true v then g st else Value Normal st)
 no_turn t h = λ st. with_later (λ v st. if_after (is_true v) (on st (h st)) (went st)) (t st)
 
-while_twice : {t : State → Answer ℤ} {g : State → Outcome} → Tests t t → Alike g g → (m : ℕ) → Alike (while_true m t g) (while_true m t g)
+while_twice : {t : State → Answer ℤ} {g : State → Outcome} → Tests t t → Alike g g → (m : ℕ)
+    → Alike (while_true m t g) (while_true m t g)
 while_twice t h zero = λ st. with_later (λ v st. if_after (is_true v) (stays st) (went st)) (t st)
-while_twice t h (suc m) = λ st. with_later (λ v st. if_after (is_true v) (go_later (while_twice t h m) (h st)) (went st)) (t st)
+while_twice t h (suc m) = λ st. with_later
+    (λ v st. if_after (is_true v) (go_later (while_twice t h m) (h st)) (went st)) (t st)
 
-pub while_later : {t u : State → Answer ℤ} {f g : State → Outcome} → Tests t u → Alike f g → (n m : ℕ) → n ≤ m → Alike (while_true n t f) (while_true m u g)
+pub while_later : {t u : State → Answer ℤ} {f g : State → Outcome} → Tests t u → Alike f g → (n m : ℕ) → n ≤ m
+    → Alike (while_true n t f) (while_true m u g)
 while_later t h zero zero q = λ st. with_later (λ v st. if_after (is_true v) (stays st) (went st)) (t st)
 while_later t h zero (suc m) q = no_turn t (λ st. go_later (while_twice (second_test t) (second h) m) (second h st))
 while_later t h (suc n) zero q = absurd (omega arith)
-while_later t h (suc n) (suc m) q = λ st. with_later (λ v st. if_after (is_true v) (go_later (while_later t h n m (omega arith)) (h st)) (went st)) (t st)
+while_later t h (suc n) (suc m) q = λ st. with_later
+    (λ v st. if_after (is_true v) (go_later (while_later t h n m (omega arith)) (h st)) (went st)) (t st)
 
 -- ---- REPEAT
 
-until_twice : {t : State → Answer ℤ} {g : State → Outcome} → Tests t t → Alike g g → (m : ℕ) → Alike (until_true m g t) (until_true m g t)
+until_twice : {t : State → Answer ℤ} {g : State → Outcome} → Tests t t → Alike g g → (m : ℕ)
+    → Alike (until_true m g t) (until_true m g t)
 until_twice t h zero = λ st. stays st
-until_twice t h (suc m) = λ st. go_later (λ st. with_later (λ v st. if_after (is_true v) (went st) (until_twice t h m st)) (t st)) (h st)
+until_twice t h (suc m) = λ st. go_later
+    (λ st. with_later (λ v st. if_after (is_true v) (went st) (until_twice t h m st)) (t st)) (h st)
 
-pub until_later : {t u : State → Answer ℤ} {f g : State → Outcome} → Tests t u → Alike f g → (n m : ℕ) → n ≤ m → Alike (until_true n f t) (until_true m g u)
+pub until_later : {t u : State → Answer ℤ} {f g : State → Outcome} → Tests t u → Alike f g → (n m : ℕ) → n ≤ m
+    → Alike (until_true n f t) (until_true m g u)
 until_later t h zero m q = λ st. on st (until_twice (second_test t) (second h) m st)
 until_later t h (suc n) zero q = absurd (omega arith)
-until_later t h (suc n) (suc m) q = λ st. go_later (λ st. with_later (λ v st. if_after (is_true v) (went st) (until_later t h n m (omega arith) st)) (t st)) (h st)
+until_later t h (suc n) (suc m) q = λ st. go_later
+    (λ st. with_later (λ v st. if_after (is_true v) (went st) (until_later t h n m (omega arith) st)) (t st)) (h st)
 
 -- ---- FOR
 
-module _ (check : ℤ → State → Answer ℤ) (c : (v : ℤ) (st : State) → Later st.out (check v st) (check v st)) (l : Location) (by limit : ℤ) where
-  turns_twice : {g : State → Outcome} → Alike g g → (m : ℕ) → Alike (for_turns m check l by limit g) (for_turns m check l by limit g)
+module _ (check : ℤ → State → Answer ℤ) (c : (v : ℤ) (st : State) → Later st.out (check v st) (check v st))
+    (l : Location) (by limit : ℤ) where
+  turns_twice : {g : State → Outcome} → Alike g g → (m : ℕ)
+      → Alike (for_turns m check l by limit g) (for_turns m check l by limit g)
   turns_twice h zero = λ st. stays st
   turns_twice h (suc m) =
-      λ st. go_later (λ st. if_after (has_passed by limit (st.store l +ℤ by)) (went st) (with_later (λ v st. turns_twice h m (store_number l v st)) (c (st.store l +ℤ by) st))) (h st)
+      λ st. go_later (λ st. if_after (has_passed by limit (st.store l +ℤ by)) (went st)
+      (with_later (λ v st. turns_twice h m (store_number l v st)) (c (st.store l +ℤ by) st))) (h st)
 
-  turns_later : {f g : State → Outcome} → Alike f g → (n m : ℕ) → n ≤ m → Alike (for_turns n check l by limit f) (for_turns m check l by limit g)
+  turns_later : {f g : State → Outcome} → Alike f g → (n m : ℕ) → n ≤ m
+      → Alike (for_turns n check l by limit f) (for_turns m check l by limit g)
   turns_later h zero m q = λ st. on st (turns_twice (second h) m st)
   turns_later h (suc n) zero q = absurd (omega arith)
   turns_later h (suc n) (suc m) q =
-      λ st. go_later (λ st. if_after (has_passed by limit (st.store l +ℤ by)) (went st) (with_later (λ v st. turns_later h n m (omega arith) (store_number l v st)) (c (st.store l +ℤ by) st))) (h st)
+      λ st. go_later (λ st. if_after (has_passed by limit (st.store l +ℤ by)) (went st)
+      (with_later (λ v st. turns_later h n m (omega arith) (store_number l v st)) (c (st.store l +ℤ by) st))) (h st)
 
-  pub for_later : {f g : State → Outcome} → Alike f g → (n m : ℕ) → n ≤ m → Alike (for_all n check l by limit f) (for_all m check l by limit g)
+  pub for_later : {f g : State → Outcome} → Alike f g → (n m : ℕ) → n ≤ m
+      → Alike (for_all n check l by limit f) (for_all m check l by limit g)
   for_later h n m q = λ st. if_after (has_passed by limit (st.store l)) (went st) (turns_later h n m q st)
 
 -- ---- a WHILE that is bounded in some way

@@ -14,7 +14,8 @@ use Rattle.emit_buffer.specs.Drafts.{Drafted, with_ops, one, fits, is_plain, ins
 
 at : (i : Instr) (x : Instr-F Instr) → out-Instr i ≡ x → flat_one i ≡ flat_step (map-Instr Instr (List Op) flat_one x)
 unfolding flat_one
-at i x e = fold_out-Instr (List Op) flat_step i ∙ ap (λ (y : Instr-F Instr). flat_step (map-Instr Instr (List Op) flat_one y)) e
+at i x e = fold_out-Instr (List Op) flat_step i
+    ∙ ap (λ (y : Instr-F Instr). flat_step (map-Instr Instr (List Op) flat_one y)) e
 
 abbrev pub single : Op → Bool
 single (op.Block t n) = false
@@ -145,7 +146,8 @@ uncut (op.Numeric n) h = refl
 pub one_is : (o : Op) (d : Drafted) → is_plain o ≡ true → with_ops (o ∷ []) d ≡ one (instr_of o) d
 one_is o d h = ap (λ (p : Op). with_ops (p ∷ []) d) (sym (uncut o h)) ∙ cut_is o d (single_is o h)
 
-pub long_is : (n : ℕ) (d : Drafted) → n < 18446744073709551616 → with_ops (op.I64Const n ∷ []) d ≡ one (instr.I64Const n) d
+pub long_is : (n : ℕ) (d : Drafted) → n < 18446744073709551616
+    → with_ops (op.I64Const n ∷ []) d ≡ one (instr.I64Const n) d
 long_is n d l =
     let e : cut_long n ≡ n = omega (arith, l) in
     ap (λ (k : ℕ). with_ops (op.I64Const k ∷ []) d) (sym e) ∙ cut_is (op.I64Const n) d refl
@@ -155,7 +157,8 @@ small_is n d l =
     let e : cut n ≡ n = omega (arith, l) in
     ap (λ (k : ℕ). with_ops (op.I32Const k ∷ []) d) (sym e) ∙ cut_is (op.I32Const n) d refl
 
-pub next_long_is : (n : ℕ) (d : Drafted) → with_ops (op.I64Const (cut_long (n + 1)) ∷ []) d ≡ one (instr.I64Const (suc n)) d
+pub next_long_is : (n : ℕ) (d : Drafted)
+    → with_ops (op.I64Const (cut_long (n + 1)) ∷ []) d ≡ one (instr.I64Const (suc n)) d
 next_long_is n d =
     let e : n + 1 ≡ suc n = omega arith in
     ap (λ (k : ℕ). with_ops (op.I64Const (cut_long k) ∷ []) d) e ∙ cut_is (op.I64Const (suc n)) d refl

@@ -13,7 +13,8 @@ use Rattle.emit_buffer.specs.declared.frame.Framed.{Framed}
 use Rattle.emit_buffer.specs.Frames.{AreFramed, IsFramed, routines_in}
 
 -- one more frame
-pub more_framed : (types : Types) (fs gs : List Framed) (f : Framed) → gs ≡ fs ++ f ∷ [] → IsFramed types f → AreFramed types fs → AreFramed types gs
+pub more_framed : (types : Types) (fs gs : List Framed) (f : Framed) → gs ≡ fs ++ f ∷ [] → IsFramed types f
+    → AreFramed types fs → AreFramed types gs
 more_framed types fs gs f h k a =
     ap (λ (fs : List Framed). map (λ f. f.row.now) fs) h
     ∙ map-append (λ (f : Framed). f.row.now) fs (f ∷ [])
@@ -24,15 +25,20 @@ more_framed types fs gs f h k a =
     ∙ ap (λ (fs : List Framed). map (frame_row types) (routines_in fs)) (sym h)
 
 -- and its procedure
-pub more_routines : (m : TypedModule) (level k : ℕ) (w : Option Which) (f : Framed) (fs gs hs : List Framed) → gs ≡ fs ++ f ∷ [] → level ≡ suc k → routine_at m w ≡ Some f.routine.now
-    → routines_in hs ≡ routines_in gs ++ routines_around m k f.routine.now.around → routines_in hs ≡ routines_in fs ++ routines_around m level w
+pub more_routines : (m : TypedModule) (level k : ℕ) (w : Option Which) (f : Framed) (fs gs hs : List Framed)
+    → gs ≡ fs ++ f ∷ [] → level ≡ suc k → routine_at m w ≡ Some f.routine.now
+    → routines_in hs ≡ routines_in gs ++ routines_around m k f.routine.now.around
+    → routines_in hs ≡ routines_in fs ++ routines_around m level w
 more_routines m level k w f fs gs hs h l a e =
     e ∙ ap (λ (gs : List Framed). routines_in gs ++ routines_around m k f.routine.now.around) h
-    ∙ ap (λ (rs : List Routine). rs ++ routines_around m k f.routine.now.around) (map-append (λ (f : Framed). f.routine.now) fs (f ∷ []))
+    ∙ ap (λ (rs : List Routine). rs ++ routines_around m k f.routine.now.around)
+    (map-append (λ (f : Framed). f.routine.now) fs (f ∷ []))
     ∙ append_assoc (routines_in fs) (f.routine.now ∷ []) (routines_around m k f.routine.now.around)
     ∙ ap (λ (r : Option Routine). routines_in fs ++ around_from (routines_around m k) r) (sym a)
     ∙ ap (λ (n : ℕ). routines_in fs ++ routines_around m n w) (sym l)
 
-pub none_more : (m : TypedModule) (level : ℕ) (w : Option Which) (fs : List Framed) → routine_at m w ≡ None → routines_in fs ≡ routines_in fs ++ routines_around m level w
+pub none_more : (m : TypedModule) (level : ℕ) (w : Option Which) (fs : List Framed) → routine_at m w ≡ None
+    → routines_in fs ≡ routines_in fs ++ routines_around m level w
 none_more m zero w fs h = sym (append-nil (routines_in fs))
-none_more m (suc k) w fs h = sym (append-nil (routines_in fs)) ∙ ap (λ (r : Option Routine). routines_in fs ++ around_from (routines_around m k) r) (sym h)
+none_more m (suc k) w fs h = sym (append-nil (routines_in fs))
+    ∙ ap (λ (r : Option Routine). routines_in fs ++ around_from (routines_around m k) r) (sym h)

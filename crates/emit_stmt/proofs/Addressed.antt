@@ -17,7 +17,8 @@ opened x = map-TypedStmt TypedStmt TypedArm ℕ ℕ addresses_of addresses_armed
 
 at : (e : TypedStmt) (x : TypedStmt-F TypedStmt TypedArm) → out-TypedStmt e ≡ x → addresses_of e ≡ step_layer (opened x)
 unfolding addresses_of addresses_armed
-at e x h = fold_out-TypedStmt ℕ ℕ step_layer arm_layer e ∙ ap (λ (y : TypedStmt-F TypedStmt TypedArm). step_layer (opened y)) h
+at e x h = fold_out-TypedStmt ℕ ℕ step_layer arm_layer e
+    ∙ ap (λ (y : TypedStmt-F TypedStmt TypedArm). step_layer (opened y)) h
 
 pub arm_is : (x : TypedArm) → addresses_armed x ≡ addresses_in x.body
 unfolding addresses_of addresses_armed
@@ -56,13 +57,15 @@ stmt_Halt = at sv.Halt sl.Halt sv.outs-Halt
 pub stmt_If_None : (e : TypedExpr) (xs : List TypedStmt) → addresses_of (sv.If e xs None) ≡ addresses_in xs
 stmt_If_None e xs = at (sv.If e xs None) (sl.If e xs None) (sv.outs-If e xs None) ∙ add-zero (addresses_in xs)
 
-pub stmt_If_Some : (e : TypedExpr) (xs ys : List TypedStmt) → addresses_of (sv.If e xs (Some ys)) ≡ addresses_in xs + addresses_in ys
+pub stmt_If_Some : (e : TypedExpr) (xs ys : List TypedStmt)
+    → addresses_of (sv.If e xs (Some ys)) ≡ addresses_in xs + addresses_in ys
 stmt_If_Some e xs ys = at (sv.If e xs (Some ys)) (sl.If e xs (Some ys)) (sv.outs-If e xs (Some ys))
 
 pub stmt_Case_None : (e : TypedExpr) (xs : List TypedArm) → addresses_of (sv.Case e xs None) ≡ arms_in xs
 stmt_Case_None e xs = at (sv.Case e xs None) (sl.Case e xs None) (sv.outs-Case e xs None) ∙ add-zero (arms_in xs)
 
-pub stmt_Case_Some : (e : TypedExpr) (xs : List TypedArm) (ys : List TypedStmt) → addresses_of (sv.Case e xs (Some ys)) ≡ arms_in xs + addresses_in ys
+pub stmt_Case_Some : (e : TypedExpr) (xs : List TypedArm) (ys : List TypedStmt)
+    → addresses_of (sv.Case e xs (Some ys)) ≡ arms_in xs + addresses_in ys
 stmt_Case_Some e xs ys = at (sv.Case e xs (Some ys)) (sl.Case e xs (Some ys)) (sv.outs-Case e xs (Some ys))
 
 pub stmt_While : (e : TypedExpr) (xs : List TypedStmt) → addresses_of (sv.While e xs) ≡ addresses_in xs
@@ -83,11 +86,34 @@ stmt_Return = at sv.Return sl.Return sv.outs-Return
 pub stmt_Give : (t : TypeNo) (e : TypedExpr) → addresses_of (sv.Give t e) ≡ 0
 stmt_Give t e = at (sv.Give t e) (sl.Give t e) (sv.outs-Give t e)
 
-pub stmt_For : (d : Place) (t : TypeNo) (a b : TypedExpr) (n : ℤ) (xs : List TypedStmt) → addresses_of (sv.For d t a b n xs) ≡ addresses_in xs
+pub stmt_For : (d : Place) (t : TypeNo) (a b : TypedExpr) (n : ℤ) (xs : List TypedStmt)
+    → addresses_of (sv.For d t a b n xs) ≡ addresses_in xs
 stmt_For d t a b n xs = at (sv.For d t a b n xs) (sl.For d t a b n xs) (sv.outs-For d t a b n xs)
 
 pub stmt_With : (d : Place) (xs : List TypedStmt) → addresses_of (sv.With d xs) ≡ 1 + addresses_in xs
 stmt_With d xs = at (sv.With d xs) (sl.With d xs) (sv.outs-With d xs) ∙ one_more (addresses_in xs)
 
 -- all of these
-pub ruleset variants = (stmt_Assign, stmt_Copy, stmt_CopyText, stmt_Call, stmt_Put, stmt_Change, stmt_Membership, stmt_Halt, stmt_If_None, stmt_If_Some, stmt_Case_None, stmt_Case_Some, stmt_While, stmt_Repeat, stmt_Loop, stmt_Exit, stmt_Return, stmt_Give, stmt_For, stmt_With, arm_is)
+pub ruleset variants = (
+  stmt_Assign,
+  stmt_Copy,
+  stmt_CopyText,
+  stmt_Call,
+  stmt_Put,
+  stmt_Change,
+  stmt_Membership,
+  stmt_Halt,
+  stmt_If_None,
+  stmt_If_Some,
+  stmt_Case_None,
+  stmt_Case_Some,
+  stmt_While,
+  stmt_Repeat,
+  stmt_Loop,
+  stmt_Exit,
+  stmt_Return,
+  stmt_Give,
+  stmt_For,
+  stmt_With,
+  arm_is,
+)

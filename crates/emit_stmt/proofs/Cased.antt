@@ -42,7 +42,8 @@ arm_is n x = fold_out-TypedArm Coded Arm (step_layer n) (arm_layer n) x
 
 arms_are : (n : Numbered) (xs : List TypedArm) → map (arm_of n) xs ≡ all_made n xs
 arms_are n [] = refl
-arms_are n (x ∷ xs) = ap (λ (a : Arm). a ∷ map (arm_of n) xs) (arm_is n x) ∙ ap (λ (rest : List Arm). made n x ∷ rest) (arms_are n xs)
+arms_are n (x ∷ xs) = ap (λ (a : Arm). a ∷ map (arm_of n) xs) (arm_is n x)
+    ∙ ap (λ (rest : List Arm). made n x ∷ rest) (arms_are n xs)
 
 count : (n : Numbered) (xs : List TypedArm) → length (all_made n xs) ≡ length xs
 count n [] = refl
@@ -55,20 +56,27 @@ labels_are n (x ∷ xs) = ap (λ (ls : List Label). x.labels ++ ls) (labels_are 
 target_is : (n : Numbered) (xs : List TypedArm) (v : ℤ) → target (all_made n xs) v ≡ target_in xs v
 unfolding has_value
 target_is n [] v = refl
-target_is n (x ∷ xs) v = ap (λ (k : ℕ). if list_any (λ y. int_le y.low v && int_le v y.high) x.labels then 0 else suc k) (target_is n xs v)
+target_is n (x ∷ xs) v = ap (λ (k : ℕ). if list_any (λ y. int_le y.low v && int_le v y.high) x.labels then 0 else suc k)
+    (target_is n xs v)
 
 -- the same function on each element of a list
 same_map : {A B : Type 0} (f g : A → B) (h : (x : A) → f x ≡ g x) (xs : List A) → map f xs ≡ map g xs
 same_map f g h [] = refl
 same_map f g h (x ∷ xs) = ap (λ y. y ∷ map f xs) (h x) ∙ ap (λ ys. g x ∷ ys) (same_map f g h xs)
 
-targets_are : (n : Numbered) (xs : List TypedArm) (low : ℤ) (span : ℕ) → targets (all_made n xs) low span ≡ targets_in xs low span
-targets_are n xs low span = same_map (λ k. target (all_made n xs) (low +ℤ pos k)) (λ k. target_in xs (low +ℤ pos k)) (λ k. target_is n xs (low +ℤ pos k)) (range_with_len 0 span)
+targets_are : (n : Numbered) (xs : List TypedArm) (low : ℤ) (span : ℕ)
+    → targets (all_made n xs) low span ≡ targets_in xs low span
+targets_are n xs low span = same_map (λ k. target (all_made n xs) (low +ℤ pos k)) (λ k. target_in xs (low +ℤ pos k))
+    (λ k. target_is n xs (low +ℤ pos k)) (range_with_len 0 span)
 
-dispatch_is : (n : Numbered) (t : ℕ) (xs : List TypedArm) (low : ℤ) (span : ℕ) → dispatch t (all_made n xs) low span ≡ dispatch_in t xs low span
+dispatch_is : (n : Numbered) (t : ℕ) (xs : List TypedArm) (low : ℤ) (span : ℕ)
+    → dispatch t (all_made n xs) low span ≡ dispatch_in t xs low span
 dispatch_is n t xs low span =
-    ap (λ (k : ℕ). from_least t low ++ (I64Const (span - 1) ∷ relation GtU ∷ BrIf k ∷ (from_least t low ++ (wrap_word ∷ BrTable (targets (all_made n xs) low span) k ∷ [])))) (count n xs)
-    ∙ ap (λ (ts : List ℕ). from_least t low ++ (I64Const (span - 1) ∷ relation GtU ∷ BrIf (length xs) ∷ (from_least t low ++ (wrap_word ∷ BrTable ts (length xs) ∷ [])))) (targets_are n xs low span)
+    ap (λ (k : ℕ). from_least t low ++ (I64Const (span - 1) ∷ relation GtU ∷ BrIf k
+    ∷ (from_least t low ++ (wrap_word ∷ BrTable (targets (all_made n xs) low span) k ∷ [])))) (count n xs)
+    ∙ ap (λ (ts : List ℕ). from_least t low
+    ++ (I64Const (span - 1) ∷ relation GtU ∷ BrIf (length xs)
+    ∷ (from_least t low ++ (wrap_word ∷ BrTable ts (length xs) ∷ [])))) (targets_are n xs low span)
 
 -- ---- what is done else
 
@@ -76,17 +84,21 @@ abbrev else_of : Numbered → Option (List TypedStmt) → Coded
 else_of n None = plain (fault 5)
 else_of n (Some xs) = all_coded (map (step_code n) xs)
 
-others_are : (s : Setting) (d : Drafted) (others : Option (List TypedStmt)) → emitted (else_of (numbering_of s.home) others) s d ≡ with_others s d others
+others_are : (s : Setting) (d : Drafted) (others : Option (List TypedStmt))
+    → emitted (else_of (numbering_of s.home) others) s d ≡ with_others s d others
 others_are s d None = emitted_plain (fault 5) s d
 others_are s d (Some xs) = steps_are s d xs
 
 -- ---- one test after the other
 
-block_of : (code : List Instr) (s : Setting) (d : Drafted) → emitted (plain (block code)) s d ≡ closed_block (place_of d) None (put code (open_draft d))
+block_of : (code : List Instr) (s : Setting) (d : Drafted)
+    → emitted (plain (block code)) s d ≡ closed_block (place_of d) None (put code (open_draft d))
 unfolding emitted
-block_of code s d = boxed_block None (plain code) s s d ∙ ap (λ (r : Drafted). closed_block (place_of d) None r) (emitted_plain code s (open_draft d))
+block_of code s d = boxed_block None (plain code) s s d
+    ∙ ap (λ (r : Drafted). closed_block (place_of d) None r) (emitted_plain code s (open_draft d))
 
-with_arm_is : (t : ℕ) (s : Setting) (d : Drafted) (x : TypedArm) → emitted (arm_code t (made (numbering_of s.home) x)) s d ≡ with_arm t s d x
+with_arm_is : (t : ℕ) (s : Setting) (d : Drafted) (x : TypedArm)
+    → emitted (arm_code t (made (numbering_of s.home) x)) s d ≡ with_arm t s d x
 unfolding emitted with_arm
 with_arm_is t s d x =
     let inner : Setting = deeper 1 s in
@@ -96,10 +108,12 @@ with_arm_is t s d x =
     ∙ ap (λ (r : Drafted). closed_block (place_of d) None r)
     (emitted_seq (plain tests) (body ⨾ plain (Br 1 ∷ [])) inner (open_draft d)
     ∙ then_plain body (Br 1 ∷ []) inner (emitted (plain tests) inner (open_draft d))
-    ∙ ap (λ (r : Drafted). put (Br 1 ∷ []) (emitted body inner r)) (block_of (tests_code t x.labels) inner (open_draft d))
+    ∙ ap (λ (r : Drafted). put (Br 1 ∷ []) (emitted body inner r))
+    (block_of (tests_code t x.labels) inner (open_draft d))
     ∙ ap (λ (r : Drafted). put (Br 1 ∷ []) r) (steps_are inner (arm_begun t d x) x.body))
 
-with_arms_are : (t : ℕ) (s : Setting) (d : Drafted) (xs : List TypedArm) → emitted (all_coded (map (arm_code t) (all_made (numbering_of s.home) xs))) s d ≡ with_arms t s d xs
+with_arms_are : (t : ℕ) (s : Setting) (d : Drafted) (xs : List TypedArm)
+    → emitted (all_coded (map (arm_code t) (all_made (numbering_of s.home) xs))) s d ≡ with_arms t s d xs
 with_arms_are t s d [] = emitted_plain [] s d
 with_arms_are t s d (x ∷ xs) =
     let n = numbering_of s.home in
@@ -108,7 +122,8 @@ with_arms_are t s d (x ∷ xs) =
     ∙ with_arms_are t s (with_arm t s d x) xs
 
 tests_are : (t : ℕ) (s : Setting) (d : Drafted) (xs : List TypedArm) (others : Option (List TypedStmt))
-    → emitted (chain_code t (all_made (numbering_of s.home) xs) (else_of (numbering_of s.home) others)) s d ≡ closed_block (place_of d) None (with_others (deeper 1 s) (by_tests t s d xs) others)
+    → emitted (chain_code t (all_made (numbering_of s.home) xs) (else_of (numbering_of s.home) others)) s d
+    ≡ closed_block (place_of d) None (with_others (deeper 1 s) (by_tests t s d xs) others)
 tests_are t s d xs others =
     let n = numbering_of s.home in
     let inner : Setting = deeper 1 s in
@@ -121,21 +136,26 @@ tests_are t s d xs others =
 
 -- ---- by a table
 
-boxed_is : (x : Coded) (s : Setting) (d : Drafted) → emitted (in_block x) s d ≡ closed_block (place_of d) None (emitted x s (open_draft d))
+boxed_is : (x : Coded) (s : Setting) (d : Drafted)
+    → emitted (in_block x) s d ≡ closed_block (place_of d) None (emitted x s (open_draft d))
 unfolding emitted
 boxed_is x s d = boxed_block None x s s d
 
-within_is : (k : ℕ) (x : Coded) (s : Setting) (d : Drafted) → emitted (within k (λ code. code) x) s d ≡ emitted x (deeper k s) d
+within_is : (k : ℕ) (x : Coded) (s : Setting) (d : Drafted)
+    → emitted (within k (λ code. code) x) s d ≡ emitted x (deeper k s) d
 unfolding emitted
 within_is k x s d = refl
 
 place_opened : (n : ℕ) (d : Drafted) → place_of (opened_times n d) ≡ place_of d + n
 unfolding open_draft
 place_opened zero d = omega arith
-place_opened (suc n) d = length-append (opened_times n d).ops (op.Unreachable ∷ []) ∙ ap (λ (k : ℕ). k + 1) (place_opened n d) ∙ omega arith
+place_opened (suc n) d = length-append (opened_times n d).ops (op.Unreachable ∷ [])
+    ∙ ap (λ (k : ℕ). k + 1) (place_opened n d) ∙ omega arith
 
 jump_is : (s : Setting) (d : Drafted) (x : TypedArm) (xs : List TypedArm) (inner : Coded)
-    → emitted (in_block inner ⨾ within (length xs + 2) (λ code. code) (all_coded (map (step_code (numbering_of s.home)) x.body)) ⨾ plain (Br (length xs + 1) ∷ [])) s (opened_times (length xs) d)
+    → emitted (in_block inner ⨾ within (length xs + 2) (λ code. code)
+    (all_coded (map (step_code (numbering_of s.home)) x.body)) ⨾ plain (Br (length xs + 1) ∷ [])) s
+    (opened_times (length xs) d)
     ≡ with_jump (place_of d) (length xs) s (emitted inner s (open_draft (opened_times (length xs) d))) x
 unfolding with_jump
 jump_is s d x xs inner =
@@ -153,7 +173,8 @@ jump_is s d x xs inner =
     ∙ steps_are (deeper (k + 2) s) after x.body)
 
 jumps_are : (s : Setting) (d : Drafted) (xs : List TypedArm) (inner : Coded)
-    → emitted (jump_arms (all_made (numbering_of s.home) xs) inner) s d ≡ with_jumps (place_of d) s (emitted inner s (opened_times (length xs) d)) xs
+    → emitted (jump_arms (all_made (numbering_of s.home) xs) inner) s d
+    ≡ with_jumps (place_of d) s (emitted inner s (opened_times (length xs) d)) xs
 jumps_are s d [] inner = refl
 jumps_are s d (x ∷ xs) inner =
     let n = numbering_of s.home in
@@ -166,7 +187,8 @@ jumps_are s d (x ∷ xs) inner =
     ∙ ap (λ (r : Drafted). with_jumps (place_of d) s r xs) (jump_is s d x xs inner)
 
 table_is : (t : ℕ) (s : Setting) (d : Drafted) (xs : List TypedArm) (others : Option (List TypedStmt))
-    → emitted (table_code t (all_made (numbering_of s.home) xs) (else_of (numbering_of s.home) others)) s d ≡ closed_block (place_of d) None (with_others (deeper 1 s) (by_table t s d xs) others)
+    → emitted (table_code t (all_made (numbering_of s.home) xs) (else_of (numbering_of s.home) others)) s d
+    ≡ closed_block (place_of d) None (with_others (deeper 1 s) (by_table t s d xs) others)
 table_is t s d xs others =
     let n = numbering_of s.home in
     let arms : List Arm = all_made n xs in
@@ -174,8 +196,10 @@ table_is t s d xs others =
     let jumps : List Instr → Coded = λ code. jump_arms arms (plain code) in
     let d2 : Drafted = open_draft (open_draft d) in
     let same : dispatch t arms (least_of (all_labels arms)) (span_of (all_labels arms)) ≡ code =
-    ap (λ (ls : List Label). dispatch t arms (least_of ls) (span_of ls)) (labels_are n xs) ∙ dispatch_is n t xs (least_of (labels_in xs)) (span_of (labels_in xs)) in
-    ap (λ (c : List Instr). emitted (in_block (in_block (jumps c) ⨾ within 1 (λ code. code) (else_of n others))) s d) same
+    ap (λ (ls : List Label). dispatch t arms (least_of ls) (span_of ls)) (labels_are n xs)
+    ∙ dispatch_is n t xs (least_of (labels_in xs)) (span_of (labels_in xs)) in
+    ap (λ (c : List Instr). emitted (in_block (in_block (jumps c) ⨾ within 1 (λ code. code) (else_of n others))) s d)
+    same
     ∙ boxed_is (in_block (jumps code) ⨾ within 1 (λ code. code) (else_of n others)) s d
     ∙ ap (λ (r : Drafted). closed_block (place_of d) None r)
     (emitted_seq (in_block (jumps code)) (within 1 (λ code. code) (else_of n others)) s (open_draft d)
@@ -189,7 +213,8 @@ table_is t s d xs others =
 
 -- ---- both
 
-either : (b : Bool) (x y : Coded) (s : Setting) (d u v : Drafted) (f : Drafted → Drafted) → emitted x s d ≡ f u → emitted y s d ≡ f v → emitted (if b then x else y) s d ≡ f (if b then u else v)
+either : (b : Bool) (x y : Coded) (s : Setting) (d u v : Drafted) (f : Drafted → Drafted) → emitted x s d ≡ f u
+    → emitted y s d ≡ f v → emitted (if b then x else y) s d ≡ f (if b then u else v)
 either true x y s d u v f h k = h
 either false x y s d u v f h k = k
 
@@ -197,26 +222,31 @@ abbrev case_of : Numbered → TypedExpr → List Arm → Coded → Coded
 case_of n e arms otherwise = case_code (part n e).code arms otherwise
 
 case_is : (s : Setting) (d : Drafted) (e : TypedExpr) (xs : List TypedArm) (others : Option (List TypedStmt))
-    → emitted (case_of (numbering_of s.home) e (all_made (numbering_of s.home) xs) (else_of (numbering_of s.home) others)) s d
+    → emitted (case_of (numbering_of s.home) e (all_made (numbering_of s.home) xs)
+    (else_of (numbering_of s.home) others)) s d
     ≡ all_cases (selected_local s e d) s (keep_selector s e d) xs others
 unfolding with_value by_cases
 case_is s d e xs others =
     let n = numbering_of s.home in
     let arms : List Arm = all_made n xs in
     let otherwise : Coded = else_of n others in
-    let code : ℕ → Coded = λ t. if is_dense (length arms) (all_labels arms) then table_code t arms otherwise else chain_code t arms otherwise in
+    let code : ℕ → Coded = λ t. if is_dense (length arms) (all_labels arms) then table_code t arms otherwise else
+    chain_code t arms otherwise in
     let d1 : Drafted = with_value s e d in
     let t = number_local s d1.counts.numbers in
     let d2 : Drafted = number_kept s d1 in
     let end : Drafted → Drafted = λ r. closed_block (place_of d2) None (with_others (deeper 1 s) r others) in
     emitted_seq (part n e).code (with_number (λ t. plain (LocalSet t ∷ []) ⨾ code t)) s d
     ∙ keeps_number code s d1
-    ∙ either (is_dense (length arms) (all_labels arms)) (table_code t arms otherwise) (chain_code t arms otherwise) s d2 (by_table t s d2 xs) (by_tests t s d2 xs) end (table_is t s d2 xs others) (tests_are t s d2 xs others)
+    ∙ either (is_dense (length arms) (all_labels arms)) (table_code t arms otherwise) (chain_code t arms otherwise) s d2
+    (by_table t s d2 xs) (by_tests t s d2 xs) end (table_is t s d2 xs others) (tests_are t s d2 xs others)
     ∙ ap (λ (k : ℕ). end (if is_dense k (all_labels arms) then by_table t s d2 xs else by_tests t s d2 xs)) (count n xs)
-    ∙ ap (λ (ls : List Label). end (if is_dense (length xs) ls then by_table t s d2 xs else by_tests t s d2 xs)) (labels_are n xs)
+    ∙ ap (λ (ls : List Label). end (if is_dense (length xs) ls then by_table t s d2 xs else by_tests t s d2 xs))
+    (labels_are n xs)
 
 pub step_Case_None : (s : Setting) (d : Drafted) (e : TypedExpr) (xs : List TypedArm)
-    → with_step s d (sv.Case e xs None) ≡ closed_block (place_of (keep_selector s e d)) None (put (fault 5) (by_cases (selected_local s e d) s (keep_selector s e d) xs))
+    → with_step s d (sv.Case e xs None) ≡ closed_block (place_of (keep_selector s e d)) None
+    (put (fault 5) (by_cases (selected_local s e d) s (keep_selector s e d) xs))
 step_Case_None s d e xs =
     let n = numbering_of s.home in
     by_layer s d (sv.Case e xs None) (sl.Case e xs None) (sv.outs-Case e xs None)
@@ -224,7 +254,9 @@ step_Case_None s d e xs =
     ∙ case_is s d e xs None
 
 pub step_Case_Some : (s : Setting) (d : Drafted) (e : TypedExpr) (xs : List TypedArm) (ys : List TypedStmt)
-    → with_step s d (sv.Case e xs (Some ys)) ≡ closed_block (place_of (keep_selector s e d)) None (with_steps (deeper 1 s) (by_cases (selected_local s e d) s (keep_selector s e d) xs) ys)
+    → with_step s d (sv.Case e xs (Some ys))
+    ≡ closed_block (place_of (keep_selector s e d)) None
+    (with_steps (deeper 1 s) (by_cases (selected_local s e d) s (keep_selector s e d) xs) ys)
 step_Case_Some s d e xs ys =
     let n = numbering_of s.home in
     by_layer s d (sv.Case e xs (Some ys)) (sl.Case e xs (Some ys)) (sv.outs-Case e xs (Some ys))
@@ -236,13 +268,17 @@ branches_cut : (ls : List ℕ) → map cut_op (map (λ l. op.Br l) ls) ≡ map (
 branches_cut [] = refl
 branches_cut (l ∷ ls) = ap (λ (r : List Op). op.Br (cut l) ∷ r) (branches_cut ls)
 
-pub table_flat : (ls : List ℕ) (l : ℕ) (d : Drafted) → with_ops (map (λ l. op.Br (cut l)) ls) (with_ops (op.BrTable (cut (length ls)) (cut l) ∷ []) d) ≡ one (BrTable ls l) d
+pub table_flat : (ls : List ℕ) (l : ℕ) (d : Drafted)
+    → with_ops (map (λ l. op.Br (cut l)) ls) (with_ops (op.BrTable (cut (length ls)) (cut l) ∷ []) d)
+    ≡ one (BrTable ls l) d
 unfolding one flat_one
 table_flat ls l d =
     ap (λ (ops : List Op). record { ops = ops; counts = d.counts })
     (append_assoc d.ops (op.BrTable (cut (length ls)) (cut l) ∷ []) (map (λ l. op.Br (cut l)) ls)
     ∙ ap (λ (ops : List Op). d.ops ++ op.BrTable (cut (length ls)) (cut l) ∷ ops) (sym (branches_cut ls))
-    ∙ ap (λ (ops : List Op). d.ops ++ map cut_op ops) (sym (fold_out-Instr (List Op) flat_step (BrTable ls l) ∙ ap (λ (y : Instr-F Instr). flat_step (map-Instr Instr (List Op) flat_one y)) (outs-BrTable ls l))))
+    ∙ ap (λ (ops : List Op). d.ops ++ map cut_op ops)
+    (sym (fold_out-Instr (List Op) flat_step (BrTable ls l)
+    ∙ ap (λ (y : Instr-F Instr). flat_step (map-Instr Instr (List Op) flat_one y)) (outs-BrTable ls l))))
 
 -- ---- loops
 
@@ -258,6 +294,8 @@ pub deeper_twice : (s : Setting) (n m : ℕ) → record s { exit = s.exit + n + 
 deeper_twice s n m = ap (λ (k : ℕ). record s { exit = k }) (add_assoc s.exit n m)
 
 -- the next arm of a table
-pub jump_next : (p : ℕ) (s : Setting) (d e : Drafted) (xs rest : List TypedArm) (x : TypedArm) (left : ℕ) → xs ≡ x ∷ rest → left ≡ length rest → e ≡ with_jump p left s d x → with_jumps p s e rest ≡ with_jumps p s d xs
+pub jump_next : (p : ℕ) (s : Setting) (d e : Drafted) (xs rest : List TypedArm) (x : TypedArm) (left : ℕ)
+    → xs ≡ x ∷ rest → left ≡ length rest → e ≡ with_jump p left s d x → with_jumps p s e rest ≡ with_jumps p s d xs
 jump_next p s d e xs rest x left h k l =
-    ap (λ (e : Drafted). with_jumps p s e rest) (l ∙ ap (λ (n : ℕ). with_jump p n s d x) k) ∙ sym (ap (λ (xs : List TypedArm). with_jumps p s d xs) h)
+    ap (λ (e : Drafted). with_jumps p s e rest) (l ∙ ap (λ (n : ℕ). with_jump p n s d x) k)
+    ∙ sym (ap (λ (xs : List TypedArm). with_jumps p s d xs) h)

@@ -35,21 +35,26 @@ arm_of n = fold-TypedArm Coded Arm (step_layer n) (arm_layer n)
 abbrev pub opened_stmt : Numbered → TypedStmt-F TypedStmt TypedArm → TypedStmt-F Coded Arm
 opened_stmt n x = map-TypedStmt TypedStmt TypedArm Coded Arm (step_code n) (arm_of n) x
 
-at : (n : Numbered) (e : TypedStmt) (x : TypedStmt-F TypedStmt TypedArm) → out-TypedStmt e ≡ x → step_code n e ≡ step_layer n (opened_stmt n x)
+at : (n : Numbered) (e : TypedStmt) (x : TypedStmt-F TypedStmt TypedArm) → out-TypedStmt e ≡ x
+    → step_code n e ≡ step_layer n (opened_stmt n x)
 unfolding step_code arm_of
-at n e x h = fold_out-TypedStmt Coded Arm (step_layer n) (arm_layer n) e ∙ ap (λ (y : TypedStmt-F TypedStmt TypedArm). step_layer n (opened_stmt n y)) h
+at n e x h = fold_out-TypedStmt Coded Arm (step_layer n) (arm_layer n) e
+    ∙ ap (λ (y : TypedStmt-F TypedStmt TypedArm). step_layer n (opened_stmt n y)) h
 
 -- a statement by its layer
-pub by_layer : (s : Setting) (d : Drafted) (e : TypedStmt) (x : TypedStmt-F TypedStmt TypedArm) → out-TypedStmt e ≡ x → with_step s d e ≡ emitted (step_layer (numbering_of s.home) (opened_stmt (numbering_of s.home) x)) s d
+pub by_layer : (s : Setting) (d : Drafted) (e : TypedStmt) (x : TypedStmt-F TypedStmt TypedArm) → out-TypedStmt e ≡ x
+    → with_step s d e ≡ emitted (step_layer (numbering_of s.home) (opened_stmt (numbering_of s.home) x)) s d
 unfolding with_step
 by_layer s d e x h = ap (λ (c : Coded). emitted c s d) (at (numbering_of s.home) e x h)
 
 -- statements one behind the other
-pub steps_are : (s : Setting) (d : Drafted) (xs : List TypedStmt) → emitted (all_coded (map (step_code (numbering_of s.home)) xs)) s d ≡ with_steps s d xs
+pub steps_are : (s : Setting) (d : Drafted) (xs : List TypedStmt)
+    → emitted (all_coded (map (step_code (numbering_of s.home)) xs)) s d ≡ with_steps s d xs
 unfolding with_step
 steps_are s d [] = emitted_plain [] s d
 steps_are s d (x ∷ xs) =
-    emitted_seq (step_code (numbering_of s.home) x) (all_coded (map (step_code (numbering_of s.home)) xs)) s d ∙ steps_are s (with_step s d x) xs
+    emitted_seq (step_code (numbering_of s.home) x) (all_coded (map (step_code (numbering_of s.home)) xs)) s d
+    ∙ steps_are s (with_step s d x) xs
 
 -- ---- statements without others
 
@@ -63,7 +68,8 @@ step_Assign s d p t e =
     ∙ then_setting (take_code n t e) (λ s. store_code s.home.types t) s (with_place s p d)
 
 pub step_Copy : (s : Setting) (d : Drafted) (a b : Place) (t : TypeNo)
-    → with_step s d (sv.Copy a b t) ≡ put (I32Const (size (tree s.home.types t)) ∷ Call copy ∷ []) (with_place s b (with_place s a d))
+    → with_step s d (sv.Copy a b t) ≡ put (I32Const (size (tree s.home.types t)) ∷ Call copy ∷ [])
+    (with_place s b (with_place s a d))
 unfolding with_place
 step_Copy s d a b t =
     let n = numbering_of s.home in
@@ -76,17 +82,25 @@ text_begun s d = put (LocalTee (address_local s d.counts.addresses) ∷ []) (nex
 
 pub step_CopyText : (s : Setting) (d : Drafted) (p : Place) (t : TypeNo) (text : List ℕ)
     → with_step s d (sv.CopyText p t text)
-    ≡ put (text_copied (text_begun s (with_place s p d)).counts.texts (length text) (size (tree s.home.types t) - length text) (address_local s (with_place s p d).counts.addresses)) (next_text (length text) (text_begun s (with_place s p d)))
+    ≡ put (text_copied (text_begun s (with_place s p d)).counts.texts (length text)
+    (size (tree s.home.types t) - length text) (address_local s (with_place s p d).counts.addresses))
+    (next_text (length text) (text_begun s (with_place s p d)))
 unfolding with_place
 step_CopyText s d p t text =
     let n = numbering_of s.home in
     let d1 = with_place s p d in
     let w = address_local s d1.counts.addresses in
-    let f : ℕ → Setting → List Instr = λ at s. text_copied at (length text) (size (tree s.home.types t) - length text) w in
+    let f : ℕ → Setting → List Instr = λ at s. text_copied at (length text) (size (tree s.home.types t) - length text) w
+    in
     let rest : Coded = with_text (length text) (λ at. with_setting (λ s. plain (f at s))) in
     by_layer s d (sv.CopyText p t text) (sl.CopyText p t text) (sv.outs-CopyText p t text)
-    ∙ emitted_seq (place n p) (with_address (λ w. plain (LocalTee w ∷ []) ⨾ with_text (length text) (λ at. with_setting (λ s. plain (text_copied at (length text) (size (tree s.home.types t) - length text) w))))) s d
-    ∙ emitted_address (λ w. plain (LocalTee w ∷ []) ⨾ with_text (length text) (λ at. with_setting (λ s. plain (text_copied at (length text) (size (tree s.home.types t) - length text) w)))) s d1
+    ∙ emitted_seq (place n p) (with_address
+    (λ w. plain (LocalTee w ∷ []) ⨾ with_text (length text)
+    (λ at. with_setting (λ s. plain (text_copied at (length text) (size (tree s.home.types t) - length text) w)))))
+    s d
+    ∙ emitted_address (λ w. plain (LocalTee w ∷ []) ⨾ with_text (length text)
+    (λ at. with_setting (λ s. plain (text_copied at (length text) (size (tree s.home.types t) - length text) w)))) s
+    d1
     ∙ plain_then (LocalTee w ∷ []) rest s (next_address d1)
     ∙ emitted_text (length text) (λ at. with_setting (λ s. plain (f at s))) s (text_begun s d1)
     ∙ setting_plain (f (text_begun s d1).counts.texts) s (next_text (length text) (text_begun s d1))
@@ -95,30 +109,37 @@ pub step_Call : (s : Setting) (d : Drafted) (c : Calls) → with_step s d (sv.Ca
 unfolding with_call
 step_Call s d c = by_layer s d (sv.Call c) (sl.Call c) (sv.outs-Call c)
 
-pub step_Put : (s : Setting) (d : Drafted) (e : TypedExpr) → with_step s d (sv.Put e) ≡ one (Call 0) (with_taken s char e d)
+pub step_Put : (s : Setting) (d : Drafted) (e : TypedExpr)
+    → with_step s d (sv.Put e) ≡ one (Call 0) (with_taken s char e d)
 unfolding with_taken
-step_Put s d e = by_layer s d (sv.Put e) (sl.Put e) (sv.outs-Put e) ∙ then_plain (take_code (numbering_of s.home) char e) (Call 0 ∷ []) s d
+step_Put s d e = by_layer s d (sv.Put e) (sl.Put e) (sv.outs-Put e)
+    ∙ then_plain (take_code (numbering_of s.home) char e) (Call 0 ∷ []) s d
 
 -- an address is kept, and then a number
 keeps : (p : Place) (f : ℕ → Coded) (s : Setting) (d : Drafted)
-    → emitted (keep_address (place (numbering_of s.home) p) f) s d ≡ emitted (f (address_local s (with_place s p d).counts.addresses)) s (address_kept s (with_place s p d))
+    → emitted (keep_address (place (numbering_of s.home) p) f) s d
+    ≡ emitted (f (address_local s (with_place s p d).counts.addresses)) s (address_kept s (with_place s p d))
 unfolding with_place
 keeps p f s d =
     let n = numbering_of s.home in
     let d1 = with_place s p d in
     emitted_seq (place n p) (with_address (λ w. plain (LocalSet w ∷ []) ⨾ f w)) s d
     ∙ emitted_address (λ w. plain (LocalSet w ∷ []) ⨾ f w) s d1
-    ∙ plain_then (LocalSet (address_local s d1.counts.addresses) ∷ []) (f (address_local s d1.counts.addresses)) s (next_address d1)
+    ∙ plain_then (LocalSet (address_local s d1.counts.addresses) ∷ []) (f (address_local s d1.counts.addresses)) s
+    (next_address d1)
 
 pub keeps_number : (f : ℕ → Coded) (s : Setting) (d : Drafted)
-    → emitted (with_number (λ n. plain (LocalSet n ∷ []) ⨾ f n)) s d ≡ emitted (f (number_local s d.counts.numbers)) s (number_kept s d)
+    → emitted (with_number (λ n. plain (LocalSet n ∷ []) ⨾ f n)) s d
+    ≡ emitted (f (number_local s d.counts.numbers)) s (number_kept s d)
 keeps_number f s d =
     emitted_number (λ n. plain (LocalSet n ∷ []) ⨾ f n) s d
-    ∙ plain_then (LocalSet (number_local s d.counts.numbers) ∷ []) (f (number_local s d.counts.numbers)) s (next_number d)
+    ∙ plain_then (LocalSet (number_local s d.counts.numbers) ∷ []) (f (number_local s d.counts.numbers)) s
+    (next_number d)
 
 pub step_Change : (s : Setting) (d : Drafted) (o : Change) (p : Place) (t : TypeNo) (e : TypedExpr)
     → with_step s d (sv.Change o p t e)
-    ≡ put (change_instructions o (address_local s (with_place s p d).counts.addresses) (number_local s (with_value s e (address_kept s (with_place s p d))).counts.numbers) s.home.types t)
+    ≡ put (change_instructions o (address_local s (with_place s p d).counts.addresses)
+    (number_local s (with_value s e (address_kept s (with_place s p d))).counts.numbers) s.home.types t)
     (number_kept s (with_value s e (address_kept s (with_place s p d))))
 unfolding with_value emitted
 step_Change s d o p t e =
@@ -129,17 +150,21 @@ step_Change s d o p t e =
     let d3 = with_value s e d2 in
     let x = (part n e).code in
     by_layer s d (sv.Change o p t e) (sl.Change o p t e) (sv.outs-Change o p t e)
-    ∙ keeps p (λ w. x ⨾ with_number (λ n. plain (LocalSet n ∷ []) ⨾ with_setting (λ s. plain (change_instructions o w n s.home.types t)))) s d
-    ∙ emitted_seq x (with_number (λ n. plain (LocalSet n ∷ []) ⨾ with_setting (λ s. plain (change_instructions o w n s.home.types t)))) s d2
+    ∙ keeps p (λ w. x ⨾ with_number (λ n. plain (LocalSet n ∷ []) ⨾ with_setting
+    (λ s. plain (change_instructions o w n s.home.types t)))) s d
+    ∙ emitted_seq x (with_number (λ n. plain (LocalSet n ∷ []) ⨾ with_setting
+    (λ s. plain (change_instructions o w n s.home.types t)))) s d2
     ∙ keeps_number (λ n. with_setting (λ s. plain (change_instructions o w n s.home.types t))) s d3
-    ∙ setting_plain (λ s. change_instructions o w (number_local s d3.counts.numbers) s.home.types t) s (number_kept s d3)
+    ∙ setting_plain (λ s. change_instructions o w (number_local s d3.counts.numbers) s.home.types t) s
+    (number_kept s d3)
 
 abbrev pub element_checked : Setting → TypedExpr → Drafted → Drafted
 element_checked s e d = put (check_code (pos 0) (pos 31) 1) (with_value s e d)
 
 pub step_Membership : (s : Setting) (d : Drafted) (o : Membership) (p : Place) (e : TypedExpr)
     → with_step s d (sv.Membership o p e)
-    ≡ put (with_member o (address_local s (with_place s p d).counts.addresses) (number_local s (element_checked s e (address_kept s (with_place s p d))).counts.numbers) s.home.types)
+    ≡ put (with_member o (address_local s (with_place s p d).counts.addresses)
+    (number_local s (element_checked s e (address_kept s (with_place s p d))).counts.numbers) s.home.types)
     (number_kept s (element_checked s e (address_kept s (with_place s p d))))
 unfolding with_value emitted
 step_Membership s d o p e =
@@ -150,9 +175,13 @@ step_Membership s d o p e =
     let d3 = element_checked s e d2 in
     let x = (part n e).code in
     by_layer s d (sv.Membership o p e) (sl.Membership o p e) (sv.outs-Membership o p e)
-    ∙ keeps p (λ w. x ⨾ plain (check_code (pos 0) (pos 31) 1) ⨾ with_number (λ n. plain (LocalSet n ∷ []) ⨾ with_setting (λ s. plain (with_member o w n s.home.types)))) s d
-    ∙ emitted_seq x (plain (check_code (pos 0) (pos 31) 1) ⨾ with_number (λ n. plain (LocalSet n ∷ []) ⨾ with_setting (λ s. plain (with_member o w n s.home.types)))) s d2
-    ∙ plain_then (check_code (pos 0) (pos 31) 1) (with_number (λ n. plain (LocalSet n ∷ []) ⨾ with_setting (λ s. plain (with_member o w n s.home.types)))) s (with_value s e d2)
+    ∙ keeps p (λ w. x ⨾ plain (check_code (pos 0) (pos 31) 1) ⨾ with_number
+    (λ n. plain (LocalSet n ∷ []) ⨾ with_setting (λ s. plain (with_member o w n s.home.types)))) s d
+    ∙ emitted_seq x (plain (check_code (pos 0) (pos 31) 1) ⨾ with_number
+    (λ n. plain (LocalSet n ∷ []) ⨾ with_setting (λ s. plain (with_member o w n s.home.types)))) s d2
+    ∙ plain_then (check_code (pos 0) (pos 31) 1)
+    (with_number (λ n. plain (LocalSet n ∷ []) ⨾ with_setting (λ s. plain (with_member o w n s.home.types)))) s
+    (with_value s e d2)
     ∙ keeps_number (λ n. with_setting (λ s. plain (with_member o w n s.home.types))) s d3
     ∙ setting_plain (λ s. with_member o w (number_local s d3.counts.numbers) s.home.types) s (number_kept s d3)
 
@@ -165,17 +194,21 @@ step_Exit s d = by_layer s d sv.Exit sl.Exit sv.outs-Exit ∙ setting_plain (λ 
 pub step_Return : (s : Setting) (d : Drafted) → with_step s d sv.Return ≡ one Return d
 step_Return s d = by_layer s d sv.Return sl.Return sv.outs-Return ∙ emitted_plain (Return ∷ []) s d
 
-pub step_Give : (s : Setting) (d : Drafted) (t : TypeNo) (e : TypedExpr) → with_step s d (sv.Give t e) ≡ one Return (with_taken s t e d)
+pub step_Give : (s : Setting) (d : Drafted) (t : TypeNo) (e : TypedExpr)
+    → with_step s d (sv.Give t e) ≡ one Return (with_taken s t e d)
 unfolding with_taken
-step_Give s d t e = by_layer s d (sv.Give t e) (sl.Give t e) (sv.outs-Give t e) ∙ then_plain (take_code (numbering_of s.home) t e) (Return ∷ []) s d
+step_Give s d t e = by_layer s d (sv.Give t e) (sl.Give t e) (sv.outs-Give t e)
+    ∙ then_plain (take_code (numbering_of s.home) t e) (Return ∷ []) s d
 
 -- ---- blocks
 
-pub block_is : (k : ℕ) (x : Coded) (s : Setting) (d : Drafted) → emitted (within k block x) s d ≡ closed_block (place_of d) None (emitted x (deeper k s) (open_draft d))
+pub block_is : (k : ℕ) (x : Coded) (s : Setting) (d : Drafted)
+    → emitted (within k block x) s d ≡ closed_block (place_of d) None (emitted x (deeper k s) (open_draft d))
 unfolding emitted
 block_is k x s d = boxed_block None x (deeper k s) s d
 
-loop_is : (k : ℕ) (x : Coded) (s : Setting) (d : Drafted) → emitted (within k loop x) s d ≡ closed_loop (place_of d) None (emitted x (deeper k s) (open_draft d))
+loop_is : (k : ℕ) (x : Coded) (s : Setting) (d : Drafted)
+    → emitted (within k loop x) s d ≡ closed_loop (place_of d) None (emitted x (deeper k s) (open_draft d))
 unfolding emitted
 loop_is k x s d = boxed_loop None x (deeper k s) s d
 
@@ -183,7 +216,9 @@ loop_is k x s d = boxed_loop None x (deeper k s) s d
 looped : Coded → Setting → Coded
 looped x inner s c = (block_loop (x inner c).0, (x inner c).1)
 
-looped_is : (x : Coded) (inner s : Setting) (d : Drafted) → emitted (looped x inner) s d ≡ closed_block (place_of d) None (closed_loop (place_of (open_draft d)) None (emitted x inner (open_draft (open_draft d))))
+looped_is : (x : Coded) (inner s : Setting) (d : Drafted)
+    → emitted (looped x inner) s d ≡ closed_block (place_of d) None
+    (closed_loop (place_of (open_draft d)) None (emitted x inner (open_draft (open_draft d))))
 unfolding emitted looped
 looped_is x inner s d =
     boxed_block None (boxing (λ is. Loop None is) x inner) s s d
@@ -191,7 +226,9 @@ looped_is x inner s d =
 
 pub step_While : (s : Setting) (d : Drafted) (e : TypedExpr) (xs : List TypedStmt)
     → with_step s d (sv.While e xs)
-    ≡ closed_block (place_of d) None (closed_loop (place_of (open_draft d)) None (one (Br 0) (with_steps (deeper 2 s) (one (BrIf 1) (one is_zero (with_value (deeper 2 s) e (open_draft (open_draft d))))) xs)))
+    ≡ closed_block (place_of d) None (closed_loop (place_of (open_draft d)) None
+    (one (Br 0) (with_steps (deeper 2 s) (one (BrIf 1)
+    (one is_zero (with_value (deeper 2 s) e (open_draft (open_draft d))))) xs)))
 unfolding with_value emitted looped
 step_While s d e xs =
     let n = numbering_of s.home in
@@ -202,14 +239,16 @@ step_While s d e xs =
     by_layer s d (sv.While e xs) (sl.While e xs) (sv.outs-While e xs)
     ∙ looped_is ((part n e).code ⨾ plain (is_zero ∷ BrIf 1 ∷ []) ⨾ body ⨾ plain (Br 0 ∷ [])) inner s d
     ∙ ap (λ (r : Drafted). closed_block (place_of d) None (closed_loop (place_of (open_draft d)) None r))
-    (emitted_seq (part n e).code (plain (is_zero ∷ BrIf 1 ∷ []) ⨾ body ⨾ plain (Br 0 ∷ [])) inner (open_draft (open_draft d))
+    (emitted_seq (part n e).code (plain (is_zero ∷ BrIf 1 ∷ []) ⨾ body ⨾ plain (Br 0 ∷ [])) inner
+    (open_draft (open_draft d))
     ∙ plain_then (is_zero ∷ BrIf 1 ∷ []) (body ⨾ plain (Br 0 ∷ [])) inner d1
     ∙ then_plain body (Br 0 ∷ []) inner d2
     ∙ ap (λ (r : Drafted). one (Br 0) r) (steps_are inner d2 xs))
 
 pub step_Loop : (s : Setting) (d : Drafted) (xs : List TypedStmt)
     → with_step s d (sv.Loop xs)
-    ≡ closed_block (place_of d) None (closed_loop (place_of (open_draft d)) None (one (Br 0) (with_steps (record s { exit = 1 }) (open_draft (open_draft d)) xs)))
+    ≡ closed_block (place_of d) None (closed_loop (place_of (open_draft d)) None
+    (one (Br 0) (with_steps (record s { exit = 1 }) (open_draft (open_draft d)) xs)))
 unfolding emitted looped
 step_Loop s d xs =
     let n = numbering_of s.home in
@@ -218,10 +257,12 @@ step_Loop s d xs =
     by_layer s d (sv.Loop xs) (sl.Loop xs) (sv.outs-Loop xs)
     ∙ looped_is (body ⨾ plain (Br 0 ∷ [])) inner s d
     ∙ ap (λ (r : Drafted). closed_block (place_of d) None (closed_loop (place_of (open_draft d)) None r))
-    (then_plain body (Br 0 ∷ []) inner (open_draft (open_draft d)) ∙ ap (λ (r : Drafted). one (Br 0) r) (steps_are inner (open_draft (open_draft d)) xs))
+    (then_plain body (Br 0 ∷ []) inner (open_draft (open_draft d))
+    ∙ ap (λ (r : Drafted). one (Br 0) r) (steps_are inner (open_draft (open_draft d)) xs))
 
 pub step_Repeat : (s : Setting) (d : Drafted) (xs : List TypedStmt) (e : TypedExpr)
-    → with_step s d (sv.Repeat xs e) ≡ closed_loop (place_of d) None (one (BrIf 0) (one is_zero (with_value (deeper 1 s) e (with_steps (deeper 1 s) (open_draft d) xs))))
+    → with_step s d (sv.Repeat xs e) ≡ closed_loop (place_of d) None
+    (one (BrIf 0) (one is_zero (with_value (deeper 1 s) e (with_steps (deeper 1 s) (open_draft d) xs))))
 unfolding with_value
 step_Repeat s d xs e =
     let n = numbering_of s.home in
@@ -238,22 +279,29 @@ step_Repeat s d xs e =
 -- ---- IF
 
 conditioned : (s : Setting) (d : Drafted) (e : TypedExpr) (rest : Coded)
-    → emitted ((part (numbering_of s.home) e).code ⨾ plain (wrap_word ∷ []) ⨾ rest) s d ≡ emitted rest s (one wrap_word (with_value s e d))
+    → emitted ((part (numbering_of s.home) e).code ⨾ plain (wrap_word ∷ []) ⨾ rest) s d
+    ≡ emitted rest s (one wrap_word (with_value s e d))
 unfolding with_value
 conditioned s d e rest =
-    emitted_seq (part (numbering_of s.home) e).code (plain (wrap_word ∷ []) ⨾ rest) s d ∙ plain_then (wrap_word ∷ []) rest s (with_value s e d)
+    emitted_seq (part (numbering_of s.home) e).code (plain (wrap_word ∷ []) ⨾ rest) s d
+    ∙ plain_then (wrap_word ∷ []) rest s (with_value s e d)
 
-if_only_is : (x : Coded) (s : Setting) (d : Drafted) → emitted (if_only x) s d ≡ closed_if (place_of d) None (emitted x (deeper 1 s) (open_draft d))
+if_only_is : (x : Coded) (s : Setting) (d : Drafted)
+    → emitted (if_only x) s d ≡ closed_if (place_of d) None (emitted x (deeper 1 s) (open_draft d))
 unfolding emitted
 if_only_is x s d = boxed_if None x (deeper 1 s) s d
 
 if_else_is : (x y : Coded) (inner s : Setting) (d : Drafted) → inner ≡ record s { exit = suc s.exit }
-    → emitted (if_else x y) s d ≡ closed_if_else (place_of d) (place_of (emitted x inner (open_draft d))) None (emitted y inner (emitted x inner (open_draft d)))
+    → emitted (if_else x y) s d ≡ closed_if_else (place_of d) (place_of (emitted x inner (open_draft d))) None
+    (emitted y inner (emitted x inner (open_draft d)))
 unfolding emitted
-if_else_is x y inner s d h = subst (λ (i : Setting). emitted (if_else x y) s d ≡ closed_if_else (place_of d) (place_of (emitted x i (open_draft d))) None (emitted y i (emitted x i (open_draft d)))) (sym h) (boxed_sides None x y (record s { exit = suc s.exit }) s d)
+if_else_is x y inner s d h = subst (λ (i : Setting). emitted (if_else x y) s d
+    ≡ closed_if_else (place_of d) (place_of (emitted x i (open_draft d))) None
+    (emitted y i (emitted x i (open_draft d)))) (sym h) (boxed_sides None x y (record s { exit = suc s.exit }) s d)
 
 pub step_If_None : (s : Setting) (d : Drafted) (e : TypedExpr) (xs : List TypedStmt)
-    → with_step s d (sv.If e xs None) ≡ closed_if (place_of (one wrap_word (with_value s e d))) None (with_steps (deeper 1 s) (open_draft (one wrap_word (with_value s e d))) xs)
+    → with_step s d (sv.If e xs None) ≡ closed_if (place_of (one wrap_word (with_value s e d))) None
+    (with_steps (deeper 1 s) (open_draft (one wrap_word (with_value s e d))) xs)
 step_If_None s d e xs =
     let n = numbering_of s.home in
     let d1 : Drafted = one wrap_word (with_value s e d) in
@@ -268,7 +316,8 @@ one_deeper s = ap (λ (n : ℕ). record s { exit = n }) (add-one s.exit)
 
 pub step_If_Some : (s : Setting) (d : Drafted) (e : TypedExpr) (xs ys : List TypedStmt)
     → with_step s d (sv.If e xs (Some ys))
-    ≡ closed_if_else (place_of (one wrap_word (with_value s e d))) (place_of (with_steps (deeper 1 s) (open_draft (one wrap_word (with_value s e d))) xs)) None
+    ≡ closed_if_else (place_of (one wrap_word (with_value s e d)))
+    (place_of (with_steps (deeper 1 s) (open_draft (one wrap_word (with_value s e d))) xs)) None
     (with_steps (deeper 1 s) (with_steps (deeper 1 s) (open_draft (one wrap_word (with_value s e d))) xs) ys)
 step_If_Some s d e xs ys =
     let n = numbering_of s.home in
@@ -279,18 +328,22 @@ step_If_Some s d e xs ys =
     by_layer s d (sv.If e xs (Some ys)) (sl.If e xs (Some ys)) (sv.outs-If e xs (Some ys))
     ∙ conditioned s d e (if_else x y)
     ∙ if_else_is x y inner s d1 (one_deeper s)
-    ∙ ap (λ (r : Drafted). closed_if_else (place_of d1) (place_of r) None (emitted y inner r)) (steps_are inner (open_draft d1) xs)
-    ∙ ap (λ (r : Drafted). closed_if_else (place_of d1) (place_of (with_steps inner (open_draft d1) xs)) None r) (steps_are inner (with_steps inner (open_draft d1) xs) ys)
+    ∙ ap (λ (r : Drafted). closed_if_else (place_of d1) (place_of r) None (emitted y inner r))
+    (steps_are inner (open_draft d1) xs)
+    ∙ ap (λ (r : Drafted). closed_if_else (place_of d1) (place_of (with_steps inner (open_draft d1) xs)) None r)
+    (steps_are inner (with_steps inner (open_draft d1) xs) ys)
 
 -- ---- WITH
 
-under_is : (w : ℕ) (x : Coded) (s : Setting) (d : Drafted) → emitted (under w x) s d ≡ emitted x (record s { withs = s.withs ++ w ∷ [] }) d
+under_is : (w : ℕ) (x : Coded) (s : Setting) (d : Drafted)
+    → emitted (under w x) s d ≡ emitted x (record s { withs = s.withs ++ w ∷ [] }) d
 unfolding emitted
 under_is w x s d = refl
 
 pub step_With : (s : Setting) (d : Drafted) (p : Place) (xs : List TypedStmt)
     → with_step s d (sv.With p xs)
-    ≡ with_steps (record s { withs = s.withs ++ address_local s (with_place s p d).counts.addresses ∷ [] }) (address_kept s (with_place s p d)) xs
+    ≡ with_steps (record s { withs = s.withs ++ address_local s (with_place s p d).counts.addresses ∷ [] })
+    (address_kept s (with_place s p d)) xs
 step_With s d p xs =
     let n = numbering_of s.home in
     let body : Coded = all_coded (map (step_code n) xs) in
@@ -304,24 +357,28 @@ step_With s d p xs =
 -- ---- FOR
 
 tested : (p : Place) (t : TypeNo) (by : ℤ) (n : ℕ) (rest : Coded) (s : Setting) (d : Drafted)
-    → emitted (behind (place (numbering_of s.home) p) (λ types. load_code types t) ⨾ plain (LocalGet n ∷ relation (passes by) ∷ BrIf 0 ∷ []) ⨾ rest) s d ≡ emitted rest s (for_tested s p t by n d)
+    → emitted (behind (place (numbering_of s.home) p) (λ types. load_code types t) ⨾ plain
+    (LocalGet n ∷ relation (passes by) ∷ BrIf 0 ∷ []) ⨾ rest) s d ≡ emitted rest s (for_tested s p t by n d)
 unfolding with_place
 tested p t by n rest s d =
     let x : Coded = behind (place (numbering_of s.home) p) (λ types. load_code types t) in
     let test : List Instr = LocalGet n ∷ relation (passes by) ∷ BrIf 0 ∷ [] in
     emitted_seq x (plain test ⨾ rest) s d
     ∙ plain_then test rest s (emitted x s d)
-    ∙ ap (λ (r : Drafted). emitted rest s (put test r)) (emitted_behind (place (numbering_of s.home) p) (λ types. load_code types t) s d)
+    ∙ ap (λ (r : Drafted). emitted rest s (put test r))
+    (emitted_behind (place (numbering_of s.home) p) (λ types. load_code types t) s d)
 
 turned : (p : Place) (t : TypeNo) (by : ℤ) (n : ℕ) (xs : List TypedStmt) (s : Setting) (d : Drafted)
-    → emitted (for_turn (place (numbering_of s.home) p) t by n (all_coded (map (step_code (numbering_of s.home)) xs))) s d ≡ for_turned s p t by n (with_steps s d xs)
+    → emitted (for_turn (place (numbering_of s.home) p) t by n (all_coded (map (step_code (numbering_of s.home)) xs))) s
+    d ≡ for_turned s p t by n (with_steps s d xs)
 unfolding with_place
 turned p t by n xs s d =
     let x : Coded = place (numbering_of s.home) p in
     let load : Coded = behind x (λ types. load_code types t) in
     let body : Coded = all_coded (map (step_code (numbering_of s.home)) xs) in
     let test : List Instr = number by ∷ operation Add ∷ LocalGet n ∷ relation (passes by) ∷ BrIf 1 ∷ [] in
-    let end : Setting → List Instr = λ s. number by ∷ operation Add ∷ (in_type s.home.types t 1 ++ (store_code s.home.types t ++ Br 0 ∷ [])) in
+    let end : Setting → List Instr = λ s. number by ∷ operation Add
+    ∷ (in_type s.home.types t 1 ++ (store_code s.home.types t ++ Br 0 ∷ [])) in
     let last : Coded = x ⨾ load ⨾ with_setting (λ s. plain (end s)) in
     let e1 : Drafted = with_steps s d xs in
     let e2 : Drafted = put (load_code s.home.types t) (with_place s p e1) in
@@ -340,15 +397,19 @@ pub step_For : (s : Setting) (d : Drafted) (p : Place) (t : TypeNo) (a b : Typed
     ≡ (let n = for_local s p t a b d in
     let d1 = for_begun s p t a b d in
     let d2 = for_tested (deeper 1 s) p t by n (open_draft d1) in
-    closed_block (place_of d1) None (closed_loop (place_of d2) None (for_turned (deeper 1 (deeper 1 s)) p t by n (with_steps (deeper 1 (deeper 1 s)) (open_draft d2) xs))))
+    closed_block (place_of d1) None (closed_loop (place_of d2) None
+    (for_turned (deeper 1 (deeper 1 s)) p t by n (with_steps (deeper 1 (deeper 1 s)) (open_draft d2) xs))))
 unfolding with_place with_value with_taken
 step_For s d p t a b by xs =
     let n = numbering_of s.home in
     let x : Coded = place n p in
     let body : Coded = all_coded (map (step_code n) xs) in
     let k = for_local s p t a b d in
-    let turns : ℕ → Coded = λ n. within 1 block (behind x (λ types. load_code types t) ⨾ plain (LocalGet n ∷ relation (passes by) ∷ BrIf 0 ∷ []) ⨾ within 1 loop (for_turn x t by n body)) in
-    let rest : Coded = with_number (λ n. for_begin x t (part (numbering_of s.home) a) (part (numbering_of s.home) b) n ⨾ turns n) in
+    let turns : ℕ → Coded = λ n. within 1 block
+    (behind x (λ types. load_code types t) ⨾ plain (LocalGet n ∷ relation (passes by) ∷ BrIf 0 ∷ []) ⨾ within 1 loop
+    (for_turn x t by n body)) in
+    let rest : Coded = with_number (λ n. for_begin x t (part (numbering_of s.home) a) (part (numbering_of s.home) b) n ⨾
+    turns n) in
     let d0 : Drafted = with_taken s t a (with_place s p d) in
     let d1 : Drafted = for_begun s p t a b d in
     let d2 : Drafted = for_tested (deeper 1 s) p t by k (open_draft d1) in
@@ -356,13 +417,17 @@ step_For s d p t a b by xs =
     ∙ emitted_seq x (take_code n t a ⨾ (part n b).code ⨾ rest) s d
     ∙ emitted_seq (take_code n t a) ((part n b).code ⨾ rest) s (with_place s p d)
     ∙ emitted_seq (part n b).code rest s d0
-    ∙ emitted_number (λ n. for_begin x t (part (numbering_of s.home) a) (part (numbering_of s.home) b) n ⨾ turns n) s (with_value s b d0)
+    ∙ emitted_number (λ n. for_begin x t (part (numbering_of s.home) a) (part (numbering_of s.home) b) n ⨾ turns n) s
+    (with_value s b d0)
     ∙ emitted_seq (for_begin x t (part n a) (part n b) k) (turns k) s (next_number (with_value s b d0))
     ∙ ap (λ (r : Drafted). emitted (turns k) s r)
-    (plain_then (LocalSet k ∷ []) (with_setting (λ s. plain (store_code s.home.types t))) s (next_number (with_value s b d0))
+    (plain_then (LocalSet k ∷ []) (with_setting (λ s. plain (store_code s.home.types t))) s
+    (next_number (with_value s b d0))
     ∙ setting_plain (λ s. store_code s.home.types t) s (one (LocalSet k) (next_number (with_value s b d0))))
-    ∙ block_is 1 (behind x (λ types. load_code types t) ⨾ plain (LocalGet k ∷ relation (passes by) ∷ BrIf 0 ∷ []) ⨾ within 1 loop (for_turn x t by k body)) s d1
+    ∙ block_is 1 (behind x (λ types. load_code types t) ⨾ plain (LocalGet k ∷ relation (passes by) ∷ BrIf 0 ∷ []) ⨾
+    within 1 loop (for_turn x t by k body)) s d1
     ∙ ap (λ (r : Drafted). closed_block (place_of d1) None r)
     (tested p t by k (within 1 loop (for_turn x t by k body)) (deeper 1 s) (open_draft d1)
     ∙ loop_is 1 (for_turn x t by k body) (deeper 1 s) d2
-    ∙ ap (λ (r : Drafted). closed_loop (place_of d2) None r) (turned p t by k xs (deeper 1 (deeper 1 s)) (open_draft d2)))
+    ∙ ap (λ (r : Drafted). closed_loop (place_of d2) None r)
+    (turned p t by k xs (deeper 1 (deeper 1 s)) (open_draft d2)))

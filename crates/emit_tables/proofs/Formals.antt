@@ -9,9 +9,12 @@ one_more : (b : Bool) (a m l n : ℕ) → (a + cond b 1 0) + m ≡ l + n → a +
 one_more true a m l n e = omega (arith, e)
 one_more false a m l n e = omega (arith, e)
 
-counted_from : (fs : List Formal) (a : ℕ) → a + all_arguments fs ≡ length fs + fold (λ (a : ℕ) (x : Formal). a + cond x.is_open 1 0) a fs
+counted_from : (fs : List Formal) (a : ℕ)
+    → a + all_arguments fs ≡ length fs + fold (λ (a : ℕ) (x : Formal). a + cond x.is_open 1 0) a fs
 counted_from [] a = add-zero a ∙ sym (zero-add a)
-counted_from (f ∷ fs) a = one_more f.is_open a (all_arguments fs) (length fs) (fold (λ (a : ℕ) (x : Formal). a + cond x.is_open 1 0) (a + cond f.is_open 1 0) fs) (counted_from fs (a + cond f.is_open 1 0))
+counted_from (f ∷ fs) a = one_more f.is_open a (all_arguments fs) (length fs)
+    (fold (λ (a : ℕ) (x : Formal). a + cond x.is_open 1 0) (a + cond f.is_open 1 0) fs)
+    (counted_from fs (a + cond f.is_open 1 0))
 
 pub counted : (fs : List Formal) → all_arguments fs ≡ length fs + count_by (λ f. f.is_open) fs
 counted fs = sym (zero-add (all_arguments fs)) ∙ counted_from fs 0

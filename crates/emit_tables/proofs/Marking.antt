@@ -18,7 +18,8 @@ inside_some : (x y : Mark) → Some y ≡ Some x → x ≡ y
 inside_some x y e = cc
 
 -- and one that does
-pub is_set : (n : ℕ) (r : Bool) (xs : List Mark) (x : Mark) → slice_get xs n ≡ Some x → slice_set xs n (mark_kind x r) ≡ marked_at n r xs
+pub is_set : (n : ℕ) (r : Bool) (xs : List Mark) (x : Mark) → slice_get xs n ≡ Some x
+    → slice_set xs n (mark_kind x r) ≡ marked_at n r xs
 is_set zero r [] x e = absurd cc
 is_set zero r (y ∷ xs) x e = ap (λ (z : Mark). mark_kind z r ∷ xs) (inside_some x y e)
 is_set (suc n) r [] x e = absurd cc

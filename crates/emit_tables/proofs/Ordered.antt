@@ -43,21 +43,25 @@ elsewhere true c d e = refl
 elsewhere false true d e = cc e
 elsewhere false false d e = refl
 
-has_marked : (n : ℕ) (r : Bool) (xs : List Mark) (k : ℕ) (q : Bool) → has (mark_in (marked_at n r xs) k) q ≡ (has (mark_in xs k) q || ((k == n) && same_result q r))
+has_marked : (n : ℕ) (r : Bool) (xs : List Mark) (k : ℕ) (q : Bool)
+    → has (mark_in (marked_at n r xs) k) q ≡ (has (mark_in xs k) q || ((k == n) && same_result q r))
 has_marked zero r [] zero q = has_one none q r
 has_marked zero r [] (suc k) q = elsewhere (has none q) (suc k == 0) (same_result q r) (eqb-suc-zero k)
 has_marked zero r (x ∷ xs) zero q = has_one x q r
 has_marked zero r (x ∷ xs) (suc k) q = elsewhere (has (mark_in xs k) q) (suc k == 0) (same_result q r) (eqb-suc-zero k)
 has_marked (suc n) r [] zero q = elsewhere (has none q) (0 == suc n) (same_result q r) (eqb-zero-suc n)
-has_marked (suc n) r [] (suc k) q = has_marked n r [] k q ∙ ap (λ (b : Bool). has none q || (b && same_result q r)) (sym (eqb-suc-suc k n))
+has_marked (suc n) r [] (suc k) q = has_marked n r [] k q
+    ∙ ap (λ (b : Bool). has none q || (b && same_result q r)) (sym (eqb-suc-suc k n))
 has_marked (suc n) r (x ∷ xs) zero q = elsewhere (has x q) (0 == suc n) (same_result q r) (eqb-zero-suc n)
-has_marked (suc n) r (x ∷ xs) (suc k) q = has_marked n r xs k q ∙ ap (λ (b : Bool). has (mark_in xs k) q || (b && same_result q r)) (sym (eqb-suc-suc k n))
+has_marked (suc n) r (x ∷ xs) (suc k) q = has_marked n r xs k q
+    ∙ ap (λ (b : Bool). has (mark_in xs k) q || (b && same_result q r)) (sym (eqb-suc-suc k n))
 
 or_assoc : (a b c : Bool) → ((a || b) || c) ≡ (a || (b || c))
 or_assoc true b c = refl
 or_assoc false b c = refl
 
-has_all : (ss : Signatures) (xs : List Mark) (k : ℕ) (q : Bool) → has (mark_in (with_all ss xs) k) q ≡ (has (mark_in xs k) q || is_among ss (signature k q))
+has_all : (ss : Signatures) (xs : List Mark) (k : ℕ) (q : Bool)
+    → has (mark_in (with_all ss xs) k) q ≡ (has (mark_in xs k) q || is_among ss (signature k q))
 unfolding with_all with_one
 has_all [] xs k q = or_false (has (mark_in xs k) q)
 has_all (s ∷ ss) xs k q =
@@ -72,7 +76,8 @@ has_none (suc k) true = refl
 has_none (suc k) false = refl
 
 -- what is marked is needed, and the other way round
-pub marks_are : (ss : Signatures) (k : ℕ) (q : Bool) → has (mark_in (with_all ss (none ∷ [])) k) q ≡ is_among ss (signature k q)
+pub marks_are : (ss : Signatures) (k : ℕ) (q : Bool)
+    → has (mark_in (with_all ss (none ∷ [])) k) q ≡ is_among ss (signature k q)
 marks_are ss k q = has_all ss (none ∷ []) k q ∙ ap (λ (b : Bool). b || is_among ss (signature k q)) (has_none k q)
 
 -- ---- how far the table reaches
@@ -87,12 +92,14 @@ greater_case : (m n : ℕ) (b : Bool) → nat_le m n ≡ b → suc (if b then n 
 greater_case m n true e = omega (arith, leb-true m n e)
 greater_case m n false e = omega (arith, leb-false m n e)
 
-length_all : (ss : Signatures) (xs : List Mark) (m : ℕ) → length xs ≡ suc m → length (with_all ss xs) ≡ suc (fold (λ so s. greater so s.arguments) m ss)
+length_all : (ss : Signatures) (xs : List Mark) (m : ℕ) → length xs ≡ suc m
+    → length (with_all ss xs) ≡ suc (fold (λ so s. greater so s.arguments) m ss)
 unfolding with_all with_one
 length_all [] xs m h = h
 length_all (s ∷ ss) xs m h =
     length_all ss (marked_at s.arguments s.result xs) (greater m s.arguments)
-    (length_is s.arguments s.result xs ∙ ap (λ (k : ℕ). max k (suc s.arguments)) h ∙ sym (greater_case m s.arguments (nat_le m s.arguments) refl))
+    (length_is s.arguments s.result xs ∙ ap (λ (k : ℕ). max k (suc s.arguments)) h
+    ∙ sym (greater_case m s.arguments (nat_le m s.arguments) refl))
 
 pub reaches : (ss : Signatures) → length (with_all ss (none ∷ [])) ≡ suc (most_arguments ss)
 reaches ss = length_all ss (none ∷ []) 0 refl
@@ -106,7 +113,8 @@ abbrev pub lists : ℕ → List Mark → List Signature
 lists k [] = []
 lists k (x ∷ xs) = entered_two k x ++ lists (k + 1) xs
 
-entered_seen : (b : Bool) (n : ℕ) (r : Bool) → map meaning_of (enter_signature b n r) ≡ (if b then signature n r ∷ [] else [])
+entered_seen : (b : Bool) (n : ℕ) (r : Bool)
+    → map meaning_of (enter_signature b n r) ≡ (if b then signature n r ∷ [] else [])
 entered_seen true n r = refl
 entered_seen false n r = refl
 
@@ -118,18 +126,26 @@ wanted : (n : ℕ) (b : Bool) → (b && not (suc n == 0)) ≡ b
 wanted n true = ap not (eqb-suc-zero n)
 wanted n false = refl
 
-front : (k : ℕ) (x : Mark) → map meaning_of (entered_two k x) ≡ map meaning_of (enter_signature (is_wanted k x) k false) ++ (if x.giving then signature k true ∷ [] else [])
-front k x = map-append meaning_of (enter_signature (is_wanted k x) k false) (enter_signature x.giving k true) ∙ ap (λ (ss : Signatures). map meaning_of (enter_signature (is_wanted k x) k false) ++ ss) (entered_seen x.giving k true)
+front : (k : ℕ) (x : Mark) → map meaning_of (entered_two k x) ≡ map meaning_of (enter_signature (is_wanted k x) k false)
+    ++ (if x.giving then signature k true ∷ [] else [])
+front k x = map-append meaning_of (enter_signature (is_wanted k x) k false) (enter_signature x.giving k true)
+    ∙ ap (λ (ss : Signatures). map meaning_of (enter_signature (is_wanted k x) k false) ++ ss)
+    (entered_seen x.giving k true)
 
-two_are : (ss : Signatures) (k : ℕ) (x : Mark) → x.without ≡ is_among ss (signature k false) → x.giving ≡ is_among ss (signature k true) → map meaning_of (entered_two k x) ≡ of_arguments ss k
+two_are : (ss : Signatures) (k : ℕ) (x : Mark) → x.without ≡ is_among ss (signature k false)
+    → x.giving ≡ is_among ss (signature k true) → map meaning_of (entered_two k x) ≡ of_arguments ss k
 two_are ss zero x e f =
-    front 0 x ∙ ap (λ (b : Bool). map meaning_of (enter_signature b 0 false) ++ (if x.giving then signature 0 true ∷ [] else [])) (not_wanted x.without)
+    front 0 x ∙ ap (λ (b : Bool). map meaning_of (enter_signature b 0 false)
+    ++ (if x.giving then signature 0 true ∷ [] else [])) (not_wanted x.without)
     ∙ ap (λ (b : Bool). if b then signature 0 true ∷ [] else []) f
 two_are ss (suc n) x e f =
     front (suc n) x
-    ∙ ap (λ (b : Bool). map meaning_of (enter_signature b (suc n) false) ++ (if x.giving then signature (suc n) true ∷ [] else [])) (wanted n x.without ∙ e)
-    ∙ ap (λ (ms : Signatures). ms ++ (if x.giving then signature (suc n) true ∷ [] else [])) (entered_seen (is_among ss (signature (suc n) false)) (suc n) false)
-    ∙ ap (λ (b : Bool). (if is_among ss (signature (suc n) false) then signature (suc n) false ∷ [] else []) ++ (if b then signature (suc n) true ∷ [] else [])) f
+    ∙ ap (λ (b : Bool). map meaning_of (enter_signature b (suc n) false)
+    ++ (if x.giving then signature (suc n) true ∷ [] else [])) (wanted n x.without ∙ e)
+    ∙ ap (λ (ms : Signatures). ms ++ (if x.giving then signature (suc n) true ∷ [] else []))
+    (entered_seen (is_among ss (signature (suc n) false)) (suc n) false)
+    ∙ ap (λ (b : Bool). (if is_among ss (signature (suc n) false) then signature (suc n) false ∷ [] else [])
+    ++ (if b then signature (suc n) true ∷ [] else [])) f
 
 -- the marks of a table from this number of arguments on
 Marks : Signatures → ℕ → List Mark → Type 0
@@ -139,17 +155,21 @@ marks_tail : (ss : Signatures) (k : ℕ) (x : Mark) (xs : List Mark) → Marks s
 unfolding Marks
 marks_tail ss k x xs h i n q e = h (suc i) n q (omega (arith, e))
 
-lists_are : (ss : Signatures) (k : ℕ) (xs : List Mark) → Marks ss k xs → map meaning_of (lists k xs) ≡ flat_map (of_arguments ss) (range_with_len k (length xs))
+lists_are : (ss : Signatures) (k : ℕ) (xs : List Mark) → Marks ss k xs
+    → map meaning_of (lists k xs) ≡ flat_map (of_arguments ss) (range_with_len k (length xs))
 unfolding Marks
 lists_are ss k [] h = refl
 lists_are ss k (x ∷ xs) h =
     map-append meaning_of (entered_two k x) (lists (k + 1) xs)
-    ∙ ap (λ (ms : Signatures). ms ++ map meaning_of (lists (k + 1) xs)) (two_are ss k x (h 0 k false (omega arith)) (h 0 k true (omega arith)))
+    ∙ ap (λ (ms : Signatures). ms ++ map meaning_of (lists (k + 1) xs))
+    (two_are ss k x (h 0 k false (omega arith)) (h 0 k true (omega arith)))
     ∙ ap (λ (ms : Signatures). of_arguments ss k ++ ms) (lists_are ss (k + 1) xs (marks_tail ss k x xs h))
 
 from_nought : (ss : Signatures) → Marks ss 0 (with_all ss (none ∷ []))
 unfolding Marks
-from_nought ss i n q e = subst (λ (j : ℕ). has (mark_in (with_all ss (none ∷ [])) i) q ≡ is_among ss (signature j q)) (omega (arith, e)) (marks_are ss i q)
+from_nought ss i n q e = subst (λ (j : ℕ). has (mark_in (with_all ss (none ∷ [])) i) q ≡ is_among ss (signature j q))
+    (omega (arith, e)) (marks_are ss i q)
 
 pub list_is : (ss : Signatures) → map meaning_of (lists 0 (with_all ss (none ∷ []))) ≡ in_order ss
-list_is ss = lists_are ss 0 (with_all ss (none ∷ [])) (from_nought ss) ∙ ap (λ (n : ℕ). flat_map (of_arguments ss) (range_with_len 0 n)) (reaches ss)
+list_is ss = lists_are ss 0 (with_all ss (none ∷ [])) (from_nought ss)
+    ∙ ap (λ (n : ℕ). flat_map (of_arguments ss) (range_with_len 0 n)) (reaches ss)

@@ -34,27 +34,36 @@ has_itself n = or_left (n == n) false (eq-eqb n n refl)
 pub has_no_other : (n k : ℕ) → (n ≡ k → ⊥) → has (n ∷ []) k ≡ false
 has_no_other n k ne = or_from (n == k) false (ne_eqb n k ne) refl
 
-pub flag_set : (flags : List Bool) (n k : ℕ) → n < length flags → flag (set flags n true) k ≡ (flag flags k || has (n ∷ []) k)
+pub flag_set : (flags : List Bool) (n k : ℕ) → n < length flags
+    → flag (set flags n true) k ≡ (flag flags k || has (n ∷ []) k)
 flag_set flags n k l = elim (cases_eq n k) [ inl e ↦ is_so e | inr ne ↦ not_so ne ]
   where
     is_so : n ≡ k → flag (set flags n true) k ≡ (flag flags k || has (n ∷ []) k)
-    is_so e = subst (λ (j : ℕ). flag (set flags n true) j ≡ (flag flags j || has (n ∷ []) j)) e (get_or-set_same flags n true false l ∙ sym (or_right (flag flags n) (has (n ∷ []) n) (has_itself n)))
+    is_so e = subst (λ (j : ℕ). flag (set flags n true) j ≡ (flag flags j || has (n ∷ []) j)) e
+        (get_or-set_same flags n true false l ∙ sym (or_right (flag flags n) (has (n ∷ []) n) (has_itself n)))
 
     not_so : (n ≡ k → ⊥) → flag (set flags n true) k ≡ (flag flags k || has (n ∷ []) k)
-    not_so ne = get_or-set_other flags n k true false (λ e. ne (sym e)) ∙ or_none (flag flags k) (has (n ∷ []) k) (has_no_other n k ne)
+    not_so ne = get_or-set_other flags n k true false (λ e. ne (sym e))
+        ∙ or_none (flag flags k) (has (n ∷ []) k) (has_no_other n k ne)
 
 pub flag_fresh : (n k : ℕ) → flag (replicate n false) k ≡ false
-flag_fresh n k = elim (cases_lt k n) [ inl l ↦ get_or-replicate n k false false l | inr g ↦ get_or_past (replicate n false) k false (subst (λ (m : ℕ). m ≤ k) (sym (length-replicate n false)) g) ]
+flag_fresh n k = elim (cases_lt k n) [
+  | inl l ↦ get_or-replicate n k false false l
+  | inr g ↦ get_or_past
+      (replicate n false) k false (subst (λ (m : ℕ). m ≤ k) (sym (length-replicate n false)) g)
+]
 
 pub marked_within : (flags : List Bool) (k : ℕ) → flag flags k ≡ true → k < length flags
-marked_within flags k e = elim (cases_lt k (length flags)) [ inl l ↦ l | inr g ↦ absurd (false≢true (sym (get_or_past flags k false g) ∙ e)) ]
+marked_within flags k e = elim (cases_lt k (length flags))
+    [ inl l ↦ l | inr g ↦ absurd (false≢true (sym (get_or_past flags k false g) ∙ e)) ]
 
 pub unmarked_past : (flags : List Bool) (k : ℕ) → length flags ≤ k → flag flags k ≡ false
 unmarked_past flags k g = get_or_past flags k false g
 
 -- ---- what is left
 
-pub weight_set : (links : List (List ℕ)) (flags : List Bool) (n : ℕ) → n < length flags → flag flags n ≡ false → weight links (set flags n true) + length (targets links n) + 2 ≡ weight links flags
+pub weight_set : (links : List (List ℕ)) (flags : List Bool) (n : ℕ) → n < length flags → flag flags n ≡ false
+    → weight links (set flags n true) + length (targets links n) + 2 ≡ weight links flags
 weight_set links [] n l e = absurd (omega arith)
 weight_set [] (true ∷ bs) zero l e = absurd (false≢true (sym e))
 weight_set [] (false ∷ bs) zero l e = omega arith
@@ -77,10 +86,13 @@ last_left b x = cond b [] (x ∷ [])
 
 pub unless_same : (m n : ℕ → Bool) (xs : List ℕ) → ((k : ℕ) → m k ≡ n k) → unless m xs ≡ unless n xs
 unless_same m n [] same = refl
-unless_same m n (x ∷ xs) same = by (n x) (same x) (unless_same m n xs same) (unless_same (λ k. m k || (x == k)) (λ k. n k || (x == k)) xs (λ k. ap (λ b. b || (x == k)) (same k)))
+unless_same m n (x ∷ xs) same = by (n x) (same x) (unless_same m n xs same)
+    (unless_same (λ k. m k || (x == k)) (λ k. n k || (x == k)) xs (λ k. ap (λ b. b || (x == k)) (same k)))
   where
-    by : (b : Bool) → m x ≡ b → unless m xs ≡ unless n xs → unless (λ k. m k || (x == k)) xs ≡ unless (λ k. n k || (x == k)) xs
-        → cond (m x) (unless m xs) (x ∷ unless (λ k. m k || (x == k)) xs) ≡ cond b (unless n xs) (x ∷ unless (λ k. n k || (x == k)) xs)
+    by : (b : Bool) → m x ≡ b → unless m xs ≡ unless n xs
+        → unless (λ k. m k || (x == k)) xs ≡ unless (λ k. n k || (x == k)) xs
+        → cond (m x) (unless m xs) (x ∷ unless (λ k. m k || (x == k)) xs)
+        ≡ cond b (unless n xs) (x ∷ unless (λ k. n k || (x == k)) xs)
     by true e here there = rw e here
     by false e here there = rw e (ap (λ ys. x ∷ ys) there)
 
@@ -89,7 +101,8 @@ or_again true n h f = refl
 or_again false true h f = absurd (false≢true (f refl))
 or_again false false h f = refl
 
-unless_more : (m : ℕ → Bool) (xs : List ℕ) (x : ℕ) → unless m (xs ++ x ∷ []) ≡ unless m xs ++ last_left (m x || has xs x) x
+unless_more : (m : ℕ → Bool) (xs : List ℕ) (x : ℕ)
+    → unless m (xs ++ x ∷ []) ≡ unless m xs ++ last_left (m x || has xs x) x
 unless_more m [] x = by (m x)
   where
     by : (b : Bool) → cond b [] (x ∷ []) ≡ last_left (b || false) x
@@ -101,12 +114,18 @@ unless_more m (y ∷ ys) x = by (m y) refl (unless_more m ys x) (unless_more (λ
     same_mark e is = subst (λ (k : ℕ). m k ≡ true) (eqb-true y x is) e
 
     by : (b : Bool) → m y ≡ b → unless m (ys ++ x ∷ []) ≡ unless m ys ++ last_left (m x || has ys x) x
-        → unless (λ k. m k || (y == k)) (ys ++ x ∷ []) ≡ unless (λ k. m k || (y == k)) ys ++ last_left ((m x || (y == x)) || has ys x) x
-        → cond (m y) (unless m (ys ++ x ∷ [])) (y ∷ unless (λ k. m k || (y == k)) (ys ++ x ∷ [])) ≡ cond (m y) (unless m ys) (y ∷ unless (λ k. m k || (y == k)) ys) ++ last_left (m x || ((y == x) || has ys x)) x
-    by true e here there = rw e (here ∙ ap (λ b. unless m ys ++ last_left b x) (or_again (m x) (y == x) (has ys x) (same_mark e)))
-    by false e here there = rw e (ap (λ zs. y ∷ zs) (there ∙ ap (λ b. unless (λ k. m k || (y == k)) ys ++ last_left b x) (or_assoc (m x) (y == x) (has ys x))))
+        → unless (λ k. m k || (y == k)) (ys ++ x ∷ []) ≡ unless (λ k. m k || (y == k)) ys
+        ++ last_left ((m x || (y == x)) || has ys x) x
+        → cond (m y) (unless m (ys ++ x ∷ [])) (y ∷ unless (λ k. m k || (y == k)) (ys ++ x ∷ []))
+        ≡ cond (m y) (unless m ys) (y ∷ unless (λ k. m k || (y == k)) ys)
+        ++ last_left (m x || ((y == x) || has ys x)) x
+    by true e here there = rw e (here ∙ ap (λ b. unless m ys ++ last_left b x)
+        (or_again (m x) (y == x) (has ys x) (same_mark e)))
+    by false e here there = rw e (ap (λ zs. y ∷ zs)
+        (there ∙ ap (λ b. unless (λ k. m k || (y == k)) ys ++ last_left b x) (or_assoc (m x) (y == x) (has ys x))))
 
-unless_marked : (f f1 : List Bool) (x : ℕ) (xs : List ℕ) → ((k : ℕ) → flag f1 k ≡ (flag f k || has xs k)) → unless (flag f1) (x ∷ []) ≡ last_left (flag f x || has xs x) x
+unless_marked : (f f1 : List Bool) (x : ℕ) (xs : List ℕ) → ((k : ℕ) → flag f1 k ≡ (flag f k || has xs k))
+    → unless (flag f1) (x ∷ []) ≡ last_left (flag f x || has xs x) x
 unless_marked f f1 x xs marked = ap (λ b. last_left b x) (marked x)
 
 -- how often a number stands there
@@ -124,16 +143,24 @@ times_unless m (x ∷ xs) k = by (m x) refl (x == k) refl (times_unless m xs k) 
     unmarked_too : m x ≡ false → (x == k) ≡ true → m k ≡ false
     unmarked_too e is = subst (λ (j : ℕ). m j ≡ false) (eqb-true x k is) e
 
-    by : (b : Bool) → m x ≡ b → (c : Bool) → (x == k) ≡ c → times (unless m xs) k ≡ cond (has xs k && not (m k)) 1 0 → times (unless (λ j. m j || (x == j)) xs) k ≡ cond (has xs k && not (m k || (x == k))) 1 0
-        → times (cond (m x) (unless m xs) (x ∷ unless (λ j. m j || (x == j)) xs)) k ≡ cond (((x == k) || has xs k) && not (m k)) 1 0
-    by true e true is here there = rw (e, is) (here ∙ ap (λ (d : Bool). cond (has xs k && not d) 1 0) (marked_too e is) ∙ none (has xs k) ∙ sym (ap (λ (d : Bool). cond (not d) 1 0) (marked_too e is)))
+    by : (b : Bool) → m x ≡ b → (c : Bool) → (x == k) ≡ c → times (unless m xs) k ≡ cond (has xs k && not (m k)) 1 0
+        → times (unless (λ j. m j || (x == j)) xs) k ≡ cond (has xs k && not (m k || (x == k))) 1 0
+        → times (cond (m x) (unless m xs) (x ∷ unless (λ j. m j || (x == j)) xs)) k
+        ≡ cond (((x == k) || has xs k) && not (m k)) 1 0
+    by true e true is here there = rw (e, is)
+        (here ∙ ap (λ (d : Bool). cond (has xs k && not d) 1 0) (marked_too e is) ∙ none (has xs k)
+        ∙ sym (ap (λ (d : Bool). cond (not d) 1 0) (marked_too e is)))
     by true e false is here there = rw (e, is) here
     by false e true is here there =
-        let zero : times (unless (λ j. m j || (x == j)) xs) k ≡ 0 = there ∙ ap (λ (d : Bool). cond (has xs k && not (m k || d)) 1 0) is ∙ ap (λ (d : Bool). cond (has xs k && not (d || true)) 1 0) (unmarked_too e is) ∙ none (has xs k) in
+        let zero : times (unless (λ j. m j || (x == j)) xs) k ≡ 0 = there
+        ∙ ap (λ (d : Bool). cond (has xs k && not (m k || d)) 1 0) is
+        ∙ ap (λ (d : Bool). cond (has xs k && not (d || true)) 1 0) (unmarked_too e is) ∙ none (has xs k) in
         let one : ◌≡◌ {A = ℕ} (cond (not (m k)) 1 0) 1 = ap (λ (d : Bool). cond (not d) 1 0) (unmarked_too e is) in
         rw (e, is) (omega (arith, zero, one))
     by false e false is here there =
-        let rest : times (unless (λ j. m j || (x == j)) xs) k ≡ cond (has xs k && not (m k)) 1 0 = there ∙ ap (λ (d : Bool). cond (has xs k && not (m k || d)) 1 0) is ∙ ap (λ (d : Bool). cond (has xs k && not d) 1 0) (sym (or_none (m k) false refl)) in
+        let rest : times (unless (λ j. m j || (x == j)) xs) k ≡ cond (has xs k && not (m k)) 1 0 = there
+        ∙ ap (λ (d : Bool). cond (has xs k && not (m k || d)) 1 0) is
+        ∙ ap (λ (d : Bool). cond (has xs k && not d) 1 0) (sym (or_none (m k) false refl)) in
         rw (e, is) (omega (arith, rest))
 
 pub times_once_each : (once all : List ℕ) → AreEachOnce once all → (k : ℕ) → times once k ≡ cond (has all k) 1 0
@@ -145,30 +172,45 @@ times_once_each once all e k = ap (λ xs. times xs k) e ∙ times_unless (λ j. 
 
 -- ---- one mark after another
 
-added_one : (n k : ℕ) (flags : List Bool) → flag flags n ≡ false → has (n ∷ []) k ≡ (has (n ∷ []) k && not (flag flags k))
-added_one n k flags e = elim (cases_eq n k) [ inl s ↦ subst (λ (j : ℕ). has (n ∷ []) j ≡ (has (n ∷ []) j && not (flag flags j))) s (rw (has_itself n, e) refl) | inr ne ↦ rw (has_no_other n k ne) refl ]
+added_one : (n k : ℕ) (flags : List Bool) → flag flags n ≡ false
+    → has (n ∷ []) k ≡ (has (n ∷ []) k && not (flag flags k))
+added_one n k flags e = elim (cases_eq n k) [
+  | inl s ↦ subst (λ (j : ℕ). has (n ∷ []) j ≡ (has (n ∷ []) j && not (flag flags j))) s (rw (has_itself n, e) refl)
+  | inr ne ↦ rw (has_no_other n k ne) refl
+]
 
-pub marks_one : (n : ℕ) (flags : List Bool) (todo : List ℕ) → n < length flags → flag flags n ≡ false → Marks (n ∷ []) flags todo (set flags n true) (todo ++ n ∷ [])
+pub marks_one : (n : ℕ) (flags : List Bool) (todo : List ℕ) → n < length flags → flag flags n ≡ false
+    → Marks (n ∷ []) flags todo (set flags n true) (todo ++ n ∷ [])
 marks_one n flags todo l e = record {
   same = length-set flags n true;
   marked = λ k. flag_set flags n k l;
   added = λ k. has-append todo (n ∷ []) k ∙ ap (λ b. has todo k || b) (added_one n k flags e);
-  once = λ k. times-append todo (n ∷ []) k ∙ times_one (n == k) (has (n ∷ []) k && not (flag flags k)) (times todo k) (added_one n k flags e);
+  once = λ k. times-append todo (n ∷ []) k
+      ∙ times_one (n == k) (has (n ∷ []) k && not (flag flags k)) (times todo k) (added_one n k flags e);
   order = ap (λ xs. todo ++ xs) (sym (one_left n (flag flags) e));
   lighter = omega (arith, weight_set [] flags n l e, length_push todo n);
 }
 
 already : (n k : ℕ) (flags : List Bool) → flag flags n ≡ true → flag flags k ≡ (flag flags k || has (n ∷ []) k)
-already n k flags e = elim (cases_eq n k) [ inl s ↦ subst (λ (j : ℕ). flag flags j ≡ (flag flags j || has (n ∷ []) j)) s (rw e refl) | inr ne ↦ or_none (flag flags k) (has (n ∷ []) k) (has_no_other n k ne) ]
+already n k flags e = elim (cases_eq n k) [
+  | inl s ↦ subst (λ (j : ℕ). flag flags j ≡ (flag flags j || has (n ∷ []) j)) s (rw e refl)
+  | inr ne ↦ or_none
+      (flag flags k) (has (n ∷ []) k) (has_no_other n k ne)
+]
 
 none_added : (n k : ℕ) (flags : List Bool) → flag flags n ≡ true → (has (n ∷ []) k && not (flag flags k)) ≡ false
-none_added n k flags e = elim (cases_eq n k) [ inl s ↦ subst (λ (j : ℕ). (has (n ∷ []) j && not (flag flags j)) ≡ false) s (rw (has_itself n, e) refl) | inr ne ↦ rw (has_no_other n k ne) refl ]
+none_added n k flags e = elim (cases_eq n k) [
+  | inl s ↦ subst (λ (j : ℕ). (has (n ∷ []) j && not (flag flags j)) ≡ false) s (rw (has_itself n, e) refl)
+  | inr ne ↦
+      rw (has_no_other n k ne) refl
+]
 
 none_once : (n : ℕ) (b : Bool) → b ≡ false → n ≡ n + cond b 1 0
 none_once n true e = absurd (false≢true (sym e))
 none_once n false e = omega arith
 
-pub marks_again : (n : ℕ) (flags : List Bool) (todo : List ℕ) → flag flags n ≡ true → Marks (n ∷ []) flags todo flags todo
+pub marks_again : (n : ℕ) (flags : List Bool) (todo : List ℕ) → flag flags n ≡ true
+    → Marks (n ∷ []) flags todo flags todo
 marks_again n flags todo e = record {
   same = refl;
   marked = λ k. already n k flags e;
@@ -212,30 +254,48 @@ both_once false false false = omega arith
 sums : (t2 t1 t a b b' s s' : ℕ) → t2 ≡ t1 + b → t1 ≡ t + a → b ≡ b' → a + b' ≡ s → s ≡ s' → t2 ≡ t + s'
 sums t2 t1 t a b b' s s' e1 e2 e3 e4 e5 = omega arith
 
-marks_more : (xs : List ℕ) (x : ℕ) (f f1 f2 : List Bool) (t t1 t2 : List ℕ) → Marks xs f t f1 t1 → Marks (x ∷ []) f1 t1 f2 t2 → Marks (xs ++ x ∷ []) f t f2 t2
+marks_more : (xs : List ℕ) (x : ℕ) (f f1 f2 : List Bool) (t t1 t2 : List ℕ) → Marks xs f t f1 t1
+    → Marks (x ∷ []) f1 t1 f2 t2 → Marks (xs ++ x ∷ []) f t f2 t2
 marks_more xs x f f1 f2 t t1 t2 m n = record {
   same = n.same ∙ m.same;
-  marked = λ k. n.marked k ∙ ap (λ b. b || has (x ∷ []) k) (m.marked k) ∙ or_assoc (flag f k) (has xs k) (has (x ∷ []) k) ∙ ap (λ b. flag f k || b) (sym (has-append xs (x ∷ []) k));
-  added = λ k. n.added k ∙ ap (λ b. b || (has (x ∷ []) k && not (flag f1 k))) (m.added k) ∙ ap (λ b. (has t k || (has xs k && not (flag f k))) || (has (x ∷ []) k && not b)) (m.marked k)
-      ∙ both_added (has t k) (has xs k) (has (x ∷ []) k) (flag f k) ∙ ap (λ b. has t k || (b && not (flag f k))) (sym (has-append xs (x ∷ []) k));
+  marked = λ k. n.marked k ∙ ap (λ b. b || has (x ∷ []) k) (m.marked k)
+      ∙ or_assoc (flag f k) (has xs k) (has (x ∷ []) k) ∙ ap (λ b. flag f k || b) (sym (has-append xs (x ∷ []) k));
+  added = λ k. n.added k ∙ ap (λ b. b || (has (x ∷ []) k && not (flag f1 k))) (m.added k)
+      ∙ ap (λ b. (has t k || (has xs k && not (flag f k))) || (has (x ∷ []) k && not b)) (m.marked k)
+      ∙ both_added (has t k) (has xs k) (has (x ∷ []) k) (flag f k)
+      ∙ ap (λ b. has t k || (b && not (flag f k))) (sym (has-append xs (x ∷ []) k));
   once = λ k.
-      let e : cond (has (x ∷ []) k && not (flag f1 k)) 1 0 ≡ cond (has (x ∷ []) k && not (flag f k || has xs k)) 1 0 = ap (λ b. cond (has (x ∷ []) k && not b) 1 0) (m.marked k) in
+      let e : cond (has (x ∷ []) k && not (flag f1 k)) 1 0 ≡ cond (has (x ∷ []) k && not (flag f k || has xs k)) 1 0 =
+      ap (λ b. cond (has (x ∷ []) k && not b) 1 0) (m.marked k) in
       let b = both_once (has xs k) (has (x ∷ []) k) (flag f k) in
-      let g : cond ((has xs k || has (x ∷ []) k) && not (flag f k)) 1 0 ≡ cond (has (xs ++ x ∷ []) k && not (flag f k)) 1 0 = ap (λ b. cond (b && not (flag f k)) 1 0) (sym (has-append xs (x ∷ []) k)) in
-      sums (times t2 k) (times t1 k) (times t k) (cond (has xs k && not (flag f k)) 1 0) (cond (has (x ∷ []) k && not (flag f1 k)) 1 0) (cond (has (x ∷ []) k && not (flag f k || has xs k)) 1 0) (cond ((has xs k || has (x ∷ []) k) && not (flag f k)) 1 0) (cond (has (xs ++ x ∷ []) k && not (flag f k)) 1 0) (n.once k) (m.once k) e b g;
-  order = n.order ∙ ap₂ (λ (us vs : List ℕ). us ++ vs) m.order (unless_marked f f1 x xs m.marked) ∙ append_assoc t (unless (flag f) xs) (last_left (flag f x || has xs x) x) ∙ ap (λ ys. t ++ ys) (sym (unless_more (flag f) xs x));
+      let g : cond ((has xs k || has (x ∷ []) k) && not (flag f k)) 1 0
+      ≡ cond (has (xs ++ x ∷ []) k && not (flag f k)) 1 0 =
+      ap (λ b. cond (b && not (flag f k)) 1 0) (sym (has-append xs (x ∷ []) k)) in
+      sums (times t2 k) (times t1 k) (times t k) (cond (has xs k && not (flag f k)) 1 0)
+      (cond (has (x ∷ []) k && not (flag f1 k)) 1 0) (cond (has (x ∷ []) k && not (flag f k || has xs k)) 1 0)
+      (cond ((has xs k || has (x ∷ []) k) && not (flag f k)) 1 0)
+      (cond (has (xs ++ x ∷ []) k && not (flag f k)) 1 0) (n.once k) (m.once k) e b g;
+  order = n.order ∙ ap₂ (λ (us vs : List ℕ). us ++ vs) m.order (unless_marked f f1 x xs m.marked)
+      ∙ append_assoc t (unless (flag f) xs) (last_left (flag f x || has xs x) x)
+      ∙ ap (λ ys. t ++ ys) (sym (unless_more (flag f) xs x));
   lighter = omega (arith, m.lighter, n.lighter);
 }
 
-pub marks_step : (nodes : List ℕ) (i x : ℕ) (f f1 f2 : List Bool) (t t1 t2 : List ℕ) → i < length nodes → x ≡ get_or nodes i 0 → Marks (take i nodes) f t f1 t1 → Marks (x ∷ []) f1 t1 f2 t2 → Marks (take (i + 1) nodes) f t f2 t2
-marks_step nodes i x f f1 f2 t t1 t2 l e m n = subst (λ (xs : List ℕ). Marks xs f t f2 t2) (ap (λ y. take i nodes ++ y ∷ []) e ∙ sym (take_more nodes i 0 l)) (marks_more (take i nodes) x f f1 f2 t t1 t2 m n)
+pub marks_step : (nodes : List ℕ) (i x : ℕ) (f f1 f2 : List Bool) (t t1 t2 : List ℕ) → i < length nodes
+    → x ≡ get_or nodes i 0 → Marks (take i nodes) f t f1 t1 → Marks (x ∷ []) f1 t1 f2 t2
+    → Marks (take (i + 1) nodes) f t f2 t2
+marks_step nodes i x f f1 f2 t t1 t2 l e m n =
+    subst (λ (xs : List ℕ). Marks xs f t f2 t2) (ap (λ y. take i nodes ++ y ∷ []) e ∙ sym (take_more nodes i 0 l))
+    (marks_more (take i nodes) x f f1 f2 t t1 t2 m n)
 
-pub marks_whole : (nodes : List ℕ) (i : ℕ) (f f1 : List Bool) (t t1 : List ℕ) → length nodes ≤ i → Marks (take i nodes) f t f1 t1 → Marks nodes f t f1 t1
+pub marks_whole : (nodes : List ℕ) (i : ℕ) (f f1 : List Bool) (t t1 : List ℕ) → length nodes ≤ i
+    → Marks (take i nodes) f t f1 t1 → Marks nodes f t f1 t1
 marks_whole nodes i f f1 t t1 g m = subst (λ (xs : List ℕ). Marks xs f t f1 t1) (take_all i nodes g) m
 
 -- ---- marks that are taken away
 
-flag_unset : (flags : List Bool) (n k : ℕ) → n < length flags → flag (set flags n false) k ≡ (flag flags k && not (has (n ∷ []) k))
+flag_unset : (flags : List Bool) (n k : ℕ) → n < length flags
+    → flag (set flags n false) k ≡ (flag flags k && not (has (n ∷ []) k))
 flag_unset flags n k l = elim (cases_eq n k) [ inl e ↦ is_so e | inr ne ↦ not_so ne ]
   where
     gone : (b c : Bool) → c ≡ true → false ≡ (b && not c)
@@ -249,10 +309,12 @@ flag_unset flags n k l = elim (cases_eq n k) [ inl e ↦ is_so e | inr ne ↦ no
     stays b true e = absurd (false≢true (sym e))
 
     is_so : n ≡ k → flag (set flags n false) k ≡ (flag flags k && not (has (n ∷ []) k))
-    is_so e = subst (λ (j : ℕ). flag (set flags n false) j ≡ (flag flags j && not (has (n ∷ []) j))) e (get_or-set_same flags n false false l ∙ gone (flag flags n) (has (n ∷ []) n) (has_itself n))
+    is_so e = subst (λ (j : ℕ). flag (set flags n false) j ≡ (flag flags j && not (has (n ∷ []) j))) e
+        (get_or-set_same flags n false false l ∙ gone (flag flags n) (has (n ∷ []) n) (has_itself n))
 
     not_so : (n ≡ k → ⊥) → flag (set flags n false) k ≡ (flag flags k && not (has (n ∷ []) k))
-    not_so ne = get_or-set_other flags n k false false (λ e. ne (sym e)) ∙ stays (flag flags k) (has (n ∷ []) k) (has_no_other n k ne)
+    not_so ne = get_or-set_other flags n k false false (λ e. ne (sym e))
+        ∙ stays (flag flags k) (has (n ∷ []) k) (has_no_other n k ne)
 
 pub unmarks_none : (flags : List Bool) → Unmarks [] flags flags
 unmarks_none flags = record { same = refl; left = λ k. plain (flag flags k) }
@@ -261,11 +323,16 @@ unmarks_none flags = record { same = refl; left = λ k. plain (flag flags k) }
     plain true = refl
     plain false = refl
 
-pub unmarks_more : (nodes : List ℕ) (i : ℕ) (flags now now' : List Bool) → i < length nodes → get_or nodes i 0 < length now → now' ≡ set now (get_or nodes i 0) false → Unmarks (take i nodes) flags now → Unmarks (take (i + 1) nodes) flags now'
-unmarks_more nodes i flags now now' l w e u = subst (λ (xs : List ℕ). Unmarks xs flags now') (sym (take_more nodes i 0 l)) record {
-  same = ap length e ∙ length-set now x false ∙ u.same;
-  left = λ k. ap (λ (fs : List Bool). flag fs k) e ∙ flag_unset now x k w ∙ ap (λ b. b && not (has (x ∷ []) k)) (u.left k) ∙ both (flag flags k) (has (take i nodes) k) (has (x ∷ []) k) ∙ ap (λ b. flag flags k && not b) (sym (has-append (take i nodes) (x ∷ []) k));
-}
+pub unmarks_more : (nodes : List ℕ) (i : ℕ) (flags now now' : List Bool) → i < length nodes
+    → get_or nodes i 0 < length now → now' ≡ set now (get_or nodes i 0) false → Unmarks (take i nodes) flags now
+    → Unmarks (take (i + 1) nodes) flags now'
+unmarks_more nodes i flags now now' l w e u =
+    subst (λ (xs : List ℕ). Unmarks xs flags now') (sym (take_more nodes i 0 l)) record {
+      same = ap length e ∙ length-set now x false ∙ u.same;
+      left = λ k. ap (λ (fs : List Bool). flag fs k) e ∙ flag_unset now x k w
+          ∙ ap (λ b. b && not (has (x ∷ []) k)) (u.left k) ∙ both (flag flags k) (has (take i nodes) k) (has (x ∷ []) k)
+          ∙ ap (λ b. flag flags k && not b) (sym (has-append (take i nodes) (x ∷ []) k));
+    }
   where
     x : ℕ
     x = get_or nodes i 0
@@ -275,14 +342,19 @@ unmarks_more nodes i flags now now' l w e u = subst (λ (xs : List ℕ). Unmarks
     both true true b = refl
     both true false b = refl
 
-pub unmarks_all : (nodes : List ℕ) (i : ℕ) (flags now : List Bool) → length nodes ≤ i → Unmarks (take i nodes) flags now → Unmarks nodes flags now
+pub unmarks_all : (nodes : List ℕ) (i : ℕ) (flags now : List Bool) → length nodes ≤ i → Unmarks (take i nodes) flags now
+    → Unmarks nodes flags now
 unmarks_all nodes i flags now g u = subst (λ (xs : List ℕ). Unmarks xs flags now) (take_all i nodes g) u
 
-pub once_from_unmarked : (nodes : List ℕ) (flags now : List Bool) (before once : List ℕ) → AreUnmarked flags → before ≡ [] → Marks nodes flags before now once → AreEachOnce once nodes
-once_from_unmarked nodes flags now before once u e m = m.order ∙ ap (λ (xs : List ℕ). xs ++ unless (flag flags) nodes) e ∙ unless_same (flag flags) (λ k. false) nodes u
+pub once_from_unmarked : (nodes : List ℕ) (flags now : List Bool) (before once : List ℕ) → AreUnmarked flags
+    → before ≡ [] → Marks nodes flags before now once → AreEachOnce once nodes
+once_from_unmarked nodes flags now before once u e m = m.order ∙ ap (λ (xs : List ℕ). xs ++ unless (flag flags) nodes) e
+    ∙ unless_same (flag flags) (λ k. false) nodes u
 
-pub unmarked_again : (nodes : List ℕ) (flags now later : List Bool) (before once : List ℕ) → AreUnmarked flags → Marks nodes flags before now once → Unmarks nodes now later → AreUnmarked later
-unmarked_again nodes flags now later before once u m g k = g.left k ∙ ap (λ b. b && not (has nodes k)) (m.marked k) ∙ none (flag flags k) (has nodes k) (u k)
+pub unmarked_again : (nodes : List ℕ) (flags now later : List Bool) (before once : List ℕ) → AreUnmarked flags
+    → Marks nodes flags before now once → Unmarks nodes now later → AreUnmarked later
+unmarked_again nodes flags now later before once u m g k = g.left k ∙ ap (λ b. b && not (has nodes k)) (m.marked k)
+    ∙ none (flag flags k) (has nodes k) (u k)
   where
     none : (f h : Bool) → f ≡ false → ((f || h) && not h) ≡ false
     none true h e = absurd (false≢true (sym e))

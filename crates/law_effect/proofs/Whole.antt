@@ -18,29 +18,44 @@ module _ (modules : List WModule) where
   stays Trapped o (suc i) = stays Trapped o i
 
   -- a run in two parts
-  parted : (i j : ℕ) (c : Config) → j ≤ i → run modules i c ≡ after (run modules j c).1 (run modules (i - j) (run modules j c).0)
-  parted i j c le = let e : i ≡ j + (i - j) = omega (arith, le) in ap (λ k. run modules k c) e ∙ run-add modules j (i - j) [] c
+  parted : (i j : ℕ) (c : Config) → j ≤ i
+      → run modules i c ≡ after (run modules j c).1 (run modules (i - j) (run modules j c).0)
+  parted i j c le = let e : i ≡ j + (i - j) = omega (arith, le) in
+      ap (λ k. run modules k c) e ∙ run-add modules j (i - j) [] c
 
-  later : (i j : ℕ) (c d : Config) (out : List ℕ) → IsOver d → run modules j c ≡ got d out → j ≤ i → run modules i c ≡ got d out
+  later : (i j : ℕ) (c d : Config) (out : List ℕ) → IsOver d → run modules j c ≡ got d out → j ≤ i
+      → run modules i c ≡ got d out
   later i j c d out o e le =
-      parted i j c le ∙ ap (λ (x : Progress). after x.1 (run modules (i - j) x.0)) e ∙ ap (after out) (stays d o (i - j)) ∙ ap (got d) (append-nil out)
+      parted i j c le ∙ ap (λ (x : Progress). after x.1 (run modules (i - j) x.0)) e
+      ∙ ap (after out) (stays d o (i - j)) ∙ ap (got d) (append-nil out)
 
   module _ (c : Config) (j : ℕ) where
-    same : (d d' : Config) (out out' : List ℕ) → IsOver d → IsOver d' → run modules j c ≡ got d out → Reaches modules c [] d' out' → got d' out' ≡ got d out
-    same d d' out out' o o' e r = sym (later (r.count + j) r.count c d' out' o' r.path (omega arith)) ∙ later (r.count + j) j c d out o e (omega arith)
+    same : (d d' : Config) (out out' : List ℕ) → IsOver d → IsOver d' → run modules j c ≡ got d out
+        → Reaches modules c [] d' out' → got d' out' ≡ got d out
+    same d d' out out' o o' e r = sym (later (r.count + j) r.count c d' out' o' r.path (omega arith))
+        ∙ later (r.count + j) j c d out o e (omega arith)
 
-    not_both : (d : Config) (out out' : List ℕ) → IsOver d → run modules j c ≡ got d out → GoesOn modules j c [] out' → ⊥
-    not_both d out out' o e g = subst IsOver (ap (λ (x : Progress). x.0) (sym (later g.count j c d out o e g.enough) ∙ g.path)) o
+    not_both : (d : Config) (out out' : List ℕ) → IsOver d → run modules j c ≡ got d out → GoesOn modules j c [] out'
+        → ⊥
+    not_both d out out' o e g = subst IsOver
+        (ap (λ (x : Progress). x.0) (sym (later g.count j c d out o e g.enough) ∙ g.path)) o
 
     -- a beginning of what is printed
-    begins : (i : ℕ) (d : Config) (out : List ℕ) → run modules i c ≡ got d out → j ≤ i → (rest : List ℕ) × (out ≡ (run modules j c).1 ++ rest)
-    begins i d out e le = ((run modules (i - j) (run modules j c).0).1, ap (λ (x : Progress). x.1) (sym e ∙ parted i j c le))
+    begins : (i : ℕ) (d : Config) (out : List ℕ) → run modules i c ≡ got d out → j ≤ i → (rest : List ℕ)
+        × (out ≡ (run modules j c).1 ++ rest)
+    begins i d out e le = (
+      (run modules (i - j) (run modules j c).0).1,
+      ap (λ (x : Progress). x.1)
+          (sym e ∙ parted i j c le),
+    )
 
-    printed : (d : Config) (out : List ℕ) → IsOver d → Reaches modules c [] d out → (rest : List ℕ) × (out ≡ (run modules j c).1 ++ rest)
+    printed : (d : Config) (out : List ℕ) → IsOver d → Reaches modules c [] d out → (rest : List ℕ)
+        × (out ≡ (run modules j c).1 ++ rest)
     printed d out o r =
         ⊎_elim
         (λ (less : r.count < j).
-        let there : (run modules j c).1 ≡ out = ap (λ (x : Progress). x.1) (later j r.count c d out o r.path (omega (arith, less))) in
+        let there : (run modules j c).1 ≡ out =
+        ap (λ (x : Progress). x.1) (later j r.count c d out o r.path (omega (arith, less))) in
         ([], sym there ∙ sym (append-nil (run modules j c).1)))
         (λ (ge : j ≤ r.count). begins r.count d out r.path ge)
         (cases_lt r.count j)
@@ -49,16 +64,22 @@ module _ (modules : List WModule) where
   over_if true = tt
   over_if false = tt
 
-  only : (arity j : ℕ) (c d : Config) (out : List ℕ) (e : Effect) → IsOver d → run modules j c ≡ got d out → RunLeads modules j arity c e → comes arity e ≡ Some (d, out)
-  only arity j c d out (FellThrough st stack) o p l = ap (λ (x : Progress). Some x) (same c j d _ out st.out o (over_if (nat_le arity (length stack))) p l)
-  only arity j c d out (Branched zero st stack) o p l = ap (λ (x : Progress). Some x) (same c j d _ out st.out o (over_if (nat_le arity (length stack))) p l)
-  only arity j c d out (Branched (suc k) st stack) o p l = ap (λ (x : Progress). Some x) (same c j d Trapped out st.out o tt p l)
-  only arity j c d out (Returned st stack) o p l = ap (λ (x : Progress). Some x) (same c j d _ out st.out o (over_if (nat_le arity (length stack))) p l)
+  only : (arity j : ℕ) (c d : Config) (out : List ℕ) (e : Effect) → IsOver d → run modules j c ≡ got d out
+      → RunLeads modules j arity c e → comes arity e ≡ Some (d, out)
+  only arity j c d out (FellThrough st stack) o p l =
+      ap (λ (x : Progress). Some x) (same c j d _ out st.out o (over_if (nat_le arity (length stack))) p l)
+  only arity j c d out (Branched zero st stack) o p l =
+      ap (λ (x : Progress). Some x) (same c j d _ out st.out o (over_if (nat_le arity (length stack))) p l)
+  only arity j c d out (Branched (suc k) st stack) o p l =
+      ap (λ (x : Progress). Some x) (same c j d Trapped out st.out o tt p l)
+  only arity j c d out (Returned st stack) o p l =
+      ap (λ (x : Progress). Some x) (same c j d _ out st.out o (over_if (nat_le arity (length stack))) p l)
   only arity j c d out (Ended k bytes) o p l = ap (λ (x : Progress). Some x) (same c j d (Over k) out bytes o tt p l)
   only arity j c d out (Traps bytes) o p l = ap (λ (x : Progress). Some x) (same c j d Trapped out bytes o tt p l)
   only arity j c d out (StillRunning bytes) o p l = absurd (not_both c j d out bytes o p l)
 
-  prints : (arity j : ℕ) (c : Config) (e : Effect) → RunLeads modules j arity c e → (rest : List ℕ) × (output_shown e ≡ (run modules j c).1 ++ rest)
+  prints : (arity j : ℕ) (c : Config) (e : Effect) → RunLeads modules j arity c e → (rest : List ℕ)
+      × (output_shown e ≡ (run modules j c).1 ++ rest)
   prints arity j c (FellThrough st stack) l = printed c j _ st.out (over_if (nat_le arity (length stack))) l
   prints arity j c (Branched zero st stack) l = printed c j _ st.out (over_if (nat_le arity (length stack))) l
   prints arity j c (Branched (suc k) st stack) l = printed c j Trapped st.out tt l
@@ -69,16 +90,20 @@ module _ (modules : List WModule) where
 
 pub run_only : Only
 run_only modules fx extra m f t bytes j d out o p =
-    only modules (length t.type.results) j _ d out (calling modules fx extra j (suc j) m f t [] bytes []) o p (runs modules fx extra j m f t bytes)
+    only modules (length t.type.results) j _ d out (calling modules fx extra j (suc j) m f t [] bytes []) o p
+    (runs modules fx extra j m f t bytes)
 
 pub run_prints : Prints
 run_prints modules fx extra m f t bytes j =
-    prints modules (length t.type.results) j _ (calling modules fx extra j (suc j) m f t [] bytes []) (runs modules fx extra j m f t bytes)
+    prints modules (length t.type.results) j _ (calling modules fx extra j (suc j) m f t [] bytes [])
+    (runs modules fx extra j m f t bytes)
 
 pub nested_only : NestedOnly
 nested_only modules fx serves extra d m f none t bytes j le end out o p =
-    only modules (length t.type.results) j _ end out (nest_calls modules fx serves extra j (suc d) m f t [] bytes []) o p (nested_runs modules fx serves extra j d m f le none t bytes)
+    only modules (length t.type.results) j _ end out (nest_calls modules fx serves extra j (suc d) m f t [] bytes []) o
+    p (nested_runs modules fx serves extra j d m f le none t bytes)
 
 pub nested_prints : NestedPrints
 nested_prints modules fx serves extra d m f none t bytes j le =
-    prints modules (length t.type.results) j _ (nest_calls modules fx serves extra j (suc d) m f t [] bytes []) (nested_runs modules fx serves extra j d m f le none t bytes)
+    prints modules (length t.type.results) j _ (nest_calls modules fx serves extra j (suc d) m f t [] bytes [])
+    (nested_runs modules fx serves extra j d m f le none t bytes)

@@ -19,7 +19,8 @@ use Rattle.layout_storage.specs.Texts.{Texts, concatenation, texts_of, texts_at,
 use Rattle.layout_storage.specs.Counted.{character_count, with_stmt, with_arm, with_which}
 use Rattle.layout_storage.proofs.Variants.{both, one_text, walked}
 
-two : {m n : ℕ} (a b : Texts) → character_count a ≡ m → character_count b ≡ n → character_count (a ++ b) ≡ cap_size (m + n)
+two : {m n : ℕ} (a b : Texts) → character_count a ≡ m → character_count b ≡ n
+    → character_count (a ++ b) ≡ cap_size (m + n)
 two {m = m} a b e f = both a b ∙ ap (λ (k : ℕ). cap_size (k + character_count b)) e ∙ ap (λ (k : ℕ). cap_size (m + k)) f
 
 stmts : (xs : List TypedStmt) → character_count (concatenation (map texts_in xs)) ≡ fold with_stmt 0 xs
@@ -34,9 +35,11 @@ opened x = map-TypedStmt TypedStmt TypedArm Texts Texts texts_in texts_armed x
 abbrev opened_arm : TypedArm-F TypedStmt TypedArm → TypedArm-F Texts Texts
 opened_arm x = map-TypedArm TypedStmt TypedArm Texts Texts texts_in texts_armed x
 
-at_stmt : (e : TypedStmt) (x : TypedStmt-F TypedStmt TypedArm) → out-TypedStmt e ≡ x → texts_in e ≡ step_texts (opened x)
+at_stmt : (e : TypedStmt) (x : TypedStmt-F TypedStmt TypedArm) → out-TypedStmt e ≡ x
+    → texts_in e ≡ step_texts (opened x)
 unfolding texts_in texts_armed
-at_stmt e x h = fold_out-TypedStmt Texts Texts step_texts arm_texts e ∙ ap (λ (y : TypedStmt-F TypedStmt TypedArm). step_texts (opened y)) h
+at_stmt e x h = fold_out-TypedStmt Texts Texts step_texts arm_texts e
+    ∙ ap (λ (y : TypedStmt-F TypedStmt TypedArm). step_texts (opened y)) h
 
 pub arm_is : (x : TypedArm) → character_count (texts_armed x) ≡ fold with_stmt 0 x.body
 unfolding texts_in texts_armed
@@ -58,19 +61,30 @@ routines m (w ∷ ws) = ap (λ (ts : Texts). which_texts m w ++ ts) (routines m 
 routines_are : (m : TypedModule) → character_count (routines_texts m) ≡ fold (with_which m) 0 m.order
 routines_are m = ap character_count (routines m m.order) ∙ sym (walked (which_texts m) m.order)
 
-pub module_is : (m : TypedModule) (a b all : ℕ) → a ≡ fold (with_which m) 0 m.order → b ≡ character_count (body_texts m.body) → all ≡ cap_size (a + b) → all ≡ character_count (module_texts m)
+pub module_is : (m : TypedModule) (a b all : ℕ) → a ≡ fold (with_which m) 0 m.order
+    → b ≡ character_count (body_texts m.body) → all ≡ cap_size (a + b) → all ≡ character_count (module_texts m)
 module_is m a b all e f g = g ∙ sym (two (routines_texts m) (body_texts m.body) (routines_are m ∙ sym e) (sym f))
 
 -- ---- variants
 
-pub stmt_Assign : (d : Place) (t : TypeNo) (e : TypedExpr) → character_count (texts_in (sv.Assign d t e)) ≡ cap_size (character_count (texts_at d) + character_count (texts_of e))
-stmt_Assign d t e = ap character_count (at_stmt (sv.Assign d t e) (sl.Assign d t e) (sv.outs-Assign d t e)) ∙ both (texts_at d) (texts_of e)
+pub stmt_Assign : (d : Place) (t : TypeNo) (e : TypedExpr)
+    → character_count (texts_in (sv.Assign d t e))
+    ≡ cap_size (character_count (texts_at d) + character_count (texts_of e))
+stmt_Assign d t e = ap character_count (at_stmt (sv.Assign d t e) (sl.Assign d t e) (sv.outs-Assign d t e))
+    ∙ both (texts_at d) (texts_of e)
 
-pub stmt_Copy : (a b : Place) (t : TypeNo) → character_count (texts_in (sv.Copy a b t)) ≡ cap_size (character_count (texts_at a) + character_count (texts_at b))
-stmt_Copy a b t = ap character_count (at_stmt (sv.Copy a b t) (sl.Copy a b t) (sv.outs-Copy a b t)) ∙ both (texts_at a) (texts_at b)
+pub stmt_Copy : (a b : Place) (t : TypeNo)
+    → character_count (texts_in (sv.Copy a b t))
+    ≡ cap_size (character_count (texts_at a) + character_count (texts_at b))
+stmt_Copy a b t = ap character_count (at_stmt (sv.Copy a b t) (sl.Copy a b t) (sv.outs-Copy a b t))
+    ∙ both (texts_at a) (texts_at b)
 
-pub stmt_CopyText : (d : Place) (t : TypeNo) (text : List ℕ) → character_count (texts_in (sv.CopyText d t text)) ≡ cap_size (character_count (texts_at d) + cap_size (length text))
-stmt_CopyText d t text = ap character_count (at_stmt (sv.CopyText d t text) (sl.CopyText d t text) (sv.outs-CopyText d t text)) ∙ two (texts_at d) (text ∷ []) refl (one_text text)
+pub stmt_CopyText : (d : Place) (t : TypeNo) (text : List ℕ)
+    → character_count (texts_in (sv.CopyText d t text))
+    ≡ cap_size (character_count (texts_at d) + cap_size (length text))
+stmt_CopyText d t text = ap character_count
+    (at_stmt (sv.CopyText d t text) (sl.CopyText d t text) (sv.outs-CopyText d t text))
+    ∙ two (texts_at d) (text ∷ []) refl (one_text text)
 
 pub stmt_Call : (c : Call) → character_count (texts_in (sv.Call c)) ≡ character_count (texts_called c)
 stmt_Call c = ap character_count (at_stmt (sv.Call c) (sl.Call c) (sv.outs-Call c))
@@ -78,38 +92,60 @@ stmt_Call c = ap character_count (at_stmt (sv.Call c) (sl.Call c) (sv.outs-Call 
 pub stmt_Put : (e : TypedExpr) → character_count (texts_in (sv.Put e)) ≡ character_count (texts_of e)
 stmt_Put e = ap character_count (at_stmt (sv.Put e) (sl.Put e) (sv.outs-Put e))
 
-pub stmt_Change : (o : Change) (d : Place) (t : TypeNo) (e : TypedExpr) → character_count (texts_in (sv.Change o d t e)) ≡ cap_size (character_count (texts_at d) + character_count (texts_of e))
-stmt_Change o d t e = ap character_count (at_stmt (sv.Change o d t e) (sl.Change o d t e) (sv.outs-Change o d t e)) ∙ both (texts_at d) (texts_of e)
+pub stmt_Change : (o : Change) (d : Place) (t : TypeNo) (e : TypedExpr)
+    → character_count (texts_in (sv.Change o d t e))
+    ≡ cap_size (character_count (texts_at d) + character_count (texts_of e))
+stmt_Change o d t e = ap character_count (at_stmt (sv.Change o d t e) (sl.Change o d t e) (sv.outs-Change o d t e))
+    ∙ both (texts_at d) (texts_of e)
 
-pub stmt_Membership : (o : Membership) (d : Place) (e : TypedExpr) → character_count (texts_in (sv.Membership o d e)) ≡ cap_size (character_count (texts_at d) + character_count (texts_of e))
-stmt_Membership o d e = ap character_count (at_stmt (sv.Membership o d e) (sl.Membership o d e) (sv.outs-Membership o d e)) ∙ both (texts_at d) (texts_of e)
+pub stmt_Membership : (o : Membership) (d : Place) (e : TypedExpr)
+    → character_count (texts_in (sv.Membership o d e))
+    ≡ cap_size (character_count (texts_at d) + character_count (texts_of e))
+stmt_Membership o d e = ap character_count
+    (at_stmt (sv.Membership o d e) (sl.Membership o d e) (sv.outs-Membership o d e)) ∙ both (texts_at d) (texts_of e)
 
 pub stmt_Halt : character_count (texts_in sv.Halt) ≡ 0
 stmt_Halt = ap character_count (at_stmt sv.Halt sl.Halt sv.outs-Halt)
 
-pub stmt_If_None : (e : TypedExpr) (xs : List TypedStmt) → character_count (texts_in (sv.If e xs None)) ≡ cap_size (character_count (texts_of e) + fold with_stmt 0 xs)
+pub stmt_If_None : (e : TypedExpr) (xs : List TypedStmt)
+    → character_count (texts_in (sv.If e xs None)) ≡ cap_size (character_count (texts_of e) + fold with_stmt 0 xs)
 stmt_If_None e xs =
-    ap character_count (at_stmt (sv.If e xs None) (sl.If e xs None) (sv.outs-If e xs None)) ∙ two (texts_of e) (concatenation (map texts_in xs) ++ []) refl (ap character_count (append-nil (concatenation (map texts_in xs))) ∙ stmts xs)
+    ap character_count (at_stmt (sv.If e xs None) (sl.If e xs None) (sv.outs-If e xs None))
+    ∙ two (texts_of e) (concatenation (map texts_in xs) ++ []) refl
+    (ap character_count (append-nil (concatenation (map texts_in xs))) ∙ stmts xs)
 
-pub stmt_If_Some : (e : TypedExpr) (xs : List TypedStmt) (ys : List TypedStmt) → character_count (texts_in (sv.If e xs (Some ys))) ≡ cap_size (character_count (texts_of e) + cap_size (fold with_stmt 0 xs + fold with_stmt 0 ys))
+pub stmt_If_Some : (e : TypedExpr) (xs : List TypedStmt) (ys : List TypedStmt)
+    → character_count (texts_in (sv.If e xs (Some ys)))
+    ≡ cap_size (character_count (texts_of e) + cap_size (fold with_stmt 0 xs + fold with_stmt 0 ys))
 stmt_If_Some e xs ys =
     ap character_count (at_stmt (sv.If e xs (Some ys)) (sl.If e xs (Some ys)) (sv.outs-If e xs (Some ys)))
-    ∙ two (texts_of e) (concatenation (map texts_in xs) ++ concatenation (map texts_in ys)) refl (two (concatenation (map texts_in xs)) (concatenation (map texts_in ys)) (stmts xs) (stmts ys))
+    ∙ two (texts_of e) (concatenation (map texts_in xs) ++ concatenation (map texts_in ys)) refl
+    (two (concatenation (map texts_in xs)) (concatenation (map texts_in ys)) (stmts xs) (stmts ys))
 
-pub stmt_Case_None : (e : TypedExpr) (xs : List TypedArm) → character_count (texts_in (sv.Case e xs None)) ≡ cap_size (character_count (texts_of e) + fold with_arm 0 xs)
+pub stmt_Case_None : (e : TypedExpr) (xs : List TypedArm)
+    → character_count (texts_in (sv.Case e xs None)) ≡ cap_size (character_count (texts_of e) + fold with_arm 0 xs)
 stmt_Case_None e xs =
-    ap character_count (at_stmt (sv.Case e xs None) (sl.Case e xs None) (sv.outs-Case e xs None)) ∙ two (texts_of e) (concatenation (map texts_armed xs) ++ []) refl (ap character_count (append-nil (concatenation (map texts_armed xs))) ∙ arms xs)
+    ap character_count (at_stmt (sv.Case e xs None) (sl.Case e xs None) (sv.outs-Case e xs None))
+    ∙ two (texts_of e) (concatenation (map texts_armed xs) ++ []) refl
+    (ap character_count (append-nil (concatenation (map texts_armed xs))) ∙ arms xs)
 
-pub stmt_Case_Some : (e : TypedExpr) (xs : List TypedArm) (ys : List TypedStmt) → character_count (texts_in (sv.Case e xs (Some ys))) ≡ cap_size (character_count (texts_of e) + cap_size (fold with_arm 0 xs + fold with_stmt 0 ys))
+pub stmt_Case_Some : (e : TypedExpr) (xs : List TypedArm) (ys : List TypedStmt)
+    → character_count (texts_in (sv.Case e xs (Some ys)))
+    ≡ cap_size (character_count (texts_of e) + cap_size (fold with_arm 0 xs + fold with_stmt 0 ys))
 stmt_Case_Some e xs ys =
     ap character_count (at_stmt (sv.Case e xs (Some ys)) (sl.Case e xs (Some ys)) (sv.outs-Case e xs (Some ys)))
-    ∙ two (texts_of e) (concatenation (map texts_armed xs) ++ concatenation (map texts_in ys)) refl (two (concatenation (map texts_armed xs)) (concatenation (map texts_in ys)) (arms xs) (stmts ys))
+    ∙ two (texts_of e) (concatenation (map texts_armed xs) ++ concatenation (map texts_in ys)) refl
+    (two (concatenation (map texts_armed xs)) (concatenation (map texts_in ys)) (arms xs) (stmts ys))
 
-pub stmt_While : (e : TypedExpr) (xs : List TypedStmt) → character_count (texts_in (sv.While e xs)) ≡ cap_size (character_count (texts_of e) + fold with_stmt 0 xs)
-stmt_While e xs = ap character_count (at_stmt (sv.While e xs) (sl.While e xs) (sv.outs-While e xs)) ∙ two (texts_of e) (concatenation (map texts_in xs)) refl (stmts xs)
+pub stmt_While : (e : TypedExpr) (xs : List TypedStmt)
+    → character_count (texts_in (sv.While e xs)) ≡ cap_size (character_count (texts_of e) + fold with_stmt 0 xs)
+stmt_While e xs = ap character_count (at_stmt (sv.While e xs) (sl.While e xs) (sv.outs-While e xs))
+    ∙ two (texts_of e) (concatenation (map texts_in xs)) refl (stmts xs)
 
-pub stmt_Repeat : (xs : List TypedStmt) (e : TypedExpr) → character_count (texts_in (sv.Repeat xs e)) ≡ cap_size (fold with_stmt 0 xs + character_count (texts_of e))
-stmt_Repeat xs e = ap character_count (at_stmt (sv.Repeat xs e) (sl.Repeat xs e) (sv.outs-Repeat xs e)) ∙ two (concatenation (map texts_in xs)) (texts_of e) (stmts xs) refl
+pub stmt_Repeat : (xs : List TypedStmt) (e : TypedExpr)
+    → character_count (texts_in (sv.Repeat xs e)) ≡ cap_size (fold with_stmt 0 xs + character_count (texts_of e))
+stmt_Repeat xs e = ap character_count (at_stmt (sv.Repeat xs e) (sl.Repeat xs e) (sv.outs-Repeat xs e))
+    ∙ two (concatenation (map texts_in xs)) (texts_of e) (stmts xs) refl
 
 pub stmt_Loop : (xs : List TypedStmt) → character_count (texts_in (sv.Loop xs)) ≡ fold with_stmt 0 xs
 stmt_Loop xs = ap character_count (at_stmt (sv.Loop xs) (sl.Loop xs) (sv.outs-Loop xs)) ∙ stmts xs
@@ -123,11 +159,42 @@ stmt_Return = ap character_count (at_stmt sv.Return sl.Return sv.outs-Return)
 pub stmt_Give : (t : TypeNo) (e : TypedExpr) → character_count (texts_in (sv.Give t e)) ≡ character_count (texts_of e)
 stmt_Give t e = ap character_count (at_stmt (sv.Give t e) (sl.Give t e) (sv.outs-Give t e))
 
-pub stmt_For : (d : Place) (t : TypeNo) (a b : TypedExpr) (n : ℤ) (xs : List TypedStmt) → character_count (texts_in (sv.For d t a b n xs)) ≡ cap_size (character_count (texts_at d) + cap_size (character_count (texts_of a) + cap_size (character_count (texts_of b) + fold with_stmt 0 xs)))
-stmt_For d t a b n xs = ap character_count (at_stmt (sv.For d t a b n xs) (sl.For d t a b n xs) (sv.outs-For d t a b n xs)) ∙ two (texts_at d) ((texts_of a) ++ ((texts_of b) ++ (concatenation (map texts_in xs)))) refl (two (texts_of a) ((texts_of b) ++ (concatenation (map texts_in xs))) refl (two (texts_of b) (concatenation (map texts_in xs)) refl (stmts xs)))
+pub stmt_For : (d : Place) (t : TypeNo) (a b : TypedExpr) (n : ℤ) (xs : List TypedStmt)
+    → character_count (texts_in (sv.For d t a b n xs))
+    ≡ cap_size (character_count (texts_at d) + cap_size
+    (character_count (texts_of a) + cap_size (character_count (texts_of b) + fold with_stmt 0 xs)))
+stmt_For d t a b n xs = ap character_count
+    (at_stmt (sv.For d t a b n xs) (sl.For d t a b n xs) (sv.outs-For d t a b n xs))
+    ∙ two (texts_at d) ((texts_of a) ++ ((texts_of b) ++ (concatenation (map texts_in xs)))) refl
+    (two (texts_of a) ((texts_of b) ++ (concatenation (map texts_in xs))) refl
+    (two (texts_of b) (concatenation (map texts_in xs)) refl (stmts xs)))
 
-pub stmt_With : (d : Place) (xs : List TypedStmt) → character_count (texts_in (sv.With d xs)) ≡ cap_size (character_count (texts_at d) + fold with_stmt 0 xs)
-stmt_With d xs = ap character_count (at_stmt (sv.With d xs) (sl.With d xs) (sv.outs-With d xs)) ∙ two (texts_at d) (concatenation (map texts_in xs)) refl (stmts xs)
+pub stmt_With : (d : Place) (xs : List TypedStmt)
+    → character_count (texts_in (sv.With d xs)) ≡ cap_size (character_count (texts_at d) + fold with_stmt 0 xs)
+stmt_With d xs = ap character_count (at_stmt (sv.With d xs) (sl.With d xs) (sv.outs-With d xs))
+    ∙ two (texts_at d) (concatenation (map texts_in xs)) refl (stmts xs)
 
 -- all of these
-pub ruleset stmt_variants = (stmt_Assign, stmt_Copy, stmt_CopyText, stmt_Call, stmt_Put, stmt_Change, stmt_Membership, stmt_Halt, stmt_If_None, stmt_If_Some, stmt_Case_None, stmt_Case_Some, stmt_While, stmt_Repeat, stmt_Loop, stmt_Exit, stmt_Return, stmt_Give, stmt_For, stmt_With, arm_is)
+pub ruleset stmt_variants = (
+  stmt_Assign,
+  stmt_Copy,
+  stmt_CopyText,
+  stmt_Call,
+  stmt_Put,
+  stmt_Change,
+  stmt_Membership,
+  stmt_Halt,
+  stmt_If_None,
+  stmt_If_Some,
+  stmt_Case_None,
+  stmt_Case_Some,
+  stmt_While,
+  stmt_Repeat,
+  stmt_Loop,
+  stmt_Exit,
+  stmt_Return,
+  stmt_Give,
+  stmt_For,
+  stmt_With,
+  arm_is,
+)

@@ -12,7 +12,10 @@ twice a = omega arith
 product_one : (n s : ℕ) → cap_size (n * cap_size s) ≡ cap_size (n * s)
 product_one zero s = omega arith
 product_one (suc n) s =
-    ap cap_size (suc-mul n (cap_size s)) ∙ sym (sum_both (n * cap_size s) (cap_size s)) ∙ ap (λ (k : ℕ). cap_size (k + cap_size (cap_size s))) (product_one n s) ∙ ap (λ (k : ℕ). cap_size (cap_size (n * s) + k)) (twice s) ∙ sum_both (n * s) s ∙ ap cap_size (sym (suc-mul n s))
+    ap cap_size (suc-mul n (cap_size s)) ∙ sym (sum_both (n * cap_size s) (cap_size s))
+    ∙ ap (λ (k : ℕ). cap_size (k + cap_size (cap_size s))) (product_one n s)
+    ∙ ap (λ (k : ℕ). cap_size (cap_size (n * s) + k)) (twice s) ∙ sum_both (n * s) s
+    ∙ ap cap_size (sym (suc-mul n s))
 
 pub product_both : (n s : ℕ) → cap_size (cap_size n * cap_size s) ≡ cap_size (n * s)
 product_both n s =

@@ -43,12 +43,15 @@ fits_is n t e = ap (λ (k : ℕ). not (nat_lt max_storage k)) e ∙ ap not (less
 
 -- ---- numbers
 
-number_case : (types : Types) (home m n : ℕ) → type_fits (tree types (made_type home m)) ≡ true → (n < m → type_fits (tree types (made_type home n)) ≡ true)
+number_case : (types : Types) (home m n : ℕ) → type_fits (tree types (made_type home m)) ≡ true
+    → (n < m → type_fits (tree types (made_type home n)) ≡ true)
     → (b : Bool) → nat_eq n m ≡ b → n < suc m → type_fits (tree types (made_type home n)) ≡ true
-number_case types home m n h rec true e l = subst (λ (k : ℕ). type_fits (tree types (made_type home k)) ≡ true) (sym (eqb-true n m e)) h
+number_case types home m n h rec true e l =
+    subst (λ (k : ℕ). type_fits (tree types (made_type home k)) ≡ true) (sym (eqb-true n m e)) h
 number_case types home m n h rec false e l = let d : n ≡ m → ⊥ = eqb-false n m e in rec (omega (arith, d))
 
-number_fits : (types : Types) (home count n : ℕ) → numbers_fit types home count ≡ true → n < count → type_fits (tree types (made_type home n)) ≡ true
+number_fits : (types : Types) (home count n : ℕ) → numbers_fit types home count ≡ true → n < count
+    → type_fits (tree types (made_type home n)) ≡ true
 number_fits types home zero n h l = absurd (omega arith)
 number_fits types home (suc m) n h l =
     let p = both_true (numbers_fit types home m) (type_fits (tree types (made_type home m))) h in
@@ -65,37 +68,47 @@ tree_next types before home ts m = shape_tree types ((home, ts) ∷ before) (mad
 one_longer : (ts : List Ty) (t : Ty) (n : ℕ) → length (ts ++ t ∷ []) + n ≡ length ts + suc n
 one_longer ts t n = omega (arith, length-append ts (t ∷ []))
 
-trees_length : (types : Types) (before : Trees) (home : ℕ) (ts : List Ty) (ms : List Made) → length (fold (with_made types before home) ts ms) ≡ length ts + length ms
+trees_length : (types : Types) (before : Trees) (home : ℕ) (ts : List Ty) (ms : List Made)
+    → length (fold (with_made types before home) ts ms) ≡ length ts + length ms
 trees_length types before home ts [] = omega arith
 trees_length types before home ts (m ∷ ms) =
-    trees_length types before home (ts ++ tree_next types before home ts m ∷ []) ms ∙ one_longer ts (tree_next types before home ts m) (length ms)
+    trees_length types before home (ts ++ tree_next types before home ts m ∷ []) ms
+    ∙ one_longer ts (tree_next types before home ts m) (length ms)
 
 from_none : (n : ℕ) → 0 + n ≡ n
 from_none n = omega arith
 
-known_lengths : (types : Types) (before : Trees) (es : List (ℕ × List Made)) → lengths (fold (with_module types) before es) ≡ lengths before ++ lengths es
+known_lengths : (types : Types) (before : Trees) (es : List (ℕ × List Made))
+    → lengths (fold (with_module types) before es) ≡ lengths before ++ lengths es
 known_lengths types before [] = sym (append-nil (lengths before))
 known_lengths types before (e ∷ es) =
     known_lengths types (with_module types before e) es
-    ∙ ap (λ (xs : List (ℕ × ℕ)). xs ++ lengths es) (map-append (λ (x : ℕ × List Ty). (x.0, length x.1)) before ((e.0, module_trees types before e.0 e.1) ∷ []))
-    ∙ ap (λ (n : ℕ). (lengths before ++ (e.0, n) ∷ []) ++ lengths es) (trees_length types before e.0 [] e.1 ∙ from_none (length e.1))
+    ∙ ap (λ (xs : List (ℕ × ℕ)). xs ++ lengths es)
+    (map-append (λ (x : ℕ × List Ty). (x.0, length x.1)) before ((e.0, module_trees types before e.0 e.1) ∷ []))
+    ∙ ap (λ (n : ℕ). (lengths before ++ (e.0, n) ∷ []) ++ lengths es)
+    (trees_length types before e.0 [] e.1 ∙ from_none (length e.1))
     ∙ append_assoc (lengths before) ((e.0, length e.1) ∷ []) (lengths es)
 
-cond_length : {A : Type 0} (b : Bool) (xs : List A) (o : Option (List A)) → cond b (Some (length xs)) (option_map length o) ≡ option_map length (cond b (Some xs) o)
+cond_length : {A : Type 0} (b : Bool) (xs : List A) (o : Option (List A))
+    → cond b (Some (length xs)) (option_map length o) ≡ option_map length (cond b (Some xs) o)
 cond_length true xs o = refl
 cond_length false xs o = refl
 
-lookup_length : {A : Type 0} (test : ℕ → Bool) (es : List (ℕ × List A)) → lookup test (lengths es) ≡ option_map length (lookup test es)
+lookup_length : {A : Type 0} (test : ℕ → Bool) (es : List (ℕ × List A))
+    → lookup test (lengths es) ≡ option_map length (lookup test es)
 lookup_length test [] = refl
-lookup_length test (e ∷ es) = ap (λ (o : Option ℕ). cond (test e.0) (Some (length e.1)) o) (lookup_length test es) ∙ cond_length (test e.0) e.1 (lookup test es)
+lookup_length test (e ∷ es) = ap (λ (o : Option ℕ). cond (test e.0) (Some (length e.1)) o) (lookup_length test es)
+    ∙ cond_length (test e.0) e.1 (lookup test es)
 
 -- ---- modules
 
-entry_case : (types : Types) (home n h k : ℕ) (o : Option ℕ) → numbers_fit types home n ≡ true → (o ≡ Some k → numbers_fit types h k ≡ true)
+entry_case : (types : Types) (home n h k : ℕ) (o : Option ℕ) → numbers_fit types home n ≡ true
+    → (o ≡ Some k → numbers_fit types h k ≡ true)
     → (b : Bool) → nat_eq h home ≡ b → cond b (Some n) o ≡ Some k → numbers_fit types h k ≡ true
 entry_case types home n h k o f rec true e q =
     let same : n ≡ k = cc q in
-    subst (λ (j : ℕ). numbers_fit types h j ≡ true) same (subst (λ (j : ℕ). numbers_fit types j n ≡ true) (sym (eqb-true h home e)) f)
+    subst (λ (j : ℕ). numbers_fit types h j ≡ true) same
+    (subst (λ (j : ℕ). numbers_fit types j n ≡ true) (sym (eqb-true h home e)) f)
 entry_case types home n h k o f rec false e q = rec q
 
 entry_fits : (types : Types) (es : List (ℕ × List Made)) (b : Bool) → fold (module_fits types) b es ≡ true
@@ -103,33 +116,46 @@ entry_fits : (types : Types) (es : List (ℕ × List Made)) (b : Bool) → fold 
 entry_fits types [] b f = (f, λ h k q. cc q)
 entry_fits types (e ∷ es) b f =
     let r = entry_fits types es (b && numbers_fit types e.0 (length e.1)) f in
-    let p = both_true b (numbers_fit types e.0 (length e.1)) r.0 in
-    (p.0, λ h k q. entry_case types e.0 (length e.1) h k (lookup (nat_eq h) (lengths es)) p.1 (r.1 h k) (nat_eq h e.0) refl q)
+    let p = both_true b (numbers_fit types e.0 (length e.1)) r.0 in (
+      p.0,
+      λ h k q. entry_case types e.0 (length e.1) h k (lookup (nat_eq h) (lengths es)) p.1 (r.1 h k) (nat_eq h e.0)
+          refl q,
+    )
 
 module _ (types : Types) (fit : types_fit types ≡ true) where
-  parts_fit : (fold (module_fits types) true types.others ≡ true) × (numbers_fit types types.home (length types.own) ≡ true)
-  parts_fit = both_true (fold (module_fits types) true types.others) (numbers_fit types types.home (length types.own)) fit
+  parts_fit : (fold (module_fits types) true types.others ≡ true)
+      × (numbers_fit types types.home (length types.own) ≡ true)
+  parts_fit = both_true (fold (module_fits types) true types.others) (numbers_fit types types.home (length types.own))
+      fit
 
   lengths_known : lengths (known_trees types) ≡ (types.home, length types.own) ∷ lengths types.others
   unfolding known_trees
   lengths_known =
-      ap (λ (n : ℕ). (types.home, n) ∷ lengths (other_trees types)) (trees_length types (other_trees types) types.home [] types.own ∙ from_none (length types.own))
+      ap (λ (n : ℕ). (types.home, n) ∷ lengths (other_trees types))
+      (trees_length types (other_trees types) types.home [] types.own ∙ from_none (length types.own))
       ∙ ap (λ (es : List (ℕ × ℕ)). (types.home, length types.own) ∷ es) (known_lengths types [] types.others)
 
-  of_length : (h k : ℕ) → option_map length (lookup (nat_eq h) (known_trees types)) ≡ Some k → numbers_fit types h k ≡ true
+  of_length : (h k : ℕ) → option_map length (lookup (nat_eq h) (known_trees types)) ≡ Some k
+      → numbers_fit types h k ≡ true
   of_length h k q =
       entry_case types types.home (length types.own) h k (lookup (nat_eq h) (lengths types.others)) parts_fit.1
       ((entry_fits types types.others true parts_fit.0).1 h k) (nat_eq h types.home) refl
-      (ap (λ (es : List (ℕ × ℕ)). lookup (nat_eq h) es) (sym lengths_known) ∙ lookup_length (nat_eq h) (known_trees types) ∙ q)
+      (ap (λ (es : List (ℕ × ℕ)). lookup (nat_eq h) es) (sym lengths_known)
+      ∙ lookup_length (nat_eq h) (known_trees types) ∙ q)
 
-  at_number : (home n : ℕ) (ts : List Ty) → lookup (nat_eq home) (known_trees types) ≡ Some ts → (x : Option Ty) → slice_get ts n ≡ x → size (in_module (lookup (nat_eq home) (known_trees types)) n) ≤ max_storage
+  at_number : (home n : ℕ) (ts : List Ty) → lookup (nat_eq home) (known_trees types) ≡ Some ts → (x : Option Ty)
+      → slice_get ts n ≡ x → size (in_module (lookup (nat_eq home) (known_trees types)) n) ≤ max_storage
   unfolding size
   at_number home n ts e None f =
-      subst (λ (o : Option (List Ty)). size (in_module o n) ≤ max_storage) (sym e) (subst (λ (x : Option Ty). size (or_nothing x) ≤ max_storage) (sym f) (lit≤ tt))
+      subst (λ (o : Option (List Ty)). size (in_module o n) ≤ max_storage) (sym e)
+      (subst (λ (x : Option Ty). size (or_nothing x) ≤ max_storage) (sym f) (lit≤ tt))
   at_number home n ts e (Some t) f =
-      small (tree types (made_type home n)) (number_fits types home (length ts) n (of_length home (length ts) (ap (λ (o : Option (List Ty)). option_map length o) e)) (slice_get_within ts n t f))
+      small (tree types (made_type home n)) (number_fits types home (length ts) n
+      (of_length home (length ts) (ap (λ (o : Option (List Ty)). option_map length o) e))
+      (slice_get_within ts n t f))
 
-  in_home : (home n : ℕ) (o : Option (List Ty)) → lookup (nat_eq home) (known_trees types) ≡ o → size (in_module (lookup (nat_eq home) (known_trees types)) n) ≤ max_storage
+  in_home : (home n : ℕ) (o : Option (List Ty)) → lookup (nat_eq home) (known_trees types) ≡ o
+      → size (in_module (lookup (nat_eq home) (known_trees types)) n) ≤ max_storage
   unfolding size
   in_home home n None e = subst (λ (o : Option (List Ty)). size (in_module o n) ≤ max_storage) (sym e) (lit≤ tt)
   in_home home n (Some ts) e = at_number home n ts e (slice_get ts n) refl
@@ -179,10 +205,12 @@ within (Cell c) k u h = cc h
 within (Hidden n) k u h = cc h
 within (Array n t) k u h =
     let e : offset t [] ≡ 0 = no_part t u in
-    subst (λ (x : ℕ). k * size t + x ≤ n * size t) (sym e) (array_within k n (size t) (in_array (nat_lt k n) k n t u refl h))
+    subst (λ (x : ℕ). k * size t + x ≤ n * size t) (sym e)
+    (array_within k n (size t) (in_array (nat_lt k n) k n t u refl h))
 within Nothing k u h = cc h
 within (Field t others) zero u h = let e : offset t [] ≡ 0 = no_part t u in omega (arith, e)
-within (Field t others) (suc k) u h = let r : offset others (k ∷ []) ≤ size others = within others k u h in omega (arith, r)
+within (Field t others) (suc k) u h = let r : offset others (k ∷ []) ≤ size others = within others k u h in
+    omega (arith, r)
 
 some_array : (n s : ℕ) → suc zero ≤ n → s ≤ n * s
 some_array n s h = omega (arith, mul-le-mul_right {m = suc zero} {n = n} s h, suc-mul zero s)
@@ -191,23 +219,27 @@ element_within : (t : Ty) (k : ℕ) (u : Ty) → component t (k ∷ []) ≡ Some
 unfolding component size
 element_within (Cell c) k u h = cc h
 element_within (Hidden n) k u h = cc h
-element_within (Array n t) k u h = let l : suc k ≤ n = in_array (nat_lt k n) k n t u refl h in some_array n (size t) (omega arith)
+element_within (Array n t) k u h = let l : suc k ≤ n = in_array (nat_lt k n) k n t u refl h in
+    some_array n (size t) (omega arith)
 element_within Nothing k u h = cc h
 element_within (Field t others) k u h = omega arith
 
 -- ---- where all types fit
 
-pub size_exact : (types : Types) (t : TypeNo) (n : ℕ) → n ≡ cap_size (size (tree types t)) → types_fit types ≡ true → n ≡ size (tree types t)
+pub size_exact : (types : Types) (t : TypeNo) (n : ℕ) → n ≡ cap_size (size (tree types t)) → types_fit types ≡ true
+    → n ≡ size (tree types t)
 size_exact types t n e f = e ∙ uncut (size (tree types t)) (all_small types f t)
 
-pub element_exact : (types : Types) (t : TypeNo) (n : ℕ) → n ≡ cap_size (size (element_tree (tree types t))) → types_fit types ≡ true
+pub element_exact : (types : Types) (t : TypeNo) (n : ℕ) → n ≡ cap_size (size (element_tree (tree types t)))
+    → types_fit types ≡ true
     → (k : ℕ) (u : Ty) → component (tree types t) (k ∷ []) ≡ Some u → n ≡ size (element_tree (tree types t))
 element_exact types t n e f k u h =
     let l : size (element_tree (tree types t)) ≤ size (tree types t) = element_within (tree types t) k u h in
     let m : size (tree types t) ≤ max_storage = all_small types f t in
     e ∙ uncut (size (element_tree (tree types t))) (omega arith)
 
-pub field_exact : (types : Types) (t : TypeNo) (k n : ℕ) → n ≡ cap_size (offset (tree types t) (k ∷ [])) → types_fit types ≡ true
+pub field_exact : (types : Types) (t : TypeNo) (k n : ℕ) → n ≡ cap_size (offset (tree types t) (k ∷ []))
+    → types_fit types ≡ true
     → (u : Ty) → component (tree types t) (k ∷ []) ≡ Some u → n ≡ offset (tree types t) (k ∷ [])
 field_exact types t k n e f u h =
     let l : offset (tree types t) (k ∷ []) ≤ size (tree types t) = within (tree types t) k u h in

@@ -42,11 +42,13 @@ start_at ts k = subst (λ (ns : List ℕ). start_in (row_of 0 ns) k ≡ cap_size
 small_enough : (n k b : ℕ) → n ≤ k → k + b ≤ max_storage → n ≤ max_storage
 small_enough n k b l h = omega (arith, l, h)
 
-pub offset_fits : (m : TypedModule) (x : Layout) → IsLayout m x → AllFits m → (k n : ℕ) → n ≡ start_in x.variables k → n ≡ offset (module_row m) (k ∷ [])
+pub offset_fits : (m : TypedModule) (x : Layout) → IsLayout m x → AllFits m → (k n : ℕ) → n ≡ start_in x.variables k
+    → n ≡ offset (module_row m) (k ∷ [])
 offset_fits m x h f k n e =
     let ts : List Ty = map (tree m.types) m.variables in
     e ∙ ap (λ (r : Row). start_in r k) h.variables ∙ start_at ts k
-    ∙ kept_whole (offset (row ts) (k ∷ [])) (small_enough (offset (row ts) (k ∷ [])) (size (row ts)) (characters (module_texts m)) (within ts k) f.bytes)
+    ∙ kept_whole (offset (row ts) (k ∷ []))
+    (small_enough (offset (row ts) (k ∷ [])) (size (row ts)) (characters (module_texts m)) (within ts k) f.bytes)
 
 -- ---- frames
 
@@ -62,18 +64,27 @@ end_at types [] n f = refl
 end_at types (r ∷ rs) zero f = ap (λ (b : ℕ). Some b) (frame_size types r ∙ kept_whole (size (frame types r)) f.0)
 end_at types (r ∷ rs) (suc n) f = end_at types rs n f.1
 
-frame_at_module : (m : TypedModule) (x : Layout) → IsLayout m x → AllFits m → (n : ℕ) → option_map end (slice_get x.procedures n) ≡ option_map (bytes m.types) (slice_get m.procedures n)
-frame_at_module m x h f n = ap (λ (rs : List Row). option_map end (slice_get rs n)) h.procedures ∙ end_at m.types m.procedures n f.procedures
+frame_at_module : (m : TypedModule) (x : Layout) → IsLayout m x → AllFits m → (n : ℕ)
+    → option_map end (slice_get x.procedures n) ≡ option_map (bytes m.types) (slice_get m.procedures n)
+frame_at_module m x h f n = ap (λ (rs : List Row). option_map end (slice_get rs n)) h.procedures
+    ∙ end_at m.types m.procedures n f.procedures
 
-frame_at_local : (m : TypedModule) (x : Layout) → IsLayout m x → AllFits m → (n : ℕ) → option_map end (slice_get x.locals n) ≡ option_map (bytes m.types) (slice_get m.locals n)
-frame_at_local m x h f n = ap (λ (rs : List Row). option_map end (slice_get rs n)) h.locals ∙ end_at m.types m.locals n f.locals
+frame_at_local : (m : TypedModule) (x : Layout) → IsLayout m x → AllFits m → (n : ℕ)
+    → option_map end (slice_get x.locals n) ≡ option_map (bytes m.types) (slice_get m.locals n)
+frame_at_local m x h f n = ap (λ (rs : List Row). option_map end (slice_get rs n)) h.locals
+    ∙ end_at m.types m.locals n f.locals
 
-pub frame_in_module : (m : TypedModule) (x : Layout) → IsLayout m x → AllFits m → (w : Which) (n : ℕ) → w ≡ which.Module n
-    → (found : Option Row) → found ≡ slice_get x.procedures n → (o : Option ℕ) → o ≡ option_map end found → o ≡ option_map (bytes m.types) (routine_of m w)
+pub frame_in_module : (m : TypedModule) (x : Layout) → IsLayout m x → AllFits m → (w : Which) (n : ℕ)
+    → w ≡ which.Module n
+    → (found : Option Row) → found ≡ slice_get x.procedures n → (o : Option ℕ) → o ≡ option_map end found
+    → o ≡ option_map (bytes m.types) (routine_of m w)
 frame_in_module m x h f w n e found is o made =
-    made ∙ ap (λ (r : Option Row). option_map end r) is ∙ frame_at_module m x h f n ∙ ap (λ (v : Which). option_map (bytes m.types) (routine_of m v)) (sym e)
+    made ∙ ap (λ (r : Option Row). option_map end r) is ∙ frame_at_module m x h f n
+    ∙ ap (λ (v : Which). option_map (bytes m.types) (routine_of m v)) (sym e)
 
 pub frame_in_local : (m : TypedModule) (x : Layout) → IsLayout m x → AllFits m → (w : Which) (n : ℕ) → w ≡ which.Local n
-    → (found : Option Row) → found ≡ slice_get x.locals n → (o : Option ℕ) → o ≡ option_map end found → o ≡ option_map (bytes m.types) (routine_of m w)
+    → (found : Option Row) → found ≡ slice_get x.locals n → (o : Option ℕ) → o ≡ option_map end found
+    → o ≡ option_map (bytes m.types) (routine_of m w)
 frame_in_local m x h f w n e found is o made =
-    made ∙ ap (λ (r : Option Row). option_map end r) is ∙ frame_at_local m x h f n ∙ ap (λ (v : Which). option_map (bytes m.types) (routine_of m v)) (sym e)
+    made ∙ ap (λ (r : Option Row). option_map end r) is ∙ frame_at_local m x h f n
+    ∙ ap (λ (v : Which). option_map (bytes m.types) (routine_of m v)) (sym e)

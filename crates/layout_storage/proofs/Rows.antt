@@ -16,12 +16,15 @@ use Rattle.layout_storage.proofs.Capping.{sum_both, product_both, from_nought}
 abbrev row_with : List ℕ → ℕ → Row
 row_with ss n = record { starts = ss; size = n }
 
-pub parts : (at : ℕ) (ss ns : List ℕ) → fold with_part (row_with ss (cap_size at)) (map cap_size ns) ≡ row_with (ss ++ starts at ns) (cap_size (at + total ns))
-parts at ss [] = ap (λ (xs : List ℕ). row_with xs (cap_size at)) (sym (append-nil ss)) ∙ ap (λ (n : ℕ). row_with (ss ++ []) (cap_size n)) (sym (add-zero at))
+pub parts : (at : ℕ) (ss ns : List ℕ) → fold with_part (row_with ss (cap_size at)) (map cap_size ns)
+    ≡ row_with (ss ++ starts at ns) (cap_size (at + total ns))
+parts at ss [] = ap (λ (xs : List ℕ). row_with xs (cap_size at)) (sym (append-nil ss))
+    ∙ ap (λ (n : ℕ). row_with (ss ++ []) (cap_size n)) (sym (add-zero at))
 parts at ss (n ∷ ns) =
     ap (λ (k : ℕ). fold with_part (row_with (ss ++ cap_size at ∷ []) k) (map cap_size ns)) (sum_both at n)
     ∙ parts (at + n) (ss ++ cap_size at ∷ []) ns
-    ∙ ap (λ (xs : List ℕ). row_with xs (cap_size (at + n + total ns))) (append_assoc ss (cap_size at ∷ []) (starts (at + n) ns))
+    ∙ ap (λ (xs : List ℕ). row_with xs (cap_size (at + n + total ns)))
+    (append_assoc ss (cap_size at ∷ []) (starts (at + n) ns))
     ∙ ap (λ (k : ℕ). row_with (ss ++ starts at (n ∷ ns)) (cap_size k)) (add_assoc at n (total ns))
 
 pub fields_row : (ts : List Ty) → fields (row ts) ≡ map size ts
@@ -50,15 +53,18 @@ offset_nil (Array n t) = refl
 offset_nil Nothing = refl
 offset_nil (Field t others) = refl
 
-pub start_is : (at : ℕ) (t : Ty) (k : ℕ) → IsRecord t → start_in (row_of at (fields t)) k ≡ cap_size (at + offset t (k ∷ []))
+pub start_is : (at : ℕ) (t : Ty) (k : ℕ) → IsRecord t
+    → start_in (row_of at (fields t)) k ≡ cap_size (at + offset t (k ∷ []))
 unfolding offset
 start_is at (Cell c) k h = absurd h
 start_is at (Hidden n) k h = absurd h
 start_is at (Array n t) k h = absurd h
 start_is at Nothing k h = refl
-start_is at (Field t others) zero h = ap (λ (n : ℕ). cap_size n) (sym (add-zero at)) ∙ ap (λ (n : ℕ). cap_size (at + n)) (sym (offset_nil t))
+start_is at (Field t others) zero h = ap (λ (n : ℕ). cap_size n) (sym (add-zero at))
+    ∙ ap (λ (n : ℕ). cap_size (at + n)) (sym (offset_nil t))
 start_is at (Field t others) (suc k) h =
-    ap (λ (n : ℕ). or_end (cap_size n) (slice_get (starts (at + size t) (fields others)) k)) (sym (add_assoc at (size t) (total (fields others))))
+    ap (λ (n : ℕ). or_end (cap_size n) (slice_get (starts (at + size t) (fields others)) k))
+    (sym (add_assoc at (size t) (total (fields others))))
     ∙ start_is (at + size t) others k h ∙ ap (λ (n : ℕ). cap_size n) (add_assoc at (size t) (offset others (k ∷ [])))
 
 -- ---- what is kept of a type
@@ -101,6 +107,7 @@ pub field_is : (t : Ty) (k : ℕ) → IsMade t → field_in (extent_of t) k ≡ 
 unfolding offset
 field_is (Cell c) k h = refl
 field_is (Hidden n) k h = omega arith
-field_is (Array n t) k h = product_both k (size t) ∙ ap (λ (m : ℕ). cap_size m) (sym (add-zero (k * size t)) ∙ ap (λ (m : ℕ). k * size t + m) (sym (offset_nil t)))
+field_is (Array n t) k h = product_both k (size t)
+    ∙ ap (λ (m : ℕ). cap_size m) (sym (add-zero (k * size t)) ∙ ap (λ (m : ℕ). k * size t + m) (sym (offset_nil t)))
 field_is Nothing k h = start_is 0 Nothing k tt ∙ from_nought (offset Nothing (k ∷ []))
 field_is (Field t others) k h = start_is 0 (Field t others) k h ∙ from_nought (offset (Field t others) (k ∷ []))

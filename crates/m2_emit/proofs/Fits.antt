@@ -32,7 +32,8 @@ whole_behind n k h = omega arith
 
 pub variables_are : (m : TypedModule) (x : Layout) → IsLayout m x → AllFits m → x.variables.size ≡ size (module_row m)
 variables_are m x h f =
-    ap (λ (r : Row). r.size) h.variables ∙ ap (λ (n : ℕ). cap_size (0 + n)) (row_size (map (tree m.types) m.variables)) ∙ whole (size (module_row m)) (characters (module_texts m)) f.bytes
+    ap (λ (r : Row). r.size) h.variables ∙ ap (λ (n : ℕ). cap_size (0 + n)) (row_size (map (tree m.types) m.variables))
+    ∙ whole (size (module_row m)) (characters (module_texts m)) f.bytes
 
 pub texts_are : (m : TypedModule) (x : Layout) → IsLayout m x → AllFits m → x.texts ≡ characters (module_texts m)
 texts_are m x h f = h.texts ∙ whole_behind (size (module_row m)) (characters (module_texts m)) f.bytes
@@ -40,11 +41,13 @@ texts_are m x h f = h.texts ∙ whole_behind (size (module_row m)) (characters (
 abbrev made : List ℕ → List ℕ → (variables texts slots : ℕ) → ModuleBytes
 made name bytes v t s = record { name = name; bytes = bytes; variables = v; texts = t; slots = s }
 
-pub emitted_is : (m : TypedModule) (x : Layout) (name bytes : List ℕ) (n : ℕ) → IsLayout m x → AllFits m → name ≡ m.name → bytes ≡ body_bytes m → n ≡ cut (slots m)
+pub emitted_is : (m : TypedModule) (x : Layout) (name bytes : List ℕ) (n : ℕ) → IsLayout m x → AllFits m → name ≡ m.name
+    → bytes ≡ body_bytes m → n ≡ cut (slots m)
     → made name bytes x.variables.size x.texts n ≡ emitted m
 unfolding emitted
 emitted_is m x name bytes n h f e b s =
-    ap (λ (k : List ℕ). made k bytes x.variables.size x.texts n) e ∙ ap (λ (k : List ℕ). made m.name k x.variables.size x.texts n) b
+    ap (λ (k : List ℕ). made k bytes x.variables.size x.texts n) e
+    ∙ ap (λ (k : List ℕ). made m.name k x.variables.size x.texts n) b
     ∙ ap (λ (k : ℕ). made m.name (body_bytes m) k x.texts n) (variables_are m x h f)
     ∙ ap (λ (k : ℕ). made m.name (body_bytes m) (size (module_row m)) k n) (texts_are m x h f)
     ∙ ap (λ (k : ℕ). made m.name (body_bytes m) (size (module_row m)) (characters (module_texts m)) k) s
@@ -59,9 +62,11 @@ pub none_if : (w : WModule) → module_fits w ≡ false → [] ≡ code_bytes w
 unfolding code_bytes
 none_if w h = sym (ap (λ (b : Bool). if b then module_encoding w else []) h)
 
-pub body_same : (m : TypedModule) (w : WModule) → sizes_fit m.types ≡ true → w ≡ cut_module (typed_module m) → code_bytes w ≡ body_bytes m
+pub body_same : (m : TypedModule) (w : WModule) → sizes_fit m.types ≡ true → w ≡ cut_module (typed_module m)
+    → code_bytes w ≡ body_bytes m
 unfolding body_bytes
-body_same m w h e = ap code_bytes e ∙ sym (ap (λ (b : Bool). if b then code_bytes (cut_module (typed_module m)) else []) h)
+body_same m w h e = ap code_bytes e ∙ sym
+    (ap (λ (b : Bool). if b then code_bytes (cut_module (typed_module m)) else []) h)
 
 pub none_of_body : (m : TypedModule) → sizes_fit m.types ≡ false → [] ≡ body_bytes m
 unfolding body_bytes

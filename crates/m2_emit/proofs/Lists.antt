@@ -27,17 +27,24 @@ one_global x = alone (op.GlobalGet x) (instr.GlobalGet x) (tree_front (op.Global
 -- the operations that call bodies
 abbrev pub call_ops : (stack global : ℕ) → List Part → List Op
 call_ops stack global [] = []
-call_ops stack global (m ∷ ms) = op.I32Const stack ∷ op.GlobalGet global ∷ op.CallIndirect 1 ∷ call_ops stack (global + 3) ms
+call_ops stack global (m ∷ ms) = op.I32Const stack ∷ op.GlobalGet global ∷ op.CallIndirect 1
+    ∷ call_ops stack (global + 3) ms
 
 calls_flat : (stack global : ℕ) (ms : List Part) → flat (calls_from stack global ms) ≡ call_ops stack global ms
 calls_flat stack global [] = refl
 calls_flat stack global (m ∷ ms) =
-    ap (λ (ops : List Op). ops ++ flat (instr.GlobalGet global ∷ instr.CallIndirect 1 ∷ calls_from stack (global + 3) ms)) (single_flat (op.I32Const stack) refl)
-    ∙ ap (λ (ops : List Op). op.I32Const stack ∷ (ops ++ flat (instr.CallIndirect 1 ∷ calls_from stack (global + 3) ms))) (single_flat (op.GlobalGet global) refl)
-    ∙ ap (λ (ops : List Op). op.I32Const stack ∷ op.GlobalGet global ∷ (ops ++ flat (calls_from stack (global + 3) ms))) (single_flat (op.CallIndirect 1) refl)
-    ∙ ap (λ (ops : List Op). op.I32Const stack ∷ op.GlobalGet global ∷ op.CallIndirect 1 ∷ ops) (calls_flat stack (global + 3) ms)
+    ap (λ (ops : List Op). ops ++ flat (instr.GlobalGet global ∷ instr.CallIndirect 1
+    ∷ calls_from stack (global + 3) ms)) (single_flat (op.I32Const stack) refl)
+    ∙ ap (λ (ops : List Op). op.I32Const stack
+    ∷ (ops ++ flat (instr.CallIndirect 1 ∷ calls_from stack (global + 3) ms)))
+    (single_flat (op.GlobalGet global) refl)
+    ∙ ap (λ (ops : List Op). op.I32Const stack ∷ op.GlobalGet global ∷ (ops ++ flat (calls_from stack (global + 3) ms)))
+    (single_flat (op.CallIndirect 1) refl)
+    ∙ ap (λ (ops : List Op). op.I32Const stack ∷ op.GlobalGet global ∷ op.CallIndirect 1 ∷ ops)
+    (calls_flat stack (global + 3) ms)
 
-pub calls : (stack global : ℕ) (ms : List Part) → tree (map cut_op (call_ops stack global ms)) ≡ cut_code (calls_from stack global ms)
+pub calls : (stack global : ℕ) (ms : List Part)
+    → tree (map cut_op (call_ops stack global ms)) ≡ cut_code (calls_from stack global ms)
 calls stack global ms = ap (λ (ops : List Op). tree (map cut_op ops)) (sym (calls_flat stack global ms))
 
 -- one more number of 64 bits
@@ -60,6 +67,7 @@ range_more a n =
     sym (map-append cut (range_with_len a n) ((a + n) ∷ []))
     ∙ ap (map cut) (bare a n ∙ ap (λ (k : ℕ). range_with_len a k) (sym (add-one n)))
 
-pub some_data : (bytes : List ℕ) → (bytes ≡ [] → ⊥) → data_of bytes ≡ record { memory = 0; offset = instr.GlobalGet 2 ∷ []; bytes = bytes } ∷ []
+pub some_data : (bytes : List ℕ) → (bytes ≡ [] → ⊥)
+    → data_of bytes ≡ record { memory = 0; offset = instr.GlobalGet 2 ∷ []; bytes = bytes } ∷ []
 some_data [] h = absurd (h refl)
 some_data (b ∷ bs) h = refl

@@ -26,10 +26,12 @@ use Rattle.emit_buffer.proofs.Closed.{block_flat, loop_flat}
 use Rattle.m2_emit.proofs.Lists.{one_number}
 
 -- a constant
-pub constant_is : (n : ℕ) → record { value_type = I32; value = instr.I32Const (cut n) ∷ [] } ≡ cut_global (constant_global n)
+pub constant_is : (n : ℕ) → record { value_type = I32; value = instr.I32Const (cut n) ∷ [] }
+    ≡ cut_global (constant_global n)
 constant_is n =
     ap (λ (is : List Instr). record { value_type = I32; value = is })
-    (sym (one_number (cut n)) ∙ ap (λ (ops : List Op). tree (map cut_op (ops ++ []))) (sym (single_flat (op.I32Const n) refl)))
+    (sym (one_number (cut n)) ∙ ap (λ (ops : List Op). tree (map cut_op (ops ++ [])))
+    (sym (single_flat (op.I32Const n) refl)))
 
 -- ---- the helpers
 
@@ -46,19 +48,23 @@ unfolding all_single
 singles [] h = refl
 singles (o ∷ os) h =
     let p = both (single o) (all_single os) h in
-    ap (λ (ops : List Op). ops ++ flat (map instr_of os)) (single_flat o p.0) ∙ ap (λ (ops : List Op). o ∷ ops) (singles os p.1)
+    ap (λ (ops : List Op). ops ++ flat (map instr_of os)) (single_flat o p.0)
+    ∙ ap (λ (ops : List Op). o ∷ ops) (singles os p.1)
 
-block_then : (t : Option ValueType) (is rest : List Instr) (a b : List Op) → flat is ≡ a → flat rest ≡ b → flat (instr.Block t is ∷ rest) ≡ op.Block t (length a) ∷ (a ++ b)
+block_then : (t : Option ValueType) (is rest : List Instr) (a b : List Op) → flat is ≡ a → flat rest ≡ b
+    → flat (instr.Block t is ∷ rest) ≡ op.Block t (length a) ∷ (a ++ b)
 block_then t is rest a b e f =
     ap (λ (ops : List Op). ops ++ flat rest) (block_flat t is ∙ ap (λ (ops : List Op). op.Block t (length ops) ∷ ops) e)
     ∙ ap (λ (ops : List Op). op.Block t (length a) ∷ (a ++ ops)) f
 
-loop_then : (t : Option ValueType) (is rest : List Instr) (a b : List Op) → flat is ≡ a → flat rest ≡ b → flat (instr.Loop t is ∷ rest) ≡ op.Loop t (length a) ∷ (a ++ b)
+loop_then : (t : Option ValueType) (is rest : List Instr) (a b : List Op) → flat is ≡ a → flat rest ≡ b
+    → flat (instr.Loop t is ∷ rest) ≡ op.Loop t (length a) ∷ (a ++ b)
 loop_then t is rest a b e f =
     ap (λ (ops : List Op). ops ++ flat rest) (loop_flat t is ∙ ap (λ (ops : List Op). op.Loop t (length ops) ∷ ops) e)
     ∙ ap (λ (ops : List Op). op.Loop t (length a) ∷ (a ++ ops)) f
 
-own_cut : (code : List Instr) (ops : List Op) → flat code ≡ ops → map cut_op ops ≡ ops → tree ops ≡ code → cut_code code ≡ code
+own_cut : (code : List Instr) (ops : List Op) → flat code ≡ ops → map cut_op ops ≡ ops → tree ops ≡ code
+    → cut_code code ≡ code
 own_cut code ops e h t = ap (λ (os : List Op). tree (map cut_op os)) e ∙ ap tree h ∙ t
 
 copy_ends : List Op
@@ -86,8 +92,10 @@ check_flat : flat check_code ≡ check_ops
 unfolding test_ops all_single
 check_flat =
     let stops : List Op = op.LocalGet 3 ∷ op.Call 1 ∷ op.Unreachable ∷ [] in
-    block_then None (instr.Block None check_tests ∷ instr.LocalGet 3 ∷ instr.Call 1 ∷ instr.Unreachable ∷ []) (instr.LocalGet 0 ∷ []) (op.Block None (length test_ops) ∷ (test_ops ++ stops)) (op.LocalGet 0 ∷ [])
-    (block_then None check_tests (instr.LocalGet 3 ∷ instr.Call 1 ∷ instr.Unreachable ∷ []) test_ops stops (singles test_ops refl) (singles stops refl))
+    block_then None (instr.Block None check_tests ∷ instr.LocalGet 3 ∷ instr.Call 1 ∷ instr.Unreachable ∷ [])
+    (instr.LocalGet 0 ∷ []) (op.Block None (length test_ops) ∷ (test_ops ++ stops)) (op.LocalGet 0 ∷ [])
+    (block_then None check_tests (instr.LocalGet 3 ∷ instr.Call 1 ∷ instr.Unreachable ∷ []) test_ops stops
+    (singles test_ops refl) (singles stops refl))
     (singles (op.LocalGet 0 ∷ []) refl)
 
 div_flat : flat div_code ≡ div_ops
@@ -114,26 +122,36 @@ mod_cut : cut_code mod_code ≡ mod_code
 mod_cut = own_cut mod_code mod_ops mod_flat refl mod_is
 
 abbrev five : (a b c d e : List Instr) → List Function
-five a b c d e = helper 1 a ∷ helper 2 b ∷ helper 3 c ∷ helper 4 d ∷ record { type_index = 4; body = record { locals = record { count = 1; value_type = I64 } ∷ []; code = e } } ∷ []
+five a b c d e = helper 1 a ∷ helper 2 b ∷ helper 3 c ∷ helper 4 d
+    ∷ record { type_index = 4; body = record { locals = record { count = 1; value_type = I64 } ∷ []; code = e } } ∷ []
 
 helpers_are : helpers ≡ map cut_function helpers
 helpers_are =
     sym (ap (λ (c : List Instr). five c fill_code check_code div_code mod_code) copy_cut)
     ∙ sym (ap (λ (c : List Instr). five (cut_code copy_code) c check_code div_code mod_code) fill_cut)
     ∙ sym (ap (λ (c : List Instr). five (cut_code copy_code) (cut_code fill_code) c div_code mod_code) check_cut)
-    ∙ sym (ap (λ (c : List Instr). five (cut_code copy_code) (cut_code fill_code) (cut_code check_code) c mod_code) div_cut)
-    ∙ sym (ap (λ (c : List Instr). five (cut_code copy_code) (cut_code fill_code) (cut_code check_code) (cut_code div_code) c) mod_cut)
+    ∙ sym (ap (λ (c : List Instr). five (cut_code copy_code) (cut_code fill_code) (cut_code check_code) c mod_code)
+    div_cut)
+    ∙ sym (ap (λ (c : List Instr). five (cut_code copy_code) (cut_code fill_code) (cut_code check_code)
+    (cut_code div_code) c) mod_cut)
 
 -- all functions of a module, made one behind the other
-pub functions_are : (m : TypedModule) (a b c d : List Function) → a ≡ helpers → b ≡ a ++ cut_function (module_function (numbering_of m) m) ∷ []
+pub functions_are : (m : TypedModule) (a b c d : List Function) → a ≡ helpers
+    → b ≡ a ++ cut_function (module_function (numbering_of m) m) ∷ []
     → c ≡ b ++ map cut_function (functions_from (numbering_of m) m which.Module 0 m.procedures)
-    → d ≡ c ++ map cut_function (functions_from (numbering_of m) m which.Local 0 m.locals) → d ≡ map cut_function (functions m)
+    → d ≡ c ++ map cut_function (functions_from (numbering_of m) m which.Local 0 m.locals)
+    → d ≡ map cut_function (functions m)
 functions_are m a b c d e f g h =
     let body : Function = module_function (numbering_of m) m in
     let procedures : List Function = functions_from (numbering_of m) m which.Module 0 m.procedures in
     let locals : List Function = functions_from (numbering_of m) m which.Local 0 m.locals in
-    h ∙ ap (λ (fs : List Function). fs ++ map cut_function locals) (g ∙ ap (λ (fs : List Function). fs ++ map cut_function procedures) (f ∙ ap (λ (fs : List Function). fs ++ cut_function body ∷ []) (e ∙ helpers_are)))
-    ∙ append_assoc (map cut_function helpers ++ cut_function body ∷ []) (map cut_function procedures) (map cut_function locals)
-    ∙ append_assoc (map cut_function helpers) (cut_function body ∷ []) (map cut_function procedures ++ map cut_function locals)
-    ∙ ap (λ (fs : List Function). map cut_function helpers ++ cut_function body ∷ fs) (sym (map-append cut_function procedures locals))
+    h ∙ ap (λ (fs : List Function). fs ++ map cut_function locals)
+    (g ∙ ap (λ (fs : List Function). fs ++ map cut_function procedures)
+    (f ∙ ap (λ (fs : List Function). fs ++ cut_function body ∷ []) (e ∙ helpers_are)))
+    ∙ append_assoc (map cut_function helpers ++ cut_function body ∷ []) (map cut_function procedures)
+    (map cut_function locals)
+    ∙ append_assoc (map cut_function helpers) (cut_function body ∷ [])
+    (map cut_function procedures ++ map cut_function locals)
+    ∙ ap (λ (fs : List Function). map cut_function helpers ++ cut_function body ∷ fs)
+    (sym (map-append cut_function procedures locals))
     ∙ sym (map-append cut_function helpers (body ∷ (procedures ++ locals)))

@@ -22,7 +22,8 @@ use Rattle.def_grammar.proofs.Rules.{expr_is, factor_is, selectors_is, sum_is, t
 use Rattle.parse_expr.specs.Lone.{going_on, is_lone, lone_kinds, value_of}
 
 -- what is in none of two lists together is in neither
-neither : (k : Kind) (js ks : List Kind) → is_among k (js ++ ks) ≡ false → (is_among k js ≡ false) × (is_among k ks ≡ false)
+neither : (k : Kind) (js ks : List Kind) → is_among k (js ++ ks) ≡ false → (is_among k js ≡ false)
+    × (is_among k ks ≡ false)
 neither k [] ks e = (refl, e)
 neither k (j ∷ js) ks e =
     let p = or_neither (same_kind k j) (is_among k (js ++ ks)) e in
@@ -55,9 +56,11 @@ module _ (n : ℕ) (ts : List Token) (e : Ends ts) where
   selectors_none = rw (selectors_is n ts, many-is selector n more_selectors ts, e.no_selector) refl
 
   factor_said : (l : Lexeme) (p : Pos) → is_among (kind_said l) lone_kinds ≡ true
-      → read_rule n factor_rule (record { lexeme = l; pos = p } ∷ ts) ≡ Ok (value_of (record { lexeme = l; pos = p }), ts)
+      → read_rule n factor_rule (record { lexeme = l; pos = p } ∷ ts)
+      ≡ Ok (value_of (record { lexeme = l; pos = p }), ts)
   unfolding same_kind
-  factor_said (lexeme.Name name) p k = rw (factor_is n (record { lexeme = lexeme.Name name; pos = p } ∷ ts), e.no_set, selectors_none, e.no_arguments) refl
+  factor_said (lexeme.Name name) p k = rw
+      (factor_is n (record { lexeme = lexeme.Name name; pos = p } ∷ ts), e.no_set, selectors_none, e.no_arguments) refl
   factor_said (lexeme.Number number) p k = factor_is n (record { lexeme = lexeme.Number number; pos = p } ∷ ts)
   factor_said (lexeme.Char code) p k = factor_is n (record { lexeme = lexeme.Char code; pos = p } ∷ ts)
   factor_said (lexeme.Text text) p k = factor_is n (record { lexeme = lexeme.Text text; pos = p } ∷ ts)
@@ -73,20 +76,28 @@ module _ (n : ℕ) (ts : List Token) (e : Ends ts) where
   no_sign (lexeme.Symbol symbol) k = absurd cc
   no_sign lexeme.End k = absurd cc
 
-  taken : (t : Token) → is_among (kind_of t) lone_kinds ≡ true → map_outcome value_of (one_token lone_kinds (t ∷ ts)) ≡ Ok (value_of t, ts)
+  taken : (t : Token) → is_among (kind_of t) lone_kinds ≡ true
+      → map_outcome value_of (one_token lone_kinds (t ∷ ts)) ≡ Ok (value_of t, ts)
   taken t k = rw k refl
 
   module _ (t : Token) (k : is_among (kind_of t) lone_kinds ≡ true) where
     term_read : read_rule n term_rule (t ∷ ts) ≡ Ok (value_of t, ts)
-    term_read = rw (term_is n (t ∷ ts), factor_said t.lexeme t.pos k, many-is (mul_op · factor) n more_factors ts, e.no_factor) refl
+    term_read = rw (
+      term_is n (t ∷ ts),
+      factor_said t.lexeme t.pos k,
+      many-is (mul_op · factor) n more_factors ts,
+      e.no_factor,
+    ) refl
 
     sum_read : read_rule n sum_rule (t ∷ ts) ≡ Ok (value_of t, ts)
-    sum_read = rw (sum_is n (t ∷ ts), no_sign t.lexeme k, term_read, many-is (add_op · term) n more_terms ts, e.no_term) refl
+    sum_read = rw (sum_is n (t ∷ ts), no_sign t.lexeme k, term_read, many-is (add_op · term) n more_terms ts, e.no_term)
+        refl
 
     expr_read : read_rule n expr_rule (t ∷ ts) ≡ Ok (value_of t, ts)
     expr_read = rw (expr_is n (t ∷ ts), sum_read, e.no_relation) refl
 
-pub lone_is : (n : ℕ) (ts : List Token) → is_lone ts ≡ true → read_rule n expr_rule ts ≡ map_outcome value_of (one_token lone_kinds ts)
+pub lone_is : (n : ℕ) (ts : List Token) → is_lone ts ≡ true
+    → read_rule n expr_rule ts ≡ map_outcome value_of (one_token lone_kinds ts)
 lone_is n [] h = absurd cc
 lone_is n (t ∷ []) h = absurd cc
 lone_is n (t ∷ u ∷ ts) h =

@@ -16,14 +16,22 @@ not_marked marks job p below is = let low : job < job = rw is at (below p) in om
 pub none_marked : (marks : List (Option ℕ)) (job : ℕ) → AreBelow marks job → AreMarked marks job []
 none_marked marks job below p = ((λ is. absurd (not_marked marks job p below is)), λ l. absurd (omega arith))
 
-pub marked_more : (marks : List (Option ℕ)) (job : ℕ) (list : List ℕ) (i : ℕ) → i < length list → get_or list i 0 < length marks → AreMarked marks job (take i list)
+pub marked_more : (marks : List (Option ℕ)) (job : ℕ) (list : List ℕ) (i : ℕ) → i < length list
+    → get_or list i 0 < length marks → AreMarked marks job (take i list)
     → AreMarked (set marks (get_or list i 0) (Some job)) job (take (i + 1) list)
 marked_more marks job list i l room marked p = let q : ℕ = get_or list i 0 in ⊎_elim
-    (λ (t : (q ≡ p) × (bit (eqb q p) ≡ 1)). let on : bit (eqb q p) ≡ 1 = t.1 in
-    ((λ _. omega (arith, more_times list i p l)), (λ _. subst (λ (k : ℕ). get_or (set marks q (Some job)) k None ≡ Some job) t.0 (get_or-set_same marks q (Some job) None room))))
+    (λ (t : (q ≡ p) × (bit (eqb q p) ≡ 1)). let on : bit (eqb q p) ≡ 1 = t.1 in (
+      (λ _. omega (arith, more_times list i p l)),
+      (λ _. subst (λ (k : ℕ). get_or (set marks q (Some job)) k None ≡ Some job) t.0
+          (get_or-set_same marks q (Some job) None room)),
+    ))
     (λ (t : (q ≢ p) × (bit (eqb q p) ≡ 0)). let off : bit (eqb q p) ≡ 0 = t.1 in
-    let same : get_or (set marks q (Some job)) p None ≡ get_or marks p None = get_or-set_other marks q p (Some job) None (λ e. t.0 (sym e)) in
-    ((λ is. let some_time : 0 < times p (take i list) = (marked p).0 (sym same ∙ is) in omega (arith, more_times list i p l)), (λ s. same ∙ (marked p).1 (omega (arith, more_times list i p l)))))
+    let same : get_or (set marks q (Some job)) p None ≡ get_or marks p None =
+    get_or-set_other marks q p (Some job) None (λ e. t.0 (sym e)) in (
+      (λ is. let some_time : 0 < times p (take i list) = (marked p).0 (sym same ∙ is) in
+          omega (arith, more_times list i p l)),
+      (λ s. same ∙ (marked p).1 (omega (arith, more_times list i p l))),
+    ))
     (one_if q p)
 
 some_more : (o : Option ℕ) (job : ℕ) → IfSome o (λ m. m < job) → IfSome o (λ m. m < suc job)
@@ -33,9 +41,12 @@ some_more (Some m) job low = omega arith
 pub below_more : (marks : List (Option ℕ)) (job : ℕ) → AreBelow marks job → AreBelow marks (suc job)
 below_more marks job below p = some_more (get_or marks p None) job (below p)
 
-pub below_set : (marks : List (Option ℕ)) (job q : ℕ) → q < length marks → AreBelow marks (suc job) → AreBelow (set marks q (Some job)) (suc job)
+pub below_set : (marks : List (Option ℕ)) (job q : ℕ) → q < length marks → AreBelow marks (suc job)
+    → AreBelow (set marks q (Some job)) (suc job)
 below_set marks job q room below p = ⊎_elim
     (λ (t : (q ≡ p) × (bit (eqb q p) ≡ 1)). let low : job < suc job = omega arith in
-    subst (λ (k : ℕ). IfSome (get_or (set marks q (Some job)) k None) (λ m. m < suc job)) t.0 (rw (get_or-set_same marks q (Some job) None room) low))
-    (λ (t : (q ≢ p) × (bit (eqb q p) ≡ 0)). rw (get_or-set_other marks q p (Some job) None (λ e. t.0 (sym e))) (below p))
+    subst (λ (k : ℕ). IfSome (get_or (set marks q (Some job)) k None) (λ m. m < suc job)) t.0
+    (rw (get_or-set_same marks q (Some job) None room) low))
+    (λ (t : (q ≢ p) × (bit (eqb q p) ≡ 0)). rw (get_or-set_other marks q p (Some job) None (λ e. t.0 (sym e)))
+    (below p))
     (one_if q p)

@@ -28,7 +28,8 @@ longest_once w r v t h k e =
     same_cut w v r t e (omega arith)
 
 pub member_some : (w more : Text) (m : Option Lexeme) → IsMember (w, m) → w ++ more ≡ [] → ⊥
-member_some w more m h e = let a = means w m h in let f : (a.0 ∷ a.1) ++ more ≡ [] = ap (λ w. w ++ more) (sym a.2) ∙ e in cc
+member_some w more m h e = let a = means w m h in
+    let f : (a.0 ∷ a.1) ++ more ≡ [] = ap (λ w. w ++ more) (sym a.2) ∙ e in cc
 
 -- No member stands at the front.
 abbrev pub IsStuck : Text → Type 0
@@ -41,7 +42,8 @@ pair : (w v : Text) (m n : Option Lexeme) → w ≡ v → m ≡ n → (let p : M
 pair w v m n e f = cc
 
 -- Two divisions that go on as far as they can are one.
-pub stuck_once : (text : Text) (ms ns : List Member) (rest other : Text) → IsStuck rest → IsStuck other → Divides text ms rest → Divides text ns other → (ms ≡ ns) × (rest ≡ other)
+pub stuck_once : (text : Text) (ms ns : List Member) (rest other : Text) → IsStuck rest → IsStuck other
+    → Divides text ms rest → Divides text ns other → (ms ≡ ns) × (rest ≡ other)
 stuck_once text [] [] rest other s t h k = (refl, sym h ∙ k)
 stuck_once text [] (n ∷ ns) rest other s t h k = absurd (s n.0 k.0 n.1 (sym h ∙ k.1) k.2 k.3)
 stuck_once text (m ∷ ms) [] rest other s t h k = absurd (t m.0 h.0 m.1 (sym k ∙ h.1) h.2 h.3)
@@ -58,7 +60,8 @@ divides_once text ms ns h k = (stuck_once text ms ns [] [] end_stuck end_stuck h
 
 -- ---- one member more
 
-pub divides_push : (text : Text) (ms : List Member) (rest w more : Text) (m : Option Lexeme) → Divides text ms rest → rest ≡ w ++ more → IsLongest w more → IsMember (w, m) → Divides text (ms ++ (w, m) ∷ []) more
+pub divides_push : (text : Text) (ms : List Member) (rest w more : Text) (m : Option Lexeme) → Divides text ms rest
+    → rest ≡ w ++ more → IsLongest w more → IsMember (w, m) → Divides text (ms ++ (w, m) ∷ []) more
 divides_push text [] rest w more m h e l k = (more, h ∙ e, l, k, refl)
 divides_push text (n ∷ ms) rest w more m h e l k = (h.0, h.1, h.2, h.3, divides_push h.0 ms rest w more m h.4 e l k)
 
@@ -66,15 +69,21 @@ pub bytes_push : (ms : List Member) (m : Member) → bytes_of (ms ++ m ∷ []) �
 bytes_push [] m = append-nil m.0
 bytes_push (n ∷ ms) m = ap (λ t. n.0 ++ t) (bytes_push ms m) ∙ sym (append_assoc n.0 (bytes_of ms) m.0)
 
-pub tokens_push : (front : Text) (ms : List Member) (m : Member) → tokens_behind front (ms ++ m ∷ []) ≡ tokens_behind front ms ++ tokens_at (place (front ++ bytes_of ms)) m.1
-tokens_push front [] m = append-nil (tokens_at (place front) m.1) ∙ ap (λ t. tokens_at (place t) m.1) (sym (append-nil front))
+pub tokens_push : (front : Text) (ms : List Member) (m : Member)
+    → tokens_behind front (ms ++ m ∷ []) ≡ tokens_behind front ms ++ tokens_at (place (front ++ bytes_of ms)) m.1
+tokens_push front [] m = append-nil (tokens_at (place front) m.1)
+    ∙ ap (λ t. tokens_at (place t) m.1) (sym (append-nil front))
 tokens_push front (n ∷ ms) m =
-    ap (λ ts. tokens_at (place front) n.1 ++ ts) (tokens_push (front ++ n.0) ms m ∙ ap (λ t. tokens_behind (front ++ n.0) ms ++ tokens_at (place t) m.1) (append_assoc front n.0 (bytes_of ms)))
-    ∙ sym (append_assoc (tokens_at (place front) n.1) (tokens_behind (front ++ n.0) ms) (tokens_at (place (front ++ (n.0 ++ bytes_of ms))) m.1))
+    ap (λ ts. tokens_at (place front) n.1 ++ ts)
+    (tokens_push (front ++ n.0) ms m ∙ ap (λ t. tokens_behind (front ++ n.0) ms ++ tokens_at (place t) m.1)
+    (append_assoc front n.0 (bytes_of ms)))
+    ∙ sym (append_assoc (tokens_at (place front) n.1) (tokens_behind (front ++ n.0) ms)
+    (tokens_at (place (front ++ (n.0 ++ bytes_of ms))) m.1))
 
 pub divides_whole : (text : Text) (ms : List Member) (rest : Text) → Divides text ms rest → text ≡ bytes_of ms ++ rest
 divides_whole text [] rest h = h
-divides_whole text (m ∷ ms) rest h = h.1 ∙ ap (λ t. m.0 ++ t) (divides_whole h.0 ms rest h.4) ∙ sym (append_assoc m.0 (bytes_of ms) rest)
+divides_whole text (m ∷ ms) rest h = h.1 ∙ ap (λ t. m.0 ++ t) (divides_whole h.0 ms rest h.4)
+    ∙ sym (append_assoc m.0 (bytes_of ms) rest)
 
 -- ---- refusals
 
@@ -87,11 +96,14 @@ opening_says w None e (inr c) =
     let two = closed_two c.0 c.1 in
     omega (arith, ap length e, ap length c.2, ap length two.3)
 opening_says w (Some t) e h =
-    let k : Some t ≡ option_map lexeme.Symbol (sign_of w) = means_at Other 40 (42 ∷ []) w [] (Some t) (sym e ∙ sym (append-nil w)) class_open h in
-    let none : Some t ≡ None = k ∙ ap (λ w. option_map lexeme.Symbol (sign_of w)) e ∙ ap (option_map lexeme.Symbol) no_sign_opens in
+    let k : Some t ≡ option_map lexeme.Symbol (sign_of w) =
+    means_at Other 40 (42 ∷ []) w [] (Some t) (sym e ∙ sym (append-nil w)) class_open h in
+    let none : Some t ≡ None = k ∙ ap (λ w. option_map lexeme.Symbol (sign_of w)) e
+    ∙ ap (option_map lexeme.Symbol) no_sign_opens in
     cc
 
-pub large_stuck : (v : Text) (form other : Numeral) (n l : ℕ) → IsRun Digit v → Writes v form n → Writes v other l → limit form ≤ n → l < limit other → ⊥
+pub large_stuck : (v : Text) (form other : Numeral) (n l : ℕ) → IsRun Digit v → Writes v form n → Writes v other l
+    → limit form ≤ n → l < limit other → ⊥
 large_stuck [] form other n l r h k much few = r
 large_stuck (b ∷ v) form other n l r h k much few =
     let last = last_of b v in
@@ -102,7 +114,8 @@ run_some : (k : Class) (w more : Text) → IsRun k w → w ++ more ≡ [] → �
 run_some k [] more r e = r
 run_some k (b ∷ w) more r e = cc
 
-stray_stuck : (b : ℕ) (more w m : Text) (t : Option Lexeme) → b ∷ more ≡ w ++ m → ((v : Text) → IsForm (b ∷ v) → ⊥) → IsForm w → ⊥
+stray_stuck : (b : ℕ) (more w m : Text) (t : Option Lexeme) → b ∷ more ≡ w ++ m → ((v : Text) → IsForm (b ∷ v) → ⊥)
+    → IsForm w → ⊥
 stray_stuck b more w m t e none f =
     let s = sorted w f in
     let same : b ≡ s.0 = same_head (e ∙ ap (λ w. w ++ m) s.2) in
@@ -110,7 +123,8 @@ stray_stuck b more w m t e none f =
     let P : Text → Type 0 = IsForm in
     none s.1 (subst P whole f)
 
-in_string_stuck : (q b : ℕ) (inside more w after i : Text) → list_all (is_inside q) inside ≡ true → is_inside q b ≡ true → is_printable b ≡ false → q ∷ inside ++ b ∷ more ≡ w ++ after
+in_string_stuck : (q b : ℕ) (inside more w after i : Text) → list_all (is_inside q) inside ≡ true → is_inside q b ≡ true
+    → is_printable b ≡ false → q ∷ inside ++ b ∷ more ≡ w ++ after
     → IsQuoted w i → list_all is_printable i ≡ true → ⊥
 in_string_stuck q b inside more w after i all here fails e k printable =
     let whole : q ∷ inside ++ b ∷ more ≡ (k.0 ∷ i ++ k.0 ∷ []) ++ after = e ∙ ap (λ w. w ++ after) k.3 in
@@ -121,14 +135,16 @@ in_string_stuck q b inside more w after i all here fails e k printable =
     let length_is : length w ≡ length i + 2 = omega (arith, ap length k.3, length-append i (k.0 ∷ [])) in
     let far = passes_within (is_inside q) (inside ++ b ∷ []) more (passes_both (is_inside q) inside b all here) in
     let lists : (inside ++ b ∷ []) ++ more ≡ inside ++ b ∷ more = append_assoc inside (b ∷ []) more in
-    let longer : length inside < length i = omega (arith, far, ap (prefix_len (is_inside q)) lists, size, length_is, length-append inside (b ∷ [])) in
+    let longer : length inside < length i =
+    omega (arith, far, ap (prefix_len (is_inside q)) lists, size, length_is, length-append inside (b ∷ [])) in
     let u = inner_cut inside b more i (k.0 ∷ after) cut longer in
     let parts = all_append is_printable inside (b ∷ u.0) (ap (list_all is_printable) (sym u.1) ∙ printable) in
     let passes = (and_true (is_printable b) (list_all is_printable u.0) parts.1).0 in
     let bad : true ≡ false = sym passes ∙ fails in
     cc
 
-comment_stuck : (behind w more : Text) (m : Option Lexeme) → 40 ∷ 42 ∷ behind ≡ w ++ more → IsLongest w more → IsMember (w, m) → ((bs more : Text) → behind ≡ bs ++ more → IsClosed bs → ⊥) → ⊥
+comment_stuck : (behind w more : Text) (m : Option Lexeme) → 40 ∷ 42 ∷ behind ≡ w ++ more → IsLongest w more
+    → IsMember (w, m) → ((bs more : Text) → behind ≡ bs ++ more → IsClosed bs → ⊥) → ⊥
 comment_stuck behind w more m e l h never =
     let long = l.longest opening behind (sym e) opened in
     elim (front_form Other 40 (42 ∷ behind) w more class_open e l.form) [
@@ -144,7 +160,8 @@ comment_stuck behind w more m e l h never =
       ]
     ]
 
-run_stuck : (k : Class) (rest w more v after : Text) (m : Option Lexeme) → IsRun k v → rest ≡ v ++ after → IsLongest v after → rest ≡ w ++ more → IsLongest w more → IsMember (w, m) → MeansOf k v m
+run_stuck : (k : Class) (rest w more v after : Text) (m : Option Lexeme) → IsRun k v → rest ≡ v ++ after
+    → IsLongest v after → rest ≡ w ++ more → IsLongest w more → IsMember (w, m) → MeansOf k v m
 run_stuck k rest w more [] after m r e l d j h = absurd r
 run_stuck k rest w more (b ∷ v) after m r e l d j h =
     let same = (longest_once w more (b ∷ v) after j l (sym d ∙ e)).0 in

@@ -47,7 +47,11 @@ class_goes_on b k c apart =
 
 run_byte_goes_on : (b : ℕ) → is_run_byte b ≡ true → in_one_line b ≡ true
 run_byte_goes_on b h =
-    elim (cases_Bool (is_line_end b)) [ inl e ↦ (let s : in_run (class b) ≡ false = ap in_run (line_end_class b e) in absurd (cc)) | inr e ↦ goes_on b e ]
+    elim (cases_Bool (is_line_end b)) [
+      | inl e ↦
+          (let s : in_run (class b) ≡ false = ap in_run (line_end_class b e) in absurd (cc))
+      | inr e ↦ goes_on b e
+    ]
 
 or_true : (a b : Bool) → b ≡ true → not (a || b) ≡ true → ⊥
 or_true true b e h = cc
@@ -59,35 +63,47 @@ unfolding is_inside is_line_end
 inside_goes_on q b h =
     elim (cases_Bool (eqb b 10)) [ inl e ↦ absurd (or_true (eqb b q) (eqb b 10) e h) | inr e ↦ ap not e ]
 
-same_place : {k l m n : ℕ} → k ≡ m → l ≡ n → (let p : Pos = record { line = k; col = l } in p) ≡ record { line = m; col = n }
+same_place : {k l m n : ℕ} → k ≡ m → l ≡ n
+    → (let p : Pos = record { line = k; col = l } in p) ≡ record { line = m; col = n }
 same_place e f = cc
 
 pub opening_line : list_all in_one_line opening ≡ true
 unfolding is_line_end
 opening_line = refl
 
-pub right_is : (pos q : Pos) (w : Text) → list_all in_one_line w ≡ true → q.line ≡ pos.line → q.col ≡ pos.col + length w → q ≡ over pos w
+pub right_is : (pos q : Pos) (w : Text) → list_all in_one_line w ≡ true → q.line ≡ pos.line → q.col ≡ pos.col + length w
+    → q ≡ over pos w
 right_is pos q w h line col = same_place line col ∙ sym (over_line pos w h)
 
 -- ---- stops
 
-pub stops_at : (text before : Text) (pos q : Pos) (broken : TokenRule) (e : ScanError) → e ≡ Refused (record { pos = q; broken = broken }) → RefusesIn broken text before → q ≡ over pos before
+pub stops_at : (text before : Text) (pos q : Pos) (broken : TokenRule) (e : ScanError)
+    → e ≡ Refused (record { pos = q; broken = broken }) → RefusesIn broken text before → q ≡ over pos before
     → ((f : TokenRule) (other : Text) → RefusesIn f text other → length before ≤ length other) → Stops text pos e
 stops_at text before pos q broken e is h at least =
     let P : ScanError → Type 0 = λ e. Stops text pos e in
     subst P (sym is) (before, h, at, least)
 
-pub stops_here : (text : Text) (pos : Pos) (broken : TokenRule) (e : ScanError) → e ≡ Refused (record { pos = pos; broken = broken }) → RefusesIn broken text [] → Stops text pos e
+pub stops_here : (text : Text) (pos : Pos) (broken : TokenRule) (e : ScanError)
+    → e ≡ Refused (record { pos = pos; broken = broken }) → RefusesIn broken text [] → Stops text pos e
 stops_here text pos broken e is h = stops_at text [] pos pos broken e is h refl (λ f other k. omega arith)
 
 -- ---- spaces
 
-pub space_taken : (text rest : Text) (pos q : Pos) → Begins Space text → rest ≡ drop 1 text → q ≡ place_after pos (get_or text 0 0) → Takes text pos None rest q
+pub space_taken : (text rest : Text) (pos q : Pos) → Begins Space text → rest ≡ drop 1 text
+    → q ≡ place_after pos (get_or text 0 0) → Takes text pos None rest q
 space_taken text rest pos q h e at =
     let b = h.0 in
     let tail : rest ≡ h.1 = e ∙ ap (drop 1) h.2 in
-    let first : get_or text 0 0 ≡ b = ap (λ (t : Text). get_or t 0 0) h.2 in
-    (b ∷ [], h.2 ∙ ap (λ t. b ∷ t) (sym tail), omega arith, longest_space b rest h.3, inl (b, h.3, refl), at ∙ ap (place_after pos) first)
+    let first : get_or text 0 0 ≡ b = ap (λ (t : Text). get_or t 0 0) h.2 in (
+      b ∷ [],
+      h.2 ∙ ap (λ t. b ∷ t) (sym tail),
+      omega arith,
+      longest_space b rest h.3,
+      inl (b, h.3, refl),
+      at
+          ∙ ap (place_after pos) first,
+    )
 
 pub blank_begins : (text : Text) → eqb (get_or text 0 0) 32 ≡ true → Begins Space text
 unfolding class
@@ -104,21 +120,26 @@ pub record IsFront (k : Class) (text run rest : Text) (n : ℕ) : Type 0 where
   pub runs : IsRun k run
   pub line : list_all in_one_line run ≡ true
 
-run_of : (k : Class) (b : ℕ) (bs run rest : Text) → b ∷ bs ≡ run ++ rest → 0 < length run → list_all is_run_byte run ≡ true → class b ≡ k → IsRun k run
+run_of : (k : Class) (b : ℕ) (bs run rest : Text) → b ∷ bs ≡ run ++ rest → 0 < length run
+    → list_all is_run_byte run ≡ true → class b ≡ k → IsRun k run
 run_of k b bs [] rest e some h c = absurd (omega arith)
 run_of k b bs (x ∷ run) rest e some h c =
     let first : b ≡ x = same_head e in
     (ap class (sym first) ∙ c, (and_true (is_run_byte x) (list_all is_run_byte run) h).1)
 
-pub run_front : (k : Class) (text run rest : Text) (n : ℕ) → in_run k ≡ true → Begins k text → n ≡ prefix_len is_run_byte text → run ≡ take n text → rest ≡ drop n text → IsFront k text run rest n
+pub run_front : (k : Class) (text run rest : Text) (n : ℕ) → in_run k ≡ true → Begins k text
+    → n ≡ prefix_len is_run_byte text → run ≡ take n text → rest ≡ drop n text → IsFront k text run rest n
 run_front k text run rest n i h len front back =
     let b = h.0 in
     let within : n ≤ length text = omega (arith, prefix_len-le-length is_run_byte text) in
     let count : length run ≡ n = ap length front ∙ length-take-le n text within in
-    let is : text ≡ run ++ rest = sym (take-append-drop n text) ∙ ap (λ w. w ++ drop n text) (sym front) ∙ ap (λ w. run ++ w) (sym back) in
-    let passes : list_all is_run_byte run ≡ true = ap (list_all is_run_byte) front ∙ ap (λ n. list_all is_run_byte (take n text)) len ∙ all_prefix is_run_byte text in
+    let is : text ≡ run ++ rest = sym (take-append-drop n text) ∙ ap (λ w. w ++ drop n text) (sym front)
+    ∙ ap (λ w. run ++ w) (sym back) in
+    let passes : list_all is_run_byte run ≡ true = ap (list_all is_run_byte) front
+    ∙ ap (λ n. list_all is_run_byte (take n text)) len ∙ all_prefix is_run_byte text in
     let first : is_run_byte b ≡ true = ap in_run h.3 ∙ i in
-    let one : prefix_len is_run_byte text ≡ 1 + prefix_len is_run_byte h.1 = ap (prefix_len is_run_byte) h.2 ∙ ap (λ v. cond v (1 + prefix_len is_run_byte h.1) 0) first in
+    let one : prefix_len is_run_byte text ≡ 1 + prefix_len is_run_byte h.1 = ap (prefix_len is_run_byte) h.2
+    ∙ ap (λ v. cond v (1 + prefix_len is_run_byte h.1) 0) first in
     let some : 0 < length run = omega arith in
     record {
       is = is;
@@ -129,22 +150,68 @@ run_front k text run rest n i h len front back =
       line = all_mono is_run_byte in_one_line run run_byte_goes_on passes;
     }
 
-pub name_taken : (text run rest : Text) (n : ℕ) (pos q : Pos) (l : Lexeme) → IsFront Letter text run rest n → Spells run l → q.line ≡ pos.line → q.col ≡ pos.col + n → Takes text pos (Some l) rest q
-name_taken text run rest n pos q l f s line col =
-    (run, f.is, omega (arith, f.some, f.count), longest_name text run rest f.is f.most f.runs, s, right_is pos q run f.line line (col ∙ ap (λ n. pos.col + n) (sym f.count)))
+pub name_taken : (text run rest : Text) (n : ℕ) (pos q : Pos) (l : Lexeme) → IsFront Letter text run rest n
+    → Spells run l → q.line ≡ pos.line → q.col ≡ pos.col + n → Takes text pos (Some l) rest q
+name_taken text run rest n pos q l f s line col = (
+  run,
+  f.is,
+  omega (arith, f.some, f.count),
+  longest_name text run rest f.is f.most f.runs,
+  s,
+  right_is pos q run
+      f.line line (col ∙ ap (λ n. pos.col + n) (sym f.count)),
+)
 
-pub number_taken : (text run rest : Text) (n : ℕ) (pos q : Pos) (l : Lexeme) → IsFront Digit text run rest n → Spells run l → q.line ≡ pos.line → q.col ≡ pos.col + n → Takes text pos (Some l) rest q
-number_taken text run rest n pos q l f s line col =
-    (run, f.is, omega (arith, f.some, f.count), longest_number text run rest f.is f.most f.runs, s, right_is pos q run f.line line (col ∙ ap (λ n. pos.col + n) (sym f.count)))
+pub number_taken : (text run rest : Text) (n : ℕ) (pos q : Pos) (l : Lexeme) → IsFront Digit text run rest n
+    → Spells run l → q.line ≡ pos.line → q.col ≡ pos.col + n → Takes text pos (Some l) rest q
+number_taken text run rest n pos q l f s line col = (
+  run,
+  f.is,
+  omega (arith, f.some, f.count),
+  longest_number text run rest f.is f.most f.runs,
+  s,
+  right_is pos q run
+      f.line line (col ∙ ap (λ n. pos.col + n) (sym f.count)),
+)
 
-pub name_stops : (text : Text) (n : ℕ) (pos : Pos) (e : ScanError) → Begins Letter text → n ≡ prefix_len is_run_byte text → max_name < n → e ≡ Refused (record { pos = pos; broken = LongName }) → Stops text pos e
+pub name_stops : (text : Text) (n : ℕ) (pos : Pos) (e : ScanError) → Begins Letter text
+    → n ≡ prefix_len is_run_byte text → max_name < n → e ≡ Refused (record { pos = pos; broken = LongName })
+    → Stops text pos e
 name_stops text n pos e h len long is =
     let f = run_front Letter text (take n text) (drop n text) n refl h len refl refl in
-    stops_here text pos LongName e is (take n text, drop n text, (f.is, longest_name text (take n text) (drop n text) f.is f.most f.runs), f.runs, refl, omega (arith, f.count))
+    stops_here text pos LongName e is (
+      take n text,
+      drop n text,
+      (f.is, longest_name text (take n text) (drop n text) f.is f.most f.runs),
+      f.runs,
+      refl,
+      omega (arith, f.count),
+    )
 
-pub number_stops : (text run rest : Text) (n : ℕ) (pos : Pos) (broken : TokenRule) (e : ScanError) → IsFront Digit text run rest n → RefusesNumber run broken → e ≡ Refused (record { pos = pos; broken = broken }) → Stops text pos e
-number_stops text run rest n pos BadNumber e f h is = stops_here text pos BadNumber e is (run, rest, (f.is, longest_number text run rest f.is f.most f.runs), f.runs, refl, h)
-number_stops text run rest n pos LargeNumber e f h is = stops_here text pos LargeNumber e is (run, rest, (f.is, longest_number text run rest f.is f.most f.runs), f.runs, refl, h.0, h.1, h.2, h.3)
+pub number_stops : (text run rest : Text) (n : ℕ) (pos : Pos) (broken : TokenRule) (e : ScanError)
+    → IsFront Digit text run rest n → RefusesNumber run broken → e ≡ Refused (record { pos = pos; broken = broken })
+    → Stops text pos e
+number_stops text run rest n pos BadNumber e f h is =
+    stops_here text pos BadNumber e is (
+      run,
+      rest,
+      (f.is, longest_number text run rest f.is f.most f.runs),
+      f.runs,
+      refl,
+      h,
+    )
+number_stops text run rest n pos LargeNumber e f h is =
+    stops_here text pos LargeNumber e is (
+      run,
+      rest,
+      (f.is, longest_number text run rest f.is f.most f.runs),
+      f.runs,
+      refl,
+      h.0,
+      h.1,
+      h.2,
+      h.3,
+    )
 number_stops text run rest n pos TooLong e f h is = absurd h
 number_stops text run rest n pos StrayByte e f h is = absurd h
 number_stops text run rest n pos OpenComment e f h is = absurd h
@@ -153,7 +220,8 @@ number_stops text run rest n pos LongName e f h is = absurd h
 
 -- ---- comments
 
-pub comment_taken : (text behind rest : Text) (pos p q : Pos) → Opens text → behind ≡ drop 2 text → p.line ≡ pos.line → p.col ≡ pos.col + 2 → Closes behind p rest q → Takes text pos None rest q
+pub comment_taken : (text behind rest : Text) (pos p q : Pos) → Opens text → behind ≡ drop 2 text → p.line ≡ pos.line
+    → p.col ≡ pos.col + 2 → Closes behind p rest q → Takes text pos None rest q
 comment_taken text behind rest pos p q h e line col c =
     let tail : behind ≡ h.0 = e ∙ ap (drop 2) h.1 in
     let at : p ≡ over pos opening = right_is pos p opening opening_line line col in (
@@ -167,7 +235,8 @@ comment_taken text behind rest pos p q h e line col c =
 
 -- ---- operators and delimiters
 
-pub pair_taken : (text rest : Text) (pos q : Pos) (s : Symbol) → IsPair text (Some s) → rest ≡ drop 2 text → q.line ≡ pos.line → q.col ≡ pos.col + 2 → Takes text pos (Some (lexeme.Symbol s)) rest q
+pub pair_taken : (text rest : Text) (pos q : Pos) (s : Symbol) → IsPair text (Some s) → rest ≡ drop 2 text
+    → q.line ≡ pos.line → q.col ≡ pos.col + 2 → Takes text pos (Some (lexeme.Symbol s)) rest q
 pair_taken text rest pos q s h e line col =
     let b = h.0 in
     let c = h.1 in
@@ -180,22 +249,32 @@ pair_taken text rest pos q s h e line col =
       right_is pos q (b ∷ c ∷ []) (sign_is (b ∷ c ∷ []) s h.4).line line col,
     )
 
-alone_before : (text : Text) (b : ℕ) (rest : Text) → text ≡ b ∷ rest → (Opens text → ⊥) → IsPair text None → (c : ℕ) (t : Text) → rest ≡ c ∷ t → (b ∷ c ∷ [] ≢ opening) × (sign_of (b ∷ c ∷ []) ≡ None)
+alone_before : (text : Text) (b : ℕ) (rest : Text) → text ≡ b ∷ rest → (Opens text → ⊥) → IsPair text None
+    → (c : ℕ) (t : Text) → rest ≡ c ∷ t → (b ∷ c ∷ [] ≢ opening) × (sign_of (b ∷ c ∷ []) ≡ None)
 alone_before text b rest whole no_comment no_pair c t d =
     let two : text ≡ b ∷ c ∷ t = whole ∙ ap (λ t. b ∷ t) d in
     ((λ o. no_comment (t, two ∙ ap (λ (w : Text). w ++ t) o)), no_pair b c t two)
 
-pub sign_taken : (text rest : Text) (pos q : Pos) (s : Symbol) → Begins Other text → (Opens text → ⊥) → IsPair text None → sign_of (get_or text 0 0 ∷ []) ≡ Some s → rest ≡ drop 1 text
+pub sign_taken : (text rest : Text) (pos q : Pos) (s : Symbol) → Begins Other text → (Opens text → ⊥) → IsPair text None
+    → sign_of (get_or text 0 0 ∷ []) ≡ Some s → rest ≡ drop 1 text
     → q.line ≡ pos.line → q.col ≡ pos.col + 1 → Takes text pos (Some (lexeme.Symbol s)) rest q
 sign_taken text rest pos q s h no_comment no_pair found e line col =
     let b = h.0 in
     let first : get_or text 0 0 ≡ b = ap (λ (t : Text). get_or t 0 0) h.2 in
     let tail : rest ≡ h.1 = e ∙ ap (drop 1) h.2 in
     let sign : sign_of (b ∷ []) ≡ Some s = ap (λ b. sign_of (b ∷ [])) (sym first) ∙ found in
-    let whole : text ≡ b ∷ rest = h.2 ∙ ap (λ t. b ∷ t) (sym tail) in
-    (b ∷ [], whole, omega arith, longest_sign b s rest h.3 sign (alone_before text b rest whole no_comment no_pair), inr sign, right_is pos q (b ∷ []) (sign_is (b ∷ []) s sign).line line col)
+    let whole : text ≡ b ∷ rest = h.2 ∙ ap (λ t. b ∷ t) (sym tail) in (
+      b ∷ [],
+      whole,
+      omega arith,
+      longest_sign b s rest h.3 sign (alone_before text b rest whole no_comment no_pair),
+      inr
+          sign,
+      right_is pos q (b ∷ []) (sign_is (b ∷ []) s sign).line line col,
+    )
 
-pub stray_stops : (text : Text) (pos : Pos) (e : ScanError) → Begins Other text → sign_of (get_or text 0 0 ∷ []) ≡ None → e ≡ Refused (record { pos = pos; broken = StrayByte }) → Stops text pos e
+pub stray_stops : (text : Text) (pos : Pos) (e : ScanError) → Begins Other text → sign_of (get_or text 0 0 ∷ []) ≡ None
+    → e ≡ Refused (record { pos = pos; broken = StrayByte }) → Stops text pos e
 stray_stops text pos e h none is =
     let b = h.0 in
     let first : get_or text 0 0 ≡ b = ap (λ (t : Text). get_or t 0 0) h.2 in
@@ -204,7 +283,8 @@ stray_stops text pos e h none is =
 
 -- ---- strings
 
-string_closed : (q : ℕ) (behind w inside more : Text) (n : ℕ) → q ∷ behind ≡ w ++ more → IsQuoted w inside → n ≡ prefix_len (is_inside q) behind → ((n ≡ length behind) ⊎ (get_or behind n 0 ≢ q)) → ⊥
+string_closed : (q : ℕ) (behind w inside more : Text) (n : ℕ) → q ∷ behind ≡ w ++ more → IsQuoted w inside
+    → n ≡ prefix_len (is_inside q) behind → ((n ≡ length behind) ⊎ (get_or behind n 0 ≢ q)) → ⊥
 string_closed q behind w inside more n e k len why =
     let size = quoted_length q behind w inside more e k in
     let whole : q ∷ behind ≡ (k.0 ∷ inside ++ k.0 ∷ []) ++ more = e ∙ ap (λ w. w ++ more) k.3 in
@@ -214,11 +294,14 @@ string_closed q behind w inside more n e k len why =
     let m : length w ≡ length inside + 2 = omega (arith, ap length k.3, length-append inside (k.0 ∷ [])) in
     let count : n ≡ length inside = omega (arith, size, m) in
     let long : length behind ≡ length inside + suc (length more) = ap length cut ∙ length-append inside (k.0 ∷ more) in
-    let at : get_or behind n 0 ≡ q = ap (λ (t : Text). get_or t n 0) cut ∙ get_or_at inside k.0 more 0 n (sym count) ∙ sym same in
+    let at : get_or behind n 0 ≡ q = ap (λ (t : Text). get_or t n 0) cut ∙ get_or_at inside k.0 more 0 n (sym count)
+    ∙ sym same in
     elim why [ inl all ↦ omega arith | inr other ↦ other at ]
 
-pub string_open : (text behind : Text) (q : ℕ) (n : ℕ) (pos : Pos) (e : ScanError) → Begins Quote text → behind ≡ drop 1 text → q ≡ get_or text 0 0 → n ≡ prefix_len (is_inside q) behind
-    → ((n ≡ length behind) ⊎ (get_or behind n 0 ≢ q)) → e ≡ Refused (record { pos = pos; broken = OpenString }) → Stops text pos e
+pub string_open : (text behind : Text) (q : ℕ) (n : ℕ) (pos : Pos) (e : ScanError) → Begins Quote text
+    → behind ≡ drop 1 text → q ≡ get_or text 0 0 → n ≡ prefix_len (is_inside q) behind
+    → ((n ≡ length behind) ⊎ (get_or behind n 0 ≢ q)) → e ≡ Refused (record { pos = pos; broken = OpenString })
+    → Stops text pos e
 string_open text behind q n pos e h tail first len why is =
     let b = h.0 in
     let same : q ≡ b = first ∙ ap (λ (t : Text). get_or t 0 0) h.2 in
@@ -234,7 +317,8 @@ pub record IsString (text inside rest : Text) (q n : ℕ) : Type 0 where
   pub inside_line : list_all (is_inside q) inside ≡ true
   pub count : length inside ≡ n
 
-pub string_is : (text behind inside rest : Text) (q n : ℕ) → Begins Quote text → behind ≡ drop 1 text → q ≡ get_or text 0 0 → n ≡ prefix_len (is_inside q) behind → n ≢ length behind → get_or behind n 0 ≡ q
+pub string_is : (text behind inside rest : Text) (q n : ℕ) → Begins Quote text → behind ≡ drop 1 text
+    → q ≡ get_or text 0 0 → n ≡ prefix_len (is_inside q) behind → n ≢ length behind → get_or behind n 0 ≡ q
     → inside ≡ take n behind → rest ≡ drop (n + 2) text → IsString text inside rest q n
 string_is text behind inside rest q n h tail first len short closed front back =
     let b = h.0 in
@@ -244,15 +328,19 @@ string_is text behind inside rest q n h tail first len short closed front back =
     let strictly : n < length behind = omega arith in
     let count : length inside ≡ n = ap length front ∙ length-take-le n behind within in
     let cut : behind ≡ inside ++ q ∷ drop (n + 1) behind =
-    sym (take-append-drop n behind) ∙ ap (λ w. w ++ drop n behind) (sym front) ∙ ap (λ t. inside ++ t) (drop_more behind n 0 strictly ∙ ap (λ c. c ∷ drop (n + 1) behind) closed) in
+    sym (take-append-drop n behind) ∙ ap (λ w. w ++ drop n behind) (sym front)
+    ∙ ap (λ t. inside ++ t) (drop_more behind n 0 strictly ∙ ap (λ c. c ∷ drop (n + 1) behind) closed) in
     let whole : text ≡ (q ∷ inside ++ q ∷ []) ++ drop (n + 1) behind =
-    h.2 ∙ ap (λ t. b ∷ t) (sym behind_is) ∙ ap (λ b. b ∷ behind) (sym same) ∙ ap (λ t. q ∷ t) (cut ∙ sym (append_assoc inside (q ∷ []) (drop (n + 1) behind))) in
+    h.2 ∙ ap (λ t. b ∷ t) (sym behind_is) ∙ ap (λ b. b ∷ behind) (sym same)
+    ∙ ap (λ t. q ∷ t) (cut ∙ sym (append_assoc inside (q ∷ []) (drop (n + 1) behind))) in
     let size : length (q ∷ inside ++ q ∷ []) ≡ n + 2 = omega (arith, count, length-append inside (q ∷ [])) in
-    let left : rest ≡ drop (n + 1) behind = back ∙ ap (drop (n + 2)) whole ∙ drop_at (q ∷ inside ++ q ∷ []) (drop (n + 1) behind) (n + 2) size in
+    let left : rest ≡ drop (n + 1) behind = back ∙ ap (drop (n + 2)) whole
+    ∙ drop_at (q ∷ inside ++ q ∷ []) (drop (n + 1) behind) (n + 2) size in
     record {
       quote = ap class same ∙ h.3;
       is = whole ∙ ap (λ t. (q ∷ inside ++ q ∷ []) ++ t) (sym left);
-      inside_line = ap (list_all (is_inside q)) front ∙ ap (λ n. list_all (is_inside q) (take n behind)) len ∙ all_prefix (is_inside q) behind;
+      inside_line = ap (list_all (is_inside q)) front ∙ ap (λ n. list_all (is_inside q) (take n behind)) len
+          ∙ all_prefix (is_inside q) behind;
       count = count;
     }
 
@@ -265,20 +353,29 @@ quote_goes_on q c = class_goes_on q Quote c (λ e. cc)
 all_join : (p : ℕ → Bool) (v w : Text) → list_all p v ≡ true → list_all p w ≡ true → list_all p (v ++ w) ≡ true
 all_join p v w h k = list_all-append p v w ∙ ap (λ b. b && list_all p w) h ∙ k
 
-pub string_taken : (text inside rest : Text) (q n good : ℕ) (pos after : Pos) (bytes : Text) → IsString text inside rest q n → good ≡ prefix_len is_printable inside → n ≤ good → bytes ≡ inside
+pub string_taken : (text inside rest : Text) (q n good : ℕ) (pos after : Pos) (bytes : Text)
+    → IsString text inside rest q n → good ≡ prefix_len is_printable inside → n ≤ good → bytes ≡ inside
     → after.line ≡ pos.line → after.col ≡ pos.col + (n + 2) → Takes text pos (Some (lexeme.Text bytes)) rest after
 string_taken text inside rest q n good pos after bytes s len much same line col =
-    let all : take (prefix_len is_printable inside) inside ≡ inside = take_all (prefix_len is_printable inside) inside (omega (arith, s.count)) in
-    let printable : list_all is_printable inside ≡ true = ap (list_all is_printable) (sym all) ∙ all_prefix is_printable inside in
+    let all : take (prefix_len is_printable inside) inside ≡ inside =
+    take_all (prefix_len is_printable inside) inside (omega (arith, s.count)) in
+    let printable : list_all is_printable inside ≡ true = ap (list_all is_printable) (sym all)
+    ∙ all_prefix is_printable inside in
     let goes = all_mono (is_inside q) in_one_line inside (inside_goes_on q) s.inside_line in
     let last : list_all in_one_line (q ∷ []) ≡ true = ap (λ v. v && true) (quote_goes_on q s.quote) in
-    let in_line : list_all in_one_line (q ∷ inside ++ q ∷ []) ≡ true = ap (λ v. v && list_all in_one_line (inside ++ q ∷ [])) (quote_goes_on q s.quote) ∙ all_join in_one_line inside (q ∷ []) goes last in
+    let in_line : list_all in_one_line (q ∷ inside ++ q ∷ []) ≡ true =
+    ap (λ v. v && list_all in_one_line (inside ++ q ∷ [])) (quote_goes_on q s.quote)
+    ∙ all_join in_one_line inside (q ∷ []) goes last in
     let size : length (q ∷ inside ++ q ∷ []) ≡ n + 2 = omega (arith, s.count, length-append inside (q ∷ [])) in (
       q ∷ inside ++ q ∷ [],
       s.is,
       omega (arith, size),
       longest_string (q ∷ inside ++ q ∷ []) inside rest (quoted_is text inside rest q n s),
-      ((q, s.quote, ap (list_all (is_inside q)) same ∙ s.inside_line, ap (λ t. q ∷ t ++ q ∷ []) (sym same)), ap (list_all is_printable) same ∙ printable),
+      (
+        (q, s.quote, ap (list_all (is_inside q)) same ∙ s.inside_line, ap (λ t. q ∷ t ++ q ∷ []) (sym same)),
+        ap
+            (list_all is_printable) same ∙ printable,
+      ),
       right_is pos after (q ∷ inside ++ q ∷ []) in_line line (col ∙ ap (λ n. pos.col + n) (sym size)),
     )
 
@@ -287,20 +384,25 @@ prefix_more p v w =
     let n = prefix_len p v in
     let within : n ≤ length v = prefix_len-le-length p v in
     let h = passes_within p (take n v) (drop n v ++ w) (all_prefix p v) in
-    let e : take n v ++ (drop n v ++ w) ≡ v ++ w = sym (append_assoc (take n v) (drop n v) w) ∙ ap (λ t. t ++ w) (take-append-drop n v) in
+    let e : take n v ++ (drop n v ++ w) ≡ v ++ w = sym (append_assoc (take n v) (drop n v) w)
+    ∙ ap (λ t. t ++ w) (take-append-drop n v) in
     omega (arith, h, ap (prefix_len p) e, length-take-le n v within)
 
-run_no_quote : (k : Class) (w : Text) → IsRun k w → (q : ℕ) (t more : Text) → q ∷ t ≡ w ++ more → class q ≡ Quote → Quote ≢ k → ⊥
+run_no_quote : (k : Class) (w : Text) → IsRun k w → (q : ℕ) (t more : Text) → q ∷ t ≡ w ++ more → class q ≡ Quote
+    → Quote ≢ k → ⊥
 run_no_quote k [] r q t more e c apart = r
 run_no_quote k (x ∷ w) r q t more e c apart = apart (sym c ∙ ap class (same_head e) ∙ r.0)
 
 -- A string that is closed has no refusal before its first byte that may not stand there.
-stray_least : (text inside rest : Text) (q n : ℕ) (broken : TokenRule) (other : Text) → IsString text inside rest q n → RefusesIn broken text other → prefix_len is_printable inside < length inside → prefix_len is_printable inside < length other
+stray_least : (text inside rest : Text) (q n : ℕ) (broken : TokenRule) (other : Text) → IsString text inside rest q n
+    → RefusesIn broken text other → prefix_len is_printable inside < length inside
+    → prefix_len is_printable inside < length other
 stray_least text inside rest q n TooLong other s h few = absurd h
 stray_least text inside rest q n StrayByte other s (inl k) few =
     let same : k.0 ≡ q = same_head (sym k.2 ∙ s.is) in
     let P : ℕ → Type 0 = λ b. IsForm (b ∷ inside ++ q ∷ []) in
-    absurd (k.4 (inside ++ q ∷ []) (subst P (sym same) (quoted (q ∷ inside ++ q ∷ []) inside (quoted_is text inside rest q n s))))
+    absurd (k.4 (inside ++ q ∷ []) (subst P (sym same)
+    (quoted (q ∷ inside ++ q ∷ []) inside (quoted_is text inside rest q n s))))
 stray_least text inside rest q n StrayByte other s (inr k) few =
     let whole : q ∷ (inside ++ q ∷ []) ++ rest ≡ k.0 ∷ k.2 ++ k.1 ∷ k.3 = sym s.is ∙ k.8 in
     let tails : (inside ++ q ∷ []) ++ rest ≡ k.2 ++ k.1 ∷ k.3 = cc in
@@ -313,27 +415,39 @@ stray_least text inside rest q n OpenComment other s h few =
     let same : q ≡ 40 = same_head (sym s.is ∙ h.1) in
     let c : Quote ≡ Other = sym s.quote ∙ ap class same ∙ class_open in
     absurd (cc)
-stray_least text inside rest q n OpenString other s h few = absurd (h.5 (q ∷ inside ++ q ∷ []) inside rest s.is (quoted_is text inside rest q n s))
-stray_least text inside rest q n BadNumber other s h few = absurd (run_no_quote Digit h.0 h.3 q ((inside ++ q ∷ []) ++ rest) h.1 (sym s.is ∙ h.2.0) s.quote (λ e. cc))
-stray_least text inside rest q n LargeNumber other s h few = absurd (run_no_quote Digit h.0 h.3 q ((inside ++ q ∷ []) ++ rest) h.1 (sym s.is ∙ h.2.0) s.quote (λ e. cc))
-stray_least text inside rest q n LongName other s h few = absurd (run_no_quote Letter h.0 h.3 q ((inside ++ q ∷ []) ++ rest) h.1 (sym s.is ∙ h.2.0) s.quote (λ e. cc))
+stray_least text inside rest q n OpenString other s h few =
+    absurd (h.5 (q ∷ inside ++ q ∷ []) inside rest s.is (quoted_is text inside rest q n s))
+stray_least text inside rest q n BadNumber other s h few =
+    absurd (run_no_quote Digit h.0 h.3 q ((inside ++ q ∷ []) ++ rest) h.1 (sym s.is ∙ h.2.0) s.quote (λ e. cc))
+stray_least text inside rest q n LargeNumber other s h few =
+    absurd (run_no_quote Digit h.0 h.3 q ((inside ++ q ∷ []) ++ rest) h.1 (sym s.is ∙ h.2.0) s.quote (λ e. cc))
+stray_least text inside rest q n LongName other s h few =
+    absurd (run_no_quote Letter h.0 h.3 q ((inside ++ q ∷ []) ++ rest) h.1 (sym s.is ∙ h.2.0) s.quote (λ e. cc))
 
-pub string_stops : (text inside rest : Text) (q n good : ℕ) (pos p : Pos) (e : ScanError) → IsString text inside rest q n → good ≡ prefix_len is_printable inside → good < n
-    → p.line ≡ pos.line → p.col ≡ pos.col + (good + 1) → e ≡ Refused (record { pos = p; broken = StrayByte }) → Stops text pos e
+pub string_stops : (text inside rest : Text) (q n good : ℕ) (pos p : Pos) (e : ScanError)
+    → IsString text inside rest q n → good ≡ prefix_len is_printable inside → good < n
+    → p.line ≡ pos.line → p.col ≡ pos.col + (good + 1) → e ≡ Refused (record { pos = p; broken = StrayByte })
+    → Stops text pos e
 string_stops text inside rest q n good pos p e s len few line col is =
     let within : good < length inside = omega (arith, s.count) in
     let front = take good inside in
     let count : length front ≡ good = length-take-le good inside (omega arith) in
     let bad = get_or inside good 0 in
-    let cut : inside ≡ front ++ bad ∷ drop (good + 1) inside = sym (take-append-drop good inside) ∙ ap (λ t. front ++ t) (drop_more inside good 0 within) in
-    let fails : is_printable bad ≡ false = ap (λ n. is_printable (get_or inside n 0)) len ∙ prefix_len_stops is_printable inside 0 (omega arith) in
-    let parts = all_append (is_inside q) front (bad ∷ drop (good + 1) inside) (ap (list_all (is_inside q)) (sym cut) ∙ s.inside_line) in
-    let bad_inside : is_inside q bad ≡ true = (and_true (is_inside q bad) (list_all (is_inside q) (drop (good + 1) inside)) parts.1).0 in
+    let cut : inside ≡ front ++ bad ∷ drop (good + 1) inside = sym (take-append-drop good inside)
+    ∙ ap (λ t. front ++ t) (drop_more inside good 0 within) in
+    let fails : is_printable bad ≡ false = ap (λ n. is_printable (get_or inside n 0)) len
+    ∙ prefix_len_stops is_printable inside 0 (omega arith) in
+    let parts = all_append (is_inside q) front (bad ∷ drop (good + 1) inside)
+    (ap (list_all (is_inside q)) (sym cut) ∙ s.inside_line) in
+    let bad_inside : is_inside q bad ≡ true =
+    (and_true (is_inside q bad) (list_all (is_inside q) (drop (good + 1) inside)) parts.1).0 in
     let more = drop (good + 1) inside ++ q ∷ rest in
     let whole : text ≡ q ∷ front ++ bad ∷ more =
-    s.is ∙ ap (λ t. q ∷ t) (append_assoc inside (q ∷ []) rest ∙ ap (λ t. t ++ q ∷ rest) cut ∙ append_assoc front (bad ∷ drop (good + 1) inside) (q ∷ rest)) in
+    s.is ∙ ap (λ t. q ∷ t) (append_assoc inside (q ∷ []) rest ∙ ap (λ t. t ++ q ∷ rest) cut
+    ∙ append_assoc front (bad ∷ drop (good + 1) inside) (q ∷ rest)) in
     let goes = all_mono (is_inside q) in_one_line front (inside_goes_on q) parts.0 in
-    let in_line : list_all in_one_line (q ∷ front) ≡ true = ap (λ v. v && list_all in_one_line front) (quote_goes_on q s.quote) ∙ goes in
+    let in_line : list_all in_one_line (q ∷ front) ≡ true =
+    ap (λ v. v && list_all in_one_line front) (quote_goes_on q s.quote) ∙ goes in
     let size : length (q ∷ front) ≡ good + 1 = omega arith in
     stops_at text (q ∷ front) pos p StrayByte e is
     (inr (q, bad, front, more, s.quote, parts.0, bad_inside, fails, whole, refl))

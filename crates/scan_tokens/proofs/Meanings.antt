@@ -32,13 +32,15 @@ abbrev pub MeansOf : Class → Text → Option Lexeme → Type 0
 MeansOf Space w m = m ≡ None
 MeansOf Letter w m = (length w ≤ max_name) × (m ≡ Some (named w (word_of w)))
 MeansOf Digit w m = (form : Numeral) × (n : ℕ) × Writes w form n × (n < limit form) × (m ≡ Some (numbered form n))
-MeansOf Quote w m = (inside : Text) × IsQuoted w inside × (list_all is_printable inside ≡ true) × (m ≡ Some (lexeme.Text inside))
+MeansOf Quote w m = (inside : Text) × IsQuoted w inside × (list_all is_printable inside ≡ true)
+    × (m ≡ Some (lexeme.Text inside))
 MeansOf Other w m = m ≡ option_map lexeme.Symbol (sign_of w)
 
 abbrev pub Means : Text → Option Lexeme → Type 0
 Means w m = (b : ℕ) × (v : Text) × (w ≡ b ∷ v) × MeansOf (class b) w m
 
-of_class : (w : Text) (m : Option Lexeme) (b : ℕ) (v : Text) (k : Class) → w ≡ b ∷ v → class b ≡ k → MeansOf k w m → Means w m
+of_class : (w : Text) (m : Option Lexeme) (b : ℕ) (v : Text) (k : Class) → w ≡ b ∷ v → class b ≡ k → MeansOf k w m
+    → Means w m
 of_class w m b v k e c h = let P : Class → Type 0 = λ c. MeansOf c w m in (b, v, e, subst P (sym c) h)
 
 of_run : (w : Text) (m : Option Lexeme) (k : Class) → IsRun k w → MeansOf k w m → Means w m
@@ -49,7 +51,8 @@ is_no_sign : (w : Text) (o : Option Symbol) → sign_of w ≡ o → 2 < length w
 is_no_sign w None e h = refl
 is_no_sign w (Some s) e h = absurd (omega (arith, sign_length w s e))
 
-number_means : (form : Numeral) (n : ℕ) → form ≢ Code → n < 2 ^ 32 → (n < limit form) × (Some (lexeme.Number n) ≡ Some (numbered form n))
+number_means : (form : Numeral) (n : ℕ) → form ≢ Code → n < 2 ^ 32 → (n < limit form)
+    × (Some (lexeme.Number n) ≡ Some (numbered form n))
 number_means Decimal n apart h = (h, refl)
 number_means Octal n apart h = (h, refl)
 number_means Hexadecimal n apart h = (h, refl)
@@ -61,12 +64,14 @@ means w None (inr c) =
     let two = closed_two c.0 c.1 in
     let long : 2 < length w = omega (arith, ap length c.2, ap length two.3) in
     of_class w None 40 (42 ∷ c.0) Other c.2 class_open (is_no_sign w (sign_of w) refl long)
-means w (Some (lexeme.Name n)) h = of_run w (Some (lexeme.Name n)) Letter h.0 (h.1, ap (λ n. Some (lexeme.Name n)) h.3 ∙ ap (λ o. Some (named w o)) (sym h.2))
+means w (Some (lexeme.Name n)) h = of_run w (Some (lexeme.Name n)) Letter h.0
+    (h.1, ap (λ n. Some (lexeme.Name n)) h.3 ∙ ap (λ o. Some (named w o)) (sym h.2))
 means w (Some (lexeme.Number n)) h =
     let k = number_means h.1.0 n h.1.1 h.2 in
     of_run w (Some (lexeme.Number n)) Digit h.0 (h.1.0, n, h.1.2, k.0, k.1)
 means w (Some (lexeme.Char n)) h = of_run w (Some (lexeme.Char n)) Digit h.0 (Code, n, h.1, h.2, refl)
-means w (Some (lexeme.Text inside)) h = of_class w (Some (lexeme.Text inside)) h.0.0 (inside ++ h.0.0 ∷ []) Quote h.0.3 h.0.1 (inside, h.0, h.1, refl)
+means w (Some (lexeme.Text inside)) h = of_class w (Some (lexeme.Text inside)) h.0.0 (inside ++ h.0.0 ∷ []) Quote h.0.3
+    h.0.1 (inside, h.0, h.1, refl)
 means w (Some (lexeme.Symbol s)) (inl e) =
     let k = word_is w s e in
     of_class w (Some (lexeme.Symbol s)) k.0 k.1 Letter k.2 k.3 (k.4, ap (λ o. Some (named w o)) (sym e))
@@ -85,7 +90,8 @@ quoted_once w i j h k =
     let tails : i ++ h.0 ∷ [] ≡ j ++ k.0 ∷ [] = cc in
     (same_from_push i j h.0 k.0 tails).0
 
-one_meaning : (k : Class) (w : Text) (m n : Option Lexeme) (b : ℕ) (v : Text) → w ≡ b ∷ v → MeansOf k w m → MeansOf k w n → m ≡ n
+one_meaning : (k : Class) (w : Text) (m n : Option Lexeme) (b : ℕ) (v : Text) → w ≡ b ∷ v → MeansOf k w m
+    → MeansOf k w n → m ≡ n
 one_meaning Space w m n b v e h k = h ∙ sym k
 one_meaning Letter w m n b v e h k = h.1 ∙ sym k.1
 one_meaning Digit w m n b v e h k =
@@ -106,7 +112,8 @@ means_once w m n h k =
     one_meaning (class a.0) w m n a.0 a.1 a.2 a.3 (subst P same c.3)
 
 -- what a member says, where the class of its first byte is known
-pub means_at : (k : Class) (q : ℕ) (t w more : Text) (m : Option Lexeme) → q ∷ t ≡ w ++ more → class q ≡ k → IsMember (w, m) → MeansOf k w m
+pub means_at : (k : Class) (q : ℕ) (t w more : Text) (m : Option Lexeme) → q ∷ t ≡ w ++ more → class q ≡ k
+    → IsMember (w, m) → MeansOf k w m
 means_at k q t w more m e c h =
     let a = means w m h in
     let whole : q ∷ t ≡ (a.0 ∷ a.1) ++ more = e ∙ ap (λ w. w ++ more) a.2 in

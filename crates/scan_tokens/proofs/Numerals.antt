@@ -19,7 +19,12 @@ no_digits = (refl, refl, refl)
 differs : (c k : ℕ) → is_digit_of 10 k ≡ false → is_digit_of 10 c ≡ true → eqb c k ≡ false
 differs c k fails h =
     let P : Bool → Type 0 = λ v. eqb c k ≡ v → v ≡ false in
-    elim (eqb c k) as P [ true ↦ λ e. (let same : c ≡ k = eqb-true c k e in let passes : is_digit_of 10 k ≡ true = ap (is_digit_of 10) (sym same) ∙ h in sym passes ∙ fails) | false ↦ λ _. refl ] refl
+    elim (eqb c k) as P [
+      | true ↦ λ e. (let same : c ≡ k = eqb-true c k e in
+          let passes : is_digit_of 10 k ≡ true = ap (is_digit_of 10) (sym same) ∙ h in sym passes ∙ fails)
+      | false ↦ λ _.
+          refl
+    ] refl
 
 decimal_last : (c : ℕ) → is_digit_of 10 c ≡ true → form_by c ≡ Decimal
 decimal_last c h =
@@ -31,7 +36,8 @@ last_passes : (p : ℕ → Bool) (front : Text) (c : ℕ) → list_all p (front 
 last_passes p front c h = (and_true (p c) true (all_append p front (c ∷ []) h).1).0
 
 -- the last byte says how a number is written
-pub written_last : (form : Numeral) (w : Text) (n : ℕ) (front : Text) (c : ℕ) → Writes w form n → w ≡ front ++ c ∷ [] → form ≡ form_by c
+pub written_last : (form : Numeral) (w : Text) (n : ℕ) (front : Text) (c : ℕ) → Writes w form n → w ≡ front ++ c ∷ []
+    → form ≡ form_by c
 written_last Decimal w n front c h e =
     let digits : h.0 ≡ front ++ c ∷ [] = sym (append-nil h.0) ∙ sym h.1 ∙ e in
     sym (decimal_last c (last_passes (is_digit_of 10) front c (ap (list_all (is_digit_of 10)) (sym digits) ∙ h.2)))
@@ -39,18 +45,23 @@ written_last Octal w n front c h e = ap form_by (same_from_push h.0 front 66 c (
 written_last Hexadecimal w n front c h e = ap form_by (same_from_push h.0 front 72 c (sym h.1 ∙ e)).1
 written_last Code w n front c h e = ap form_by (same_from_push h.0 front 67 c (sym h.1 ∙ e)).1
 
-same_digits : (form other : Numeral) (digits others : Text) → form ≡ other → digits ++ suffix form ≡ others ++ suffix other → digits ≡ others
+same_digits : (form other : Numeral) (digits others : Text) → form ≡ other
+    → digits ++ suffix form ≡ others ++ suffix other → digits ≡ others
 same_digits form other digits others same e =
     append_cancel_right digits others (suffix form) (e ∙ ap (λ f. others ++ suffix f) (sym same))
 
 pub refused_digits : (form : Numeral) (w digits front : Text) (c : ℕ) (broken : TokenRule)
-    → w ≡ front ++ c ∷ [] → form ≡ form_by c → w ≡ digits ++ suffix form → RefusesDigits form digits broken → RefusesNumber w broken
+    → w ≡ front ++ c ∷ [] → form ≡ form_by c → w ≡ digits ++ suffix form → RefusesDigits form digits broken
+    → RefusesNumber w broken
 refused_digits form w digits front c BadNumber e is d h = λ other n k.
     let same : other ≡ form = written_last other w n front c k e ∙ sym is in
     let digits_same = same_digits other form k.0 digits same (sym k.1 ∙ d) in
-    let passes : list_all (is_digit_of (base form)) digits ≡ true = ap (λ f. list_all (is_digit_of (base f)) digits) (sym same) ∙ ap (list_all (is_digit_of (base other))) (sym digits_same) ∙ k.2 in
+    let passes : list_all (is_digit_of (base form)) digits ≡ true =
+    ap (λ f. list_all (is_digit_of (base f)) digits) (sym same)
+    ∙ ap (list_all (is_digit_of (base other))) (sym digits_same) ∙ k.2 in
     cc
-refused_digits form w digits front c LargeNumber e is d h = (form, value (base form) digits, (digits, d, h.0, refl), h.1)
+refused_digits form w digits front c LargeNumber e is d h =
+    (form, value (base form) digits, (digits, d, h.0, refl), h.1)
 refused_digits form w digits front c TooLong e is d h = h
 refused_digits form w digits front c StrayByte e is d h = h
 refused_digits form w digits front c OpenComment e is d h = h
@@ -58,7 +69,8 @@ refused_digits form w digits front c OpenString e is d h = h
 refused_digits form w digits front c LongName e is d h = h
 
 -- Each is written in one way.
-pub written_once : (w : Text) (form other : Numeral) (n m : ℕ) (front : Text) (c : ℕ) → w ≡ front ++ c ∷ [] → Writes w form n → Writes w other m → (form ≡ other) × (n ≡ m)
+pub written_once : (w : Text) (form other : Numeral) (n m : ℕ) (front : Text) (c : ℕ) → w ≡ front ++ c ∷ []
+    → Writes w form n → Writes w other m → (form ≡ other) × (n ≡ m)
 written_once w form other n m front c e h k =
     let same : form ≡ other = written_last form w n front c h e ∙ sym (written_last other w m front c k e) in
     let digits = same_digits form other h.0 k.0 same (sym h.1 ∙ k.1) in

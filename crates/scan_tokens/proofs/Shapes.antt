@@ -25,11 +25,13 @@ if_found : (v : Bool) (s t : Symbol) (o : Option Symbol) → cond v (Some s) o �
 if_found true s t o h = inl refl
 if_found false s t o h = inr h
 
-lookup_passes : (p : Text → Bool) (es : Spellings) (w : Text) (s : Symbol) → list_all (λ e. p e.0) es ≡ true → lookup es w ≡ Some s → p w ≡ true
+lookup_passes : (p : Text → Bool) (es : Spellings) (w : Text) (s : Symbol) → list_all (λ e. p e.0) es ≡ true
+    → lookup es w ≡ Some s → p w ≡ true
 lookup_passes p [] w s h e = cc
 lookup_passes p (x ∷ es) w s h e =
     let a = and_true (p x.0) (list_all (λ e. p e.0) es) h in
-    elim (if_found (bytes_eq x.0 w) x.1 s (lookup es w) e) [ inl same ↦ ap p (sym (same_bytes x.0 w same)) ∙ a.0 | inr later ↦ lookup_passes p es w s a.1 later ]
+    elim (if_found (bytes_eq x.0 w) x.1 s (lookup es w) e)
+    [ inl same ↦ ap p (sym (same_bytes x.0 w same)) ∙ a.0 | inr later ↦ lookup_passes p es w s a.1 later ]
 
 is_other : Class → Bool
 is_other Other = true
@@ -57,7 +59,8 @@ letter_class Quote h = cc
 
 sign_test : Text → Bool
 sign_test [] = false
-sign_test (b ∷ bs) = is_other (class b) && (is_some (sign_of (b ∷ [])) && (leb (length bs) 1 && list_all in_one_line (b ∷ bs)))
+sign_test (b ∷ bs) = is_other (class b) &&
+    (is_some (sign_of (b ∷ [])) && (leb (length bs) 1 && list_all in_one_line (b ∷ bs)))
 
 word_test : Text → Bool
 word_test [] = false
@@ -80,7 +83,16 @@ sign_parts (b ∷ bs) h =
     let a = and_true (is_other (class b)) _ h in
     let c = and_true (is_some (sign_of (b ∷ []))) _ a.1 in
     let d = and_true (leb (length bs) 1) (list_all in_one_line (b ∷ bs)) c.1 in
-    record { first = b; others = bs; is = refl; other = other_class (class b) a.0; alone = c.0; short = leb-true (length bs) 1 d.0; line = d.1 }
+    record {
+      first = b;
+      others = bs;
+      is = refl;
+      other = other_class (class b) a.0;
+      alone = c.0;
+      short =
+          leb-true (length bs) 1 d.0;
+      line = d.1;
+    }
 
 signs_pass : list_all (λ e. sign_test e.0) signs ≡ true
 unfolding sign_test is_other class sign_of is_line_end
@@ -94,14 +106,16 @@ words_pass : list_all (λ e. word_test e.0) words ≡ true
 unfolding word_test is_letter_class class
 words_pass = refl
 
-word_parts : (w : Text) → word_test w ≡ true → (b : ℕ) × (bs : Text) × (w ≡ b ∷ bs) × (class b ≡ Letter) × (length w ≤ max_name)
+word_parts : (w : Text) → word_test w ≡ true → (b : ℕ) × (bs : Text) × (w ≡ b ∷ bs) × (class b ≡ Letter)
+    × (length w ≤ max_name)
 unfolding word_test
 word_parts [] h = cc
 word_parts (b ∷ bs) h =
     let a = and_true (is_letter_class (class b)) _ h in
     (b, bs, refl, letter_class (class b) a.0, leb-true (length (b ∷ bs)) 64 a.1)
 
-pub word_is : (w : Text) (s : Symbol) → word_of w ≡ Some s → (b : ℕ) × (bs : Text) × (w ≡ b ∷ bs) × (class b ≡ Letter) × (length w ≤ max_name)
+pub word_is : (w : Text) (s : Symbol) → word_of w ≡ Some s → (b : ℕ) × (bs : Text) × (w ≡ b ∷ bs) × (class b ≡ Letter)
+    × (length w ≤ max_name)
 unfolding word_of
 word_is w s e = word_parts w (lookup_passes word_test words w s words_pass e)
 
@@ -124,7 +138,8 @@ FormOf Space w = length w ≡ 1
 FormOf Letter w = IsRun Letter w
 FormOf Digit w = IsRun Digit w
 FormOf Quote w = (inside : Text) × IsQuoted w inside
-FormOf Other w = ((s : Symbol) × (sign_of w ≡ Some s)) ⊎ (((bs : Text) × IsClosed bs × (w ≡ 40 ∷ 42 ∷ bs)) ⊎ (w ≡ opening))
+FormOf Other w = ((s : Symbol) × (sign_of w ≡ Some s))
+    ⊎ (((bs : Text) × IsClosed bs × (w ≡ 40 ∷ 42 ∷ bs)) ⊎ (w ≡ opening))
 
 abbrev pub Sorted : Text → Type 0
 Sorted w = (b : ℕ) × (v : Text) × (w ≡ b ∷ v) × FormOf (class b) w
@@ -141,8 +156,15 @@ sorted _ (space b c) = (b, [], refl, of_class (b ∷ []) Space (class b) c refl)
 sorted w (name _ r) = run_sorted Letter w r r
 sorted w (number _ r) = run_sorted Digit w r r
 sorted w (quoted _ inside h) = (h.0, inside ++ h.0 ∷ [], h.3, of_class w Quote (class h.0) h.1 (inside, h))
-sorted w (sign _ s e) = let p = sign_is w s e in (p.first, p.others, p.is, of_class w Other (class p.first) p.other (inl (s, e)))
-sorted _ (comment bs p) = (40, 42 ∷ bs, refl, of_class (40 ∷ 42 ∷ bs) Other (class 40) class_open (inr (inl (bs, p, refl))))
+sorted w (sign _ s e) = let p = sign_is w s e in
+    (p.first, p.others, p.is, of_class w Other (class p.first) p.other (inl (s, e)))
+sorted _ (comment bs p) = (
+  40,
+  42 ∷ bs,
+  refl,
+  of_class (40 ∷ 42 ∷ bs) Other (class 40) class_open
+      (inr (inl (bs, p, refl))),
+)
 sorted _ opened = (40, 42 ∷ [], refl, of_class (40 ∷ 42 ∷ []) Other (class 40) class_open (inr (inr refl)))
 
 -- a form at the front of a text whose first byte is of this class
@@ -165,13 +187,15 @@ pub run_passes : (k : Class) (w : Text) → in_run k ≡ true → IsRun k w → 
 run_passes k [] i r = absurd r
 run_passes k (b ∷ bs) i r = ap (λ v. v && list_all is_run_byte bs) (ap in_run r.0 ∙ i) ∙ r.1
 
-run_front : (k : Class) (b : ℕ) (s v more : Text) → in_run k ≡ true → FormOf k v → IsRun k v → b ∷ s ≡ v ++ more → length v ≤ prefix_len is_run_byte (b ∷ s)
+run_front : (k : Class) (b : ℕ) (s v more : Text) → in_run k ≡ true → FormOf k v → IsRun k v → b ∷ s ≡ v ++ more
+    → length v ≤ prefix_len is_run_byte (b ∷ s)
 run_front k b s v more i f r e =
     let h = passes_within is_run_byte v more (run_passes k v i r) in
     let same : prefix_len is_run_byte (b ∷ s) ≡ prefix_len is_run_byte (v ++ more) = ap (prefix_len is_run_byte) e in
     omega (arith, h, same)
 
-pub longest_name : (s w more : Text) → s ≡ w ++ more → length w ≡ prefix_len is_run_byte s → IsRun Letter w → IsLongest w more
+pub longest_name : (s w more : Text) → s ≡ w ++ more → length w ≡ prefix_len is_run_byte s → IsRun Letter w
+    → IsLongest w more
 longest_name s [] more e n r = absurd r
 longest_name s (b ∷ bs) more e n r = record {
   form = name (b ∷ bs) r;
@@ -182,7 +206,8 @@ longest_name s (b ∷ bs) more e n r = record {
       omega (arith, h, same, n);
 }
 
-pub longest_number : (s w more : Text) → s ≡ w ++ more → length w ≡ prefix_len is_run_byte s → IsRun Digit w → IsLongest w more
+pub longest_number : (s w more : Text) → s ≡ w ++ more → length w ≡ prefix_len is_run_byte s → IsRun Digit w
+    → IsLongest w more
 longest_number s [] more e n r = absurd r
 longest_number s (b ∷ bs) more e n r = record {
   form = number (b ∷ bs) r;
@@ -198,14 +223,16 @@ unfolding is_inside
 not_inside q = ap (λ v. not (v || (q == 10))) (eq-eqb q q refl)
 
 -- how long a string is
-pub quoted_length : (q : ℕ) (s v inside more : Text) → q ∷ s ≡ v ++ more → IsQuoted v inside → length v ≡ prefix_len (is_inside q) s + 2
+pub quoted_length : (q : ℕ) (s v inside more : Text) → q ∷ s ≡ v ++ more → IsQuoted v inside
+    → length v ≡ prefix_len (is_inside q) s + 2
 quoted_length q s v inside more e h =
     let whole : q ∷ s ≡ (h.0 ∷ inside ++ h.0 ∷ []) ++ more = e ∙ ap (λ v. v ++ more) h.3 in
     let same : q ≡ h.0 = same_head whole in
     let tail : s ≡ (inside ++ h.0 ∷ []) ++ more = cc in
     let cut : s ≡ inside ++ h.0 ∷ more = tail ∙ append_assoc inside (h.0 ∷ []) more in
     let P : ℕ → Type 0 = λ q. prefix_len (is_inside q) s ≡ length inside in
-    let n = subst P (sym same) (ap (prefix_len (is_inside h.0)) cut ∙ passes_to (is_inside h.0) inside h.0 more h.2 (not_inside h.0)) in
+    let n = subst P (sym same) (ap (prefix_len (is_inside h.0)) cut
+    ∙ passes_to (is_inside h.0) inside h.0 more h.2 (not_inside h.0)) in
     let m = ap length h.3 in
     omega (arith, n, m, length-append inside (h.0 ∷ []))
 
@@ -240,10 +267,13 @@ longest_comment bs more p = record {
       ];
 }
 
-not_opening : (b : ℕ) (more t : Text) → b ∷ more ≡ 40 ∷ 42 ∷ t → ((c : ℕ) (u : Text) → more ≡ c ∷ u → b ∷ c ∷ [] ≢ opening) → ⊥
-not_opening b more t e alone = let first : b ≡ 40 = same_head e in let rest : more ≡ 42 ∷ t = cc in alone 42 t rest (ap (λ b. b ∷ 42 ∷ []) first)
+not_opening : (b : ℕ) (more t : Text) → b ∷ more ≡ 40 ∷ 42 ∷ t
+    → ((c : ℕ) (u : Text) → more ≡ c ∷ u → b ∷ c ∷ [] ≢ opening) → ⊥
+not_opening b more t e alone = let first : b ≡ 40 = same_head e in let rest : more ≡ 42 ∷ t = cc in
+    alone 42 t rest (ap (λ b. b ∷ 42 ∷ []) first)
 
-sign_alone : (b : ℕ) (more v m : Text) (s : Symbol) → b ∷ more ≡ v ++ m → sign_of v ≡ Some s → ((c : ℕ) (t : Text) → more ≡ c ∷ t → sign_of (b ∷ c ∷ []) ≡ None) → length v ≤ 1
+sign_alone : (b : ℕ) (more v m : Text) (s : Symbol) → b ∷ more ≡ v ++ m → sign_of v ≡ Some s
+    → ((c : ℕ) (t : Text) → more ≡ c ∷ t → sign_of (b ∷ c ∷ []) ≡ None) → length v ≤ 1
 sign_alone b more [] m s d e alone = omega arith
 sign_alone b more (x ∷ []) m s d e alone = omega arith
 sign_alone b more (x ∷ y ∷ []) m s d e alone =
@@ -256,12 +286,14 @@ sign_alone b more (x ∷ y ∷ z ∷ v) m s d e alone = absurd (omega (arith, si
 pair_class : (b c : ℕ) (s : Symbol) → sign_of (b ∷ c ∷ []) ≡ Some s → class b ≡ Other
 pair_class b c s e = let p = sign_is (b ∷ c ∷ []) s e in ap class (same_head p.is) ∙ p.other
 
-pair_not_opening : (b c : ℕ) (s : Symbol) (more t : Text) → sign_of (b ∷ c ∷ []) ≡ Some s → b ∷ c ∷ more ≡ 40 ∷ 42 ∷ t → ⊥
+pair_not_opening : (b c : ℕ) (s : Symbol) (more t : Text) → sign_of (b ∷ c ∷ []) ≡ Some s → b ∷ c ∷ more ≡ 40 ∷ 42 ∷ t
+    → ⊥
 pair_not_opening b c s more t e d =
     let first : b ≡ 40 = same_head d in
     let rest : c ∷ more ≡ 42 ∷ t = cc in
     let second : c ≡ 42 = same_head rest in
-    let none : sign_of (b ∷ c ∷ []) ≡ None = ap (λ b. sign_of (b ∷ c ∷ [])) first ∙ ap (λ c. sign_of (40 ∷ c ∷ [])) second ∙ no_sign_opens in
+    let none : sign_of (b ∷ c ∷ []) ≡ None = ap (λ b. sign_of (b ∷ c ∷ [])) first
+    ∙ ap (λ c. sign_of (40 ∷ c ∷ [])) second ∙ no_sign_opens in
     cc
 
 opens_something : (b : ℕ) → b ≡ 40 → sign_of (b ∷ []) ≡ None → ⊥
@@ -272,7 +304,8 @@ opens_something b h e =
 
 -- a sign of one byte, before what makes no longer one
 pub longest_sign : (b : ℕ) (s : Symbol) (more : Text) → class b ≡ Other → sign_of (b ∷ []) ≡ Some s
-    → ((c : ℕ) (t : Text) → more ≡ c ∷ t → (b ∷ c ∷ [] ≢ opening) × (sign_of (b ∷ c ∷ []) ≡ None)) → IsLongest (b ∷ []) more
+    → ((c : ℕ) (t : Text) → more ≡ c ∷ t → (b ∷ c ∷ [] ≢ opening) × (sign_of (b ∷ c ∷ []) ≡ None))
+    → IsLongest (b ∷ []) more
 longest_sign b s more c e alone = record {
   form = sign (b ∷ []) s e;
   longest = λ v m d f.

@@ -17,29 +17,44 @@ use Rattle.wasm_tree.proofs.Flat.{tree_front, tree_none, behind_le}
 use Rattle.show_code.specs.Pages.{deeper, row}
 use Rattle.show_code.specs.Instructions.{callee_text, code_text, instr_text, label_text, load_word, numbered_row, numeric_text, opened_text, store_word, targets_text, text_step, texts_at}
 
-at : (level : ℕ) (i : Instr) (x : Instr-F Instr) → out-Instr i ≡ x → instr_text i level ≡ text_step (map-Instr Instr (ℕ → List ℕ) instr_text x) level
+at : (level : ℕ) (i : Instr) (x : Instr-F Instr) → out-Instr i ≡ x
+    → instr_text i level ≡ text_step (map-Instr Instr (ℕ → List ℕ) instr_text x) level
 unfolding instr_text
-at level i x e = ap (λ (f : ℕ → List ℕ). f level) (fold_out-Instr (ℕ → List ℕ) text_step i) ∙ ap (λ (y : Instr-F Instr). text_step (map-Instr Instr (ℕ → List ℕ) instr_text y) level) e
+at level i x e = ap (λ (f : ℕ → List ℕ). f level) (fold_out-Instr (ℕ → List ℕ) text_step i)
+    ∙ ap (λ (y : Instr-F Instr). text_step (map-Instr Instr (ℕ → List ℕ) instr_text y) level) e
 
 joined : (level : ℕ) (is : List Instr) → texts_at level (map instr_text is) ≡ code_text level is
 joined level [] = refl
 joined level (i ∷ is) = ap (λ (r : List ℕ). instr_text i level ++ r) (joined level is)
 
-pub text-Block : (level : ℕ) (t : Option ValueType) (is : List Instr) → instr_text (Block t is) level ≡ opened_text level (codes "block") t (code_text (deeper level) is) ++ row level (codes "end")
-text-Block level t is = at level (Block t is) (layer.Block t is) (outs-Block t is) ∙ ap (λ (r : List ℕ). opened_text level (codes "block") t r ++ row level (codes "end")) (joined (deeper level) is)
+pub text-Block : (level : ℕ) (t : Option ValueType) (is : List Instr)
+    → instr_text (Block t is) level ≡ opened_text level (codes "block") t (code_text (deeper level) is)
+    ++ row level (codes "end")
+text-Block level t is = at level (Block t is) (layer.Block t is) (outs-Block t is)
+    ∙ ap (λ (r : List ℕ). opened_text level (codes "block") t r ++ row level (codes "end")) (joined (deeper level) is)
 
-pub text-Loop : (level : ℕ) (t : Option ValueType) (is : List Instr) → instr_text (Loop t is) level ≡ opened_text level (codes "loop") t (code_text (deeper level) is) ++ row level (codes "end")
-text-Loop level t is = at level (Loop t is) (layer.Loop t is) (outs-Loop t is) ∙ ap (λ (r : List ℕ). opened_text level (codes "loop") t r ++ row level (codes "end")) (joined (deeper level) is)
+pub text-Loop : (level : ℕ) (t : Option ValueType) (is : List Instr)
+    → instr_text (Loop t is) level ≡ opened_text level (codes "loop") t (code_text (deeper level) is)
+    ++ row level (codes "end")
+text-Loop level t is = at level (Loop t is) (layer.Loop t is) (outs-Loop t is)
+    ∙ ap (λ (r : List ℕ). opened_text level (codes "loop") t r ++ row level (codes "end")) (joined (deeper level) is)
 
-pub text-If-None : (level : ℕ) (t : Option ValueType) (is : List Instr) → instr_text (If t is None) level ≡ opened_text level (codes "if") t (code_text (deeper level) is) ++ row level (codes "end")
-text-If-None level t is = at level (If t is None) (layer.If t is None) (outs-If t is None) ∙ ap (λ (r : List ℕ). opened_text level (codes "if") t r ++ row level (codes "end")) (joined (deeper level) is)
+pub text-If-None : (level : ℕ) (t : Option ValueType) (is : List Instr)
+    → instr_text (If t is None) level ≡ opened_text level (codes "if") t (code_text (deeper level) is)
+    ++ row level (codes "end")
+text-If-None level t is = at level (If t is None) (layer.If t is None) (outs-If t is None)
+    ∙ ap (λ (r : List ℕ). opened_text level (codes "if") t r ++ row level (codes "end")) (joined (deeper level) is)
 
 pub text-If-Some : (level : ℕ) (t : Option ValueType) (is others : List Instr)
-    → instr_text (If t is (Some others)) level ≡ opened_text level (codes "if") t (code_text (deeper level) is) ++ (row level (codes "else") ++ (code_text (deeper level) others ++ row level (codes "end")))
+    → instr_text (If t is (Some others)) level ≡ opened_text level (codes "if") t (code_text (deeper level) is)
+    ++ (row level (codes "else") ++ (code_text (deeper level) others ++ row level (codes "end")))
 text-If-Some level t is others =
     at level (If t is (Some others)) (layer.If t is (Some others)) (outs-If t is (Some others))
-    ∙ ap (λ (r : List ℕ). opened_text level (codes "if") t r ++ (row level (codes "else") ++ (texts_at (deeper level) (map instr_text others) ++ row level (codes "end")))) (joined (deeper level) is)
-    ∙ ap (λ (r : List ℕ). opened_text level (codes "if") t (code_text (deeper level) is) ++ (row level (codes "else") ++ (r ++ row level (codes "end")))) (joined (deeper level) others)
+    ∙ ap (λ (r : List ℕ). opened_text level (codes "if") t r
+    ++ (row level (codes "else") ++ (texts_at (deeper level) (map instr_text others) ++ row level (codes "end"))))
+    (joined (deeper level) is)
+    ∙ ap (λ (r : List ℕ). opened_text level (codes "if") t (code_text (deeper level) is)
+    ++ (row level (codes "else") ++ (r ++ row level (codes "end")))) (joined (deeper level) others)
 
 pub text-Unreachable : (level : ℕ) → instr_text Unreachable level ≡ row level (codes "unreachable")
 text-Unreachable level = at level Unreachable layer.Unreachable outs-Unreachable
@@ -92,11 +107,14 @@ text-Store level w = at level (Store w) (layer.Store w) (outs-Store w)
 pub text-Numeric : (level : ℕ) (n : numeric.Numeric) → instr_text (Numeric n) level ≡ numeric_text level n
 text-Numeric level n = at level (Numeric n) (layer.Numeric n) (outs-Numeric n)
 
-pub put-GlobalGet : {T E : Type 0} (r : Result T E) (old new : List ℕ) (o : Op) (rest : List Op) (level n x : ℕ) → o ≡ op.GlobalGet x → n ≡ x
-    → OnOk r (new ≡ old ++ numbered_row level (codes "global.get ") n) → OnOk r (new ≡ old ++ instr_text (head tree o rest) level)
+pub put-GlobalGet : {T E : Type 0} (r : Result T E) (old new : List ℕ) (o : Op) (rest : List Op) (level n x : ℕ)
+    → o ≡ op.GlobalGet x → n ≡ x
+    → OnOk r (new ≡ old ++ numbered_row level (codes "global.get ") n)
+    → OnOk r (new ≡ old ++ instr_text (head tree o rest) level)
 put-GlobalGet r old new o rest level n x e f h =
     subst (λ (i : Op). OnOk r (new ≡ old ++ instr_text (head tree i rest) level)) (sym e)
-    (subst (λ (t : List ℕ). OnOk r (new ≡ old ++ t)) (ap (λ (k : ℕ). numbered_row level (codes "global.get ") k) f ∙ sym (text-GlobalGet level x)) h)
+    (subst (λ (t : List ℕ). OnOk r (new ≡ old ++ t))
+    (ap (λ (k : ℕ). numbered_row level (codes "global.get ") k) f ∙ sym (text-GlobalGet level x)) h)
 
 -- ---- a table of labels
 
@@ -110,7 +128,8 @@ abbrev coded : (level : ℕ) → List Op → List ℕ
 coded level ops = code_text level (tree ops)
 
 -- one more instruction was put, and what is left stands behind it
-pub one_put : (level : ℕ) (out new all : List ℕ) (o : Op) (left rest behind_it : List Op) → new ≡ out ++ instr_text (head tree o rest) level → left ≡ o ∷ rest → behind_it ≡ behind o rest
+pub one_put : (level : ℕ) (out new all : List ℕ) (o : Op) (left rest behind_it : List Op)
+    → new ≡ out ++ instr_text (head tree o rest) level → left ≡ o ∷ rest → behind_it ≡ behind o rest
     → out ++ coded level left ≡ all → new ++ coded level behind_it ≡ all
 one_put level out new all o left rest behind_it e f g so_far =
     ap (λ (w : List ℕ). w ++ coded level behind_it) e
@@ -124,7 +143,8 @@ pub all_put : (level : ℕ) (out all : List ℕ) (left : List Op) → left ≡ [
 all_put level out all left f so_far =
     sym (append-nil out) ∙ sym (ap (λ (is : List Instr). out ++ code_text level is) (ap tree f ∙ tree_none)) ∙ so_far
 
-pub no_longer : (n : ℕ) (o : Op) (left rest behind_it : List Op) → left ≡ o ∷ rest → behind_it ≡ behind o rest → length left ≤ n → length behind_it ≤ n
+pub no_longer : (n : ℕ) (o : Op) (left rest behind_it : List Op) → left ≡ o ∷ rest → behind_it ≡ behind o rest
+    → length left ≤ n → length behind_it ≤ n
 no_longer n o left rest behind_it f g h =
     let l : length left ≡ suc (length rest) = ap length f in
     rw g (behind_le n o rest (omega (arith, l, h)))

@@ -1,5 +1,5 @@
 -- How tokens are shown: a line for each.
-use Rattle.std.specs.Prelude.{ℕ, ◌/◌, ◌%◌, ◌+◌, ◌<◌, List, [], ◌∷◌, ◌++◌, if◌then◌else◌, codes, decimal, ◌==◌}
+use Rattle.std.specs.Prelude.{ℕ, ◌/◌, ◌%◌, ◌+◌, List, [], ◌∷◌, ◌++◌, if◌then◌else◌, codes, decimal, ◌==◌}
 use Rattle.std.specs.List.{flat_map, list_any}
 use Rattle.m2_tree.specs.declared.token.Token.{Token}
 use Rattle.m2_tree.specs.declared.token.Lexeme.{Lexeme}

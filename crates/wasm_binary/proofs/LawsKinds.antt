@@ -14,8 +14,11 @@ use Rattle.wasm_code.proofs.LawsParts.{before_law, then_law, seen_law, vector_la
 pub func_type_law : Law func_type
 unfolding func_type
 func_type_law =
-    seen_law (λ p. record { params = p.0; results = p.1 }) (λ t. (t.params, t.results)) (0x60 ▸ vector value_type · vector value_type)
-    (before_law 0x60 (vector value_type · vector value_type) (then_law (vector value_type) (vector value_type) (vector_law value_type value_type_law) (vector_law value_type value_type_law)))
+    seen_law (λ p. record { params = p.0; results = p.1 }) (λ t. (t.params, t.results))
+    (0x60 ▸ vector value_type · vector value_type)
+    (before_law 0x60 (vector value_type · vector value_type)
+    (then_law (vector value_type) (vector value_type) (vector_law value_type value_type_law)
+    (vector_law value_type value_type_law)))
     (λ y. refl) (λ x. refl)
 
 and_true : (b : Bool) → (b && true) ≡ b
@@ -28,28 +31,40 @@ least n = record { min = n; max = None }
 abbrev between : ℕ × ℕ → Limits
 between p = record { min = p.0; max = Some p.1 }
 
-limits_takes : (bytes : List ℕ) (x : Limits) (rest : List ℕ) → IsBytes bytes → limits.reading bytes ≡ Ok (x, rest) → Taken limits bytes x rest
+limits_takes : (bytes : List ℕ) (x : Limits) (rest : List ℕ) → IsBytes bytes → limits.reading bytes ≡ Ok (x, rest)
+    → Taken limits bytes x rest
 unfolding limits
 limits_takes [] x rest fits e = absurd cc
 limits_takes (zero ∷ bytes) x rest fits e =
-    tagged limits unsigned least 0 unsigned_law (λ n. refl) (λ n. and_true (unsigned.fits n)) 0 bytes x rest (IsBytes-tail 0 bytes fits) refl e
+    tagged limits unsigned least 0 unsigned_law (λ n. refl) (λ n. and_true (unsigned.fits n)) 0 bytes x rest
+    (IsBytes-tail 0 bytes fits) refl e
 limits_takes (suc zero ∷ bytes) x rest fits e =
-    tagged limits (unsigned · unsigned) between 1 (then_law unsigned unsigned unsigned_law unsigned_law) (λ p. refl) (λ p. refl) 1 bytes x rest (IsBytes-tail 1 bytes fits) refl (bind_pair unsigned unsigned between bytes (x, rest) e)
+    tagged limits (unsigned · unsigned) between 1 (then_law unsigned unsigned unsigned_law unsigned_law) (λ p. refl)
+    (λ p. refl) 1 bytes x rest (IsBytes-tail 1 bytes fits) refl
+    (bind_pair unsigned unsigned between bytes (x, rest) e)
 limits_takes (suc (suc b) ∷ bytes) x rest fits e = absurd cc
 
-limits_again : (min : ℕ) (max : Option ℕ) (rest : List ℕ) → limits.fits (record { min = min; max = max }) ≡ true → limits.reading (limits.encoding (record { min = min; max = max }) ++ rest) ≡ Ok (record { min = min; max = max }, rest)
+limits_again : (min : ℕ) (max : Option ℕ) (rest : List ℕ) → limits.fits (record { min = min; max = max }) ≡ true
+    → limits.reading (limits.encoding (record { min = min; max = max }) ++ rest)
+    ≡ Ok (record { min = min; max = max }, rest)
 unfolding limits
 limits_again min None rest fits = rw (unsigned_law.again min rest (sym (and_true (unsigned.fits min)) ∙ fits)) refl
 limits_again min (Some max) rest fits =
     let f = and_parts (unsigned.fits min) (unsigned.fits max) fits in
-    rw (append_assoc (unsigned.encoding min) (unsigned.encoding max) rest, unsigned_law.again min (unsigned.encoding max ++ rest) f.0, unsigned_law.again max rest f.1) refl
+    rw (
+      append_assoc (unsigned.encoding min) (unsigned.encoding max) rest,
+      unsigned_law.again min
+          (unsigned.encoding max ++ rest) f.0,
+      unsigned_law.again max rest f.1,
+    ) refl
 
 pub limits_law : Law limits
 limits_law = record { takes = limits_takes; again = λ l rest fits. limits_again l.min l.max rest fits }
 
 pub table_type_law : Law table_type
 unfolding table_type
-table_type_law = seen_law (λ l. record { limits = l }) (λ t. t.limits) (0x70 ▸ limits) (before_law 0x70 limits limits_law) (λ y. refl) (λ x. refl)
+table_type_law = seen_law (λ l. record { limits = l }) (λ t. t.limits) (0x70 ▸ limits)
+    (before_law 0x70 limits limits_law) (λ y. refl) (λ x. refl)
 
 pub memory_type_law : Law memory_type
 unfolding memory_type

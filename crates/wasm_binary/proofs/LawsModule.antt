@@ -48,63 +48,97 @@ record BodiesTaken (bytes : List ℕ) (fs : List Function) (rest : List ℕ) : T
   rest_fits : IsBytes rest
   fits : bodies_fit fs ≡ true
 
-bodies_taken_at : (bytes : List ℕ) (x y : List Function) (b c : List ℕ) → (x ≡ y) × (b ≡ c) → BodiesTaken bytes x b → BodiesTaken bytes y c
+bodies_taken_at : (bytes : List ℕ) (x y : List Function) (b c : List ℕ) → (x ≡ y) × (b ≡ c) → BodiesTaken bytes x b
+    → BodiesTaken bytes y c
 bodies_taken_at bytes x y b c is t = subst (λ z. BodiesTaken bytes z c) is.0 (subst (λ r. BodiesTaken bytes x r) is.1 t)
 
 abbrev function : ℕ → Body → Function
 function t b = record { type_index = t; body = b }
 
-bodies_take : (types bytes : List ℕ) (fs : List Function) (rest : List ℕ) → IsBytes bytes → bodies types bytes ≡ Ok (fs, rest) → BodiesTaken bytes fs rest
+bodies_take : (types bytes : List ℕ) (fs : List Function) (rest : List ℕ) → IsBytes bytes
+    → bodies types bytes ≡ Ok (fs, rest) → BodiesTaken bytes fs rest
 unfolding bodies
-bodies_take [] bytes fs rest fits e = bodies_taken_at bytes [] fs bytes rest (read_is [] fs bytes rest e) (record { parts = refl; rest_fits = fits; fits = refl })
+bodies_take [] bytes fs rest fits e = bodies_taken_at bytes [] fs bytes rest (read_is [] fs bytes rest e)
+    (record { parts = refl; rest_fits = fits; fits = refl })
 bodies_take (t ∷ types) bytes fs rest fits e =
-    let a = bind_ok (body.reading bytes) (λ b. bodies types b.1 >>= λ fs. Ok (function t b.0 ∷ fs.0, fs.1)) (fs, rest) e in
+    let a = bind_ok (body.reading bytes) (λ b. bodies types b.1 >>= λ fs. Ok (function t b.0 ∷ fs.0, fs.1)) (fs, rest) e
+    in
     let b = bind_ok (bodies types a.0.1) (λ fs. Ok (function t a.0.0 ∷ fs.0, fs.1)) (fs, rest) a.2 in
     let u = body_law.takes bytes a.0.0 a.0.1 fits a.1 in
     let v = bodies_take types a.0.1 b.0.0 b.0.1 u.rest_fits b.1 in
-    let parts : bytes ≡ (body.encoding a.0.0 ++ flat_map body_encoding b.0.0) ++ b.0.1 = u.parts ∙ ap (λ (r : List ℕ). body.encoding a.0.0 ++ r) v.parts ∙ sym (append_assoc (body.encoding a.0.0) (flat_map body_encoding b.0.0) b.0.1) in
-    bodies_taken_at bytes (function t a.0.0 ∷ b.0.0) fs b.0.1 rest (read_is (function t a.0.0 ∷ b.0.0) fs b.0.1 rest b.2) (record { parts = parts; rest_fits = v.rest_fits; fits = and_from _ _ u.fits v.fits })
+    let parts : bytes ≡ (body.encoding a.0.0 ++ flat_map body_encoding b.0.0) ++ b.0.1 = u.parts
+    ∙ ap (λ (r : List ℕ). body.encoding a.0.0 ++ r) v.parts
+    ∙ sym (append_assoc (body.encoding a.0.0) (flat_map body_encoding b.0.0) b.0.1) in
+    bodies_taken_at bytes (function t a.0.0 ∷ b.0.0) fs b.0.1 rest
+    (read_is (function t a.0.0 ∷ b.0.0) fs b.0.1 rest b.2)
+    (record { parts = parts; rest_fits = v.rest_fits; fits = and_from _ _ u.fits v.fits })
 
-bodies_types : (types bytes : List ℕ) (fs : List Function) (rest : List ℕ) → bodies types bytes ≡ Ok (fs, rest) → types_of fs ≡ types
+bodies_types : (types bytes : List ℕ) (fs : List Function) (rest : List ℕ) → bodies types bytes ≡ Ok (fs, rest)
+    → types_of fs ≡ types
 unfolding bodies
 bodies_types [] bytes fs rest e = ap types_of (sym (read_is [] fs bytes rest e).0)
 bodies_types (t ∷ types) bytes fs rest e =
-    let a = bind_ok (body.reading bytes) (λ b. bodies types b.1 >>= λ fs. Ok (function t b.0 ∷ fs.0, fs.1)) (fs, rest) e in
+    let a = bind_ok (body.reading bytes) (λ b. bodies types b.1 >>= λ fs. Ok (function t b.0 ∷ fs.0, fs.1)) (fs, rest) e
+    in
     let b = bind_ok (bodies types a.0.1) (λ fs. Ok (function t a.0.0 ∷ fs.0, fs.1)) (fs, rest) a.2 in
     let is = read_is (function t a.0.0 ∷ b.0.0) fs b.0.1 rest b.2 in
     ap types_of (sym is.0) ∙ ap (λ (ts : List ℕ). t ∷ ts) (bodies_types types a.0.1 b.0.0 b.0.1 b.1)
 
-bodies_again : (fs : List Function) (rest : List ℕ) → bodies_fit fs ≡ true → bodies (types_of fs) (flat_map body_encoding fs ++ rest) ≡ Ok (fs, rest)
+bodies_again : (fs : List Function) (rest : List ℕ) → bodies_fit fs ≡ true
+    → bodies (types_of fs) (flat_map body_encoding fs ++ rest) ≡ Ok (fs, rest)
 unfolding bodies
 bodies_again [] rest fits = refl
 bodies_again (f ∷ fs) rest fits =
     let g = and_parts (body.fits f.body) (bodies_fit fs) fits in
-    rw (append_assoc (body_encoding f) (flat_map body_encoding fs) rest, body_law.again f.body (flat_map body_encoding fs ++ rest) g.0, bodies_again fs rest g.1) refl
+    rw (
+      append_assoc (body_encoding f) (flat_map body_encoding fs) rest,
+      body_law.again f.body
+          (flat_map body_encoding fs ++ rest) g.0,
+      bodies_again fs rest g.1,
+    ) refl
 
-entries_types : (types bytes : List ℕ) (fs : List Function) (rest : List ℕ) → code_entries types bytes ≡ Ok (fs, rest) → types_of fs ≡ types
+entries_types : (types bytes : List ℕ) (fs : List Function) (rest : List ℕ) → code_entries types bytes ≡ Ok (fs, rest)
+    → types_of fs ≡ types
 unfolding code_entries
 entries_types types bytes fs rest e =
-    let a = bind_ok (unsigned.reading bytes) (λ n. cond (eqb n.0 (length types)) (bodies types n.1) (Err Malformed)) (fs, rest) e in
+    let a = bind_ok (unsigned.reading bytes) (λ n. cond (eqb n.0 (length types)) (bodies types n.1) (Err Malformed))
+    (fs, rest) e in
     let g = guard_ok (eqb a.0.0 (length types)) Malformed (bodies types a.0.1) (fs, rest) a.2 in
     bodies_types types a.0.1 fs rest g.1
 
-entries_take : (types bytes : List ℕ) (fs : List Function) (rest : List ℕ) → IsBytes bytes → code_entries types bytes ≡ Ok (fs, rest) → Taken (code_format types) bytes fs rest
+entries_take : (types bytes : List ℕ) (fs : List Function) (rest : List ℕ) → IsBytes bytes
+    → code_entries types bytes ≡ Ok (fs, rest) → Taken (code_format types) bytes fs rest
 unfolding code_entries
 entries_take types bytes fs rest fits e =
-    let a = bind_ok (unsigned.reading bytes) (λ n. cond (eqb n.0 (length types)) (bodies types n.1) (Err Malformed)) (fs, rest) e in
+    let a = bind_ok (unsigned.reading bytes) (λ n. cond (eqb n.0 (length types)) (bodies types n.1) (Err Malformed))
+    (fs, rest) e in
     let g = guard_ok (eqb a.0.0 (length types)) Malformed (bodies types a.0.1) (fs, rest) a.2 in
     let t = unsigned_law.takes bytes a.0.0 a.0.1 fits a.1 in
     let u = bodies_take types a.0.1 fs rest t.rest_fits g.1 in
-    let len : a.0.0 ≡ length fs = eqb-true a.0.0 (length types) g.0 ∙ ap length (sym (bodies_types types a.0.1 fs rest g.1)) ∙ length-map fs (λ f. f.type_index) in
-    let parts : bytes ≡ (unsigned.encoding a.0.0 ++ flat_map body_encoding fs) ++ rest = t.parts ∙ ap (λ (r : List ℕ). unsigned.encoding a.0.0 ++ r) u.parts ∙ sym (append_assoc (unsigned.encoding a.0.0) (flat_map body_encoding fs) rest) in
-    record { parts = parts ∙ ap (λ (n : ℕ). (unsigned.encoding n ++ flat_map body_encoding fs) ++ rest) len; rest_fits = u.rest_fits; fits = u.fits }
+    let len : a.0.0 ≡ length fs = eqb-true a.0.0 (length types) g.0
+    ∙ ap length (sym (bodies_types types a.0.1 fs rest g.1)) ∙ length-map fs (λ f. f.type_index) in
+    let parts : bytes ≡ (unsigned.encoding a.0.0 ++ flat_map body_encoding fs) ++ rest = t.parts
+    ∙ ap (λ (r : List ℕ). unsigned.encoding a.0.0 ++ r) u.parts
+    ∙ sym (append_assoc (unsigned.encoding a.0.0) (flat_map body_encoding fs) rest) in
+    record {
+      parts = parts ∙ ap (λ (n : ℕ). (unsigned.encoding n ++ flat_map body_encoding fs) ++ rest) len;
+      rest_fits =
+          u.rest_fits;
+      fits = u.fits;
+    }
 
-entries_again : (fs : List Function) → bodies_fit fs ≡ true → ltb (length (types_of fs)) (2 ^ 32) ≡ true → code_entries (types_of fs) (bodies_encoding fs) ≡ Ok (fs, [])
+entries_again : (fs : List Function) → bodies_fit fs ≡ true → ltb (length (types_of fs)) (2 ^ 32) ≡ true
+    → code_entries (types_of fs) (bodies_encoding fs) ≡ Ok (fs, [])
 unfolding code_entries
 entries_again fs fits few =
     let len : length (types_of fs) ≡ length fs = length-map fs (λ f. f.type_index) in
-    let all : bodies (types_of fs) (flat_map body_encoding fs) ≡ Ok (fs, []) = ap (bodies (types_of fs)) (sym (append-nil (flat_map body_encoding fs))) ∙ bodies_again fs [] fits in
-    rw (unsigned_law.again (length fs) (flat_map body_encoding fs) (sym (ap unsigned.fits len) ∙ few), eq-eqb (length fs) (length (types_of fs)) (sym len)) all
+    let all : bodies (types_of fs) (flat_map body_encoding fs) ≡ Ok (fs, []) =
+    ap (bodies (types_of fs)) (sym (append-nil (flat_map body_encoding fs))) ∙ bodies_again fs [] fits in
+    rw (
+      unsigned_law.again (length fs) (flat_map body_encoding fs) (sym (ap unsigned.fits len) ∙ few),
+      eq-eqb
+          (length fs) (length (types_of fs)) (sym len),
+    ) all
 
 -- what was read of the code section
 record CodeTaken (types bytes : List ℕ) (fs : List Function) (rest : List ℕ) : Type 0 where
@@ -114,41 +148,60 @@ record CodeTaken (types bytes : List ℕ) (fs : List Function) (rest : List ℕ)
   fits : bodies_fit fs ≡ true
   room : ltb (length (bodies_encoding fs)) (2 ^ 32) ≡ true
 
-code_taken_at : (types bytes : List ℕ) (x y : List Function) (b c : List ℕ) → (x ≡ y) × (b ≡ c) → CodeTaken types bytes x b → CodeTaken types bytes y c
-code_taken_at types bytes x y b c is t = subst (λ z. CodeTaken types bytes z c) is.0 (subst (λ r. CodeTaken types bytes x r) is.1 t)
+code_taken_at : (types bytes : List ℕ) (x y : List Function) (b c : List ℕ) → (x ≡ y) × (b ≡ c)
+    → CodeTaken types bytes x b → CodeTaken types bytes y c
+code_taken_at types bytes x y b c is t =
+    subst (λ z. CodeTaken types bytes z c) is.0 (subst (λ r. CodeTaken types bytes x r) is.1 t)
 
 none_room : ltb (length (bodies_encoding [])) (2 ^ 32) ≡ true
 unfolding groups
 none_room = refl
 
-code_some : (t : ℕ) (types bytes : List ℕ) (fs : List Function) (rest : List ℕ) → types_of fs ≡ t ∷ types → Taken (with_size (code_format (t ∷ types))) bytes fs rest → CodeTaken (t ∷ types) (10 ∷ bytes) fs rest
+code_some : (t : ℕ) (types bytes : List ℕ) (fs : List Function) (rest : List ℕ) → types_of fs ≡ t ∷ types
+    → Taken (with_size (code_format (t ∷ types))) bytes fs rest → CodeTaken (t ∷ types) (10 ∷ bytes) fs rest
 code_some t types bytes [] rest is u = absurd cc
 code_some t types bytes (f ∷ fs) rest is u =
     let g = and_parts (bodies_fit (f ∷ fs)) (ltb (length (bodies_encoding (f ∷ fs))) (2 ^ 32)) u.fits in
-    record { parts = ap (λ (r : List ℕ). 10 ∷ r) u.parts; rest_fits = u.rest_fits; types_are = is; fits = g.0; room = g.1 }
+    record {
+      parts = ap (λ (r : List ℕ). 10 ∷ r) u.parts;
+      rest_fits = u.rest_fits;
+      types_are = is;
+      fits = g.0;
+      room =
+          g.1;
+    }
 
-code_section_takes : (types bytes : List ℕ) (fs : List Function) (rest : List ℕ) → IsBytes bytes → code_section types bytes ≡ Ok (fs, rest) → CodeTaken types bytes fs rest
+code_section_takes : (types bytes : List ℕ) (fs : List Function) (rest : List ℕ) → IsBytes bytes
+    → code_section types bytes ≡ Ok (fs, rest) → CodeTaken types bytes fs rest
 unfolding code_content
 code_section_takes [] bytes fs rest fits e =
-    code_taken_at [] bytes [] fs bytes rest (read_is [] fs bytes rest e) (record { parts = refl; rest_fits = fits; types_are = refl; fits = refl; room = none_room })
+    code_taken_at [] bytes [] fs bytes rest (read_is [] fs bytes rest e)
+    (record { parts = refl; rest_fits = fits; types_are = refl; fits = refl; room = none_room })
 code_section_takes (t ∷ types) [] fs rest fits e = absurd cc
 code_section_takes (t ∷ types) (b ∷ bytes) fs rest fits e =
     let g = guard_ok (eqb b 10) OutsideProfile (code_content (t ∷ types) bytes) (fs, rest) e in
     let inner = sized_inner (code_format (t ∷ types)) bytes fs rest g.1 in
     let is = entries_types (t ∷ types) inner.0 fs inner.1 inner.2 in
-    let u = sized_takes (code_format (t ∷ types)) (entries_take (t ∷ types)) bytes fs rest (IsBytes-tail b bytes fits) g.1 in
-    subst (λ (c : ℕ). CodeTaken (t ∷ types) (c ∷ bytes) fs rest) (sym (eqb-true b 10 g.0)) (code_some t types bytes fs rest is u)
+    let u = sized_takes (code_format (t ∷ types)) (entries_take (t ∷ types)) bytes fs rest (IsBytes-tail b bytes fits)
+    g.1 in
+    subst (λ (c : ℕ). CodeTaken (t ∷ types) (c ∷ bytes) fs rest) (sym (eqb-true b 10 g.0))
+    (code_some t types bytes fs rest is u)
 
-code_section_again : (fs : List Function) (rest : List ℕ) → bodies_fit fs ≡ true → ltb (length (types_of fs)) (2 ^ 32) ≡ true → ltb (length (bodies_encoding fs)) (2 ^ 32) ≡ true → code_section (types_of fs) (code_encoding fs ++ rest) ≡ Ok (fs, rest)
+code_section_again : (fs : List Function) (rest : List ℕ) → bodies_fit fs ≡ true
+    → ltb (length (types_of fs)) (2 ^ 32) ≡ true → ltb (length (bodies_encoding fs)) (2 ^ 32) ≡ true
+    → code_section (types_of fs) (code_encoding fs ++ rest) ≡ Ok (fs, rest)
 unfolding code_content
 code_section_again [] rest fits few room = refl
-code_section_again (f ∷ fs) rest fits few room = sized_again (code_format (types_of (f ∷ fs))) (f ∷ fs) rest (entries_again (f ∷ fs) fits few) room
+code_section_again (f ∷ fs) rest fits few room =
+    sized_again (code_format (types_of (f ∷ fs))) (f ∷ fs) rest (entries_again (f ∷ fs) fits few) room
 
-Past-code : (before : ℕ) (fs : List Function) (rest : List ℕ) → before < 10 → Past before rest → Past before (code_encoding fs ++ rest)
+Past-code : (before : ℕ) (fs : List Function) (rest : List ℕ) → before < 10 → Past before rest
+    → Past before (code_encoding fs ++ rest)
 Past-code before [] rest lt past = past
 Past-code before (f ∷ fs) rest lt past = lt
 
-few_types : (fs : List Function) → (section 3 unsigned).fits (types_of fs) ≡ true → ltb (length (types_of fs)) (2 ^ 32) ≡ true
+few_types : (fs : List Function) → (section 3 unsigned).fits (types_of fs) ≡ true
+    → ltb (length (types_of fs)) (2 ^ 32) ≡ true
 few_types [] fits = refl
 few_types (f ∷ fs) fits =
     let all : Bool = ltb (length (types_of (f ∷ fs))) (2 ^ 32) && list_all unsigned.fits (types_of (f ∷ fs)) in
@@ -190,7 +243,8 @@ record Steps (bytes : List ℕ) (m : WModule) (rest : List ℕ) : Type 0 where
   ends : at_end r11 ≡ Ok tt
   none : rest ≡ []
 
-bind_into : {A B : Type 0} (r : Result A WFault) (f : A → Result B WFault) (y : B) (P : Type 0) → (r >>= f) ≡ Ok y → ((x : A) → r ≡ Ok x → f x ≡ Ok y → P) → P
+bind_into : {A B : Type 0} (r : Result A WFault) (f : A → Result B WFault) (y : B) (P : Type 0) → (r >>= f) ≡ Ok y
+    → ((x : A) → r ≡ Ok x → f x ≡ Ok y → P) → P
 bind_into (Ok x) f y P e k = k x refl e
 bind_into (Err d) f y P e k = absurd cc
 
@@ -209,7 +263,19 @@ steps bytes m rest e =
     bind_into (code_section uses.0 elements.1) _ (m, rest) (Steps bytes m rest) e9 (λ functions is10 e10.
     bind_into ((section 11 data_segment).reading functions.1) _ (m, rest) (Steps bytes m rest) e10 (λ segments is11 e11.
     bind_into (at_end segments.1) _ (m, rest) (Steps bytes m rest) e11 (λ end is12 e12.
-    let made : WModule = record { types = types.0; imports = imports.0; functions = functions.0; tables = tables.0; memories = memories.0; globals = globals.0; exports = exports.0; elements = elements.0; «data» = segments.0 } in
+    let made : WModule = record {
+      types = types.0;
+      imports = imports.0;
+      functions = functions.0;
+      tables =
+          tables.0;
+      memories = memories.0;
+      globals = globals.0;
+      exports = exports.0;
+      elements = elements.0;
+      «data» =
+          segments.0;
+    } in
     let is = read_is made m [] rest e12 in
     subst (λ (x : WModule). Steps bytes x rest) is.0 (record {
       start = start;
@@ -242,36 +308,50 @@ steps bytes m rest e =
 -- the parts of a module one after the other, each before all those behind it
 abbrev laid_out : WModule → List ℕ
 laid_out m =
-    header ++ ((section 1 func_type).encoding m.types ++ ((section 2 import).encoding m.imports ++ ((section 3 unsigned).encoding (types_of m.functions)
-    ++ ((section 4 table_type).encoding m.tables ++ ((section 5 memory_type).encoding m.memories ++ ((section 6 global).encoding m.globals
-    ++ ((section 7 export).encoding m.exports ++ ((section 9 element_segment).encoding m.elements ++ (code_encoding m.functions
+    header ++ ((section 1 func_type).encoding m.types
+    ++ ((section 2 import).encoding m.imports ++ ((section 3 unsigned).encoding (types_of m.functions)
+    ++ ((section 4 table_type).encoding m.tables
+    ++ ((section 5 memory_type).encoding m.memories ++ ((section 6 global).encoding m.globals
+    ++ ((section 7 export).encoding m.exports
+    ++ ((section 9 element_segment).encoding m.elements ++ (code_encoding m.functions
     ++ (section 11 data_segment).encoding m.«data»)))))))))
 
-regroup : (h a b c d e f g i j k : List ℕ) → (h ++ a ++ b ++ c) ++ (d ++ e ++ f ++ g) ++ (i ++ j ++ k) ≡ h ++ (a ++ (b ++ (c ++ (d ++ (e ++ (f ++ (g ++ (i ++ (j ++ k)))))))))
+regroup : (h a b c d e f g i j k : List ℕ)
+    → (h ++ a ++ b ++ c) ++ (d ++ e ++ f ++ g) ++ (i ++ j ++ k) ≡ h
+    ++ (a ++ (b ++ (c ++ (d ++ (e ++ (f ++ (g ++ (i ++ (j ++ k)))))))))
 regroup h a b c d e f g i j k = simp append_assoc
 
 encoding_is : (m : WModule) → module_encoding m ≡ laid_out m
 unfolding module_encoding first_sections middle_sections last_sections
 encoding_is m =
-    regroup header ((section 1 func_type).encoding m.types) ((section 2 import).encoding m.imports) ((section 3 unsigned).encoding (types_of m.functions)) ((section 4 table_type).encoding m.tables)
-    ((section 5 memory_type).encoding m.memories) ((section 6 global).encoding m.globals) ((section 7 export).encoding m.exports) ((section 9 element_segment).encoding m.elements) (code_encoding m.functions)
+    regroup header ((section 1 func_type).encoding m.types) ((section 2 import).encoding m.imports)
+    ((section 3 unsigned).encoding (types_of m.functions)) ((section 4 table_type).encoding m.tables)
+    ((section 5 memory_type).encoding m.memories) ((section 6 global).encoding m.globals)
+    ((section 7 export).encoding m.exports) ((section 9 element_segment).encoding m.elements)
+    (code_encoding m.functions)
     ((section 11 data_segment).encoding m.«data»)
 
 -- one part before others
 joins : (bytes text mid others : List ℕ) → bytes ≡ text ++ mid → mid ≡ others → bytes ≡ text ++ others
 joins bytes text mid others e f = e ∙ ap (λ (r : List ℕ). text ++ r) f
 
-all_true : (a b c d e f g h i j k : Bool) → a ≡ true → b ≡ true → c ≡ true → d ≡ true → e ≡ true → f ≡ true → g ≡ true → h ≡ true → i ≡ true → j ≡ true → k ≡ true
+all_true : (a b c d e f g h i j k : Bool) → a ≡ true → b ≡ true → c ≡ true → d ≡ true → e ≡ true → f ≡ true → g ≡ true
+    → h ≡ true → i ≡ true → j ≡ true → k ≡ true
     → (a && b && c && d && e && f && g && h && i && j && k) ≡ true
 all_true a b c d e f g h i j k pa pb pc pd pe pf pg ph pi pj pk =
-    and_from (a && b && c && d && e && f && g && h && i && j) k (and_from (a && b && c && d && e && f && g && h && i) j (and_from (a && b && c && d && e && f && g && h) i (and_from (a && b && c && d && e && f && g) h
-    (and_from (a && b && c && d && e && f) g (and_from (a && b && c && d && e) f (and_from (a && b && c && d) e (and_from (a && b && c) d (and_from (a && b) c (and_from a b pa pb) pc) pd) pe) pf) pg) ph) pi) pj) pk
+    and_from (a && b && c && d && e && f && g && h && i && j) k
+    (and_from (a && b && c && d && e && f && g && h && i) j
+    (and_from (a && b && c && d && e && f && g && h) i (and_from (a && b && c && d && e && f && g) h
+    (and_from (a && b && c && d && e && f) g
+    (and_from (a && b && c && d && e) f (and_from (a && b && c && d) e
+    (and_from (a && b && c) d (and_from (a && b) c (and_from a b pa pb) pc) pd) pe) pf) pg) ph) pi) pj) pk
 
 encoded : (bytes : List ℕ) (m : WModule) (rest : List ℕ) → IsBytes bytes → Steps bytes m rest → Encodes bytes m
 unfolding module_fits
 encoded bytes m rest fits s =
     let b0 = skip_all_ok header bytes s.start s.begins in
-    let t1 = (section_law 1 func_type func_type_law).takes s.start m.types s.r1 (IsBytes-after bytes header s.start b0 fits) s.types in
+    let t1 = (section_law 1 func_type func_type_law).takes s.start m.types s.r1
+    (IsBytes-after bytes header s.start b0 fits) s.types in
     let t2 = (section_law 2 import import_law).takes s.r1 m.imports s.r2 t1.rest_fits s.imports in
     let t3 = (section_law 3 unsigned unsigned_law).takes s.r2 s.uses s.r3 t2.rest_fits s.using in
     let t4 = (section_law 4 table_type table_type_law).takes s.r3 m.tables s.r4 t3.rest_fits s.tables in
@@ -283,23 +363,27 @@ encoded bytes m rest fits s =
     let t11 = (section_law 11 data_segment data_segment_law).takes s.r10 m.«data» s.r11 t10.rest_fits s.segments in
     let types_are : s.uses ≡ types_of m.functions = sym t10.types_are in
     let nothing : s.r11 ≡ [] = at_end_ok s.r11 tt s.ends in
-    let end : s.r10 ≡ (section 11 data_segment).encoding m.«data» = joins s.r10 _ s.r11 [] t11.parts nothing ∙ append-nil ((section 11 data_segment).encoding m.«data») in
+    let end : s.r10 ≡ (section 11 data_segment).encoding m.«data» = joins s.r10 _ s.r11 [] t11.parts nothing
+    ∙ append-nil ((section 11 data_segment).encoding m.«data») in
     let p10 = joins s.r9 (code_encoding m.functions) s.r10 _ t10.parts end in
     let p9 = joins s.r7 ((section 9 element_segment).encoding m.elements) s.r9 _ t9.parts p10 in
     let p7 = joins s.r6 ((section 7 export).encoding m.exports) s.r7 _ t7.parts p9 in
     let p6 = joins s.r5 ((section 6 global).encoding m.globals) s.r6 _ t6.parts p7 in
     let p5 = joins s.r4 ((section 5 memory_type).encoding m.memories) s.r5 _ t5.parts p6 in
     let p4 = joins s.r3 ((section 4 table_type).encoding m.tables) s.r4 _ t4.parts p5 in
-    let p3 = joins s.r2 ((section 3 unsigned).encoding (types_of m.functions)) s.r3 _ (t3.parts ∙ ap (λ (ts : List ℕ). (section 3 unsigned).encoding ts ++ s.r3) types_are) p4 in
+    let p3 = joins s.r2 ((section 3 unsigned).encoding (types_of m.functions)) s.r3 _
+    (t3.parts ∙ ap (λ (ts : List ℕ). (section 3 unsigned).encoding ts ++ s.r3) types_are) p4 in
     let p2 = joins s.r1 ((section 2 import).encoding m.imports) s.r2 _ t2.parts p3 in
     let p1 = joins s.start ((section 1 func_type).encoding m.types) s.r1 _ t1.parts p2 in
     let p0 = joins bytes header s.start _ b0 p1 in
     record {
-      fits = all_true _ _ _ _ _ _ _ _ _ _ _ t1.fits t2.fits (ap (section 3 unsigned).fits (sym types_are) ∙ t3.fits) t4.fits t5.fits t6.fits t7.fits t9.fits t10.fits t10.room t11.fits;
+      fits = all_true _ _ _ _ _ _ _ _ _ _ _ t1.fits t2.fits (ap (section 3 unsigned).fits (sym types_are) ∙ t3.fits)
+          t4.fits t5.fits t6.fits t7.fits t9.fits t10.fits t10.room t11.fits;
       encoding = p0 ∙ sym (encoding_is m);
     }
 
-pub module_takes : (bytes : List ℕ) (m : WModule) (rest : List ℕ) → IsBytes bytes → module_at bytes ≡ Ok (m, rest) → Encodes bytes m × (rest ≡ [])
+pub module_takes : (bytes : List ℕ) (m : WModule) (rest : List ℕ) → IsBytes bytes → module_at bytes ≡ Ok (m, rest)
+    → Encodes bytes m × (rest ≡ [])
 module_takes bytes m rest fits e = let s = steps bytes m rest e in (encoded bytes m rest fits s, s.none)
 
 -- ---- and back
@@ -317,7 +401,8 @@ record AllTrue (a b c d e f g h i j k : Bool) : Type 0 where
   room : j ≡ true
   eleven : k ≡ true
 
-each_true : (a b c d e f g h i j k : Bool) → (a && b && c && d && e && f && g && h && i && j && k) ≡ true → AllTrue a b c d e f g h i j k
+each_true : (a b c d e f g h i j k : Bool) → (a && b && c && d && e && f && g && h && i && j && k) ≡ true
+    → AllTrue a b c d e f g h i j k
 each_true a b c d e f g h i j k all =
     let pk = and_parts (a && b && c && d && e && f && g && h && i && j) k all in
     let pj = and_parts (a && b && c && d && e && f && g && h && i) j pk.0 in
@@ -329,14 +414,30 @@ each_true a b c d e f g h i j k all =
     let pd = and_parts (a && b && c) d pe.0 in
     let pc = and_parts (a && b) c pd.0 in
     let pb = and_parts a b pc.0 in
-    record { one = pb.0; two = pb.1; three = pc.1; four = pd.1; five = pe.1; six = pf.1; seven = pg.1; nine = ph.1; bodies = pi.1; room = pj.1; eleven = pk.1 }
+    record {
+      one = pb.0;
+      two = pb.1;
+      three = pc.1;
+      four = pd.1;
+      five = pe.1;
+      six = pf.1;
+      seven = pg.1;
+      nine =
+          ph.1;
+      bodies = pi.1;
+      room = pj.1;
+      eleven = pk.1;
+    }
 
-bind_is : {A B : Type 0} (r : Result A WFault) (x : A) (f : A → Result B WFault) (z : Result B WFault) → r ≡ Ok x → f x ≡ z → (r >>= f) ≡ z
+bind_is : {A B : Type 0} (r : Result A WFault) (x : A) (f : A → Result B WFault) (z : Result B WFault) → r ≡ Ok x
+    → f x ≡ z → (r >>= f) ≡ z
 bind_is {A} r x f z e h = ap (λ (s : Result A WFault). s >>= f) e ∙ h
 
 -- the last section, behind which there is nothing
-last_again : (xs : List Data) → (section 11 data_segment).fits xs ≡ true → (section 11 data_segment).reading ((section 11 data_segment).encoding xs) ≡ Ok (xs, [])
-last_again xs fits = ap (section 11 data_segment).reading (sym (append-nil ((section 11 data_segment).encoding xs))) ∙ (section_law 11 data_segment data_segment_law).again xs [] tt fits
+last_again : (xs : List Data) → (section 11 data_segment).fits xs ≡ true
+    → (section 11 data_segment).reading ((section 11 data_segment).encoding xs) ≡ Ok (xs, [])
+last_again xs fits = ap (section 11 data_segment).reading (sym (append-nil ((section 11 data_segment).encoding xs)))
+    ∙ (section_law 11 data_segment data_segment_law).again xs [] tt fits
 
 last_past : (before : ℕ) (xs : List Data) → before < 11 → Past before ((section 11 data_segment).encoding xs)
 last_past before [] lt = tt
@@ -360,10 +461,13 @@ record Again {A : Type 0} (number before : ℕ) (p : Format A) (xs : List A) (no
   read : (section number p).reading now ≡ Ok (xs, behind)
   past : Past before now
 
-again_is : {A : Type 0} (number before : ℕ) (p : Format A) (law : Law p) (xs : List A) (now behind : List ℕ) → before < number → (section number p).fits xs ≡ true → now ≡ (section number p).encoding xs ++ behind → Past number behind → Again number before p xs now behind
+again_is : {A : Type 0} (number before : ℕ) (p : Format A) (law : Law p) (xs : List A) (now behind : List ℕ)
+    → before < number → (section number p).fits xs ≡ true → now ≡ (section number p).encoding xs ++ behind
+    → Past number behind → Again number before p xs now behind
 again_is number before p law xs now behind lt fits is past = record {
   read = ap (section number p).reading is ∙ (section_law number p law).again xs behind past fits;
-  past = subst (Past before) (sym is) (Past-section before number p xs behind lt (Past-less before number behind lt past));
+  past = subst (Past before) (sym is) (Past-section before number p xs behind lt
+      (Past-less before number behind lt past));
 }
 
 read_again : (m : WModule) (bytes s0 s1 s2 s3 s4 s5 s6 s7 s9 s10 : List ℕ)
@@ -395,14 +499,19 @@ read_again m bytes s0 s1 s2 s3 s4 s5 s6 s7 s9 s10 e0 e1 e2 e3 e4 e5 e6 e7 e9 e10
 
 abbrev FitsEach : WModule → Type 0
 FitsEach m =
-    AllTrue ((section 1 func_type).fits m.types) ((section 2 import).fits m.imports) ((section 3 unsigned).fits (types_of m.functions)) ((section 4 table_type).fits m.tables) ((section 5 memory_type).fits m.memories)
-    ((section 6 global).fits m.globals) ((section 7 export).fits m.exports) ((section 9 element_segment).fits m.elements) (bodies_fit m.functions) (ltb (length (bodies_encoding m.functions)) (2 ^ 32)) ((section 11 data_segment).fits m.«data»)
+    AllTrue ((section 1 func_type).fits m.types) ((section 2 import).fits m.imports)
+    ((section 3 unsigned).fits (types_of m.functions)) ((section 4 table_type).fits m.tables)
+    ((section 5 memory_type).fits m.memories)
+    ((section 6 global).fits m.globals) ((section 7 export).fits m.exports)
+    ((section 9 element_segment).fits m.elements) (bodies_fit m.functions)
+    (ltb (length (bodies_encoding m.functions)) (2 ^ 32)) ((section 11 data_segment).fits m.«data»)
 
 fits_each : (m : WModule) → module_fits m ≡ true → FitsEach m
 unfolding module_fits
 fits_each m fits = each_true _ _ _ _ _ _ _ _ _ _ _ fits
 
-layout_again : (m : WModule) (s0 s1 s2 s3 s4 s5 s6 s7 s9 s10 : List ℕ) → module_fits m ≡ true → Layout m s0 s1 s2 s3 s4 s5 s6 s7 s9 s10 → module_at (header ++ s0) ≡ Ok (m, [])
+layout_again : (m : WModule) (s0 s1 s2 s3 s4 s5 s6 s7 s9 s10 : List ℕ) → module_fits m ≡ true
+    → Layout m s0 s1 s2 s3 s4 s5 s6 s7 s9 s10 → module_at (header ++ s0) ≡ Ok (m, [])
 layout_again m s0 s1 s2 s3 s4 s5 s6 s7 s9 s10 fits l =
     let f : FitsEach m = fits_each m fits in
     let past10 : Past 9 s10 = subst (Past 9) (sym l.is10) (last_past 9 m.«data» (omega arith)) in
@@ -415,13 +524,30 @@ layout_again m s0 s1 s2 s3 s4 s5 s6 s7 s9 s10 fits l =
     let a2 = again_is 3 2 unsigned unsigned_law (types_of m.functions) s2 s3 (omega arith) f.three l.is2 a3.past in
     let a1 = again_is 2 1 import import_law m.imports s1 s2 (omega arith) f.two l.is1 a2.past in
     let a0 = again_is 1 0 func_type func_type_law m.types s0 s1 (omega arith) f.one l.is0 a1.past in
-    let coded : code_section (types_of m.functions) s9 ≡ Ok (m.functions, s10) = ap (code_section (types_of m.functions)) l.is9 ∙ code_section_again m.functions s10 f.bodies (few_types m.functions f.three) f.room in
-    let last : (section 11 data_segment).reading s10 ≡ Ok (m.«data», []) = ap (section 11 data_segment).reading l.is10 ∙ last_again m.«data» f.eleven in
-    read_again m (header ++ s0) s0 s1 s2 s3 s4 s5 s6 s7 s9 s10 (skip_all_same header s0) a0.read a1.read a2.read a3.read a4.read a5.read a6.read a7.read coded last
+    let coded : code_section (types_of m.functions) s9 ≡ Ok (m.functions, s10) =
+    ap (code_section (types_of m.functions)) l.is9
+    ∙ code_section_again m.functions s10 f.bodies (few_types m.functions f.three) f.room in
+    let last : (section 11 data_segment).reading s10 ≡ Ok (m.«data», []) = ap (section 11 data_segment).reading l.is10
+    ∙ last_again m.«data» f.eleven in
+    read_again m (header ++ s0) s0 s1 s2 s3 s4 s5 s6 s7 s9 s10 (skip_all_same header s0) a0.read a1.read a2.read a3.read
+    a4.read a5.read a6.read a7.read coded last
 
 pub module_again : (m : WModule) → module_fits m ≡ true → module_at (module_encoding m) ≡ Ok (m, [])
 module_again m fits =
-    ap module_at (encoding_is m) ∙ layout_again m _ _ _ _ _ _ _ _ _ _ fits (record { is0 = refl; is1 = refl; is2 = refl; is3 = refl; is4 = refl; is5 = refl; is6 = refl; is7 = refl; is9 = refl; is10 = refl })
+    ap module_at (encoding_is m) ∙ layout_again m _ _ _ _ _ _ _ _ _ _ fits
+    (record {
+      is0 = refl;
+      is1 = refl;
+      is2 = refl;
+      is3 = refl;
+      is4 = refl;
+      is5 = refl;
+      is6 = refl;
+      is7 = refl;
+      is9 =
+          refl;
+      is10 = refl;
+    })
 
 pub binary_law : WholeLaw binary
 binary_law = record {
@@ -429,7 +555,8 @@ binary_law = record {
       let t = module_takes bytes m rest fits e in
       let none : rest ≡ [] = t.1 in
       record {
-        parts = t.0.encoding ∙ sym (append-nil (module_encoding m)) ∙ ap (λ (r : List ℕ). module_encoding m ++ r) (sym none);
+        parts = t.0.encoding ∙ sym (append-nil (module_encoding m))
+            ∙ ap (λ (r : List ℕ). module_encoding m ++ r) (sym none);
         rest_fits = subst IsBytes (sym none) (λ i. omega arith);
         fits = t.0.fits;
       };
@@ -438,7 +565,11 @@ binary_law = record {
 
 -- bytes are read as a module exactly where they encode it
 pub module_read : (bytes : List ℕ) (m : WModule) → IsBytes bytes → (module_at bytes ≡ Ok (m, [])) ↔ Encodes bytes m
-module_read bytes m fits = (λ e. (module_takes bytes m [] fits e).0, λ s. ap module_at s.encoding ∙ module_again m s.fits)
+module_read bytes m fits = (
+  λ e. (module_takes bytes m [] fits e).0,
+  λ s. ap module_at s.encoding
+      ∙ module_again m s.fits,
+)
 
 -- and they encode no other one
 pub one_module : (bytes : List ℕ) (m n : WModule) → Encodes bytes m → Encodes bytes n → m ≡ n
@@ -457,11 +588,13 @@ none_encoded bytes e refused m s =
     refused_and_read (m, []) e (sym read ∙ refused)
 
 -- what a function answered that gives this reading
-pub is_encoded : (bytes : List ℕ) (r : Result WModule WFault) → IsBytes bytes → Gives (λ m. (m, [])) r (module_at bytes) → IfOk r (λ m. Encodes bytes m)
+pub is_encoded : (bytes : List ℕ) (r : Result WModule WFault) → IsBytes bytes → Gives (λ m. (m, [])) r (module_at bytes)
+    → IfOk r (λ m. Encodes bytes m)
 is_encoded bytes (Ok m) fits given = (module_takes bytes m [] fits given).0
 is_encoded bytes (Err e) fits given = tt
 
-pub is_decided : (bytes : List ℕ) (r : Result WModule WFault) → IsBytes bytes → Gives (λ m. (m, [])) r (module_at bytes) → MatchResult r (λ m. Encodes bytes m) (λ e. (e ≡ NoMemory) ⊎ ((m : WModule) → ¬ (Encodes bytes m)))
+pub is_decided : (bytes : List ℕ) (r : Result WModule WFault) → IsBytes bytes → Gives (λ m. (m, [])) r (module_at bytes)
+    → MatchResult r (λ m. Encodes bytes m) (λ e. (e ≡ NoMemory) ⊎ ((m : WModule) → ¬ (Encodes bytes m)))
 is_decided bytes (Ok m) fits given = (module_takes bytes m [] fits given).0
 is_decided bytes (Err Malformed) fits given = inr (none_encoded bytes Malformed given)
 is_decided bytes (Err OutsideProfile) fits given = inr (none_encoded bytes OutsideProfile given)
@@ -471,11 +604,13 @@ is_decided bytes (Err SegmentOutside) fits given = inr (none_encoded bytes Segme
 is_decided bytes (Err NoMemory) fits given = inl refl
 
 -- what is written is the only encoding
-pub only_encoding : (bytes : List ℕ) (m : WModule) → bytes ≡ module_encoding m → module_fits m ≡ true → IsOnlyEncoding bytes m
+pub only_encoding : (bytes : List ℕ) (m : WModule) → bytes ≡ module_encoding m → module_fits m ≡ true
+    → IsOnlyEncoding bytes m
 only_encoding bytes m e fits =
     let here : Encodes bytes m = record { fits = fits; encoding = e } in
     record { encodes = here; no_others = λ others h. h.encoding ∙ sym e; no_other = λ n h. one_module bytes n m h here }
 
-pub is_only_encoding : {E : Type 0} (m : WModule) (r : Result (Vec ℕ) E) → IfOk r (λ v. v.items ≡ module_encoding m) → OnOk r (module_fits m ≡ true) → IfOk r (λ v. IsOnlyEncoding v.items m)
+pub is_only_encoding : {E : Type 0} (m : WModule) (r : Result (Vec ℕ) E) → IfOk r (λ v. v.items ≡ module_encoding m)
+    → OnOk r (module_fits m ≡ true) → IfOk r (λ v. IsOnlyEncoding v.items m)
 is_only_encoding m (Ok v) h fits = only_encoding v.items m h fits
 is_only_encoding m (Err e) h fits = tt

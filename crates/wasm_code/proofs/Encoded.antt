@@ -15,29 +15,40 @@ use Rattle.wasm_code.specs.Parts.{vector}
 use Rattle.wasm_code.specs.Opcode.{load_opcode, store_opcode, numeric_opcode}
 use Rattle.wasm_code.specs.Instructions.{block_type, encoding_step, instr_encoding}
 
-at : (i : Instr) (x : Instr-F Instr) → out-Instr i ≡ x → instr_encoding i ≡ encoding_step (map-Instr Instr (List ℕ) instr_encoding x)
+at : (i : Instr) (x : Instr-F Instr) → out-Instr i ≡ x
+    → instr_encoding i ≡ encoding_step (map-Instr Instr (List ℕ) instr_encoding x)
 unfolding instr_encoding
-at i x e = fold_out-Instr (List ℕ) encoding_step i ∙ ap (λ (y : Instr-F Instr). encoding_step (map-Instr Instr (List ℕ) instr_encoding y)) e
+at i x e = fold_out-Instr (List ℕ) encoding_step i
+    ∙ ap (λ (y : Instr-F Instr). encoding_step (map-Instr Instr (List ℕ) instr_encoding y)) e
 
 joined : (is : List Instr) → concat (map instr_encoding is) ≡ flat_map instr_encoding is
 joined [] = refl
 joined (i ∷ is) = ap (λ (r : List ℕ). instr_encoding i ++ r) (joined is)
 
-pub encoded-Block : (t : Option ValueType) (is : List Instr) → instr_encoding (Block t is) ≡ 0x02 ∷ block_type.encoding t ++ flat_map instr_encoding is ++ 0x0B ∷ []
-encoded-Block t is = at (Block t is) (layer.Block t is) (outs-Block t is) ∙ ap (λ (r : List ℕ). 0x02 ∷ block_type.encoding t ++ r ++ 0x0B ∷ []) (joined is)
+pub encoded-Block : (t : Option ValueType) (is : List Instr)
+    → instr_encoding (Block t is) ≡ 0x02 ∷ block_type.encoding t ++ flat_map instr_encoding is ++ 0x0B ∷ []
+encoded-Block t is = at (Block t is) (layer.Block t is) (outs-Block t is)
+    ∙ ap (λ (r : List ℕ). 0x02 ∷ block_type.encoding t ++ r ++ 0x0B ∷ []) (joined is)
 
-pub encoded-Loop : (t : Option ValueType) (is : List Instr) → instr_encoding (Loop t is) ≡ 0x03 ∷ block_type.encoding t ++ flat_map instr_encoding is ++ 0x0B ∷ []
-encoded-Loop t is = at (Loop t is) (layer.Loop t is) (outs-Loop t is) ∙ ap (λ (r : List ℕ). 0x03 ∷ block_type.encoding t ++ r ++ 0x0B ∷ []) (joined is)
+pub encoded-Loop : (t : Option ValueType) (is : List Instr)
+    → instr_encoding (Loop t is) ≡ 0x03 ∷ block_type.encoding t ++ flat_map instr_encoding is ++ 0x0B ∷ []
+encoded-Loop t is = at (Loop t is) (layer.Loop t is) (outs-Loop t is)
+    ∙ ap (λ (r : List ℕ). 0x03 ∷ block_type.encoding t ++ r ++ 0x0B ∷ []) (joined is)
 
-pub encoded-If-None : (t : Option ValueType) (is : List Instr) → instr_encoding (If t is None) ≡ 0x04 ∷ block_type.encoding t ++ flat_map instr_encoding is ++ 0x0B ∷ []
-encoded-If-None t is = at (If t is None) (layer.If t is None) (outs-If t is None) ∙ ap (λ (r : List ℕ). 0x04 ∷ block_type.encoding t ++ r ++ 0x0B ∷ []) (joined is)
+pub encoded-If-None : (t : Option ValueType) (is : List Instr)
+    → instr_encoding (If t is None) ≡ 0x04 ∷ block_type.encoding t ++ flat_map instr_encoding is ++ 0x0B ∷ []
+encoded-If-None t is = at (If t is None) (layer.If t is None) (outs-If t is None)
+    ∙ ap (λ (r : List ℕ). 0x04 ∷ block_type.encoding t ++ r ++ 0x0B ∷ []) (joined is)
 
 pub encoded-If-Some : (t : Option ValueType) (is others : List Instr)
-    → instr_encoding (If t is (Some others)) ≡ 0x04 ∷ block_type.encoding t ++ flat_map instr_encoding is ++ (0x05 ∷ flat_map instr_encoding others ++ 0x0B ∷ [])
+    → instr_encoding (If t is (Some others)) ≡ 0x04 ∷ block_type.encoding t ++ flat_map instr_encoding is
+    ++ (0x05 ∷ flat_map instr_encoding others ++ 0x0B ∷ [])
 encoded-If-Some t is others =
     at (If t is (Some others)) (layer.If t is (Some others)) (outs-If t is (Some others))
-    ∙ ap (λ (r : List ℕ). 0x04 ∷ block_type.encoding t ++ r ++ (0x05 ∷ concat (map instr_encoding others) ++ 0x0B ∷ [])) (joined is)
-    ∙ ap (λ (r : List ℕ). 0x04 ∷ block_type.encoding t ++ flat_map instr_encoding is ++ (0x05 ∷ r ++ 0x0B ∷ [])) (joined others)
+    ∙ ap (λ (r : List ℕ). 0x04 ∷ block_type.encoding t ++ r ++ (0x05 ∷ concat (map instr_encoding others) ++ 0x0B ∷ []))
+    (joined is)
+    ∙ ap (λ (r : List ℕ). 0x04 ∷ block_type.encoding t ++ flat_map instr_encoding is ++ (0x05 ∷ r ++ 0x0B ∷ []))
+    (joined others)
 
 pub encoded-Unreachable : instr_encoding Unreachable ≡ 0x00 ∷ []
 encoded-Unreachable = at Unreachable layer.Unreachable outs-Unreachable
@@ -48,7 +59,8 @@ encoded-Br l = at (Br l) (layer.Br l) (outs-Br l)
 pub encoded-BrIf : (l : ℕ) → instr_encoding (BrIf l) ≡ 0x0D ∷ unsigned.encoding l
 encoded-BrIf l = at (BrIf l) (layer.BrIf l) (outs-BrIf l)
 
-pub encoded-BrTable : (ls : List ℕ) (l : ℕ) → instr_encoding (BrTable ls l) ≡ 0x0E ∷ (vector unsigned).encoding ls ++ unsigned.encoding l
+pub encoded-BrTable : (ls : List ℕ) (l : ℕ)
+    → instr_encoding (BrTable ls l) ≡ 0x0E ∷ (vector unsigned).encoding ls ++ unsigned.encoding l
 encoded-BrTable ls l = at (BrTable ls l) (layer.BrTable ls l) (outs-BrTable ls l)
 
 pub encoded-Return : instr_encoding Return ≡ 0x0F ∷ []

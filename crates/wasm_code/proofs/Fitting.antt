@@ -18,9 +18,11 @@ use Rattle.wasm_tree.specs.declared.code.Op.{Op}
 use Rattle.wasm_tree.specs.Code.{tree, head, behind, label_of}
 use Rattle.wasm_tree.proofs.Flat.{tree_front, tree_none}
 
-at : (i : Instr) (x : Instr-F Instr) (levels : ℕ) → out-Instr i ≡ x → instr_fits i levels ≡ fits_step (map-Instr Instr (ℕ → Bool) instr_fits x) levels
+at : (i : Instr) (x : Instr-F Instr) (levels : ℕ) → out-Instr i ≡ x
+    → instr_fits i levels ≡ fits_step (map-Instr Instr (ℕ → Bool) instr_fits x) levels
 unfolding instr_fits
-at i x levels e = ap (λ (f : ℕ → Bool). f levels) (fold_out-Instr (ℕ → Bool) fits_step i) ∙ ap (λ (y : Instr-F Instr). fits_step (map-Instr Instr (ℕ → Bool) instr_fits y) levels) e
+at i x levels e = ap (λ (f : ℕ → Bool). f levels) (fold_out-Instr (ℕ → Bool) fits_step i)
+    ∙ ap (λ (y : Instr-F Instr). fits_step (map-Instr Instr (ℕ → Bool) instr_fits y) levels) e
 
 -- each of them fits
 abbrev pub all_fit : (levels : ℕ) → List Instr → Bool
@@ -30,22 +32,26 @@ joined : (levels : ℕ) (is : List Instr) → list_all (λ (f : ℕ → Bool). f
 joined levels [] = refl
 joined levels (i ∷ is) = ap (λ (r : Bool). instr_fits i levels && r) (joined levels is)
 
-pub fits-Block : (t : Option ValueType) (is : List Instr) (levels : ℕ) → instr_fits (Block t is) (suc levels) ≡ all_fit levels is
+pub fits-Block : (t : Option ValueType) (is : List Instr) (levels : ℕ)
+    → instr_fits (Block t is) (suc levels) ≡ all_fit levels is
 fits-Block t is levels = at (Block t is) (layer.Block t is) (suc levels) (outs-Block t is) ∙ joined levels is
 
 pub none-Block : (t : Option ValueType) (is : List Instr) → instr_fits (Block t is) 0 ≡ false
 none-Block t is = at (Block t is) (layer.Block t is) 0 (outs-Block t is)
 
-pub fits-Loop : (t : Option ValueType) (is : List Instr) (levels : ℕ) → instr_fits (Loop t is) (suc levels) ≡ all_fit levels is
+pub fits-Loop : (t : Option ValueType) (is : List Instr) (levels : ℕ)
+    → instr_fits (Loop t is) (suc levels) ≡ all_fit levels is
 fits-Loop t is levels = at (Loop t is) (layer.Loop t is) (suc levels) (outs-Loop t is) ∙ joined levels is
 
 pub none-Loop : (t : Option ValueType) (is : List Instr) → instr_fits (Loop t is) 0 ≡ false
 none-Loop t is = at (Loop t is) (layer.Loop t is) 0 (outs-Loop t is)
 
-pub fits-If-None : (t : Option ValueType) (is : List Instr) (levels : ℕ) → instr_fits (If t is None) (suc levels) ≡ all_fit levels is
+pub fits-If-None : (t : Option ValueType) (is : List Instr) (levels : ℕ)
+    → instr_fits (If t is None) (suc levels) ≡ all_fit levels is
 fits-If-None t is levels = at (If t is None) (layer.If t is None) (suc levels) (outs-If t is None) ∙ joined levels is
 
-pub fits-If-Some : (t : Option ValueType) (is others : List Instr) (levels : ℕ) → instr_fits (If t is (Some others)) (suc levels) ≡ (all_fit levels is && all_fit levels others)
+pub fits-If-Some : (t : Option ValueType) (is others : List Instr) (levels : ℕ)
+    → instr_fits (If t is (Some others)) (suc levels) ≡ (all_fit levels is && all_fit levels others)
 fits-If-Some t is others levels =
     at (If t is (Some others)) (layer.If t is (Some others)) (suc levels) (outs-If t is (Some others))
     ∙ ap (λ (r : Bool). r && list_all (λ (f : ℕ → Bool). f levels) (map instr_fits others)) (joined levels is)
@@ -63,7 +69,8 @@ fits-Br l levels = at (Br l) (layer.Br l) levels (outs-Br l)
 pub fits-BrIf : (l : ℕ) (levels : ℕ) → instr_fits (BrIf l) levels ≡ unsigned.fits l
 fits-BrIf l levels = at (BrIf l) (layer.BrIf l) levels (outs-BrIf l)
 
-pub fits-BrTable : (ls : List ℕ) (l : ℕ) (levels : ℕ) → instr_fits (BrTable ls l) levels ≡ ((vector unsigned).fits ls && unsigned.fits l)
+pub fits-BrTable : (ls : List ℕ) (l : ℕ) (levels : ℕ)
+    → instr_fits (BrTable ls l) levels ≡ ((vector unsigned).fits ls && unsigned.fits l)
 fits-BrTable ls l levels = at (BrTable ls l) (layer.BrTable ls l) levels (outs-BrTable ls l)
 
 pub fits-Return : (levels : ℕ) → instr_fits Return levels ≡ true
@@ -107,15 +114,18 @@ fits-Numeric n levels = at (Numeric n) (layer.Numeric n) levels (outs-Numeric n)
 
 -- ---- code inside, and code in a row
 
-pub inside-Block : (t : Option ValueType) (is : List Instr) (levels : ℕ) → instr_fits (Block t is) levels ≡ fits_inside levels is
+pub inside-Block : (t : Option ValueType) (is : List Instr) (levels : ℕ)
+    → instr_fits (Block t is) levels ≡ fits_inside levels is
 inside-Block t is zero = none-Block t is
 inside-Block t is (suc levels) = fits-Block t is levels
 
-pub inside-Loop : (t : Option ValueType) (is : List Instr) (levels : ℕ) → instr_fits (Loop t is) levels ≡ fits_inside levels is
+pub inside-Loop : (t : Option ValueType) (is : List Instr) (levels : ℕ)
+    → instr_fits (Loop t is) levels ≡ fits_inside levels is
 inside-Loop t is zero = none-Loop t is
 inside-Loop t is (suc levels) = fits-Loop t is levels
 
-pub inside-If-None : (t : Option ValueType) (is : List Instr) (levels : ℕ) → instr_fits (If t is None) levels ≡ fits_inside levels is
+pub inside-If-None : (t : Option ValueType) (is : List Instr) (levels : ℕ)
+    → instr_fits (If t is None) levels ≡ fits_inside levels is
 inside-If-None t is zero = none-If t is None
 inside-If-None t is (suc levels) = fits-If-None t is levels
 
@@ -128,7 +138,8 @@ abbrev within : (levels : ℕ) → List Op → Bool
 within levels ops = (code_within levels).fits (tree ops)
 
 -- an instruction that fits is followed by what has to fit
-pub one_fits : (levels : ℕ) (all : Bool) (o : Op) (left rest behind_it : List Op) → instr_fits (head tree o rest) levels ≡ true → left ≡ o ∷ rest → behind_it ≡ behind o rest
+pub one_fits : (levels : ℕ) (all : Bool) (o : Op) (left rest behind_it : List Op)
+    → instr_fits (head tree o rest) levels ≡ true → left ≡ o ∷ rest → behind_it ≡ behind o rest
     → within levels left ≡ all → within levels behind_it ≡ all
 one_fits levels all o left rest behind_it fits f g so_far =
     ap (within levels) g
@@ -137,7 +148,8 @@ one_fits levels all o left rest behind_it fits f g so_far =
     ∙ so_far
 
 -- where one does not fit, all do not
-pub one_fails : (levels : ℕ) (all : Bool) (o : Op) (left rest : List Op) → instr_fits (head tree o rest) levels ≡ false → left ≡ o ∷ rest
+pub one_fails : (levels : ℕ) (all : Bool) (o : Op) (left rest : List Op) → instr_fits (head tree o rest) levels ≡ false
+    → left ≡ o ∷ rest
     → within levels left ≡ all → false ≡ all
 one_fails levels all o left rest fails f so_far =
     sym (ap (λ (b : Bool). b && within levels (behind o rest)) fails)
@@ -145,7 +157,8 @@ one_fails levels all o left rest fails f so_far =
     ∙ so_far
 
 pub none_left : (levels : ℕ) (all : Bool) (left : List Op) → left ≡ [] → within levels left ≡ all → true ≡ all
-none_left levels all left f so_far = sym (ap (λ (is : List Instr). (code_within levels).fits is) (ap tree f ∙ tree_none)) ∙ so_far
+none_left levels all left f so_far = sym
+    (ap (λ (is : List Instr). (code_within levels).fits is) (ap tree f ∙ tree_none)) ∙ so_far
 
 -- ---- tables of labels
 
@@ -157,7 +170,8 @@ each_label : (ls : List Op) → list_all unsigned.fits (map label_of ls) ≡ lis
 each_label [] = refl
 each_label (o ∷ ls) = ap (λ (b : Bool). unsigned.fits (label_of o) && b) (each_label ls)
 
-pub labels_fit : (ls : List Op) → (vector unsigned).fits (map label_of ls) ≡ (nat_lt (length ls) (2 ^ 32) && list_all (λ l. unsigned.fits (label_of l)) ls)
+pub labels_fit : (ls : List Op) → (vector unsigned).fits (map label_of ls)
+    ≡ (nat_lt (length ls) (2 ^ 32) && list_all (λ l. unsigned.fits (label_of l)) ls)
 labels_fit ls =
     ap (λ (n : ℕ). nat_lt n (2 ^ 32) && list_all unsigned.fits (map label_of ls)) (many_labels ls)
     ∙ ap (λ (b : Bool). nat_lt (length ls) (2 ^ 32) && b) (each_label ls)

@@ -15,7 +15,8 @@ use Rattle.wasm_code.specs.ScratchStack.{is_plain, one_sided_op}
 
 at : (i : Instr) (x : Instr-F Instr) → out-Instr i ≡ x → flat_one i ≡ flat_step (map-Instr Instr (List Op) flat_one x)
 unfolding flat_one
-at i x e = fold_out-Instr (List Op) flat_step i ∙ ap (λ (y : Instr-F Instr). flat_step (map-Instr Instr (List Op) flat_one y)) e
+at i x e = fold_out-Instr (List Op) flat_step i
+    ∙ ap (λ (y : Instr-F Instr). flat_step (map-Instr Instr (List Op) flat_one y)) e
 
 -- an instruction with none inside is one operation
 pub plain_flat : (o : Op) → is_plain o ≡ true → flat_one (head tree o []) ≡ o ∷ []
@@ -42,32 +43,44 @@ plain_flat (op.I64Const n) h = at (instr.I64Const n) (layer.I64Const n) (outs-I6
 plain_flat (op.Numeric n) h = at (instr.Numeric n) (layer.Numeric n) (outs-Numeric n)
 
 -- a table of labels
-pub table_flat : (ls : List ℕ) (l : ℕ) → flat_one (instr.BrTable ls l) ≡ op.BrTable (length ls) l ∷ map (λ l. op.Br l) ls
+pub table_flat : (ls : List ℕ) (l : ℕ) → flat_one (instr.BrTable ls l) ≡ op.BrTable (length ls) l
+    ∷ map (λ l. op.Br l) ls
 table_flat ls l = at (instr.BrTable ls l) (layer.BrTable ls l) (outs-BrTable ls l)
 
 -- those that hold others
-block_flat : (t : Option ValueType) (is : List Instr) → flat_one (instr.Block t is) ≡ op.Block t (length (flat is)) ∷ flat is
-block_flat t is = at (instr.Block t is) (layer.Block t is) (outs-Block t is) ∙ ap (λ r. op.Block t (length r) ∷ r) (joined_is is)
+block_flat : (t : Option ValueType) (is : List Instr)
+    → flat_one (instr.Block t is) ≡ op.Block t (length (flat is)) ∷ flat is
+block_flat t is = at (instr.Block t is) (layer.Block t is) (outs-Block t is)
+    ∙ ap (λ r. op.Block t (length r) ∷ r) (joined_is is)
 
-loop_flat : (t : Option ValueType) (is : List Instr) → flat_one (instr.Loop t is) ≡ op.Loop t (length (flat is)) ∷ flat is
-loop_flat t is = at (instr.Loop t is) (layer.Loop t is) (outs-Loop t is) ∙ ap (λ r. op.Loop t (length r) ∷ r) (joined_is is)
+loop_flat : (t : Option ValueType) (is : List Instr)
+    → flat_one (instr.Loop t is) ≡ op.Loop t (length (flat is)) ∷ flat is
+loop_flat t is = at (instr.Loop t is) (layer.Loop t is) (outs-Loop t is)
+    ∙ ap (λ r. op.Loop t (length r) ∷ r) (joined_is is)
 
-if_flat : (t : Option ValueType) (is : List Instr) → flat_one (instr.If t is None) ≡ op.If t (length (flat is)) ∷ flat is
-if_flat t is = at (instr.If t is None) (layer.If t is None) (outs-If t is None) ∙ ap (λ r. op.If t (length r) ∷ r) (joined_is is)
+if_flat : (t : Option ValueType) (is : List Instr)
+    → flat_one (instr.If t is None) ≡ op.If t (length (flat is)) ∷ flat is
+if_flat t is = at (instr.If t is None) (layer.If t is None) (outs-If t is None)
+    ∙ ap (λ r. op.If t (length r) ∷ r) (joined_is is)
 
-pub sides_flat : (t : Option ValueType) (is others : List Instr) → flat_one (instr.If t is (Some others)) ≡ op.IfElse t (length (flat is)) (length (flat others)) ∷ (flat is ++ flat others)
+pub sides_flat : (t : Option ValueType) (is others : List Instr)
+    → flat_one (instr.If t is (Some others)) ≡ op.IfElse t (length (flat is)) (length (flat others))
+    ∷ (flat is ++ flat others)
 sides_flat t is others =
     at (instr.If t is (Some others)) (layer.If t is (Some others)) (outs-If t is (Some others))
-    ∙ ap (λ r. op.IfElse t (length r) (length (join_ops (map flat_one others))) ∷ (r ++ join_ops (map flat_one others))) (joined_is is)
+    ∙ ap (λ r. op.IfElse t (length r) (length (join_ops (map flat_one others))) ∷ (r ++ join_ops (map flat_one others)))
+    (joined_is is)
     ∙ ap (λ r. op.IfElse t (length (flat is)) (length r) ∷ (flat is ++ r)) (joined_is others)
 
 one_of : (b c : Bool) (t : Option ValueType) (is : List Instr)
     → flat_one (if b then instr.Block t is else (if c then instr.Loop t is else instr.If t is None))
-    ≡ (if b then op.Block t (length (flat is)) else (if c then op.Loop t (length (flat is)) else op.If t (length (flat is)))) ∷ flat is
+    ≡ (if b then op.Block t (length (flat is)) else
+    (if c then op.Loop t (length (flat is)) else op.If t (length (flat is)))) ∷ flat is
 one_of true c t is = block_flat t is
 one_of false true t is = loop_flat t is
 one_of false false t is = if_flat t is
 
 -- an instruction with one sequence
-pub one_flat : (b : ℕ) (t : Option ValueType) (is : List Instr) → flat_one (one_sided b t is) ≡ one_sided_op b t (length (flat is)) ∷ flat is
+pub one_flat : (b : ℕ) (t : Option ValueType) (is : List Instr)
+    → flat_one (one_sided b t is) ≡ one_sided_op b t (length (flat is)) ∷ flat is
 one_flat b t is = one_of (b == 0x02) (b == 0x03) t is

@@ -26,16 +26,19 @@ pub IsBytes-after : (bytes text rest : List ℕ) → bytes ≡ text ++ rest → 
 IsBytes-after bytes text rest e h i = rw (← get_or-append-add text rest i 0, ← e) (h (length text + i))
 
 -- the value of a step that did not fail
-pub bind_ok : {A B : Type 0} (r : Result A WFault) (f : A → Result B WFault) (y : B) → (r >>= f) ≡ Ok y → (x : A) × (r ≡ Ok x) × (f x ≡ Ok y)
+pub bind_ok : {A B : Type 0} (r : Result A WFault) (f : A → Result B WFault) (y : B) → (r >>= f) ≡ Ok y → (x : A)
+    × (r ≡ Ok x) × (f x ≡ Ok y)
 bind_ok (Ok x) f y e = (x, refl, e)
 bind_ok (Err d) f y e = absurd cc
 
 -- a test that did not fail
-pub guard_ok : {A : Type 0} (b : Bool) (d : WFault) (x : Result A WFault) (z : A) → cond b x (Err d) ≡ Ok z → (b ≡ true) × (x ≡ Ok z)
+pub guard_ok : {A : Type 0} (b : Bool) (d : WFault) (x : Result A WFault) (z : A) → cond b x (Err d) ≡ Ok z → (b ≡ true)
+    × (x ≡ Ok z)
 guard_ok true d x z e = (refl, e)
 guard_ok false d x z e = absurd cc
 
-pub otherwise_ok : {A : Type 0} (b : Bool) (d : WFault) (y : Result A WFault) (z : A) → cond b (Err d) y ≡ Ok z → (b ≡ false) × (y ≡ Ok z)
+pub otherwise_ok : {A : Type 0} (b : Bool) (d : WFault) (y : Result A WFault) (z : A) → cond b (Err d) y ≡ Ok z
+    → (b ≡ false) × (y ≡ Ok z)
 otherwise_ok true d y z e = absurd cc
 otherwise_ok false d y z e = (refl, e)
 
@@ -47,7 +50,11 @@ ok_is x y e = cc
 
 -- what was read, and what is left
 pub read_is : {A : Type 0} (x y : A) (b c : List ℕ) → done {A = A × List ℕ} (x, b) ≡ done (y, c) → (x ≡ y) × (b ≡ c)
-read_is {A} x y b c e = (ap (λ (p : A × List ℕ). p.0) (ok_is {A = A × List ℕ} (x, b) (y, c) e), ap (λ (p : A × List ℕ). p.1) (ok_is {A = A × List ℕ} (x, b) (y, c) e))
+read_is {A} x y b c e = (
+  ap (λ (p : A × List ℕ). p.0) (ok_is {A = A × List ℕ} (x, b) (y, c) e),
+  ap
+      (λ (p : A × List ℕ). p.1) (ok_is {A = A × List ℕ} (x, b) (y, c) e),
+)
 
 -- what a reading took from the front
 pub record Taken {A : Type 0} (p : Format A) (bytes : List ℕ) (x : A) (rest : List ℕ) : Type 0 where
@@ -55,21 +62,30 @@ pub record Taken {A : Type 0} (p : Format A) (bytes : List ℕ) (x : A) (rest : 
   pub rest_fits : IsBytes rest
   pub fits : p.fits x ≡ true
 
-pub taken_at : {A : Type 0} (p : Format A) (bytes : List ℕ) (x y : A) (b c : List ℕ) → (x ≡ y) × (b ≡ c) → Taken p bytes x b → Taken p bytes y c
+pub taken_at : {A : Type 0} (p : Format A) (bytes : List ℕ) (x y : A) (b c : List ℕ) → (x ≡ y) × (b ≡ c)
+    → Taken p bytes x b → Taken p bytes y c
 taken_at p bytes x y b c is t = subst (λ z. Taken p bytes z c) is.0 (subst (λ r. Taken p bytes x r) is.1 t)
 
 pub record Law {A : Type 0} (p : Format A) : Type 0 where
-  pub takes : (bytes : List ℕ) (x : A) (rest : List ℕ) → IsBytes bytes → p.reading bytes ≡ Ok (x, rest) → Taken p bytes x rest
+  pub takes : (bytes : List ℕ) (x : A) (rest : List ℕ) → IsBytes bytes → p.reading bytes ≡ Ok (x, rest)
+      → Taken p bytes x rest
   pub again : (x : A) (rest : List ℕ) → p.fits x ≡ true → p.reading (p.encoding x ++ rest) ≡ Ok (x, rest)
 
 -- the same of a format that is read from bytes of its own
 pub record WholeLaw {A : Type 0} (p : Format A) : Type 0 where
-  pub takes : (bytes : List ℕ) (x : A) (rest : List ℕ) → IsBytes bytes → p.reading bytes ≡ Ok (x, rest) → Taken p bytes x rest
+  pub takes : (bytes : List ℕ) (x : A) (rest : List ℕ) → IsBytes bytes → p.reading bytes ≡ Ok (x, rest)
+      → Taken p bytes x rest
   pub again : (x : A) → p.fits x ≡ true → p.reading (p.encoding x) ≡ Ok (x, [])
 
 pub whole : {A : Type 0} (p : Format A) → Law p → WholeLaw p
-whole p law = record { takes = law.takes; again = λ x fits. ap p.reading (sym (append-nil (p.encoding x))) ∙ law.again x [] fits }
+whole p law = record {
+  takes = law.takes;
+  again = λ x fits. ap p.reading (sym (append-nil (p.encoding x)))
+      ∙ law.again x [] fits;
+}
 
 -- a byte before what was read
-pub put_before : (b : ℕ) (bytes text mid rest encoded : List ℕ) → bytes ≡ text ++ mid → mid ≡ rest → encoded ≡ b ∷ text → b ∷ bytes ≡ encoded ++ rest
-put_before b bytes text mid rest encoded e same is = ap (λ (t : List ℕ). b ∷ t) (e ∙ ap (λ (r : List ℕ). text ++ r) same) ∙ ap (λ (s : List ℕ). s ++ rest) (sym is)
+pub put_before : (b : ℕ) (bytes text mid rest encoded : List ℕ) → bytes ≡ text ++ mid → mid ≡ rest → encoded ≡ b ∷ text
+    → b ∷ bytes ≡ encoded ++ rest
+put_before b bytes text mid rest encoded e same is =
+    ap (λ (t : List ℕ). b ∷ t) (e ∙ ap (λ (r : List ℕ). text ++ r) same) ∙ ap (λ (s : List ℕ). s ++ rest) (sym is)

@@ -23,7 +23,8 @@ is_over Trap m h = tt
 is_over StillRunning m h = absurd (h refl)
 
 -- so many reductions were made
-pub record SoFar {S : Type 0} (reported : S → Option (List ℕ)) (failed : S → ℕ) (k : ℕ) (old now : Instances) (before after : S) : Type 0 where
+pub record SoFar {S : Type 0} (reported : S → Option (List ℕ)) (failed : S → ℕ) (k : ℕ) (old now : Instances)
+    (before after : S) : Type 0 where
   pub config : config_of now ≡ (run (modules_of old) k (config_of old)).0
   pub bytes : reported after ≡ with_bytes (reported before) (run (modules_of old) k (config_of old)).1
   pub failures : failed after ≡ failed before
@@ -42,18 +43,25 @@ module _ {S : Type 0} (reported : S → Option (List ℕ)) (failed : S → ℕ) 
     table = refl;
   }
 
-  pub some_more : (k n : ℕ) (now next : Instances) (after later : S) → SoFar reported failed k old now before after → Made reported failed n now next after later → modules_of next ≡ modules_of now → has_failed next ≡ has_failed now → next.table ≡ now.table
+  pub some_more : (k n : ℕ) (now next : Instances) (after later : S) → SoFar reported failed k old now before after
+      → Made reported failed n now next after later → modules_of next ≡ modules_of now
+      → has_failed next ≡ has_failed now → next.table ≡ now.table
       → SoFar reported failed (k + n) old next before later
   some_more k n now next after later so_far made same kept known =
       let first = run (modules_of old) k (config_of old) in
-      let more : run (modules_of now) n (config_of now) ≡ run (modules_of old) n first.0 = rw (so_far.modules, so_far.config) refl in
-      let whole : run (modules_of old) (k + n) (config_of old) ≡ followed (modules_of old) n first = run-plus (modules_of old) k n (config_of old) in
+      let more : run (modules_of now) n (config_of now) ≡ run (modules_of old) n first.0 =
+      rw (so_far.modules, so_far.config) refl in
+      let whole : run (modules_of old) (k + n) (config_of old) ≡ followed (modules_of old) n first =
+      run-plus (modules_of old) k n (config_of old) in
       record {
         config = made.config ∙ (ap (λ (p : Progress). p.0) more ∙ sym (ap (λ (p : Progress). p.0) whole));
         bytes =
-            let step : reported later ≡ with_bytes (reported after) (run (modules_of old) n first.0).1 = made.bytes ∙ ap (λ (p : Progress). with_bytes (reported after) p.1) more in
-            let joined : with_bytes (reported after) (run (modules_of old) n first.0).1 ≡ with_bytes (reported before) (first.1 ++ (run (modules_of old) n first.0).1) =
-            ap (λ t. with_bytes t (run (modules_of old) n first.0).1) so_far.bytes ∙ with_bytes-append (reported before) first.1 (run (modules_of old) n first.0).1 in
+            let step : reported later ≡ with_bytes (reported after) (run (modules_of old) n first.0).1 = made.bytes
+            ∙ ap (λ (p : Progress). with_bytes (reported after) p.1) more in
+            let joined : with_bytes (reported after) (run (modules_of old) n first.0).1
+            ≡ with_bytes (reported before) (first.1 ++ (run (modules_of old) n first.0).1) =
+            ap (λ t. with_bytes t (run (modules_of old) n first.0).1) so_far.bytes
+            ∙ with_bytes-append (reported before) first.1 (run (modules_of old) n first.0).1 in
             step ∙ (joined ∙ sym (ap (λ (p : Progress). with_bytes (reported before) p.1) whole));
         failures = made.failures ∙ so_far.failures;
         modules = same ∙ so_far.modules;
@@ -62,11 +70,15 @@ module _ {S : Type 0} (reported : S → Option (List ℕ)) (failed : S → ℕ) 
       }
 
   -- the run was over before all reductions were made
-  pub over_early : (k n : ℕ) (now : Instances) (after : S) → k ≤ n → (now.end ≡ StillRunning → ⊥) → SoFar reported failed k old now before after → Runs reported failed n now.end old now before after
+  pub over_early : (k n : ℕ) (now : Instances) (after : S) → k ≤ n → (now.end ≡ StillRunning → ⊥)
+      → SoFar reported failed k old now before after → Runs reported failed n now.end old now before after
   over_early k n now after le stopped so_far =
-      let over : IsOver (run (modules_of old) k (config_of old)).0 = subst IsOver so_far.config (is_over now.end now.machine stopped) in
+      let over : IsOver (run (modules_of old) k (config_of old)).0 =
+      subst IsOver so_far.config (is_over now.end now.machine stopped) in
       let split : n ≡ (n - k) + k = omega arith in
-      let same : run (modules_of old) n (config_of old) ≡ run (modules_of old) k (config_of old) = ap (λ m. run (modules_of old) m (config_of old)) split ∙ run_over (modules_of old) k (n - k) (config_of old) over in
+      let same : run (modules_of old) n (config_of old) ≡ run (modules_of old) k (config_of old) =
+      ap (λ m. run (modules_of old) m (config_of old)) split
+      ∙ run_over (modules_of old) k (n - k) (config_of old) over in
       record {
         config = so_far.config ∙ sym (ap (λ p. p.0) same);
         answer = is_end now.end now.machine;
@@ -75,6 +87,14 @@ module _ {S : Type 0} (reported : S → Option (List ℕ)) (failed : S → ℕ) 
       }
 
   -- all reductions were made
-  pub all_made : (k n : ℕ) (now : Instances) (after : S) → k ≡ n → SoFar reported failed k old now before after → Runs reported failed n now.end old now before after
+  pub all_made : (k n : ℕ) (now : Instances) (after : S) → k ≡ n → SoFar reported failed k old now before after
+      → Runs reported failed n now.end old now before after
   all_made k n now after same so_far =
-      subst (λ m. Runs reported failed m now.end old now before after) same (record { config = so_far.config; answer = is_end now.end now.machine; bytes = so_far.bytes; failures = so_far.failures })
+      subst (λ m. Runs reported failed m now.end old now before after) same
+      (record {
+        config = so_far.config;
+        answer = is_end now.end now.machine;
+        bytes = so_far.bytes;
+        failures =
+            so_far.failures;
+      })

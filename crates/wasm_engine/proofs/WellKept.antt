@@ -35,12 +35,14 @@ is_safe modules Trapped h = tt
 abbrev pub AreValid : ℕ → List WModule → Type 0
 AreValid n modules = (k : ℕ) (d : WModule) → k < n → IsValid (get_or modules k d)
 
-pub seen_more : (modules : List WModule) (n : ℕ) (x : WModule) → AreValid n modules → n < length modules → x ≡ get_or modules n x → IsValid x → AreValid (n + 1) modules
+pub seen_more : (modules : List WModule) (n : ℕ) (x : WModule) → AreValid n modules → n < length modules
+    → x ≡ get_or modules n x → IsValid x → AreValid (n + 1) modules
 seen_more modules n x before within is valid k d less = go (eq-or-lt_of_le at_most)
   where
     at_most : k ≤ n
     at_most = omega arith
 
     go : (k ≡ n) ⊎ (k < n) → IsValid (get_or modules k d)
-    go (inl e) = subst IsValid (is ∙ (get_or_default modules n x d within ∙ ap (λ (j : ℕ). get_or modules j d) (sym e))) valid
+    go (inl e) = subst IsValid (is ∙ (get_or_default modules n x d within ∙ ap (λ (j : ℕ). get_or modules j d) (sym e)))
+        valid
     go (inr h) = before k d h

@@ -11,6 +11,9 @@ use Rattle.wasm_known.specs.Known.{Leads, with}
 use Rattle.wasm_known.proofs.Computed.{one}
 
 module _ (modules : List WModule) (st : Store) (callers : List Activation) where
-  pub number_leads : (now : Activation) (o : Numeric) (rest : List Instr) (stack s : List Value) (v : Value) → calculation o stack ≡ Some (s, v)
-      → Leads modules 1 (Going st (with now (instr.Numeric o ∷ rest) stack) callers) (Going st (with now rest (s ++ v ∷ [])) callers)
-  number_leads now o rest stack s v e = one modules _ _ (ap (λ q. or_trap q (λ p. push_value st (with now rest p.0) callers p.1)) e)
+  pub number_leads : (now : Activation) (o : Numeric) (rest : List Instr) (stack s : List Value) (v : Value)
+      → calculation o stack ≡ Some (s, v)
+      → Leads modules 1 (Going st (with now (instr.Numeric o ∷ rest) stack) callers)
+      (Going st (with now rest (s ++ v ∷ [])) callers)
+  number_leads now o rest stack s v e = one modules _ _
+      (ap (λ q. or_trap q (λ p. push_value st (with now rest p.0) callers p.1)) e)

@@ -44,26 +44,44 @@ module _ (st : Store) where
   stopped_kept true k = tt
   stopped_kept false k = tt
 
-  back : (results : List Value) (o : Option (List Activation × Activation)) → Keeps st (elim o as (λ _. Progress) [ None ↦ (Over 0, []) | Some p ↦ (Going st (record p.1 { stack = p.1.stack ++ results }) p.0, []) ]).0
+  back : (results : List Value) (o : Option (List Activation × Activation))
+      → Keeps st (elim o as (λ _. Progress) [
+        | None ↦ (Over 0, [])
+        | Some p ↦
+            (Going st (record p.1 { stack = p.1.stack ++ results }) p.0, [])
+      ]).0
   back results None = tt
   back results (Some p) = same
 
-  found_kept : (now : Activation) (callers : List Activation) (o : Option (List Label × Label)) → Keeps st (branch_to st now callers o).0
-  found_kept now callers None = or_kept (split_end now.arity now.stack) (λ p. return_to st callers p.1) (λ p. back p.1 (split_last callers))
-  found_kept now callers (Some l) = or_kept (split_end l.1.arity now.stack) (λ p. (Going st (record now { labels = l.0; rest = l.1.again; stack = keep_operands l.1.height p }) callers, [])) (λ p. same)
+  found_kept : (now : Activation) (callers : List Activation) (o : Option (List Label × Label))
+      → Keeps st (branch_to st now callers o).0
+  found_kept now callers None = or_kept (split_end now.arity now.stack) (λ p. return_to st callers p.1)
+      (λ p. back p.1 (split_last callers))
+  found_kept now callers (Some l) = or_kept (split_end l.1.arity now.stack)
+      (λ p. (Going st (record now { labels = l.0; rest = l.1.again; stack = keep_operands l.1.height p }) callers, []))
+      (λ p. same)
 
   branched_kept : (now : Activation) (callers : List Activation) (l : ℕ) → Keeps st (branch_by st now callers l).0
-  branched_kept now callers l = if_kept (nat_le l (length now.labels)) (branch_to st now callers (split_last (take (length now.labels - l) now.labels))) (found_kept now callers (split_last (take (length now.labels - l) now.labels)))
+  branched_kept now callers l = if_kept (nat_le l (length now.labels))
+      (branch_to st now callers (split_last (take (length now.labels - l) now.labels)))
+      (found_kept now callers (split_last (take (length now.labels - l) now.labels)))
 
-  called_kept : (modules : List WModule) (now : Activation) (callers : List Activation) (c : Callee) → Keeps st (call_function modules st now callers c).0
-  called_kept modules now callers Put = or_kept (top_i64 now.stack) (λ p. (Going st (record now { stack = p.0 }) callers, p.1 % 256 ∷ [])) (λ p. same)
-  called_kept modules now callers Stop = or_kept (top_i64 now.stack) (λ p. (stop_with p.1, [])) (λ p. stopped_kept (nat_le 1 p.1 && nat_le p.1 255) p.1)
+  called_kept : (modules : List WModule) (now : Activation) (callers : List Activation) (c : Callee)
+      → Keeps st (call_function modules st now callers c).0
+  called_kept modules now callers Put = or_kept (top_i64 now.stack)
+      (λ p. (Going st (record now { stack = p.0 }) callers, p.1 % 256 ∷ [])) (λ p. same)
+  called_kept modules now callers Stop = or_kept (top_i64 now.stack) (λ p. (stop_with p.1, []))
+      (λ p. stopped_kept (nat_le 1 p.1 && nat_le p.1 255) p.1)
   called_kept modules now callers (Own m f) =
-      or_kept (own_function modules m f) (λ t. or_trap (split_end (length t.type.params) now.stack) (λ p. (Going st (enter_function m t p.1) (callers ++ record now { stack = p.0 } ∷ []), [])))
-      (λ t. or_kept (split_end (length t.type.params) now.stack) (λ p. (Going st (enter_function m t p.1) (callers ++ record now { stack = p.0 } ∷ []), [])) (λ p. same))
+      or_kept (own_function modules m f) (λ t. or_trap (split_end (length t.type.params) now.stack)
+      (λ p. (Going st (enter_function m t p.1) (callers ++ record now { stack = p.0 } ∷ []), [])))
+      (λ t. or_kept (split_end (length t.type.params) now.stack)
+      (λ p. (Going st (enter_function m t p.1) (callers ++ record now { stack = p.0 } ∷ []), [])) (λ p. same))
 
-  local_kept : (now : Activation) (callers : List Activation) (x : ℕ) (v : Value) → Keeps st (with_local st now callers x v).0
-  local_kept now callers x v = if_kept (nat_lt x (length now.locals)) (Going st (record now { locals = slice_set now.locals x v }) callers, []) same
+  local_kept : (now : Activation) (callers : List Activation) (x : ℕ) (v : Value)
+      → Keeps st (with_local st now callers x v).0
+  local_kept now callers x v = if_kept (nat_lt x (length now.locals))
+      (Going st (record now { locals = slice_set now.locals x v }) callers, []) same
 
   module _ (modules : List WModule) (now : Activation) (callers : List Activation) (i : Instr) where
     begun_kept : (l : layer.Instr-F Instr) → Keeps st (begun_layer modules st now callers i l).0
@@ -71,43 +89,69 @@ module _ (st : Store) where
     begun_kept (layer.Block t body) = same
     begun_kept (layer.Loop t body) = same
     begun_kept (layer.If t body otherwise) =
-        or_kept (top_i32 now.stack) (λ p. inside st (record now { stack = p.0 }) callers (results_of t) now.rest (side p.1 body otherwise)) (λ p. same)
+        or_kept (top_i32 now.stack) (λ p. inside st (record now { stack = p.0 }) callers (results_of t) now.rest
+        (side p.1 body otherwise)) (λ p. same)
     begun_kept (layer.Br l) = branched_kept now callers l
     begun_kept (layer.BrIf l) =
         or_kept (top_i32 now.stack) (λ p. branched_if st (record now { stack = p.0 }) callers l p.1)
-        (λ p. one_kept (p.1 == 0) (Going st (record now { stack = p.0 }) callers, []) (branch_by st (record now { stack = p.0 }) callers l) same (branched_kept (record now { stack = p.0 }) callers l))
+        (λ p. one_kept (p.1 == 0) (Going st (record now { stack = p.0 }) callers, [])
+        (branch_by st (record now { stack = p.0 }) callers l) same
+        (branched_kept (record now { stack = p.0 }) callers l))
     begun_kept (layer.BrTable ls default) =
-        or_kept (top_i32 now.stack) (λ p. branch_by st (record now { stack = p.0 }) callers (slice_index_or ls p.1 default)) (λ p. branched_kept (record now { stack = p.0 }) callers (slice_index_or ls p.1 default))
+        or_kept (top_i32 now.stack) (λ p. branch_by st (record now { stack = p.0 }) callers
+        (slice_index_or ls p.1 default)) (λ p. branched_kept (record now { stack = p.0 }) callers
+        (slice_index_or ls p.1 default))
     begun_kept layer.Return = found_kept now callers None
-    begun_kept (layer.Call f) = or_kept (callee_at st now.instance f) (call_function modules st now callers) (λ c. called_kept modules now callers c)
+    begun_kept (layer.Call f) = or_kept (callee_at st now.instance f) (call_function modules st now callers)
+        (λ c. called_kept modules now callers c)
     begun_kept (layer.CallIndirect t) =
-        or_kept (top_i32 now.stack) (λ p. or_trap (callee_in st now.instance p.1) (call_typed modules st (record now { stack = p.0 }) callers (type_at modules now.instance t)))
-        (λ p. or_kept (callee_in st now.instance p.1) (call_typed modules st (record now { stack = p.0 }) callers (type_at modules now.instance t))
-        (λ c. if_kept (agree (type_at modules now.instance t) (callee_type modules c)) (call_function modules st (record now { stack = p.0 }) callers c) (called_kept modules (record now { stack = p.0 }) callers c)))
-    begun_kept layer.Drop = or_kept (split_last now.stack) (λ p. (Going st (record now { stack = p.0 }) callers, [])) (λ p. same)
+        or_kept (top_i32 now.stack) (λ p. or_trap (callee_in st now.instance p.1)
+        (call_typed modules st (record now { stack = p.0 }) callers (type_at modules now.instance t)))
+        (λ p. or_kept (callee_in st now.instance p.1)
+        (call_typed modules st (record now { stack = p.0 }) callers (type_at modules now.instance t))
+        (λ c. if_kept (agree (type_at modules now.instance t) (callee_type modules c))
+        (call_function modules st (record now { stack = p.0 }) callers c)
+        (called_kept modules (record now { stack = p.0 }) callers c)))
+    begun_kept layer.Drop = or_kept (split_last now.stack) (λ p. (Going st (record now { stack = p.0 }) callers, []))
+        (λ p. same)
     begun_kept (layer.LocalGet x) = or_kept (slice_get now.locals x) (push_value st now callers) (λ p. same)
-    begun_kept (layer.LocalSet x) = or_kept (split_last now.stack) (λ p. with_local st (record now { stack = p.0 }) callers x p.1) (λ p. local_kept (record now { stack = p.0 }) callers x p.1)
-    begun_kept (layer.LocalTee x) = or_kept (topmost now.stack) (with_local st now callers x) (λ v. local_kept now callers x v)
+    begun_kept (layer.LocalSet x) = or_kept (split_last now.stack)
+        (λ p. with_local st (record now { stack = p.0 }) callers x p.1)
+        (λ p. local_kept (record now { stack = p.0 }) callers x p.1)
+    begun_kept (layer.LocalTee x) = or_kept (topmost now.stack) (with_local st now callers x)
+        (λ v. local_kept now callers x v)
     begun_kept (layer.GlobalGet g) = or_kept (global_at st now.instance g) (push_value st now callers) (λ p. same)
     begun_kept (layer.Load kind) =
-        or_kept (top_i32 now.stack) (λ p. or_trap (memory_of st now.instance) (loads st (record now { stack = p.0 }) callers kind p.1))
+        or_kept (top_i32 now.stack) (λ p. or_trap (memory_of st now.instance)
+        (loads st (record now { stack = p.0 }) callers kind p.1))
         (λ p. or_kept (memory_of st now.instance) (loads st (record now { stack = p.0 }) callers kind p.1)
-        (λ m. or_kept (bytes_at (load_size kind) p.1 m.1.bytes) (λ bytes. push_value st (record now { stack = p.0 }) callers (I64 (load_number kind bytes))) (λ b. same)))
+        (λ m. or_kept (bytes_at (load_size kind) p.1 m.1.bytes)
+        (λ bytes. push_value st (record now { stack = p.0 }) callers (I64 (load_number kind bytes))) (λ b. same)))
     begun_kept (layer.Store width) =
-        or_kept (top_i64 now.stack) (λ v. or_trap (top_i32 v.0) (λ p. or_trap (memory_of st now.instance) (stores st (record now { stack = p.0 }) callers p.1 (store_bytes width v.1))))
-        (λ v. or_kept (top_i32 v.0) (λ p. or_trap (memory_of st now.instance) (stores st (record now { stack = p.0 }) callers p.1 (store_bytes width v.1)))
-        (λ p. or_kept (memory_of st now.instance) (stores st (record now { stack = p.0 }) callers p.1 (store_bytes width v.1))
-        (λ m. if_kept (nat_le (p.1 + length (store_bytes width v.1)) (length m.1.bytes))
-        (Going (with_memory_bytes st m.0 m.1 (paste_items m.1.bytes p.1 (store_bytes width v.1))) (record now { stack = p.0 }) callers, []) (record { instances = refl; functions = refl }))))
+        or_kept (top_i64 now.stack) (λ v. or_trap (top_i32 v.0)
+        (λ p. or_trap (memory_of st now.instance)
+        (stores st (record now { stack = p.0 }) callers p.1 (store_bytes width v.1))))
+        (λ v. or_kept (top_i32 v.0) (λ p. or_trap (memory_of st now.instance)
+        (stores st (record now { stack = p.0 }) callers p.1 (store_bytes width v.1)))
+        (λ p. or_kept (memory_of st now.instance)
+        (stores st (record now { stack = p.0 }) callers p.1 (store_bytes width v.1))
+        (λ m. if_kept (nat_le (p.1 + length (store_bytes width v.1)) (length m.1.bytes)) (
+          Going (with_memory_bytes st m.0 m.1 (paste_items m.1.bytes p.1 (store_bytes width v.1)))
+              (record now { stack = p.0 }) callers,
+          [],
+        ) (record { instances = refl; functions = refl }))))
     begun_kept (layer.I32Const n) = same
     begun_kept (layer.I64Const n) = same
-    begun_kept (layer.Numeric o) = or_kept (calculation o now.stack) (λ p. push_value st (record now { stack = p.0 }) callers p.1) (λ p. same)
+    begun_kept (layer.Numeric o) = or_kept (calculation o now.stack)
+        (λ p. push_value st (record now { stack = p.0 }) callers p.1) (λ p. same)
 
-  ended_kept : (now : Activation) (callers : List Activation) (o : Option (List Label × Label)) → Keeps st (end_block st now callers o).0
+  ended_kept : (now : Activation) (callers : List Activation) (o : Option (List Label × Label))
+      → Keeps st (end_block st now callers o).0
   ended_kept now callers None = found_kept now callers None
   ended_kept now callers (Some l) = same
 
-  next_kept : (modules : List WModule) (now : Activation) (callers : List Activation) (code : List Instr) → Keeps st (next modules st now callers code).0
+  next_kept : (modules : List WModule) (now : Activation) (callers : List Activation) (code : List Instr)
+      → Keeps st (next modules st now callers code).0
   next_kept modules now callers [] = ended_kept now callers (split_last now.labels)
   next_kept modules now callers (i ∷ rest) = begun_kept modules (record now { rest = rest }) callers i (out-Instr i)
 
@@ -144,7 +188,8 @@ stays_at_end (Over j) e h k = k
 stays_at_end Trapped e h k = k
 
 keeps_on : (st : Store) (d e : Config) → Keeps st d → KeepsAs d e → Keeps st e
-keeps_on st (Going new now callers) (Going last running others) h k = record { instances = k.instances ∙ h.instances; functions = k.functions ∙ h.functions }
+keeps_on st (Going new now callers) (Going last running others) h k =
+    record { instances = k.instances ∙ h.instances; functions = k.functions ∙ h.functions }
 keeps_on st (Going new now callers) (Over j) h k = tt
 keeps_on st (Going new now callers) Trapped h k = tt
 keeps_on st (Over j) e h k = at_end st e k
@@ -158,9 +203,12 @@ keeps_both Trapped d e h k = stays_at_end d e h k
 pub run_keeps : (modules : List WModule) (n : ℕ) (c : Config) → KeepsAs c (run modules n c).0
 unfolding run
 run_keeps modules zero c = keeps_itself c
-run_keeps modules (suc n) c = keeps_both c (reduce modules c).0 (run modules n (reduce modules c).0).0 (reduce_keeps modules c) (run_keeps modules n (reduce modules c).0)
+run_keeps modules (suc n) c = keeps_both c (reduce modules c).0 (run modules n (reduce modules c).0).0
+    (reduce_keeps modules c) (run_keeps modules n (reduce modules c).0)
 
 -- so a function of an index is the one that it was
 pub callee_kept : (st new : Store) (m g : ℕ) → SameNames st new → callee_at new m g ≡ callee_at st m g
 callee_kept st new m g h =
-    ap₂ (λ (is : List Instance) (fs : List Callee). option_and_then (λ (i : Instance). option_and_then (λ (a : ℕ). slice_get fs a) (slice_get i.functions g)) (slice_get is m)) h.instances h.functions
+    ap₂ (λ (is : List Instance) (fs : List Callee). option_and_then
+    (λ (i : Instance). option_and_then (λ (a : ℕ). slice_get fs a) (slice_get i.functions g)) (slice_get is m))
+    h.instances h.functions

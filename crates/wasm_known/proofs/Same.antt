@@ -138,20 +138,199 @@ lists (x ∷ xs) (y ∷ ys) h e =
     ap₂ (λ (a : Op) (l : List Op). a ∷ l) (h.0 x p.0) (lists xs ys h.1 p.1)
 
 pub check_exact : AllExact check_ops
-check_exact =
-    (is_block 13, (is_block 9, (is_get 0, (is_get 1, (is_less, (is_br_if 0, (is_get 0, (is_get 2, (is_greater, (is_br_if 0, (is_br 1, (is_get 3, (is_call 1, (is_unreachable, (is_get 0, tt)))))))))))))))
+check_exact = (
+  is_block 13,
+  (
+    is_block 9,
+    (
+      is_get 0,
+      (
+        is_get 1,
+        (
+          is_less,
+          (
+            is_br_if 0,
+            (
+              is_get 0,
+              (
+                is_get 2,
+                (is_greater, (is_br_if 0, (is_br 1, (is_get 3, (is_call 1, (is_unreachable, (is_get 0, tt))))))),
+              ),
+            ),
+          ),
+        ),
+      ),
+    ),
+  ),
+)
 
 pub fill_exact : AllExact fill_ops
-fill_exact = (is_block 16, (is_loop 15, (is_get 1, (is_zero_test, (is_br_if 1, (is_get 0, (is_wide 0, (is_byte_store, (is_get 0, (is_narrow 1, (is_sum_32, (is_set 0, (is_get 1, (is_narrow 4294967295, (is_sum_32, (is_set 1, (is_br 0, tt)))))))))))))))))
+fill_exact = (
+  is_block 16,
+  (
+    is_loop 15,
+    (
+      is_get 1,
+      (
+        is_zero_test,
+        (
+          is_br_if 1,
+          (
+            is_get 0,
+            (
+              is_wide 0,
+              (
+                is_byte_store,
+                (
+                  is_get 0,
+                  (
+                    is_narrow 1,
+                    (
+                      is_sum_32,
+                      (
+                        is_set 0,
+                        (
+                          is_get 1,
+                          (is_narrow 4294967295, (is_sum_32, (is_set 1, (is_br 0, tt)))),
+                        ),
+                      ),
+                    ),
+                  ),
+                ),
+              ),
+            ),
+          ),
+        ),
+      ),
+    ),
+  ),
+)
 
 pub copy_exact : AllExact copy_ops
-copy_exact = (is_block 21, (is_loop 20, (is_get 2, (is_zero_test, (is_br_if 1, (is_get 0, (is_get 1, (is_byte_load, (is_byte_store, (is_get 0, (is_narrow 1, (is_sum_32, (is_set 0, (is_get 1, (is_narrow 1, (is_sum_32, (is_set 1, (is_get 2, (is_narrow 4294967295, (is_sum_32, (is_set 2, (is_br 0, tt))))))))))))))))))))))
+copy_exact = (
+  is_block 21,
+  (
+    is_loop 20,
+    (
+      is_get 2,
+      (
+        is_zero_test,
+        (
+          is_br_if 1,
+          (
+            is_get 0,
+            (
+              is_get 1,
+              (
+                is_byte_load,
+                (
+                  is_byte_store,
+                  (
+                    is_get 0,
+                    (
+                      is_narrow 1,
+                      (
+                        is_sum_32,
+                        (
+                          is_set 0,
+                          (
+                            is_get 1,
+                            (
+                              is_narrow 1,
+                              (
+                                is_sum_32,
+                                (
+                                  is_set 1,
+                                  (is_get 2, (is_narrow 4294967295, (is_sum_32, (is_set 2, (is_br 0, tt))))),
+                                ),
+                              ),
+                            ),
+                          ),
+                        ),
+                      ),
+                    ),
+                  ),
+                ),
+              ),
+            ),
+          ),
+        ),
+      ),
+    ),
+  ),
+)
 
 pub div_exact : AllExact div_ops
-div_exact = (is_get 1, (is_wide 1, (is_wide 4294967295, (is_wide 4, (is_call 4, (is_set 1, (is_get 0, (is_get 1, (is_quotient, (is_get 0, (is_get 1, (is_remainder, (is_wide 0, (is_less, (is_extension, (is_difference, tt))))))))))))))))
+div_exact = (
+  is_get 1,
+  (
+    is_wide 1,
+    (
+      is_wide 4294967295,
+      (
+        is_wide 4,
+        (
+          is_call 4,
+          (
+            is_set 1,
+            (
+              is_get 0,
+              (
+                is_get 1,
+                (
+                  is_quotient,
+                  (
+                    is_get 0,
+                    (
+                      is_get 1,
+                      (is_remainder, (is_wide 0, (is_less, (is_extension, (is_difference, tt))))),
+                    ),
+                  ),
+                ),
+              ),
+            ),
+          ),
+        ),
+      ),
+    ),
+  ),
+)
 
 pub mod_exact : AllExact mod_ops
-mod_exact = (is_get 1, (is_wide 1, (is_wide 4294967295, (is_wide 4, (is_call 4, (is_set 1, (is_get 0, (is_get 1, (is_remainder, (is_tee 2, (is_get 2, (is_wide 0, (is_less, (is_extension, (is_get 1, (is_product, (is_sum, tt)))))))))))))))))
+mod_exact = (
+  is_get 1,
+  (
+    is_wide 1,
+    (
+      is_wide 4294967295,
+      (
+        is_wide 4,
+        (
+          is_call 4,
+          (
+            is_set 1,
+            (
+              is_get 0,
+              (
+                is_get 1,
+                (
+                  is_remainder,
+                  (
+                    is_tee 2,
+                    (
+                      is_get 2,
+                      (is_wide 0, (is_less, (is_extension, (is_get 1, (is_product, (is_sum, tt)))))),
+                    ),
+                  ),
+                ),
+              ),
+            ),
+          ),
+        ),
+      ),
+    ),
+  ),
+)
 
 -- ---- the whole function
 
@@ -165,7 +344,11 @@ same_types (types.I32 ∷ ts) (types.I64 ∷ us) e = absurd (no e)
 same_types (types.I64 ∷ ts) (types.I32 ∷ us) e = absurd (no e)
 
 abbrev made : ℕ → (params results : List ValueType) → List Locals → List Instr → Typed
-made index params results locals code = record { type = record { params = params; results = results }; function = record { type_index = index; body = record { locals = locals; code = code } } }
+made index params results locals code = record {
+  type = record { params = params; results = results };
+  function =
+      record { type_index = index; body = record { locals = locals; code = code } };
+}
 
 abbrev pub wide : List ValueType
 wide = types.I64 ∷ []
@@ -184,9 +367,12 @@ three_narrow = types.I32 ∷ types.I32 ∷ types.I32 ∷ []
 
 -- the function with these types, locals and code
 module _ (params results : List ValueType) (locals : List Locals) (code : List Instr) where
-  pub function_is : (t : Typed) → (are_same t.type.params params && are_same t.type.results results) ≡ true → t.function.body.locals ≡ locals → t.function.body.code ≡ code → t ≡ made t.function.type_index params results locals code
+  pub function_is : (t : Typed) → (are_same t.type.params params && are_same t.type.results results) ≡ true
+      → t.function.body.locals ≡ locals → t.function.body.code ≡ code
+      → t ≡ made t.function.type_index params results locals code
   function_is t e f g =
       let b = both (are_same t.type.params params) (are_same t.type.results results) e in
       let i = t.function.type_index in
-      ap₂ (λ (p r : List ValueType). made i p r t.function.body.locals t.function.body.code) (same_types t.type.params params b.0) (same_types t.type.results results b.1)
+      ap₂ (λ (p r : List ValueType). made i p r t.function.body.locals t.function.body.code)
+      (same_types t.type.params params b.0) (same_types t.type.results results b.1)
       ∙ ap₂ (λ (l : List Locals) (c : List Instr). made i params results l c) f g

@@ -12,7 +12,8 @@ use Rattle.wasm_tree.specs.declared.store.Callee.TheVariants.{Own}
 use Rattle.wasm_tree.specs.Linking.{each, Linked, with_function, with_functions, linked_one, linked_from}
 
 -- a fault of the first of two steps is one of both
-pub fails_first : {A B : Type 0} (e : WFault) (first : Result A WFault) (next : A → Result B WFault) → Fails e first → Fails e (first >>= next)
+pub fails_first : {A B : Type 0} (e : WFault) (first : Result A WFault) (next : A → Result B WFault) → Fails e first
+    → Fails e (first >>= next)
 fails_first Malformed first next h = rw h refl
 fails_first OutsideProfile first next h = rw h refl
 fails_first Invalid first next h = rw h refl
@@ -31,20 +32,26 @@ fails_same NoMemory now total h same = tt
 
 module _ {X S : Type 0} (step : X → S → Result S WFault) (xs : List X) (k : ℕ) (s : S) where
   -- one more step was made
-  pub each_more : (x : X) (t : S) (total : Result S WFault) → k < length xs → x ≡ get_or xs k x → step x s ≡ Ok t → each step (drop k xs) s ≡ total → each step (drop (k + 1) xs) t ≡ total
+  pub each_more : (x : X) (t : S) (total : Result S WFault) → k < length xs → x ≡ get_or xs k x → step x s ≡ Ok t
+      → each step (drop k xs) s ≡ total → each step (drop (k + 1) xs) t ≡ total
   unfolding each
-  each_more x t total h is e so_far = rw add-one (sym (ap (λ ys. each step ys s) (drop-cons xs k x h) ∙ rw (← is, e) refl) ∙ so_far)
+  each_more x t total h is e so_far = rw add-one
+      (sym (ap (λ ys. each step ys s) (drop-cons xs k x h) ∙ rw (← is, e) refl) ∙ so_far)
 
   -- the same, where the element is read with another default
-  pub each_more_at : (d : X) (t : S) (total : Result S WFault) → k < length xs → step (get_or xs k d) s ≡ Ok t → each step (drop k xs) s ≡ total → each step (drop (k + 1) xs) t ≡ total
+  pub each_more_at : (d : X) (t : S) (total : Result S WFault) → k < length xs → step (get_or xs k d) s ≡ Ok t
+      → each step (drop k xs) s ≡ total → each step (drop (k + 1) xs) t ≡ total
   unfolding each
-  each_more_at d t total h e so_far = rw add-one (sym (ap (λ ys. each step ys s) (drop-cons xs k d h) ∙ rw e refl) ∙ so_far)
+  each_more_at d t total h e so_far = rw add-one
+      (sym (ap (λ ys. each step ys s) (drop-cons xs k d h) ∙ rw e refl) ∙ so_far)
 
   -- the next step fails
-  pub each_fail : (e : WFault) (x : X) (total : Result S WFault) → k < length xs → x ≡ get_or xs k x → Fails e (step x s) → each step (drop k xs) s ≡ total → Fails e total
+  pub each_fail : (e : WFault) (x : X) (total : Result S WFault) → k < length xs → x ≡ get_or xs k x
+      → Fails e (step x s) → each step (drop k xs) s ≡ total → Fails e total
   unfolding each
   each_fail e x total h is f so_far =
-      fails_same e (step x s >>= each step (drop (suc k) xs)) total (fails_first e (step x s) (each step (drop (suc k) xs)) f)
+      fails_same e (step x s >>= each step (drop (suc k) xs)) total
+      (fails_first e (step x s) (each step (drop (suc k) xs)) f)
       (sym (ap (λ ys. each step ys s) (drop-cons xs k x h) ∙ rw (← is) refl) ∙ so_far)
 
   -- no step is left
@@ -53,7 +60,8 @@ module _ {X S : Type 0} (step : X → S → Result S WFault) (xs : List X) (k : 
   each_none total h so_far = sym so_far ∙ rw (drop_all k xs h) refl
 
 -- the next function
-at_next : (m k : ℕ) (fs rest : List Function) (f : Function) (l : Linked) → drop k fs ≡ f ∷ rest → with_functions m k (drop k fs) l ≡ with_functions m (suc k) rest (with_function (Own m k) l)
+at_next : (m k : ℕ) (fs rest : List Function) (f : Function) (l : Linked) → drop k fs ≡ f ∷ rest
+    → with_functions m k (drop k fs) l ≡ with_functions m (suc k) rest (with_function (Own m k) l)
 unfolding with_functions
 at_next m k fs rest f l e = ap (λ xs. with_functions m k xs l) e
 
@@ -64,7 +72,8 @@ some_first zero [] h = absurd (omega arith)
 some_first (suc k) [] h = absurd (omega arith)
 
 module _ (m : ℕ) (fs : List Function) (k : ℕ) (l : Linked) where
-  pub functions_more : (total next : Linked) → k < length fs → next ≡ with_function (Own m k) l → with_functions m k (drop k fs) l ≡ total → with_functions m (k + 1) (drop (k + 1) fs) next ≡ total
+  pub functions_more : (total next : Linked) → k < length fs → next ≡ with_function (Own m k) l
+      → with_functions m k (drop k fs) l ≡ total → with_functions m (k + 1) (drop (k + 1) fs) next ≡ total
   unfolding with_functions
   functions_more total next h e so_far =
       let first = some_first k fs h in
@@ -75,18 +84,26 @@ module _ (m : ℕ) (fs : List Function) (k : ℕ) (l : Linked) where
   functions_none total h so_far = sym (ap (λ rest. with_functions m k rest l) (drop_all k fs h)) ∙ so_far
 
 module _ (all trees : List WModule) (k : ℕ) (st : Store) where
-  at_tree : (tree : WModule) → k < length trees → tree ≡ get_or trees k tree → linked_from all k (drop k trees) st ≡ (linked_one all k tree st >>= linked_from all (suc k) (drop (suc k) trees))
+  at_tree : (tree : WModule) → k < length trees → tree ≡ get_or trees k tree
+      → linked_from all k (drop k trees) st ≡
+      (linked_one all k tree st >>= linked_from all (suc k) (drop (suc k) trees))
   unfolding linked_from
   at_tree tree h is = ap (λ xs. linked_from all k xs st) (drop-cons trees k tree h) ∙ rw (← is) refl
 
-  pub linked_more : (tree : WModule) (next : Store) (total : Result Store WFault) → k < length trees → tree ≡ get_or trees k tree → linked_one all k tree st ≡ Ok next → linked_from all k (drop k trees) st ≡ total → linked_from all (k + 1) (drop (k + 1) trees) next ≡ total
+  pub linked_more : (tree : WModule) (next : Store) (total : Result Store WFault) → k < length trees
+      → tree ≡ get_or trees k tree → linked_one all k tree st ≡ Ok next → linked_from all k (drop k trees) st ≡ total
+      → linked_from all (k + 1) (drop (k + 1) trees) next ≡ total
   linked_more tree next total h is e so_far = rw add-one (sym (at_tree tree h is ∙ rw e refl) ∙ so_far)
 
-  pub linked_fail : (e : WFault) (tree : WModule) (total : Result Store WFault) → k < length trees → tree ≡ get_or trees k tree → Fails e (linked_one all k tree st) → linked_from all k (drop k trees) st ≡ total → Fails e total
+  pub linked_fail : (e : WFault) (tree : WModule) (total : Result Store WFault) → k < length trees
+      → tree ≡ get_or trees k tree → Fails e (linked_one all k tree st) → linked_from all k (drop k trees) st ≡ total
+      → Fails e total
   linked_fail e tree total h is f so_far =
-      fails_same e (linked_one all k tree st >>= linked_from all (suc k) (drop (suc k) trees)) total (fails_first e (linked_one all k tree st) (linked_from all (suc k) (drop (suc k) trees)) f)
+      fails_same e (linked_one all k tree st >>= linked_from all (suc k) (drop (suc k) trees)) total
+      (fails_first e (linked_one all k tree st) (linked_from all (suc k) (drop (suc k) trees)) f)
       (sym (at_tree tree h is) ∙ so_far)
 
-  pub linked_none : (total : Result Store WFault) → length trees ≤ k → linked_from all k (drop k trees) st ≡ total → total ≡ Ok st
+  pub linked_none : (total : Result Store WFault) → length trees ≤ k → linked_from all k (drop k trees) st ≡ total
+      → total ≡ Ok st
   unfolding linked_from
   linked_none total h so_far = sym so_far ∙ rw (drop_all k trees h) refl

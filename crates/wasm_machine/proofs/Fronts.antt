@@ -34,7 +34,8 @@ front_is [] h = absurd (omega arith)
 front_is (o ∷ ops) h = ap (λ (l : List Op). o ∷ l) (sym (take_all (length (o ∷ ops) - 1) ops (omega arith)))
 
 -- the first instruction of code, and those behind it
-pub front_trees : (ops : List Op) → 1 ≤ length ops → tree ops ≡ head tree (first ops) (others ops) ∷ tree (behind (first ops) (others ops))
+pub front_trees : (ops : List Op) → 1 ≤ length ops
+    → tree ops ≡ head tree (first ops) (others ops) ∷ tree (behind (first ops) (others ops))
 front_trees ops h = ap tree (front_is ops h) ∙ tree_front (first ops) (others ops)
 
 no_trees : (ops : List Op) → length ops < 1 → tree ops ≡ []
@@ -43,15 +44,21 @@ no_trees ops h = ap tree (nil_from_length ops none) ∙ tree_none
     none : length ops ≡ 0
     none = omega arith
 
-module _ (modules : List WModule) (st : Store) (now : Activation) (callers : List Activation) (ops : List Op) (is : now.rest ≡ tree ops) where
-  pub front_ready : ∥ IsWell modules (Going st now callers) ∥₁ → 1 ≤ length ops → ∥ IsReady modules st (record now { rest = tree (behind (first ops) (others ops)) }) (out-Instr (head tree (first ops) (others ops))) ∥₁
-  front_ready w h = ∥∥₁_map w (λ a. is_ready_to_begin modules a.valid st now callers a.sound (head tree (first ops) (others ops)) (tree (behind (first ops) (others ops))) (is ∙ front_trees ops h))
+module _ (modules : List WModule) (st : Store) (now : Activation) (callers : List Activation) (ops : List Op)
+    (is : now.rest ≡ tree ops) where
+  pub front_ready : ∥ IsWell modules (Going st now callers) ∥₁ → 1 ≤ length ops
+      → ∥ IsReady modules st (record now { rest = tree (behind (first ops) (others ops)) })
+      (out-Instr (head tree (first ops) (others ops))) ∥₁
+  front_ready w h = ∥∥₁_map w (λ a. is_ready_to_begin modules a.valid st now callers a.sound
+      (head tree (first ops) (others ops)) (tree (behind (first ops) (others ops))) (is ∙ front_trees ops h))
 
-  pub end_ready : ∥ IsWell modules (Going st now callers) ∥₁ → length ops < 1 → ∥ IsReadyToEnd now (split_last now.labels) ∥₁
+  pub end_ready : ∥ IsWell modules (Going st now callers) ∥₁ → length ops < 1
+      → ∥ IsReadyToEnd now (split_last now.labels) ∥₁
   end_ready w h = ∥∥₁_map w (λ a. is_ready_to_end modules a.valid st now callers a.sound (is ∙ no_trees ops h))
 
   -- a reduction, by what the code is
-  begins : 1 ≤ length ops → begin_instruction modules st (record now { rest = tree (behind (first ops) (others ops)) }) callers (head tree (first ops) (others ops)) ≡ reduce modules (Going st now callers)
+  begins : 1 ≤ length ops → begin_instruction modules st (record now { rest = tree (behind (first ops) (others ops)) })
+      callers (head tree (first ops) (others ops)) ≡ reduce modules (Going st now callers)
   unfolding reduce
   begins h = sym (ap (next modules st now callers) (is ∙ front_trees ops h))
 
@@ -60,11 +67,14 @@ module _ (modules : List WModule) (st : Store) (now : Activation) (callers : Lis
   ends h = sym (ap (next modules st now callers) (is ∙ no_trees ops h))
 
   pub reduced_front : {E : Type 0} (r : Result Reduced E) (m : Machine) → 1 ≤ length ops
-      → IfOk r (λ p. progress p m ≡ begin_instruction modules st (record now { rest = tree (behind (first ops) (others ops)) }) callers (head tree (first ops) (others ops))) → IfOk r (λ p. progress p m ≡ reduce modules (Going st now callers))
+      → IfOk r (λ p. progress p m ≡ begin_instruction modules st
+      (record now { rest = tree (behind (first ops) (others ops)) }) callers (head tree (first ops) (others ops)))
+      → IfOk r (λ p. progress p m ≡ reduce modules (Going st now callers))
   reduced_front (Ok p) m e h = h ∙ begins e
   reduced_front (Err p) m e h = tt
 
   pub reduced_end : {E : Type 0} (r : Result Reduced E) (m : Machine) → length ops < 1
-      → IfOk r (λ p. progress p m ≡ end_block st now callers (split_last now.labels)) → IfOk r (λ p. progress p m ≡ reduce modules (Going st now callers))
+      → IfOk r (λ p. progress p m ≡ end_block st now callers (split_last now.labels))
+      → IfOk r (λ p. progress p m ≡ reduce modules (Going st now callers))
   reduced_end (Ok p) m e h = h ∙ ends e
   reduced_end (Err p) m e h = tt

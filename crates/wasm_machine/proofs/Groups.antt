@@ -9,6 +9,11 @@ use Rattle.wasm_tree.specs.declared.module.Locals.{Locals}
 abbrev pub none : Locals
 none = record { count = 0; value_type = I32 }
 
-pub more : {X A : Type 0} (f : X → List A) (before : List A) (xs : List X) (k : ℕ) (d : X) → k < length xs → before ++ flat_map f (take k xs) ++ f (get_or xs k d) ≡ before ++ flat_map f (take (k + 1) xs)
+pub more : {X A : Type 0} (f : X → List A) (before : List A) (xs : List X) (k : ℕ) (d : X) → k < length xs
+    → before ++ flat_map f (take k xs) ++ f (get_or xs k d) ≡ before ++ flat_map f (take (k + 1) xs)
 more {X} {A} f before xs k d less =
-    append_assoc before (flat_map f (take k xs)) (f (get_or xs k d)) ∙ ap (λ (l : List A). before ++ l) (sym (ap (flat_map f) ((take_at_read xs k d less).1) ∙ (flat_map-append f (take k xs) (get_or xs k d ∷ []) ∙ ap (λ (l : List A). flat_map f (take k xs) ++ l) (append-nil (f (get_or xs k d))))))
+    append_assoc before (flat_map f (take k xs)) (f (get_or xs k d))
+    ∙ ap (λ (l : List A). before ++ l) (sym
+    (ap (flat_map f) ((take_at_read xs k d less).1)
+    ∙ (flat_map-append f (take k xs) (get_or xs k d ∷ [])
+    ∙ ap (λ (l : List A). flat_map f (take k xs) ++ l) (append-nil (f (get_or xs k d))))))

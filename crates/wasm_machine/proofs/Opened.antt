@@ -21,7 +21,8 @@ out_loop t is = outs-Loop t is
 pub out_if_one : (t : Option ValueType) → (is : List Instr) → out-Instr (instr.If t is None) ≡ layer.If t is None
 out_if_one t is = outs-If t is None
 
-pub out_if_two : (t : Option ValueType) → (is others : List Instr) → out-Instr (instr.If t is (Some others)) ≡ layer.If t is (Some others)
+pub out_if_two : (t : Option ValueType) → (is others : List Instr)
+    → out-Instr (instr.If t is (Some others)) ≡ layer.If t is (Some others)
 out_if_two t is others = outs-If t is (Some others)
 
 pub out_br : (l : ℕ) → out-Instr (instr.Br l) ≡ layer.Br l

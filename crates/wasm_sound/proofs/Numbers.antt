@@ -80,11 +80,16 @@ operated_fits Add n m h g = omega arith
 operated_fits Sub n m h g = omega arith
 operated_fits Mul n m h g = omega arith
 operated_fits DivS n m h g =
-    if_fits (is_too_great n m) None (division_of m (cast_unsigned w64 (int_div (cast_signed w64 n) (cast_signed w64 m)))) tt
-    (divided_fits m (cast_unsigned w64 (int_div (cast_signed w64 n) (cast_signed w64 m))) (unsigned_fits (int_div (cast_signed w64 n) (cast_signed w64 m)) (quotient_small (cast_signed w64 n) (cast_signed w64 m) (signed_small n h))))
+    if_fits (is_too_great n m) None (division_of m
+    (cast_unsigned w64 (int_div (cast_signed w64 n) (cast_signed w64 m)))) tt
+    (divided_fits m (cast_unsigned w64 (int_div (cast_signed w64 n) (cast_signed w64 m)))
+    (unsigned_fits (int_div (cast_signed w64 n) (cast_signed w64 m))
+    (quotient_small (cast_signed w64 n) (cast_signed w64 m) (signed_small n h))))
 operated_fits DivU n m h g = divided_fits m (n / m) (omega arith)
 operated_fits RemS n m h g =
-    divided_fits m (cast_unsigned w64 (int_rem (cast_signed w64 n) (cast_signed w64 m))) (unsigned_fits (int_rem (cast_signed w64 n) (cast_signed w64 m)) (remainder_small (cast_signed w64 n) (cast_signed w64 m) (signed_small n h)))
+    divided_fits m (cast_unsigned w64 (int_rem (cast_signed w64 n) (cast_signed w64 m)))
+    (unsigned_fits (int_rem (cast_signed w64 n) (cast_signed w64 m))
+    (remainder_small (cast_signed w64 n) (cast_signed w64 m) (signed_small n h)))
 operated_fits RemU n m h g = divided_fits m (n % m) (omega arith)
 operated_fits And n m h g = omega (arith, and_le_l n m)
 operated_fits Or n m h g = or_lt 64 n m h g
@@ -105,11 +110,23 @@ bytes_below bytes i h = go (cases_lt i (length bytes))
 
 pub loaded_fits : (kind : Load) (bytes : List ℕ) → All IsByte bytes → load_number kind bytes < 2 ^ 64
 loaded_fits load.I64 bytes h =
-    omega (arith, bytes_below bytes 0 h, bytes_below bytes 1 h, bytes_below bytes 2 h, bytes_below bytes 3 h, bytes_below bytes 4 h, bytes_below bytes 5 h, bytes_below bytes 6 h, bytes_below bytes 7 h)
+    omega (
+      arith,
+      bytes_below bytes 0 h,
+      bytes_below bytes 1 h,
+      bytes_below bytes 2 h,
+      bytes_below bytes 3 h,
+      bytes_below bytes 4 h,
+      bytes_below bytes 5 h,
+      bytes_below bytes 6 h,
+      bytes_below bytes 7 h,
+    )
 loaded_fits load.I64From8U bytes h = omega (arith, bytes_below bytes 0 h)
 loaded_fits load.I64From16U bytes h = omega (arith, bytes_below bytes 0 h, bytes_below bytes 1 h)
-loaded_fits load.I64From32S bytes h = extended_fits (from_le_bytes w32 bytes) (omega (arith, bytes_below bytes 0 h, bytes_below bytes 1 h, bytes_below bytes 2 h, bytes_below bytes 3 h))
-loaded_fits load.I64From32U bytes h = omega (arith, bytes_below bytes 0 h, bytes_below bytes 1 h, bytes_below bytes 2 h, bytes_below bytes 3 h)
+loaded_fits load.I64From32S bytes h = extended_fits (from_le_bytes w32 bytes)
+    (omega (arith, bytes_below bytes 0 h, bytes_below bytes 1 h, bytes_below bytes 2 h, bytes_below bytes 3 h))
+loaded_fits load.I64From32U bytes h = omega
+    (arith, bytes_below bytes 0 h, bytes_below bytes 1 h, bytes_below bytes 2 h, bytes_below bytes 3 h)
 
 byte_fits : (i n : ℕ) → byte_at i n < 2 ^ 8
 byte_fits zero n = omega arith
@@ -117,7 +134,8 @@ byte_fits (suc i) n = omega arith
 
 low_bytes_fit : (i k n : ℕ) → All IsByte (bytes_low_first i k n)
 low_bytes_fit i zero n = All-nil IsByte
-low_bytes_fit i (suc k) n = All-cons IsByte (byte_at i n) (bytes_low_first (suc i) k n) (byte_fits i n) (low_bytes_fit (suc i) k n)
+low_bytes_fit i (suc k) n = All-cons IsByte (byte_at i n) (bytes_low_first (suc i) k n) (byte_fits i n)
+    (low_bytes_fit (suc i) k n)
 
 pub stored_fits : (width : StoreWidth) (n : ℕ) → All IsByte (store_bytes width n)
 stored_fits Eight n = low_bytes_fit 0 8 n

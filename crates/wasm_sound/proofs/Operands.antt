@@ -44,7 +44,8 @@ one_is_i64 vs e =
     let n = is_i64 one.0 one.2 in
     (n.0, one.1 ∙ ap (λ (v : Value). v ∷ []) n.1)
 
-pub are_two : (vs : List Value) (t u : ValueType) → map type_of vs ≡ t ∷ u ∷ [] → (v w : Value) × (vs ≡ v ∷ w ∷ []) × (type_of v ≡ t) × (type_of w ≡ u)
+pub are_two : (vs : List Value) (t u : ValueType) → map type_of vs ≡ t ∷ u ∷ [] → (v w : Value) × (vs ≡ v ∷ w ∷ [])
+    × (type_of v ≡ t) × (type_of w ≡ u)
 are_two [] t u e = absurd (grind arith)
 are_two (v ∷ vs) t u e =
     let rest : map type_of vs ≡ u ∷ [] = cc in
@@ -65,7 +66,8 @@ are_i64 vs e =
     let m = is_i64 two.1 two.4 in
     (n.0, m.0, two.2 ∙ ap (λ (v : Value). v ∷ two.1 ∷ []) n.1 ∙ ap (λ (v : Value). I64 n.0 ∷ v ∷ []) m.1)
 
-pub are_i32_i64 : (vs : List Value) → map type_of vs ≡ types.I32 ∷ types.I64 ∷ [] → (n m : ℕ) × (vs ≡ I32 n ∷ I64 m ∷ [])
+pub are_i32_i64 : (vs : List Value) → map type_of vs ≡ types.I32 ∷ types.I64 ∷ [] → (n m : ℕ)
+    × (vs ≡ I32 n ∷ I64 m ∷ [])
 are_i32_i64 vs e =
     let two = are_two vs types.I32 types.I64 e in
     let n = is_i32 two.0 two.3 in
@@ -92,17 +94,25 @@ topmost_at us v =
     let last : length (us ++ v ∷ []) - 1 ≡ length us = omega (arith, length_push us v) in
     ap (slice_get (us ++ v ∷ [])) last ∙ get_last us v
 
-pub two_i32_at : (us : List Value) (n m : ℕ) (f : ℕ → ℕ → Value) → two_i32 (us ++ I32 n ∷ I32 m ∷ []) f ≡ Some (us, f n m)
+pub two_i32_at : (us : List Value) (n m : ℕ) (f : ℕ → ℕ → Value)
+    → two_i32 (us ++ I32 n ∷ I32 m ∷ []) f ≡ Some (us, f n m)
 two_i32_at us n m f =
     ap (λ (l : List Value). two_i32 l f) (two us (I32 n) (I32 m))
-    ∙ ap (λ (o : Option (List Value × ℕ)). option_and_then (λ (q : List Value × ℕ). option_map (λ (p : List Value × ℕ). (p.0, f p.1 q.1)) (top_i32 q.0)) o) (top_i32_at (us ++ I32 n ∷ []) m)
+    ∙ ap (λ (o : Option (List Value × ℕ)). option_and_then
+    (λ (q : List Value × ℕ). option_map (λ (p : List Value × ℕ). (p.0, f p.1 q.1)) (top_i32 q.0)) o)
+    (top_i32_at (us ++ I32 n ∷ []) m)
     ∙ ap (λ (o : Option (List Value × ℕ)). option_map (λ (p : List Value × ℕ). (p.0, f p.1 m)) o) (top_i32_at us n)
 
-pub two_i64_at : (us : List Value) (n m : ℕ) (f : ℕ → ℕ → Option Value) → two_i64 (us ++ I64 n ∷ I64 m ∷ []) f ≡ option_map (λ v. (us, v)) (f n m)
+pub two_i64_at : (us : List Value) (n m : ℕ) (f : ℕ → ℕ → Option Value)
+    → two_i64 (us ++ I64 n ∷ I64 m ∷ []) f ≡ option_map (λ v. (us, v)) (f n m)
 two_i64_at us n m f =
     ap (λ (l : List Value). two_i64 l f) (two us (I64 n) (I64 m))
-    ∙ ap (λ (o : Option (List Value × ℕ)). option_and_then (λ (q : List Value × ℕ). option_and_then (λ (p : List Value × ℕ). option_map (λ (v : Value). (p.0, v)) (f p.1 q.1)) (top_i64 q.0)) o) (top_i64_at (us ++ I64 n ∷ []) m)
-    ∙ ap (λ (o : Option (List Value × ℕ)). option_and_then (λ (p : List Value × ℕ). option_map (λ (v : Value). (p.0, v)) (f p.1 m)) o) (top_i64_at us n)
+    ∙ ap (λ (o : Option (List Value × ℕ)). option_and_then
+    (λ (q : List Value × ℕ). option_and_then
+    (λ (p : List Value × ℕ). option_map (λ (v : Value). (p.0, v)) (f p.1 q.1)) (top_i64 q.0)) o)
+    (top_i64_at (us ++ I64 n ∷ []) m)
+    ∙ ap (λ (o : Option (List Value × ℕ)). option_and_then
+    (λ (p : List Value × ℕ). option_map (λ (v : Value). (p.0, v)) (f p.1 m)) o) (top_i64_at us n)
 
 -- ---- numbers
 
@@ -111,44 +121,72 @@ abbrev pub IsMade : Numeric → List Value → Option (List Value × Value) → 
 IsMade o us None = Unit {0}
 IsMade o us (Some p) = (p.0 ≡ us) × (type_of p.1 ≡ numeric_result o)
 
-made : (o : Numeric) (us : List Value) (q : Option (List Value × Value)) (v : Value) → q ≡ Some (us, v) → type_of v ≡ numeric_result o → IsMade o us q
+made : (o : Numeric) (us : List Value) (q : Option (List Value × Value)) (v : Value) → q ≡ Some (us, v)
+    → type_of v ≡ numeric_result o → IsMade o us q
 made o us q v e t = subst (λ (x : Option (List Value × Value)). IsMade o us x) (sym e) (refl, t)
 
-made_i64 : (o : Numeric) (us : List Value) (r : Option ℕ) → numeric_result o ≡ types.I64 → IsMade o us (option_map (λ v. (us, v)) (option_map I64 r))
+made_i64 : (o : Numeric) (us : List Value) (r : Option ℕ) → numeric_result o ≡ types.I64
+    → IsMade o us (option_map (λ v. (us, v)) (option_map I64 r))
 made_i64 o us None e = tt
 made_i64 o us (Some n) e = (refl, sym e)
 
-one_i32_typed : (o : Numeric) (us vs : List Value) (f : ℕ → Value) → map type_of vs ≡ types.I32 ∷ [] → ((n : ℕ) → type_of (f n) ≡ numeric_result o) → IsI32 (us ++ vs) × IsMade o us (one_i32 (us ++ vs) f)
+one_i32_typed : (o : Numeric) (us vs : List Value) (f : ℕ → Value) → map type_of vs ≡ types.I32 ∷ []
+    → ((n : ℕ) → type_of (f n) ≡ numeric_result o) → IsI32 (us ++ vs) × IsMade o us (one_i32 (us ++ vs) f)
 one_i32_typed o us vs f e t =
     let n = one_is_i32 vs e in
-    subst (λ (l : List Value). IsI32 (us ++ l) × IsMade o us (one_i32 (us ++ l) f)) (sym n.1)
-    ((us, n.0, refl), made o us (one_i32 (us ++ I32 n.0 ∷ []) f) (f n.0) (ap (λ (q : Option (List Value × ℕ)). option_map (λ (p : List Value × ℕ). (p.0, f p.1)) q) (top_i32_at us n.0)) (t n.0))
+    subst (λ (l : List Value). IsI32 (us ++ l) × IsMade o us (one_i32 (us ++ l) f)) (sym n.1) (
+      (us, n.0, refl),
+      made o us (one_i32 (us ++ I32 n.0 ∷ []) f) (f n.0)
+          (ap (λ (q : Option (List Value × ℕ)). option_map (λ (p : List Value × ℕ). (p.0, f p.1)) q)
+          (top_i32_at us n.0))
+          (t n.0),
+    )
 
-one_i64_typed : (o : Numeric) (us vs : List Value) (f : ℕ → Value) → map type_of vs ≡ types.I64 ∷ [] → ((n : ℕ) → type_of (f n) ≡ numeric_result o) → IsI64 (us ++ vs) × IsMade o us (one_i64 (us ++ vs) f)
+one_i64_typed : (o : Numeric) (us vs : List Value) (f : ℕ → Value) → map type_of vs ≡ types.I64 ∷ []
+    → ((n : ℕ) → type_of (f n) ≡ numeric_result o) → IsI64 (us ++ vs) × IsMade o us (one_i64 (us ++ vs) f)
 one_i64_typed o us vs f e t =
     let n = one_is_i64 vs e in
-    subst (λ (l : List Value). IsI64 (us ++ l) × IsMade o us (one_i64 (us ++ l) f)) (sym n.1)
-    ((us, n.0, refl), made o us (one_i64 (us ++ I64 n.0 ∷ []) f) (f n.0) (ap (λ (q : Option (List Value × ℕ)). option_map (λ (p : List Value × ℕ). (p.0, f p.1)) q) (top_i64_at us n.0)) (t n.0))
+    subst (λ (l : List Value). IsI64 (us ++ l) × IsMade o us (one_i64 (us ++ l) f)) (sym n.1) (
+      (us, n.0, refl),
+      made o us (one_i64 (us ++ I64 n.0 ∷ []) f) (f n.0)
+          (ap (λ (q : Option (List Value × ℕ)). option_map (λ (p : List Value × ℕ). (p.0, f p.1)) q)
+          (top_i64_at us n.0))
+          (t n.0),
+    )
 
-two_i32_typed : (o : Numeric) (us vs : List Value) (f : ℕ → ℕ → Value) → map type_of vs ≡ types.I32 ∷ types.I32 ∷ [] → ((n m : ℕ) → type_of (f n m) ≡ numeric_result o) → AreI32 (us ++ vs) × IsMade o us (two_i32 (us ++ vs) f)
+two_i32_typed : (o : Numeric) (us vs : List Value) (f : ℕ → ℕ → Value) → map type_of vs ≡ types.I32 ∷ types.I32 ∷ []
+    → ((n m : ℕ) → type_of (f n m) ≡ numeric_result o) → AreI32 (us ++ vs) × IsMade o us (two_i32 (us ++ vs) f)
 two_i32_typed o us vs f e t =
     let n = are_i32 vs e in
-    subst (λ (l : List Value). AreI32 (us ++ l) × IsMade o us (two_i32 (us ++ l) f)) (sym n.2)
-    ((us, n.0, n.1, refl), made o us (two_i32 (us ++ I32 n.0 ∷ I32 n.1 ∷ []) f) (f n.0 n.1) (two_i32_at us n.0 n.1 f) (t n.0 n.1))
+    subst (λ (l : List Value). AreI32 (us ++ l) × IsMade o us (two_i32 (us ++ l) f)) (sym n.2) (
+      (us, n.0, n.1, refl),
+      made o us (two_i32 (us ++ I32 n.0 ∷ I32 n.1 ∷ []) f) (f n.0 n.1) (two_i32_at us n.0 n.1 f)
+          (t n.0 n.1),
+    )
 
-two_i64_typed : (o : Numeric) (us vs : List Value) (f : ℕ → ℕ → Option Value) → map type_of vs ≡ types.I64 ∷ types.I64 ∷ [] → ((n m : ℕ) → IsMade o us (option_map (λ v. (us, v)) (f n m))) → AreI64 (us ++ vs) × IsMade o us (two_i64 (us ++ vs) f)
+two_i64_typed : (o : Numeric) (us vs : List Value) (f : ℕ → ℕ → Option Value)
+    → map type_of vs ≡ types.I64 ∷ types.I64 ∷ [] → ((n m : ℕ) → IsMade o us (option_map (λ v. (us, v)) (f n m)))
+    → AreI64 (us ++ vs) × IsMade o us (two_i64 (us ++ vs) f)
 two_i64_typed o us vs f e t =
     let n = are_i64 vs e in
     subst (λ (l : List Value). AreI64 (us ++ l) × IsMade o us (two_i64 (us ++ l) f)) (sym n.2)
     ((us, n.0, n.1, refl), subst (IsMade o us) (sym (two_i64_at us n.0 n.1 f)) (t n.0 n.1))
 
-pub calculated_typed : (o : Numeric) (us vs : List Value) → map type_of vs ≡ numeric_params o → AreNumbers o (us ++ vs) × IsMade o us (calculation o (us ++ vs))
+pub calculated_typed : (o : Numeric) (us vs : List Value) → map type_of vs ≡ numeric_params o → AreNumbers o (us ++ vs)
+    × IsMade o us (calculation o (us ++ vs))
 calculated_typed numeric.I32Eqz us vs e = one_i32_typed numeric.I32Eqz us vs (λ n. I32 (truth (n == 0))) e (λ n. refl)
-calculated_typed (numeric.I32Relation r) us vs e = two_i32_typed (numeric.I32Relation r) us vs (λ n m. I32 (truth (compares w32 r n m))) e (λ n m. refl)
+calculated_typed (numeric.I32Relation r) us vs e =
+    two_i32_typed (numeric.I32Relation r) us vs (λ n m. I32 (truth (compares w32 r n m))) e (λ n m. refl)
 calculated_typed numeric.I64Eqz us vs e = one_i64_typed numeric.I64Eqz us vs (λ n. I32 (truth (n == 0))) e (λ n. refl)
-calculated_typed (numeric.I64Relation r) us vs e = two_i64_typed (numeric.I64Relation r) us vs (λ n m. Some (I32 (truth (compares w64 r n m)))) e (λ n m. (refl, refl))
-calculated_typed numeric.I32Add us vs e = two_i32_typed numeric.I32Add us vs (λ n m. I32 ((n + m) % 2 ^ 32)) e (λ n m. refl)
-calculated_typed (numeric.I64Operation o) us vs e = two_i64_typed (numeric.I64Operation o) us vs (λ n m. option_map I64 (operation_result o n m)) e (λ n m. made_i64 (numeric.I64Operation o) us (operation_result o n m) refl)
-calculated_typed numeric.I32WrapI64 us vs e = one_i64_typed numeric.I32WrapI64 us vs (λ n. I32 (n % 2 ^ 32)) e (λ n. refl)
-calculated_typed numeric.I64ExtendI32S us vs e = one_i32_typed numeric.I64ExtendI32S us vs (λ n. I64 (extend_number n)) e (λ n. refl)
+calculated_typed (numeric.I64Relation r) us vs e =
+    two_i64_typed (numeric.I64Relation r) us vs (λ n m. Some (I32 (truth (compares w64 r n m)))) e (λ n m. (refl, refl))
+calculated_typed numeric.I32Add us vs e =
+    two_i32_typed numeric.I32Add us vs (λ n m. I32 ((n + m) % 2 ^ 32)) e (λ n m. refl)
+calculated_typed (numeric.I64Operation o) us vs e =
+    two_i64_typed (numeric.I64Operation o) us vs (λ n m. option_map I64 (operation_result o n m)) e
+    (λ n m. made_i64 (numeric.I64Operation o) us (operation_result o n m) refl)
+calculated_typed numeric.I32WrapI64 us vs e =
+    one_i64_typed numeric.I32WrapI64 us vs (λ n. I32 (n % 2 ^ 32)) e (λ n. refl)
+calculated_typed numeric.I64ExtendI32S us vs e =
+    one_i32_typed numeric.I64ExtendI32S us vs (λ n. I64 (extend_number n)) e (λ n. refl)
 calculated_typed numeric.I64ExtendI32U us vs e = one_i32_typed numeric.I64ExtendI32U us vs (λ n. I64 n) e (λ n. refl)

@@ -35,7 +35,8 @@ among_some n (m ∷ ms) e = λ all. elim (cases_Bool (bytes_eq m n)) [
   | inr f ↦ among_some n ms (other_true (bytes_eq m n) (is_among n ms) f e) (All-tail (λ y. n ≢ y) m ms all)
 ]
 
-distinct_drop : {X : Type 0} (name : X → List ℕ) (k : ℕ) (xs : List X) → AreDistinct (map name xs) → AreDistinct (map name (drop k xs))
+distinct_drop : {X : Type 0} (name : X → List ℕ) (k : ℕ) (xs : List X) → AreDistinct (map name xs)
+    → AreDistinct (map name (drop k xs))
 distinct_drop name zero xs h = h
 distinct_drop name (suc k) [] h = h
 distinct_drop name (suc k) (x ∷ xs) h = distinct_drop name k xs h.1
@@ -56,35 +57,49 @@ is_new false e = refl
 cut : {X : Type 0} (xs : List X) (k : ℕ) (d : X) → k < length xs → drop k xs ≡ get_or xs k d ∷ drop (k + 1) xs
 cut xs k d h = rw (add-one) (drop-cons xs k d h)
 
-pub held_none : {X S : Type 0} (names : HashSet (Bor (List ℕ)) S) (name : X → List ℕ) (xs : List X) (k : ℕ) → length xs ≤ k → ((n : List ℕ) → holds names n ≡ false) → (n : List ℕ) → holds names n ≡ is_among n (map name (drop k xs))
-held_none {X} {S} names name xs k all h n = h n ∙ ap (λ (ys : List X). is_among n (map name ys)) (sym (drop_all k xs all))
+pub held_none : {X S : Type 0} (names : HashSet (Bor (List ℕ)) S) (name : X → List ℕ) (xs : List X) (k : ℕ)
+    → length xs ≤ k → ((n : List ℕ) → holds names n ≡ false) → (n : List ℕ)
+    → holds names n ≡ is_among n (map name (drop k xs))
+held_none {X} {S} names name xs k all h n = h n
+    ∙ ap (λ (ys : List X). is_among n (map name ys)) (sym (drop_all k xs all))
 
-pub distinct_none : {X : Type 0} (name : X → List ℕ) (xs : List X) (k : ℕ) → length xs ≤ k → AreDistinct (map name (drop k xs))
+pub distinct_none : {X : Type 0} (name : X → List ℕ) (xs : List X) (k : ℕ) → length xs ≤ k
+    → AreDistinct (map name (drop k xs))
 distinct_none {X} name xs k all = subst (λ (ys : List X). AreDistinct (map name ys)) (sym (drop_all k xs all)) tt
 
-pub held_more : {X S : Type 0} (old new : HashSet (Bor (List ℕ)) S) (name : X → List ℕ) (xs : List X) (k left : ℕ) (d : X) → left ≡ k + 1 → left ≤ length xs
-    → ((n : List ℕ) → holds old n ≡ is_among n (map name (drop left xs))) → ((n : List ℕ) → holds new n ≡ cond (bytes_eq (name (get_or xs k d)) n) true (holds old n))
+pub held_more : {X S : Type 0} (old new : HashSet (Bor (List ℕ)) S) (name : X → List ℕ) (xs : List X) (k left : ℕ)
+    (d : X) → left ≡ k + 1 → left ≤ length xs
+    → ((n : List ℕ) → holds old n ≡ is_among n (map name (drop left xs)))
+    → ((n : List ℕ) → holds new n ≡ cond (bytes_eq (name (get_or xs k d)) n) true (holds old n))
     → (n : List ℕ) → holds new n ≡ is_among n (map name (drop k xs))
 held_more {X} {S} old new name xs k left d e lt h g n =
     let inside : k < length xs = omega (arith, e, lt) in
-    let cut_here : drop k xs ≡ get_or xs k d ∷ drop left xs = cut xs k d inside ∙ ap (λ (i : ℕ). get_or xs k d ∷ drop i xs) (sym e) in
+    let cut_here : drop k xs ≡ get_or xs k d ∷ drop left xs = cut xs k d inside
+    ∙ ap (λ (i : ℕ). get_or xs k d ∷ drop i xs) (sym e) in
     g n ∙ ap (λ (b : Bool). cond (bytes_eq (name (get_or xs k d)) n) true b) (h n)
     ∙ ap (λ (ys : List X). is_among n (map name ys)) (sym cut_here)
 
-pub distinct_so : {X S : Type 0} (old : HashSet (Bor (List ℕ)) S) (name : X → List ℕ) (xs : List X) (k left : ℕ) (d : X) → left ≡ k + 1 → left ≤ length xs
-    → ((n : List ℕ) → holds old n ≡ is_among n (map name (drop left xs))) → true ≡ not (holds old (name (get_or xs k d))) → AreDistinct (map name (drop left xs)) → AreDistinct (map name (drop k xs))
+pub distinct_so : {X S : Type 0} (old : HashSet (Bor (List ℕ)) S) (name : X → List ℕ) (xs : List X) (k left : ℕ) (d : X)
+    → left ≡ k + 1 → left ≤ length xs
+    → ((n : List ℕ) → holds old n ≡ is_among n (map name (drop left xs)))
+    → true ≡ not (holds old (name (get_or xs k d))) → AreDistinct (map name (drop left xs))
+    → AreDistinct (map name (drop k xs))
 distinct_so {X} {S} old name xs k left d e lt h new rest =
     let inside : k < length xs = omega (arith, e, lt) in
     let x = name (get_or xs k d) in
     let none = among_none x (map name (drop left xs)) (sym (h x) ∙ is_new (holds old x) new) in
     let all = all_names (λ y. x ≢ y) name (drop left xs) none in
-    distinct_more name xs k d inside (subst (λ (i : ℕ). All (λ y. x ≢ name y) (drop i xs)) e all) (subst (λ (i : ℕ). AreDistinct (map name (drop i xs))) e rest)
+    distinct_more name xs k d inside (subst (λ (i : ℕ). All (λ y. x ≢ name y) (drop i xs)) e all)
+    (subst (λ (i : ℕ). AreDistinct (map name (drop i xs))) e rest)
 
-pub not_distinct : {X S : Type 0} (old : HashSet (Bor (List ℕ)) S) (name : X → List ℕ) (xs : List X) (k left : ℕ) (d : X) → left ≡ k + 1 → left ≤ length xs
-    → ((n : List ℕ) → holds old n ≡ is_among n (map name (drop left xs))) → false ≡ not (holds old (name (get_or xs k d))) → ¬ AreDistinct (map name xs)
+pub not_distinct : {X S : Type 0} (old : HashSet (Bor (List ℕ)) S) (name : X → List ℕ) (xs : List X) (k left : ℕ)
+    (d : X) → left ≡ k + 1 → left ≤ length xs
+    → ((n : List ℕ) → holds old n ≡ is_among n (map name (drop left xs)))
+    → false ≡ not (holds old (name (get_or xs k d))) → ¬ AreDistinct (map name xs)
 not_distinct {X} {S} old name xs k left d e lt h known = λ all.
     let inside : k < length xs = omega (arith, e, lt) in
     let x = name (get_or xs k d) in
     let both = distinct_less name xs k d inside (distinct_drop name k xs all) in
     let others = subst (λ (i : ℕ). All (λ y. x ≢ name y) (drop i xs)) (sym e) both.0 in
-    among_some x (map name (drop left xs)) (sym (h x) ∙ not_new (holds old x) known) (All-map (λ y. x ≢ y) name (drop left xs) others)
+    among_some x (map name (drop left xs)) (sym (h x) ∙ not_new (holds old x) known)
+    (All-map (λ y. x ≢ y) name (drop left xs) others)

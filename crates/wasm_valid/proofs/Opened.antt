@@ -83,26 +83,33 @@ constant_behind (op.I32Const n) rest h = refl
 constant_behind (op.I64Const n) rest h = refl
 constant_behind (op.Numeric n) rest h = refl
 
-pub constant_head : (o : Op) (rest : List Op) → IsConstant (head tree o rest) ↔ (is_constant (open_instruction o []) ≡ true)
+pub constant_head : (o : Op) (rest : List Op)
+    → IsConstant (head tree o rest) ↔ (is_constant (open_instruction o []) ≡ true)
 constant_head o rest =
     let e = ap (λ (x : layer.Instr-F Instr). is_constant x) (opens o rest) ∙ constant_alone o rest in
     (λ h. sym e ∙ h, λ h. e ∙ h)
 
 -- the front of a list whose first is constant
-constant_front : (o : Op) (rest : List Op) → is_constant (open_instruction o []) ≡ true → tree (o ∷ rest) ≡ head tree o rest ∷ tree rest
-constant_front o rest h = tree_front o rest ∙ ap (λ (ops : List Op). head tree o rest ∷ tree ops) (constant_behind o rest h)
+constant_front : (o : Op) (rest : List Op) → is_constant (open_instruction o []) ≡ true
+    → tree (o ∷ rest) ≡ head tree o rest ∷ tree rest
+constant_front o rest h = tree_front o rest
+    ∙ ap (λ (ops : List Op). head tree o rest ∷ tree ops) (constant_behind o rest h)
 
-pub constant_trees : (ops : List Op) → All (λ o. is_constant (open_instruction o []) ≡ true) ops → All IsConstant (tree ops)
+pub constant_trees : (ops : List Op) → All (λ o. is_constant (open_instruction o []) ≡ true) ops
+    → All IsConstant (tree ops)
 constant_trees [] h = subst (λ (is : List Instr). All IsConstant is) (sym tree_none) (All-nil IsConstant)
 constant_trees (o ∷ rest) h =
     let first = All-head (λ o. is_constant (open_instruction o []) ≡ true) o rest h in
     subst (λ (is : List Instr). All IsConstant is) (sym (constant_front o rest first))
-    (All-cons IsConstant (head tree o rest) (tree rest) ((constant_head o rest).1 first) (constant_trees rest (All-tail (λ o. is_constant (open_instruction o []) ≡ true) o rest h)))
+    (All-cons IsConstant (head tree o rest) (tree rest) ((constant_head o rest).1 first)
+    (constant_trees rest (All-tail (λ o. is_constant (open_instruction o []) ≡ true) o rest h)))
 
-pub constant_ops : (ops : List Op) → All IsConstant (tree ops) → All (λ o. is_constant (open_instruction o []) ≡ true) ops
+pub constant_ops : (ops : List Op) → All IsConstant (tree ops)
+    → All (λ o. is_constant (open_instruction o []) ≡ true) ops
 constant_ops [] h = All-nil (λ o. is_constant (open_instruction o []) ≡ true)
 constant_ops (o ∷ rest) h =
     let whole = subst (λ (is : List Instr). All IsConstant is) (tree_front o rest) h in
     let first = (constant_head o rest).0 (All-head IsConstant (head tree o rest) (tree (behind o rest)) whole) in
     let others = subst (λ (is : List Instr). All IsConstant is) (constant_front o rest first) h in
-    All-cons (λ o. is_constant (open_instruction o []) ≡ true) o rest first (constant_ops rest (All-tail IsConstant (head tree o rest) (tree rest) others))
+    All-cons (λ o. is_constant (open_instruction o []) ≡ true) o rest first
+    (constant_ops rest (All-tail IsConstant (head tree o rest) (tree rest) others))

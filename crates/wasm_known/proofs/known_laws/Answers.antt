@@ -17,11 +17,14 @@ returns-clause-fill_returns c modules st now callers g own f index place memory 
     fill_returns modules st now callers g own f index place memory at is has to k below rest h long
 
 pub returns-clause-copy_returns : goal.returns-clause-copy_returns
-returns-clause-copy_returns c modules st now callers g own f index place memory at is has to from k below rest h r small long =
+returns-clause-copy_returns c modules st now callers g own f index place memory at is has to from k below rest h r small
+    long =
     copy_returns modules st now callers g own f index place memory at is has to from k below rest h r small long
 
 pub returns-clause-div_returns : goal.returns-clause-div_returns
-returns-clause-div_returns c modules st now callers g own f index at is x y q r below rest has e h = div_returns modules st now callers g own f index at is x y q r below rest has e h
+returns-clause-div_returns c modules st now callers g own f index at is x y q r below rest has e h =
+    div_returns modules st now callers g own f index at is x y q r below rest has e h
 
 pub returns-clause-mod_returns : goal.returns-clause-mod_returns
-returns-clause-mod_returns c modules st now callers g own f index at is x y r below rest has h = mod_returns modules st now callers g own f index at is x y r below rest has h
+returns-clause-mod_returns c modules st now callers g own f index at is x y r below rest has h =
+    mod_returns modules st now callers g own f index at is x y r below rest has h

@@ -5,4 +5,5 @@ use Rattle.check_block.specs.Declarations.{with_decl}
 use Rattle.check_block.proofs.declarations.declare_block.Given as goal
 
 abbrev pub invariant-loop-decl : goal.invariant-loop-decl
-invariant-loop-decl l = (l.scope, l.elaborated, l.next) ≡ fold (with_decl least l.ends) (l.initial.scope, l.initial.elaborated, l.initial.next) (take l.decl-index l.decls)
+invariant-loop-decl l = (l.scope, l.elaborated, l.next)
+    ≡ fold (with_decl least l.ends) (l.initial.scope, l.initial.elaborated, l.initial.next) (take l.decl-index l.decls)

@@ -5,4 +5,5 @@ use Rattle.check_scope.specs.Elaborated.{least}
 use Rattle.check_definition.proofs.declare.declare_variables.Given as goal
 
 abbrev pub invariant-loop-variables : goal.invariant-loop-variables
-invariant-loop-variables l = (l.scope, l.elaborated) ≡ fold (with_variables least) (l.fn.scope, l.fn.before) (take l.variables-index l.list)
+invariant-loop-variables l = (l.scope, l.elaborated)
+    ≡ fold (with_variables least) (l.fn.scope, l.fn.before) (take l.variables-index l.list)

@@ -6,4 +6,5 @@ use Rattle.std.specs.Prelude.{drop}
 use Rattle.check_definition.proofs.importing.bring_all.Given as goal
 
 abbrev pub invariant-loop-k : goal.invariant-loop-k
-invariant-loop-k l = (l.scope, l.elaborated) ≡ fold (with_entry least l.at l.place) (l.fn.scope, Ok tt) (take l.k (drop l.first l.exported))
+invariant-loop-k l = (l.scope, l.elaborated)
+    ≡ fold (with_entry least l.at l.place) (l.fn.scope, Ok tt) (take l.k (drop l.first l.exported))

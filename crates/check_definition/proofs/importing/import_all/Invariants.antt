@@ -5,4 +5,5 @@ use Rattle.check_scope.specs.Elaborated.{least}
 use Rattle.check_definition.proofs.importing.import_all.Given as goal
 
 abbrev pub invariant-loop-one : goal.invariant-loop-one
-invariant-loop-one l = (l.scope, l.elaborated) ≡ fold (with_import least l.modules) (l.fn.scope, Ok tt) (take l.one-index l.imports)
+invariant-loop-one l = (l.scope, l.elaborated)
+    ≡ fold (with_import least l.modules) (l.fn.scope, Ok tt) (take l.one-index l.imports)

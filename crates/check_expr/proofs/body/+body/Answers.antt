@@ -7,13 +7,17 @@ use Rattle.check_expr.proofs.body.+body.Goals as goal
 
 pub denotes-returns-in_ok-right-in-Relation : goal.denotes-returns-in_ok-right-in-Relation
 denotes-returns-in_ok-right-in-Relation t c =
-    relation_is c.args.scope.now c.args.e.now c.in-Relation.first c.in-Relation.operator c.in-Relation.second _ _ c.related_parts.result _ _
-    c.in-Relation.is c.get-first.ensures c.get-second.ensures c.in_ok-left-in-Relation.ensures c.in_ok-right-in-Relation.ensures c.related_parts.ensures
+    relation_is c.args.scope.now c.args.e.now c.in-Relation.first c.in-Relation.operator c.in-Relation.second _ _
+    c.related_parts.result _ _
+    c.in-Relation.is c.get-first.ensures c.get-second.ensures c.in_ok-left-in-Relation.ensures
+    c.in_ok-right-in-Relation.ensures c.related_parts.ensures
 
 pub operation_value-returns-in_ok-value-in-Relation : goal.operation_value-returns-in_ok-value-in-Relation
 operation_value-returns-in_ok-value-in-Relation t c =
-    relation_by c.args.scope.now c.args.e.now c.in-Relation.a c.in-Relation.operator c.in-Relation.b _ _ c.in_ok-value-in-Relation.value _ _
-    c.in-Relation.is c.get-a.ensures c.get-b.ensures c.in_ok-x-in-Relation.ensures c.in_ok-y-in-Relation.ensures c.in_ok-value-in-Relation.ensures
+    relation_by c.args.scope.now c.args.e.now c.in-Relation.a c.in-Relation.operator c.in-Relation.b _ _
+    c.in_ok-value-in-Relation.value _ _
+    c.in-Relation.is c.get-a.ensures c.get-b.ensures c.in_ok-x-in-Relation.ensures c.in_ok-y-in-Relation.ensures
+    c.in_ok-value-in-Relation.ensures
 
 pub operation_value-returns-in_ok-operand-in-Not : goal.operation_value-returns-in_ok-operand-in-Not
 operation_value-returns-in_ok-operand-in-Not t c =
@@ -24,8 +28,10 @@ operation_value-returns-in_ok-operand-in-Not t c =
 pub operation_value-returns-in_ok-start-in-Sum : goal.operation_value-returns-in_ok-start-in-Sum
 operation_value-returns-in_ok-start-in-Sum t c =
     IfOk-weaker c.terms.result _ (λ v. v ≡ value_of least c.args.scope.now (meanings_of least c.args.e.now))
-    (λ v q. sum_by c.args.scope.now c.args.e.now c.in-Sum.front _ _ c.in-Sum.sign c.in-Sum.rest _ c.in_ok-term-in-Sum.term c.in_ok-start-in-Sum.start v _ _
-    c.in-Sum.is c.get-in-Sum.ensures c.get-in-Sum-2.ensures c.as_slice-in-Sum.ensures c.in_ok-term-in-Sum.ensures c.in_ok-start-in-Sum.ensures
+    (λ v q. sum_by c.args.scope.now c.args.e.now c.in-Sum.front _ _ c.in-Sum.sign c.in-Sum.rest _
+    c.in_ok-term-in-Sum.term c.in_ok-start-in-Sum.start v _ _
+    c.in-Sum.is c.get-in-Sum.ensures c.get-in-Sum-2.ensures c.as_slice-in-Sum.ensures c.in_ok-term-in-Sum.ensures
+    c.in_ok-start-in-Sum.ensures
     c.place_of-in-Sum.ensures c.sign_place-place.ensures q) c.terms.ensures
 
 pub stands_for-returns-in-Not : goal.stands_for-returns-in-Not

@@ -5,4 +5,5 @@ use Rattle.check_stmt_parts.specs.Labels.{with_item}
 use Rattle.check_stmt_parts.proofs.label.labels_in.Given as goal
 
 abbrev pub invariant-loop-item : goal.invariant-loop-item
-invariant-loop-item l = (l.ranges, l.labels) ≡ fold (with_item least l.scope l.base) (l.fn.ranges, Ok []) (take l.item-index l.items)
+invariant-loop-item l = (l.ranges, l.labels)
+    ≡ fold (with_item least l.scope l.base) (l.fn.ranges, Ok []) (take l.item-index l.items)

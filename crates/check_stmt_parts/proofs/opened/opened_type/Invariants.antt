@@ -7,4 +7,6 @@ use Rattle.check_stmt_parts.specs.Simple.{known_of, component_behind}
 use Rattle.check_stmt_parts.proofs.opened.opened_type.Given as goal
 
 abbrev pub invariant-loop-selector : goal.invariant-loop-selector
-invariant-loop-selector l = l.designated ≡ fold (component_behind least l.scope) (known_of (first_name least l.scope (out-Designator l.designator).name)) (take l.selector-index (out-Designator l.designator).selectors)
+invariant-loop-selector l = l.designated
+    ≡ fold (component_behind least l.scope) (known_of (first_name least l.scope (out-Designator l.designator).name))
+    (take l.selector-index (out-Designator l.designator).selectors)

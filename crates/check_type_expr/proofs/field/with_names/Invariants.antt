@@ -5,4 +5,5 @@ use Rattle.check_type_expr.specs.Fields.{with_name}
 use Rattle.check_type_expr.proofs.field.with_names.Given as goal
 
 abbrev pub invariant-loop-name : goal.invariant-loop-name
-invariant-loop-name l = (l.fields, l.elaborated) ≡ fold (with_name least l.t l.cells) (l.fn.fields, l.fn.before) (take l.name-index l.names)
+invariant-loop-name l = (l.fields, l.elaborated)
+    ≡ fold (with_name least l.t l.cells) (l.fn.fields, l.fn.before) (take l.name-index l.names)

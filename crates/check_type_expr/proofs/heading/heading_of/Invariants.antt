@@ -5,4 +5,5 @@ use Rattle.check_type_expr.specs.Headings.{with_section}
 use Rattle.check_type_expr.proofs.heading.heading_of.Given as goal
 
 abbrev pub invariant-loop-section : goal.invariant-loop-section
-invariant-loop-section l = l.formals ≡ fold (with_section least l.scope) (Ok []) (take l.section-index l.heading.formals)
+invariant-loop-section l = l.formals ≡ fold (with_section least l.scope) (Ok [])
+    (take l.section-index l.heading.formals)

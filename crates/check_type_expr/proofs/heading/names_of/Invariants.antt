@@ -6,4 +6,5 @@ use Rattle.check_type_expr.specs.Headings.{with_names}
 use Rattle.check_type_expr.proofs.heading.names_of.Given as goal
 
 abbrev pub invariant-loop-section : goal.invariant-loop-section
-invariant-loop-section l = (l.fields, l.done) ≡ fold (with_names least) (no_fields, Ok tt) (take l.section-index l.heading.formals)
+invariant-loop-section l = (l.fields, l.done)
+    ≡ fold (with_names least) (no_fields, Ok tt) (take l.section-index l.heading.formals)

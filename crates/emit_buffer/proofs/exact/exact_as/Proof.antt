@@ -44,7 +44,8 @@ stayed = (
   ),
 )
 
-module _ {M : Type 1} {𝓤 : Ura M} (𝓛 : Logic 𝓤) (mem : Memory → SProp 𝓤) (run : Routine → Fun 𝓤) (C : Calls 𝓤 𝓛.H) (Λ : Loops 𝓤 𝓛.H) where
+module _ {M : Type 1} {𝓤 : Ura M} (𝓛 : Logic 𝓤) (mem : Memory → SProp 𝓤) (run : Routine → Fun 𝓤) (C : Calls 𝓤 𝓛.H)
+    (Λ : Loops 𝓤 𝓛.H) where
   open 𝓛 use {H}
 
   module _ (κs : Lfts 3) (qs : Shares 3) (a : Args f.signature κs) (all : ℕ) where
@@ -64,19 +65,28 @@ module _ {M : Type 1} {𝓤 : Ura M} (𝓛 : Logic 𝓤) (mem : Memory → SProp
     passed = owns (types_at f.signature.params κs) a (first ∷ [], (second ∷ [], (third ∷ [], tt)))
 
     walk : ent 𝓤 (on_entry 𝓛 f.signature κs qs a (first ∷ [], (second ∷ [], (third ∷ [], tt))))
-        (WpFn 𝓤 H C Λ code.function (first ∷ second ∷ third ∷ []) ((walk_of 𝓛 f.ended stayed (f.clauses 𝓛 mem run)).post bound))
+        (WpFn 𝓤 H C Λ code.function (first ∷ second ∷ third ∷ [])
+        ((walk_of 𝓛 f.ended stayed (f.clauses 𝓛 mem run)).post bound))
     walk =
-        qed 𝓛 (raw (alive 𝓛 f.signature κs qs) ∷ ‵ passed ∷ []) ∵ enter ! C Λ code.function (first ∷ second ∷ third ∷ []) _ $
-        alloc_all ! (λ l. pass_all ! refl ((tt, tt), ((tt, tt), ((tt, tt), tt))) $ sets ! (agg ! (no_more !)) refl (tt, tt) $
+        qed 𝓛 (raw (alive 𝓛 f.signature κs qs) ∷ ‵ passed ∷ []) ∵ enter ! C Λ code.function
+        (first ∷ second ∷ third ∷ []) _ $
+        alloc_all ! (λ l. pass_all ! refl ((tt, tt), ((tt, tt), ((tt, tt), tt))) $ sets ! (agg ! (no_more !)) refl
+        (tt, tt) $
         returns ! (look_at ! 0 refl) $ free_all ! refl $
-        suffices ! _ (ends_at 𝓛 f.ended stayed (f.clauses 𝓛 mem run) bound (vstruct vnil) (record { value = all }) (tt, (tt, (tt, tt))) (tt, (tt, (tt, tt)))) $
-        says ! refl $ pure_i ! (exact.the_row.own_val (record { value = all }) (vstruct vnil ∷ [])) ((λ vss. (tt, tt)), tt) ((tt, (refl, tt)), tt) $
+        suffices ! _ (ends_at 𝓛 f.ended stayed (f.clauses 𝓛 mem run) bound (vstruct vnil) (record { value = all })
+        (tt, (tt, (tt, tt))) (tt, (tt, (tt, tt)))) $
+        says ! refl $ pure_i ! (exact.the_row.own_val (record { value = all }) (vstruct vnil ∷ []))
+        ((λ vss. (tt, tt)), tt) ((tt, (refl, tt)), tt) $
         move ! (1 ∷ 2 ∷ 0 ∷ []) $ done !)
 
   walks : Walks 𝓛 f.ended stayed (WpFn 𝓤 H C Λ code.function) (f.clauses 𝓛 mem run)
   walks =
-      walked 𝓛 f.ended stayed (f.clauses 𝓛 mem run) (WpFn 𝓤 H C Λ code.function) (λ κs. (shr_vals, (shr_vals, (shr_vals, tt))))
-      (λ κs. (shr_Tells (named 0) κs.0 exact.the_row, (shr_Tells (named 1) κs.1.0 exact.the_row, (shr_Tells (named 2) κs.1.1.0 usize, tt))))
+      walked 𝓛 f.ended stayed (f.clauses 𝓛 mem run) (WpFn 𝓤 H C Λ code.function)
+      (λ κs. (shr_vals, (shr_vals, (shr_vals, tt))))
+      (λ κs. (
+        shr_Tells (named 0) κs.0 exact.the_row,
+        (shr_Tells (named 1) κs.1.0 exact.the_row, (shr_Tells (named 2) κs.1.1.0 usize, tt)),
+      ))
       (λ κs qs bounds a g are. via 𝓤 _ (fst∗ 𝓤 _ (emp 𝓤)) (walk κs qs a g))
 
 meets : {M : Type 1} {𝓤 : Ura M} (𝓛 : Logic 𝓤) (mem : Memory → SProp 𝓤) (run : Routine → Fun 𝓤) (𝓣 : Tables 𝓤 𝓛.H)

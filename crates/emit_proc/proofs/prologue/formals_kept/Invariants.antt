@@ -6,4 +6,8 @@ use Rattle.emit_proc.specs.Kept.{own}
 use Rattle.emit_proc.proofs.prologue.formals_kept.Given as goal
 
 abbrev pub invariant-loop-formal : goal.invariant-loop-formal
-invariant-loop-formal l = (l.v ≡ l.formal-index) × (put (formals_kept l.setting.home.types l.locals.top l.locals.copy (own (setting_of l.setting)) l.v l.x (drop l.formal-index l.formals)) l.draft ≡ put (formals_kept l.setting.home.types l.locals.top l.locals.copy (own (setting_of l.setting)) 0 l.first l.formals) l.initial.draft)
+invariant-loop-formal l = (l.v ≡ l.formal-index)
+    × (put (formals_kept l.setting.home.types l.locals.top l.locals.copy (own (setting_of l.setting)) l.v l.x
+    (drop l.formal-index l.formals)) l.draft
+    ≡ put (formals_kept l.setting.home.types l.locals.top l.locals.copy (own (setting_of l.setting)) 0 l.first
+    l.formals) l.initial.draft)

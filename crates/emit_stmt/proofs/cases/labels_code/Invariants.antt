@@ -5,4 +5,5 @@ use Rattle.emit_buffer.specs.Drafts.{put}
 use Rattle.emit_stmt.proofs.cases.labels_code.Given as goal
 
 abbrev pub invariant-loop-label : goal.invariant-loop-label
-invariant-loop-label l = put (flat_map (label_code l.t) (drop l.label-index l.labels)) l.draft ≡ put (flat_map (label_code l.t) l.labels) l.initial.draft
+invariant-loop-label l = put (flat_map (label_code l.t) (drop l.label-index l.labels)) l.draft
+    ≡ put (flat_map (label_code l.t) l.labels) l.initial.draft

@@ -5,4 +5,5 @@ use Rattle.emit_stmt.specs.Written.{labels_in}
 use Rattle.emit_stmt.proofs.plan.bounds_of.Given as goal
 
 abbrev pub invariant-loop-arm : goal.invariant-loop-arm
-invariant-loop-arm l = fold with_label l.bounds (labels_in (drop l.arm-index l.arms)) ≡ fold with_label None (labels_in l.arms)
+invariant-loop-arm l = fold with_label l.bounds (labels_in (drop l.arm-index l.arms))
+    ≡ fold with_label None (labels_in l.arms)

@@ -7,5 +7,7 @@ use Rattle.emit_tables.proofs.texts.module_texts.Goals as goal
 pub returns : goal.returns
 returns c =
     let gathering = c.in_ok-characters.field-0 in
-    texts_are c.args.module_body.now gathering c.push_body.new.characters c.len-body.result c.in_ok-characters.ensures c.len-body.ensures
-    (c.in_ok-push_body.ensures ∙ ap (λ stmts. gathering.characters ++ all_characters (body_texts stmts)) c.as_slice.ensures)
+    texts_are c.args.module_body.now gathering c.push_body.new.characters c.len-body.result c.in_ok-characters.ensures
+    c.len-body.ensures
+    (c.in_ok-push_body.ensures ∙ ap (λ stmts. gathering.characters ++ all_characters (body_texts stmts))
+    c.as_slice.ensures)

@@ -7,7 +7,8 @@ loop-node-init c = marks_none c.args.flags.now c.args.todo.now
 
 pub mark-requires : goal.mark-requires
 mark-requires c =
-    let h : get_or c.args.nodes.now c.loop-node.node-index 0 < length c.args.flags.now = c.requires c.loop-node.node-index 0 (omega arith) in
+    let h : get_or c.args.nodes.now c.loop-node.node-index 0 < length c.args.flags.now =
+    c.requires c.loop-node.node-index 0 (omega arith) in
     omega (arith, h, c.loop-node.invariant.same)
 
 pub loop-node-preserved : goal.loop-node-preserved

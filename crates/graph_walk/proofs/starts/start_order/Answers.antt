@@ -5,7 +5,9 @@ use Rattle.graph_walk.proofs.Walking.{going_begins, going_ends, top_within}
 use Rattle.graph_walk.proofs.starts.start_order.Goals as goal
 
 pub loop-frame-init : goal.loop-frame-init
-loop-frame-init c = going_begins _ _ (length c.args.imports.now) _ _ _ c.in_ok-entered.ensures (c.in_ok-push.ensures.ok ∙ ap (λ (fs : List Frame). fs ++ entering c.args.from ∷ []) c.new-todo.ensures) c.new-order.ensures refl c.requires.within
+loop-frame-init c = going_begins _ _ (length c.args.imports.now) _ _ _ c.in_ok-entered.ensures
+    (c.in_ok-push.ensures.ok ∙ ap (λ (fs : List Frame). fs ++ entering c.args.from ∷ []) c.new-todo.ensures)
+    c.new-order.ensures refl c.requires.within
 
 pub advance-requires-clause-within : goal.advance-requires-clause-within
 advance-requires-clause-within c = top_within _ _ _ _ _ _ _ c.in-Some.ensures c.loop-frame.invariant

@@ -4,4 +4,5 @@ use Rattle.layout_storage.specs.Making.{with_type}
 use Rattle.layout_storage.proofs.making.all_made.Given as goal
 
 abbrev pub invariant-loop-made : goal.invariant-loop-made
-invariant-loop-made l = l.making ≡ fold (with_type l.types) (record { modules = l.fn.modules; home = l.home; own = [] }) (take l.made-index l.all)
+invariant-loop-made l = l.making ≡ fold (with_type l.types) (record { modules = l.fn.modules; home = l.home; own = [] })
+    (take l.made-index l.all)

@@ -6,4 +6,6 @@ use Rattle.emit_buffer.specs.Cut.{cut_function}
 use Rattle.m2_emit.proofs.functions.push_locals.Given as goal
 
 abbrev pub invariant-loop-number : goal.invariant-loop-number
-invariant-loop-number l = l.functions ++ map cut_function (functions_from (numbering_of l.home) l.home which.Local l.number (drop l.number l.home.locals)) ≡ l.fn.functions ++ map cut_function (functions_from (numbering_of l.home) l.home which.Local 0 l.home.locals)
+invariant-loop-number l = l.functions ++ map cut_function
+    (functions_from (numbering_of l.home) l.home which.Local l.number (drop l.number l.home.locals)) ≡ l.fn.functions
+    ++ map cut_function (functions_from (numbering_of l.home) l.home which.Local 0 l.home.locals)

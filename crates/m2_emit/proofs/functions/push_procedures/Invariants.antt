@@ -6,4 +6,6 @@ use Rattle.emit_buffer.specs.Cut.{cut_function}
 use Rattle.m2_emit.proofs.functions.push_procedures.Given as goal
 
 abbrev pub invariant-loop-number : goal.invariant-loop-number
-invariant-loop-number l = l.functions ++ map cut_function (functions_from (numbering_of l.home) l.home which.Module l.number (drop l.number l.home.procedures)) ≡ l.fn.functions ++ map cut_function (functions_from (numbering_of l.home) l.home which.Module 0 l.home.procedures)
+invariant-loop-number l = l.functions ++ map cut_function
+    (functions_from (numbering_of l.home) l.home which.Module l.number (drop l.number l.home.procedures))
+    ≡ l.fn.functions ++ map cut_function (functions_from (numbering_of l.home) l.home which.Module 0 l.home.procedures)

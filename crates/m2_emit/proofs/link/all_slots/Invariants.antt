@@ -4,4 +4,5 @@ use Rattle.m2_emit.specs.Emitted.{parts}
 use Rattle.m2_emit.proofs.link.all_slots.Given as goal
 
 abbrev pub invariant-loop-module : goal.invariant-loop-module
-invariant-loop-module l = l.all + all_slots (parts (map (λ m. m.now) (drop l.module-index l.modules))) ≡ all_slots (parts (map (λ m. m.now) l.modules))
+invariant-loop-module l = l.all + all_slots (parts (map (λ m. m.now) (drop l.module-index l.modules)))
+    ≡ all_slots (parts (map (λ m. m.now) l.modules))

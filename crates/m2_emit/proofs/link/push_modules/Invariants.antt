@@ -5,4 +5,6 @@ use Rattle.m2_emit.specs.Emitted.{parts}
 use Rattle.m2_emit.proofs.link.push_modules.Given as goal
 
 abbrev pub invariant-loop-module : goal.invariant-loop-module
-invariant-loop-module l = l.exports ++ map cut_export (exports_from l.global (parts (map (λ m. m.now) (drop l.module-index l.modules)))) ≡ l.fn.exports ++ map cut_export (exports_from 1 (parts (map (λ m. m.now) l.modules)))
+invariant-loop-module l = l.exports ++ map cut_export
+    (exports_from l.global (parts (map (λ m. m.now) (drop l.module-index l.modules)))) ≡ l.fn.exports
+    ++ map cut_export (exports_from 1 (parts (map (λ m. m.now) l.modules)))

@@ -7,4 +7,5 @@ use Rattle.m2_graph.specs.Reported.{LeadsBack}
 use Rattle.m2_graph.proofs.back.back_in.Given as goal
 
 abbrev pub invariant-loop-import : goal.invariant-loop-import
-invariant-loop-import l = All (λ x. LeadsBack (modules_of l.program) l.node x → ⊥) (flat_map (λ (i : Import). named_by i.from i.names) (take l.import-index l.imports))
+invariant-loop-import l = All (λ x. LeadsBack (modules_of l.program) l.node x → ⊥)
+    (flat_map (λ (i : Import). named_by i.from i.names) (take l.import-index l.imports))

@@ -6,4 +6,5 @@ pub first_on_cycle-requires-clause-nodes : goal.first_on_cycle-requires-clause-n
 first_on_cycle-requires-clause-nodes c = pairs_nodes (modules_of c.args.program.now) c.args.pairs.now c.requires.links
 
 pub returns-in-None-clause-cycles : goal.returns-in-None-clause-cycles
-returns-in-None-clause-cycles c = none_found (modules_of c.args.program.now) c.args.pairs.now c.in_ok-first.first c.requires.links c.in_ok-first.ensures.found c.in-None.is
+returns-in-None-clause-cycles c = none_found (modules_of c.args.program.now) c.args.pairs.now c.in_ok-first.first
+    c.requires.links c.in_ok-first.ensures.found c.in-None.is

@@ -6,4 +6,6 @@ use Rattle.m2_graph.proofs.Breaching.{then_least}
 use Rattle.m2_graph.proofs.breaches.breach_of.Goals as goal
 
 pub returns : goal.returns
-returns c = then_least (breaches_of (modules_of c.args.program.now) (take c.args.number (modules_of c.args.program.now)) c.args.given c.args.tree.now) (cycle_breaches c.args.cycle c.args.number) _ _ c.file_breach-breach.ensures c.with_cycle.ensures
+returns c = then_least (breaches_of (modules_of c.args.program.now) (take c.args.number (modules_of c.args.program.now))
+    c.args.given c.args.tree.now) (cycle_breaches c.args.cycle c.args.number) _ _ c.file_breach-breach.ensures
+    c.with_cycle.ensures

@@ -6,4 +6,5 @@ use Rattle.m2_graph.proofs.Tables.{any_earlier}
 use Rattle.m2_graph.proofs.breaches.has_program_before.Goals as goal
 
 pub returns : goal.returns
-returns c = c.is_earlier.ensures ∙ ap (λ o. is_earlier o c.args.number) c.requires.program ∙ sym (any_earlier is_program (modules_of c.args.program.now) c.args.number)
+returns c = c.is_earlier.ensures ∙ ap (λ o. is_earlier o c.args.number) c.requires.program
+    ∙ sym (any_earlier is_program (modules_of c.args.program.now) c.args.number)

@@ -7,4 +7,6 @@ use Rattle.m2_graph.specs.Refused.{least_of, import_breaches}
 use Rattle.m2_graph.proofs.breaches.import_breach.Given as goal
 
 abbrev pub invariant-loop-import : goal.invariant-loop-import
-invariant-loop-import l = l.found ≡ least_of (import_breaches (modules_of l.program) l.tree (flat_map (λ (i : Import). named_by i.from i.names) (take l.import-index l.imports)))
+invariant-loop-import l = l.found ≡ least_of
+    (import_breaches (modules_of l.program) l.tree
+    (flat_map (λ (i : Import). named_by i.from i.names) (take l.import-index l.imports)))

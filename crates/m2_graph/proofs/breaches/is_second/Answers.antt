@@ -6,4 +6,5 @@ use Rattle.m2_graph.proofs.Tables.{any_earlier}
 use Rattle.m2_graph.proofs.breaches.is_second.Goals as goal
 
 pub returns : goal.returns
-returns c = c.is_earlier.ensures ∙ ap (λ o. is_earlier o c.args.number) c.first_file_of-first.ensures ∙ sym (any_earlier (are_one_part c.args.tree.now) (modules_of c.args.program.now) c.args.number)
+returns c = c.is_earlier.ensures ∙ ap (λ o. is_earlier o c.args.number) c.first_file_of-first.ensures
+    ∙ sym (any_earlier (are_one_part c.args.tree.now) (modules_of c.args.program.now) c.args.number)

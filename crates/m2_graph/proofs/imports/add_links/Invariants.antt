@@ -6,4 +6,5 @@ use Rattle.m2_graph.specs.Imports.{definition_of}
 use Rattle.m2_graph.proofs.imports.add_links.Given as goal
 
 abbrev pub invariant-loop-ident : goal.invariant-loop-ident
-invariant-loop-ident l = l.targets ≡ l.initial.targets ++ filter_map (λ (i : Ident). definition_of (modules_of l.program) i.name) (take l.ident-index l.names)
+invariant-loop-ident l = l.targets ≡ l.initial.targets
+    ++ filter_map (λ (i : Ident). definition_of (modules_of l.program) i.name) (take l.ident-index l.names)

@@ -11,5 +11,12 @@ use Rattle.m2_graph.proofs.imports.links.Goals as goal
 pub returns : goal.returns
 returns c =
     let modules = modules_of c.args.program.now in
-    let is : c.loop-module.all.items ≡ links modules = mapped_whole (links_of modules) (λ (m : Bor Module). m.now) c.args.program.now.modules.now c.loop-module.module-index c.loop-module.all.items (omega arith) c.loop-module.invariant in
-    record { value = is; nodes = subst AreNodes (sym is) (links_are_nodes modules); len = ap length is ∙ length-map modules (links_of modules) }
+    let is : c.loop-module.all.items ≡ links modules =
+    mapped_whole (links_of modules) (λ (m : Bor Module). m.now) c.args.program.now.modules.now
+    c.loop-module.module-index c.loop-module.all.items (omega arith) c.loop-module.invariant in
+    record {
+      value = is;
+      nodes = subst AreNodes (sym is) (links_are_nodes modules);
+      len = ap length is
+          ∙ length-map modules (links_of modules);
+    }

@@ -10,5 +10,7 @@ use Rattle.m2_graph.proofs.needs.walks.Goals as goal
 pub returns : goal.returns
 returns c =
     let modules = modules_of c.args.program.now in
-    let is : c.loop-module.all.items ≡ walks modules = mapped_whole (walk_of modules) (λ (m : Bor Module). m.now) c.args.program.now.modules.now c.loop-module.module-index c.loop-module.all.items (omega arith) c.loop-module.invariant in
+    let is : c.loop-module.all.items ≡ walks modules =
+    mapped_whole (walk_of modules) (λ (m : Bor Module). m.now) c.args.program.now.modules.now
+    c.loop-module.module-index c.loop-module.all.items (omega arith) c.loop-module.invariant in
     record { value = is; nodes = subst AreNodes (sym is) (walks_are_nodes modules) }

@@ -6,4 +6,5 @@ use Rattle.m2_graph.proofs.Importing.{mapped_whole}
 use Rattle.m2_graph.proofs.order.definition_flags.Goals as goal
 
 pub returns : goal.returns
-returns c = mapped_whole is_definition (λ (m : Bor Module). m.now) c.args.modules.now c.loop-module.module-index c.loop-module.flags.items (omega arith) c.loop-module.invariant
+returns c = mapped_whole is_definition (λ (m : Bor Module). m.now) c.args.modules.now c.loop-module.module-index
+    c.loop-module.flags.items (omega arith) c.loop-module.invariant

@@ -6,4 +6,6 @@ use Rattle.m2_graph.specs.Parts.{bears, number_at}
 use Rattle.m2_graph.proofs.program.table_of.Given as goal
 
 abbrev pub invariant-loop-number : goal.invariant-loop-number
-invariant-loop-number l = (name : List ℕ) → number_at l.table name ≡ first_that (bears l.part name) (take l.number (map (λ (m : Bor Module). m.now) l.modules))
+invariant-loop-number l = (name : List ℕ)
+    → number_at l.table name ≡ first_that (bears l.part name)
+    (take l.number (map (λ (m : Bor Module). m.now) l.modules))

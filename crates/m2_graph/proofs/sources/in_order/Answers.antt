@@ -11,5 +11,8 @@ use Rattle.m2_graph.proofs.sources.in_order.Goals as goal
 pub returns : goal.returns
 returns c =
     let ranks = ranks_by nat_list_cmp_total (λ (f : Source). f.name.now) in
-    let compares = always_returns_same _ (λ a r. is_lt r ≡ goes_before a.0.now a.1.0.now) _ (λ a r f k. (search rules, search rules)) in
-    order_of (files_of c.args.files.now) c.in_ok-ordered.ordered.items c.sort_by.new.self.items c.in_ok-ordered.ensures c.in_ok-sort_by.ensures.permutation (c.in_ok-sort_by.ensures.sorted goes_before ranks compares) (c.in_ok-sort_by.ensures.stable goes_before ranks compares)
+    let compares = always_returns_same _ (λ a r. is_lt r ≡ goes_before a.0.now a.1.0.now) _
+    (λ a r f k. (search rules, search rules)) in
+    order_of (files_of c.args.files.now) c.in_ok-ordered.ordered.items c.sort_by.new.self.items c.in_ok-ordered.ensures
+    c.in_ok-sort_by.ensures.permutation (c.in_ok-sort_by.ensures.sorted goes_before ranks compares)
+    (c.in_ok-sort_by.ensures.stable goes_before ranks compares)

@@ -5,4 +5,5 @@ use Rattle.m2_graph.proofs.Ordered.{trees_of}
 use Rattle.m2_graph.proofs.sources.trees.Goals as goal
 
 pub returns : goal.returns
-returns c = c.loop-source.invariant ∙ ap (map (λ (s : Source). s.tree.now)) (take_all c.loop-source.source-index c.args.sources.now (omega arith)) ∙ trees_of c.args.sources.now
+returns c = c.loop-source.invariant ∙ ap (map (λ (s : Source). s.tree.now))
+    (take_all c.loop-source.source-index c.args.sources.now (omega arith)) ∙ trees_of c.args.sources.now

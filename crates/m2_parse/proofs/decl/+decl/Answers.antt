@@ -20,15 +20,21 @@ decls-loop-found-smaller t c = turn_shorter decl c.args.room _ _ _ refl c.in_ok-
 pub decls-loop-found-preserved : goal.decls-loop-found-preserved
 decls-loop-found-preserved t c =
     let b : begins in_decl c.loop-found.cursor ≡ true = cc in
-    rw c.in_ok-push.ensures.ok (sym (loop_turn decl _ _ plain each.more_decls c.args.room _ c.loop-found.found _ _ b c.in_ok-decl.ensures) ∙ c.loop-found.invariant)
+    rw c.in_ok-push.ensures.ok (sym (loop_turn decl _ _ plain each.more_decls c.args.room _ c.loop-found.found _ _ b
+    c.in_ok-decl.ensures) ∙ c.loop-found.invariant)
 
 pub decls-returns : goal.decls-returns
 decls-returns t c =
     let b : begins in_decl c.loop-found.cursor ≡ false = cc in
-    mapped_ok (λ xs. xs) _ _ _ (sym c.loop-found.invariant ∙ loop_stop decl _ _ plain each.more_decls c.args.room _ c.loop-found.found b)
+    mapped_ok (λ xs. xs) _ _ _ (sym c.loop-found.invariant
+    ∙ loop_stop decl _ _ plain each.more_decls c.args.room _ c.loop-found.found b)
 
 pub procedure-returns : goal.procedure-returns
 procedure-returns t c =
     let e = rules_of.procedure_is c.args.room c.args.cursor.now in
-    let w = c.in_ok-name.ensures in
-    ((w.0, ((c.in_ok-formals.formals, c.in_ok-formals.result), c.in_ok-formals.block)), first_of (search rules, grind (arith, common_steps)), first_of (search rules, grind (arith, common_steps)))
+    let w = c.in_ok-name.ensures in (
+      (w.0, ((c.in_ok-formals.formals, c.in_ok-formals.result), c.in_ok-formals.block)),
+      first_of
+          (search rules, grind (arith, common_steps)),
+      first_of (search rules, grind (arith, common_steps)),
+    )

@@ -20,7 +20,8 @@ abbrev pub decreases-procedure : goal.decreases-procedure
 decreases-procedure l = l.room * 32 + 8
 
 abbrev pub invariant-decls-loop-found : goal.invariant-decls-loop-found
-invariant-decls-loop-found l = gather_turns (λ xs. xs) l.found (read (many decl) l.room l.cursor) ≡ gather_turns (λ xs. xs) [] (read (many decl) l.room l.fn.cursor)
+invariant-decls-loop-found l = gather_turns (λ xs. xs) l.found (read (many decl) l.room l.cursor)
+    ≡ gather_turns (λ xs. xs) [] (read (many decl) l.room l.fn.cursor)
 
 abbrev pub decreases-decls-loop-found : goal.decreases-decls-loop-found
 decreases-decls-loop-found l = length l.cursor

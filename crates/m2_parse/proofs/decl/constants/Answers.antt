@@ -19,9 +19,11 @@ loop-found-smaller c = turn_shorter constant c.args.room _ _ _ refl c.in_ok-cons
 pub loop-found-preserved : goal.loop-found-preserved
 loop-found-preserved c =
     let b : begins (the.Name ∷ []) c.loop-found.cursor ≡ true = cc in
-    rw c.in_ok-push.ensures.ok (sym (loop_turn constant _ _ plain each.more_constants c.args.room _ c.loop-found.found _ _ b c.in_ok-constant.ensures) ∙ c.loop-found.invariant)
+    rw c.in_ok-push.ensures.ok (sym (loop_turn constant _ _ plain each.more_constants c.args.room _ c.loop-found.found _
+    _ b c.in_ok-constant.ensures) ∙ c.loop-found.invariant)
 
 pub returns : goal.returns
 returns c =
     let b : begins (the.Name ∷ []) c.loop-found.cursor ≡ false = cc in
-    mapped_ok (λ xs. xs) _ _ _ (sym c.loop-found.invariant ∙ loop_stop constant _ _ plain each.more_constants c.args.room _ c.loop-found.found b)
+    mapped_ok (λ xs. xs) _ _ _ (sym c.loop-found.invariant
+    ∙ loop_stop constant _ _ plain each.more_constants c.args.room _ c.loop-found.found b)

@@ -4,5 +4,9 @@ use Rattle.m2_parse.proofs.decl.declared_heading.Goals as goal
 
 pub returns : goal.returns
 returns c =
-    let w = c.in_ok-name.ensures in
-    ((w.0, (c.in_ok-formals.formals, c.in_ok-formals.result)), first_of (search rules, grind (arith, common_steps)), rw w.2 refl)
+    let w = c.in_ok-name.ensures in (
+      (w.0, (c.in_ok-formals.formals, c.in_ok-formals.result)),
+      first_of (search rules, grind (arith, common_steps)),
+      rw
+          w.2 refl,
+    )

@@ -18,14 +18,18 @@ pub loop-semicolon-preserved : goal.loop-semicolon-preserved
 loop-semicolon-preserved c =
     let w = c.in-Some.ensures in
     rw c.in_ok-push-2.ensures.ok
-    (sym (loop_turn (Semicolon ▸ section) _ _ plain each.more_sections 0 _ c.loop-semicolon.found _ _ w.0 (word_then (the.Symbol Semicolon) section 0 _ _ _ _ _ w.2 c.in_ok-section-2.ensures)) ∙ c.loop-semicolon.invariant)
+    (sym (loop_turn (Semicolon ▸ section) _ _ plain each.more_sections 0 _ c.loop-semicolon.found _ _ w.0
+    (word_then (the.Symbol Semicolon) section 0 _ _ _ _ _ w.2 c.in_ok-section-2.ensures))
+    ∙ c.loop-semicolon.invariant)
 
 pub loop-semicolon-smaller : goal.loop-semicolon-smaller
 loop-semicolon-smaller c =
     let w = c.in-Some.ensures in
-    turn_shorter (Semicolon ▸ section) 0 _ _ _ refl (word_then (the.Symbol Semicolon) section 0 _ _ _ _ _ w.2 c.in_ok-section-2.ensures)
+    turn_shorter (Semicolon ▸ section) 0 _ _ _ refl
+    (word_then (the.Symbol Semicolon) section 0 _ _ _ _ _ w.2 c.in_ok-section-2.ensures)
 
 pub returns : goal.returns
 returns c =
     let w = c.in_default.ensures in
-    rw w.1 (mapped_ok _ _ _ _ (sym c.loop-semicolon.invariant ∙ loop_stop (Semicolon ▸ section) _ _ plain each.more_sections 0 _ c.loop-semicolon.found w.0))
+    rw w.1 (mapped_ok _ _ _ _ (sym c.loop-semicolon.invariant
+    ∙ loop_stop (Semicolon ▸ section) _ _ plain each.more_sections 0 _ c.loop-semicolon.found w.0))

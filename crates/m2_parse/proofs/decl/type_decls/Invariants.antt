@@ -5,7 +5,8 @@ use Rattle.def_grammar.specs.Reading.{gather_turns, read}
 use Rattle.m2_parse.proofs.decl.type_decls.Given as goal
 
 abbrev pub invariant-loop-found : goal.invariant-loop-found
-invariant-loop-found l = gather_turns (λ xs. xs) l.found (read (many type_decl) l.room l.cursor) ≡ gather_turns (λ xs. xs) [] (read (many type_decl) l.room l.fn.cursor)
+invariant-loop-found l = gather_turns (λ xs. xs) l.found (read (many type_decl) l.room l.cursor)
+    ≡ gather_turns (λ xs. xs) [] (read (many type_decl) l.room l.fn.cursor)
 
 abbrev pub decreases-loop-found : goal.decreases-loop-found
 decreases-loop-found l = length l.cursor

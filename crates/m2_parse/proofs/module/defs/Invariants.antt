@@ -6,7 +6,8 @@ use Rattle.def_grammar.specs.Reading.{gather_turns, read}
 use Rattle.m2_parse.proofs.module.defs.Given as goal
 
 abbrev pub invariant-loop-found : goal.invariant-loop-found
-invariant-loop-found l = gather_turns (λ xs. xs) l.found (read (many def) max_nesting l.cursor) ≡ gather_turns (λ xs. xs) [] (read (many def) max_nesting l.fn.cursor)
+invariant-loop-found l = gather_turns (λ xs. xs) l.found (read (many def) max_nesting l.cursor)
+    ≡ gather_turns (λ xs. xs) [] (read (many def) max_nesting l.fn.cursor)
 
 abbrev pub decreases-loop-found : goal.decreases-loop-found
 decreases-loop-found l = length l.cursor

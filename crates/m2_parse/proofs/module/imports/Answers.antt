@@ -21,9 +21,11 @@ loop-found-smaller c = turn_shorter import max_nesting _ _ _ refl c.in_ok-import
 pub loop-found-preserved : goal.loop-found-preserved
 loop-found-preserved c =
     let b : begins (symbols (From ∷ Import ∷ [])) c.loop-found.cursor ≡ true = cc in
-    rw c.in_ok-push.ensures.ok (sym (loop_turn import _ _ plain each.more_imports max_nesting _ c.loop-found.found _ _ b c.in_ok-import.ensures) ∙ c.loop-found.invariant)
+    rw c.in_ok-push.ensures.ok (sym (loop_turn import _ _ plain each.more_imports max_nesting _ c.loop-found.found _ _ b
+    c.in_ok-import.ensures) ∙ c.loop-found.invariant)
 
 pub returns : goal.returns
 returns c =
     let b : begins (symbols (From ∷ Import ∷ [])) c.loop-found.cursor ≡ false = cc in
-    mapped_ok (λ xs. xs) _ _ _ (sym c.loop-found.invariant ∙ loop_stop import _ _ plain each.more_imports max_nesting _ c.loop-found.found b)
+    mapped_ok (λ xs. xs) _ _ _ (sym c.loop-found.invariant
+    ∙ loop_stop import _ _ plain each.more_imports max_nesting _ c.loop-found.found b)

@@ -12,7 +12,8 @@ ended rest h = h (search rules)
 
 pub returns-then-not-is_at_end-clause-exact : goal.returns-then-not-is_at_end-clause-exact
 returns-then-not-is_at_end-clause-exact c =
-    reported_rest _ _ _ _ (rw c.new-cursor.ensures at c.in-Ok.ensures) (λ e. never (c.if-not-is_at_end.ensures.1 e)) c.refusal.ensures.pos c.refusal.ensures.number
+    reported_rest _ _ _ _ (rw c.new-cursor.ensures at c.in-Ok.ensures) (λ e. never (c.if-not-is_at_end.ensures.1 e))
+    c.refusal.ensures.pos c.refusal.ensures.number
 
 pub returns-then-not-is_at_end-clause-complete : goal.returns-then-not-is_at_end-clause-complete
 returns-then-not-is_at_end-clause-complete c m =
@@ -32,7 +33,8 @@ returns-else-not-is_at_end-clause-complete c m =
 pub returns-in-Err-Refused-clause-exact : goal.returns-in-Err-Refused-clause-exact
 returns-in-Err-Refused-clause-exact c =
     let e = rw c.in-Err-Refused.field-0-is at c.in-Err-Refused.ensures in
-    reported _ _ _ _ (rw c.new-cursor.ensures at e) c.refusal-in-Err-Refused.ensures.pos c.refusal-in-Err-Refused.ensures.number
+    reported _ _ _ _ (rw c.new-cursor.ensures at e) c.refusal-in-Err-Refused.ensures.pos
+    c.refusal-in-Err-Refused.ensures.number
 
 pub returns-in-Err-Refused-clause-complete : goal.returns-in-Err-Refused-clause-complete
 returns-in-Err-Refused-clause-complete c m =

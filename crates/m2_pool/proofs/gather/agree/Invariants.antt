@@ -10,5 +10,7 @@ invariant-loop-note g l = record {
   length_is : into_iter_len l.note-iterator ≡ length (into_iter_items l.note-iterator);
   place_is : l.place ≡ length l.yielded;
   same : l.settled.items ≡ l.initial.settled.items;
-  are : (outs : List _) → map (λ u. u.known) l.yielded ≡ map Some outs → map (known_at (λ n. n.known) l.initial.settled.items) (take (length l.yielded) (prerequisites_of l.pool.graph.now l.job)) ≡ map Some outs;
+  are : (outs : List _) → map (λ u. u.known) l.yielded ≡ map Some outs
+      → map (known_at (λ n. n.known) l.initial.settled.items)
+      (take (length l.yielded) (prerequisites_of l.pool.graph.now l.job)) ≡ map Some outs;
 }

@@ -12,6 +12,8 @@ invariant-loop-place g l = record {
   length_is : into_iter_len l.place-iterator ≡ length (into_iter_items l.place-iterator);
   count_is : length l.settled.items ≡ length l.yielded;
   outs_count : length l.outs.items ≡ length l.yielded;
-  settled_are : (p : ℕ) → IfSome (get_or l.settled.items p None) (λ n. IsAnswered (map cell_name l.pool.cells.now) (g.W.Work.defines l.pool.work.now) l.outs.items p n.cell n.known);
+  settled_are : (p : ℕ) → IfSome (get_or l.settled.items p None)
+      (λ n. IsAnswered (map cell_name l.pool.cells.now) (g.W.Work.defines l.pool.work.now) l.outs.items p n.cell
+      n.known);
   outs_are : AreCoherent l.pool.graph.now (g.W.Work.defines l.pool.work.now) l.outs.items;
 }

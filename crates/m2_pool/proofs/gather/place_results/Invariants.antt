@@ -11,5 +11,11 @@ invariant-loop-ran g l = record {
   rest_is : l.yielded ++ into_iter_items l.ran-iterator ≡ l.fn.all.items;
   length_is : into_iter_len l.ran-iterator ≡ length (into_iter_items l.ran-iterator);
   count_is : length l.places.items ≡ length l.pool.graph.now;
-  each : (k : ℕ) → k < length l.pool.graph.now → MatchOption (get_or l.places.items k None) (times k (map (λ r. r.job) l.yielded) ≡ 0) (λ r. (r.job ≡ k) × MatchResult r.kept (λ n. IsRan (map cell_name l.pool.cells.now) l.pool.graph.now (g.W.Work.defines l.pool.work.now) r.job n.cell n.known (map (λ u. u.cell) r.used.items) (map (λ u. u.known) r.used.items)) (λ b. IsMade (map cell_name l.pool.cells.now) l.pool.graph.now (g.W.Work.defines l.pool.work.now) r.job b.value (map (λ u. u.cell) r.used.items) (map (λ u. u.known) r.used.items)));
+  each : (k : ℕ) → k < length l.pool.graph.now
+      → MatchOption (get_or l.places.items k None) (times k (map (λ r. r.job) l.yielded) ≡ 0)
+      (λ r. (r.job ≡ k) × MatchResult r.kept
+      (λ n. IsRan (map cell_name l.pool.cells.now) l.pool.graph.now (g.W.Work.defines l.pool.work.now) r.job n.cell
+      n.known (map (λ u. u.cell) r.used.items) (map (λ u. u.known) r.used.items))
+      (λ b. IsMade (map cell_name l.pool.cells.now) l.pool.graph.now (g.W.Work.defines l.pool.work.now) r.job b.value
+      (map (λ u. u.cell) r.used.items) (map (λ u. u.known) r.used.items)));
 }

@@ -14,11 +14,13 @@ run-requires-clause-prerequisites g c =
     ∙ (sym (length-map c.in_ok-outs.outs.items (λ x. x.now))
     ∙ (ap (λ l. length l) c.in_ok-outs.ensures
     ∙ (ap (λ qs. length (items_at c.args.before.now qs)) c.prerequisites.ensures
-    ∙ (picks_all c.args.before.now ps (λ p l. let less = (c.jobs-jobs.ensures.graph c.args.job p c.requires.job).0 l in omega (arith, less, c.requires.before))
+    ∙ (picks_all c.args.before.now ps (λ p l. let less = (c.jobs-jobs.ensures.graph c.args.job p c.requires.job).0 l in
+    omega (arith, less, c.requires.before))
     ∙ ap (λ (h : List (List ℕ)). length (prerequisites_of h c.args.job)) c.args.pool.now.of_work))))
 
 pub returns : goal.returns
 returns g c =
     let defines = g.W.Work.defines c.args.pool.now.work.now in
-    let outs_are = ap (map (λ p. p.now)) c.as_slice.ensures.value ∙ (c.in_ok-outs.ensures ∙ ap (items_at c.args.before.now) c.prerequisites.ensures) in
+    let outs_are = ap (map (λ p. p.now)) c.as_slice.ensures.value
+    ∙ (c.in_ok-outs.ensures ∙ ap (items_at c.args.before.now) c.prerequisites.ensures) in
     if_ok c.run.result _ _ (λ x defined. subst (λ outs. defines c.args.job outs x) outs_are defined) c.run.ensures

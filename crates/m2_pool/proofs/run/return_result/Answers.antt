@@ -24,16 +24,24 @@ loop-one-preserved g c =
     let long : length c.push.new.self.items ≡ length (seats ++ seat ∷ []) = ap (λ l. length l) pushed in
     let count : length seats ≡ length c.loop-one.yielded = before.count_is in
     record {
-      rest_is = append_assoc c.loop-one.yielded (c.in-Some.one ∷ []) _ ∙ (ap (λ l. c.loop-one.yielded ++ l) (sym head) ∙ before.rest_is);
+      rest_is = append_assoc c.loop-one.yielded (c.in-Some.one ∷ []) _
+          ∙ (ap (λ l. c.loop-one.yielded ++ l) (sym head) ∙ before.rest_is);
       length_is = grind (arith, common_steps);
       count_is = omega (arith, length-append seats (seat ∷ []), length-append c.loop-one.yielded (c.in-Some.one ∷ []));
-      seats_are = rw pushed (All-push (λ (s : SeatState). IsWorked c.args.pool.now.board.now.id c.args.pool.now.graph.now s) seats seat before.seats_are facts.0);
-      admitted = rw pushed (All-push (λ (s : SeatState). All (g.G.Gate.admits c.args.pool.now.gate.now) s.had) seats seat before.admitted facts.1);
+      seats_are = rw pushed (All-push (λ (s : SeatState). IsWorked c.args.pool.now.board.now.id
+          c.args.pool.now.graph.now s) seats seat before.seats_are facts.0);
+      admitted = rw pushed (All-push (λ (s : SeatState). All (g.G.Gate.admits c.args.pool.now.gate.now) s.had) seats
+          seat before.admitted facts.1);
       ran_is = ap (map (λ r. r.job)) joined
           ∙ (map-append (λ r. r.job) c.loop-one.all.items ran
           ∙ (ap (λ l. l ++ map (λ r. r.job) ran) before.ran_is
           ∙ (ap (λ l. all_had seats ++ l) facts.2
           ∙ (sym (together_push (λ (s : SeatState). s.had) seats seat) ∙ ap all_had (sym pushed)))));
-      stands = rw joined (All-append (λ r. MatchResult r.kept (λ n. IsRan (map cell_name c.args.pool.now.cells.now) c.args.pool.now.graph.now (g.W.Work.defines c.args.pool.now.work.now) r.job n.cell n.known (map (λ u. u.cell) r.used.items) (map (λ u. u.known) r.used.items)) (λ b. IsMade (map cell_name c.args.pool.now.cells.now) c.args.pool.now.graph.now (g.W.Work.defines c.args.pool.now.work.now) r.job b.value (map (λ u. u.cell) r.used.items) (map (λ u. u.known) r.used.items)))
+      stands = rw joined (All-append (λ r. MatchResult r.kept
+          (λ n. IsRan (map cell_name c.args.pool.now.cells.now) c.args.pool.now.graph.now
+          (g.W.Work.defines c.args.pool.now.work.now) r.job n.cell n.known (map (λ u. u.cell) r.used.items)
+          (map (λ u. u.known) r.used.items)) (λ b. IsMade (map cell_name c.args.pool.now.cells.now)
+          c.args.pool.now.graph.now (g.W.Work.defines c.args.pool.now.work.now) r.job b.value
+          (map (λ u. u.cell) r.used.items) (map (λ u. u.known) r.used.items)))
           c.loop-one.all.items ran before.stands facts.3);
     }

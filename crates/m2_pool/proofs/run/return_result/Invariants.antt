@@ -14,5 +14,9 @@ invariant-loop-one g l = record {
   seats_are : All (λ (s : SeatState). IsWorked l.pool.board.now.id l.pool.graph.now s) l.seats.items;
   admitted : All (λ (s : SeatState). All (g.G.Gate.admits l.pool.gate.now) s.had) l.seats.items;
   ran_is : map (λ r. r.job) l.all.items ≡ all_had l.seats.items;
-  stands : All (λ r. MatchResult r.kept (λ n. IsRan (map cell_name l.pool.cells.now) l.pool.graph.now (g.W.Work.defines l.pool.work.now) r.job n.cell n.known (map (λ u. u.cell) r.used.items) (map (λ u. u.known) r.used.items)) (λ b. IsMade (map cell_name l.pool.cells.now) l.pool.graph.now (g.W.Work.defines l.pool.work.now) r.job b.value (map (λ u. u.cell) r.used.items) (map (λ u. u.known) r.used.items))) l.all.items;
+  stands : All (λ r. MatchResult r.kept (λ n. IsRan (map cell_name l.pool.cells.now) l.pool.graph.now
+      (g.W.Work.defines l.pool.work.now) r.job n.cell n.known (map (λ u. u.cell) r.used.items)
+      (map (λ u. u.known) r.used.items)) (λ b. IsMade (map cell_name l.pool.cells.now) l.pool.graph.now
+      (g.W.Work.defines l.pool.work.now) r.job b.value (map (λ u. u.cell) r.used.items)
+      (map (λ u. u.known) r.used.items))) l.all.items;
 }

@@ -21,18 +21,21 @@ pub stmts-loop-cursor-smaller : goal.stmts-loop-cursor-smaller
 stmts-loop-cursor-smaller t c =
     let w = c.loop-cursor-test.ensures in
     let v = c.in_ok-maybe_stmt-2.ensures in
-    turn_shorter (Semicolon ▸ opt stmt) c.args.room _ _ _ refl (word_then (the.Symbol Semicolon) (opt stmt) c.args.room _ _ _ _ _ w.2 v.1)
+    turn_shorter (Semicolon ▸ opt stmt) c.args.room _ _ _ refl
+    (word_then (the.Symbol Semicolon) (opt stmt) c.args.room _ _ _ _ _ w.2 v.1)
 
 pub stmts-loop-cursor-preserved : goal.stmts-loop-cursor-preserved
 stmts-loop-cursor-preserved t c =
     let w = c.loop-cursor-test.ensures in
     let v = c.in_ok-maybe_stmt-2.ensures in
-    rw v.2 (sym (loop_turn (Semicolon ▸ opt stmt) _ _ optional each.more_stmts c.args.room _ c.loop-cursor.found _ _ w.0 (word_then (the.Symbol Semicolon) (opt stmt) c.args.room _ _ _ _ _ w.2 v.1)) ∙ c.loop-cursor.invariant)
+    rw v.2 (sym (loop_turn (Semicolon ▸ opt stmt) _ _ optional each.more_stmts c.args.room _ c.loop-cursor.found _ _ w.0
+    (word_then (the.Symbol Semicolon) (opt stmt) c.args.room _ _ _ _ _ w.2 v.1)) ∙ c.loop-cursor.invariant)
 
 pub stmts-returns : goal.stmts-returns
 stmts-returns t c =
     let w = c.loop-cursor-test.ensures in
-    rw w.1 (sym c.loop-cursor.invariant ∙ loop_stop (Semicolon ▸ opt stmt) _ _ optional each.more_stmts c.args.room _ c.loop-cursor.found w.0)
+    rw w.1 (sym c.loop-cursor.invariant ∙ loop_stop (Semicolon ▸ opt stmt) _ _ optional each.more_stmts c.args.room _
+    c.loop-cursor.found w.0)
 
 pub maybe_stmt-returns : goal.maybe_stmt-returns
 maybe_stmt-returns t c =
@@ -47,18 +50,22 @@ pub arms-loop-cursor-smaller : goal.arms-loop-cursor-smaller
 arms-loop-cursor-smaller t c =
     let w = c.loop-cursor-test.ensures in
     let v = c.in_ok-maybe_arm-2.ensures in
-    turn_shorter (Bar ▸ opt arm) c.args.room _ _ _ refl (word_then (the.Symbol Bar) (opt arm) c.args.room _ _ _ _ _ w.2 v.1)
+    turn_shorter (Bar ▸ opt arm) c.args.room _ _ _ refl
+    (word_then (the.Symbol Bar) (opt arm) c.args.room _ _ _ _ _ w.2 v.1)
 
 pub arms-loop-cursor-preserved : goal.arms-loop-cursor-preserved
 arms-loop-cursor-preserved t c =
     let w = c.loop-cursor-test.ensures in
     let v = c.in_ok-maybe_arm-2.ensures in
-    rw v.2 (sym (loop_turn (Bar ▸ opt arm) _ _ optional each.more_arms c.args.room _ c.loop-cursor.found _ _ w.0 (word_then (the.Symbol Bar) (opt arm) c.args.room _ _ _ _ _ w.2 v.1)) ∙ c.loop-cursor.invariant)
+    rw v.2 (sym (loop_turn (Bar ▸ opt arm) _ _ optional each.more_arms c.args.room _ c.loop-cursor.found _ _ w.0
+    (word_then (the.Symbol Bar) (opt arm) c.args.room _ _ _ _ _ w.2 v.1)) ∙ c.loop-cursor.invariant)
 
 pub arms-returns : goal.arms-returns
 arms-returns t c =
     let w = c.loop-cursor-test.ensures in
-    rw w.1 (mapped_ok (λ p. present (with_first p)) _ _ _ (sym c.loop-cursor.invariant ∙ loop_stop (Bar ▸ opt arm) _ _ optional each.more_arms c.args.room _ c.loop-cursor.found w.0))
+    rw w.1 (mapped_ok (λ p. present (with_first p)) _ _ _
+    (sym c.loop-cursor.invariant ∙ loop_stop (Bar ▸ opt arm) _ _ optional each.more_arms c.args.room _
+    c.loop-cursor.found w.0))
 
 pub maybe_arm-returns : goal.maybe_arm-returns
 maybe_arm-returns t c =
@@ -66,45 +73,76 @@ maybe_arm-returns t c =
 
 pub if_stmt-returns : goal.if_stmt-returns
 if_stmt-returns t c =
-    let e = rules_of.if_stmt_is c.args.room c.args.cursor.now in
-    ((c.in_ok-condition.condition, (c.in_ok-body.body, c.in_ok-rest.rest)), first_of (search rules, grind (arith, common_steps)), first_of (search rules, grind (arith, common_steps)))
+    let e = rules_of.if_stmt_is c.args.room c.args.cursor.now in (
+      (c.in_ok-condition.condition, (c.in_ok-body.body, c.in_ok-rest.rest)),
+      first_of
+          (search rules, grind (arith, common_steps)),
+      first_of (search rules, grind (arith, common_steps)),
+    )
 
 pub elsif_part-returns : goal.elsif_part-returns
 elsif_part-returns t c =
-    let e = rules_of.elsif_part_is c.args.room c.args.cursor.now in
-    ((c.in_ok-condition.condition, (c.in_ok-body.body, c.in_ok-rest.rest)), first_of (search rules, grind (arith, common_steps)), first_of (search rules, grind (arith, common_steps)))
+    let e = rules_of.elsif_part_is c.args.room c.args.cursor.now in (
+      (c.in_ok-condition.condition, (c.in_ok-body.body, c.in_ok-rest.rest)),
+      first_of
+          (search rules, grind (arith, common_steps)),
+      first_of (search rules, grind (arith, common_steps)),
+    )
 
 pub case_stmt-returns : goal.case_stmt-returns
 case_stmt-returns t c =
     let e = rules_of.case_stmt_is c.args.room c.args.cursor.now in
-    let w = c.in_ok-found.ensures in
-    ((c.in_ok-selector.selector, (w.0, c.in_ok-other.other)), first_of (search rules, grind (arith, common_steps)), first_of (search rules, grind (arith, common_steps)))
+    let w = c.in_ok-found.ensures in (
+      (c.in_ok-selector.selector, (w.0, c.in_ok-other.other)),
+      first_of (search rules, grind (arith, common_steps)),
+      first_of (search rules, grind (arith, common_steps)),
+    )
 
 pub while_stmt-returns : goal.while_stmt-returns
 while_stmt-returns t c =
-    let e = rules_of.while_stmt_is c.args.room c.args.cursor.now in
-    ((c.in_ok-condition.condition, c.in_ok-body.body), first_of (search rules, grind (arith, common_steps)), first_of (search rules, grind (arith, common_steps)))
+    let e = rules_of.while_stmt_is c.args.room c.args.cursor.now in (
+      (c.in_ok-condition.condition, c.in_ok-body.body),
+      first_of (search rules, grind (arith, common_steps)),
+      first_of
+          (search rules, grind (arith, common_steps)),
+    )
 
 pub repeat_stmt-returns : goal.repeat_stmt-returns
 repeat_stmt-returns t c =
-    let e = rules_of.repeat_stmt_is c.args.room c.args.cursor.now in
-    ((c.in_ok-body.body, c.in_ok-condition.condition), first_of (search rules, grind (arith, common_steps)), first_of (search rules, grind (arith, common_steps)))
+    let e = rules_of.repeat_stmt_is c.args.room c.args.cursor.now in (
+      (c.in_ok-body.body, c.in_ok-condition.condition),
+      first_of (search rules, grind (arith, common_steps)),
+      first_of
+          (search rules, grind (arith, common_steps)),
+    )
 
 pub loop_stmt-returns : goal.loop_stmt-returns
 loop_stmt-returns t c =
-    let e = rules_of.loop_stmt_is c.args.room c.args.cursor.now in
-    (c.in_ok-body.body, first_of (search rules, grind (arith, common_steps)), first_of (search rules, grind (arith, common_steps)))
+    let e = rules_of.loop_stmt_is c.args.room c.args.cursor.now in (
+      c.in_ok-body.body,
+      first_of (search rules, grind (arith, common_steps)),
+      first_of
+          (search rules, grind (arith, common_steps)),
+    )
 
 pub for_stmt-returns : goal.for_stmt-returns
 for_stmt-returns t c =
     let e = rules_of.for_stmt_is c.args.room c.args.cursor.now in
-    let w = c.in_ok-variable.ensures in
-    ((w.0, (c.in_ok-start.start, (c.in_ok-limit.limit, (c.in_ok-limit.step, c.in_ok-limit.body)))), first_of (search rules, grind (arith, common_steps)), first_of (search rules, grind (arith, common_steps)))
+    let w = c.in_ok-variable.ensures in (
+      (w.0, (c.in_ok-start.start, (c.in_ok-limit.limit, (c.in_ok-limit.step, c.in_ok-limit.body)))),
+      first_of
+          (search rules, grind (arith, common_steps)),
+      first_of (search rules, grind (arith, common_steps)),
+    )
 
 pub with_stmt-returns : goal.with_stmt-returns
 with_stmt-returns t c =
-    let e = rules_of.with_stmt_is c.args.room c.args.cursor.now in
-    ((c.in_ok-record.record, c.in_ok-body.body), first_of (search rules, grind (arith, common_steps)), first_of (search rules, grind (arith, common_steps)))
+    let e = rules_of.with_stmt_is c.args.room c.args.cursor.now in (
+      (c.in_ok-record.record, c.in_ok-body.body),
+      first_of (search rules, grind (arith, common_steps)),
+      first_of
+          (search rules, grind (arith, common_steps)),
+    )
 
 pub other_stmt-returns-in_ok-found-in-Symbol-Repeat : goal.other_stmt-returns-in_ok-found-in-Symbol-Repeat
 other_stmt-returns-in_ok-found-in-Symbol-Repeat t c =

@@ -62,13 +62,15 @@ abbrev pub decreases-with_stmt : goal.decreases-with_stmt
 decreases-with_stmt l = l.room * 32 + 10
 
 abbrev pub invariant-stmts-loop-cursor : goal.invariant-stmts-loop-cursor
-invariant-stmts-loop-cursor l = gather_turns present l.found (read (many (Semicolon ▸ opt stmt)) l.room l.cursor) ≡ read_rule l.room stmts_rule l.fn.cursor
+invariant-stmts-loop-cursor l = gather_turns present l.found (read (many (Semicolon ▸ opt stmt)) l.room l.cursor)
+    ≡ read_rule l.room stmts_rule l.fn.cursor
 
 abbrev pub decreases-stmts-loop-cursor : goal.decreases-stmts-loop-cursor
 decreases-stmts-loop-cursor l = length l.cursor
 
 abbrev pub invariant-arms-loop-cursor : goal.invariant-arms-loop-cursor
-invariant-arms-loop-cursor l = gather_turns present l.found (read (many (Bar ▸ opt arm)) l.room l.cursor) ≡ map_outcome (λ p. present (with_first p)) (read arms l.room l.fn.cursor)
+invariant-arms-loop-cursor l = gather_turns present l.found (read (many (Bar ▸ opt arm)) l.room l.cursor)
+    ≡ map_outcome (λ p. present (with_first p)) (read arms l.room l.fn.cursor)
 
 abbrev pub decreases-arms-loop-cursor : goal.decreases-arms-loop-cursor
 decreases-arms-loop-cursor l = length l.cursor

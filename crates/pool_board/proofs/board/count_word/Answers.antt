@@ -12,5 +12,6 @@ fetch_sub-requires g c =
       r.seat_is,
       omega (arith, low, words, at),
       rw (← c.requires.edge.0, ← c.requires.edge.1, r.waiting_is)
-          (counts_down (Unit {0}) c.args.shared.now.key.graph.value c.args.shared.now.key.workers r.is_graph _ _ c.args.from c.args.edge _ r.edge_is low r.fresh r.had r.share),
+          (counts_down (Unit {0}) c.args.shared.now.key.graph.value c.args.shared.now.key.workers r.is_graph _ _
+          c.args.from c.args.edge _ r.edge_is low r.fresh r.had r.share),
     )

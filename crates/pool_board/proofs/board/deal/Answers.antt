@@ -14,6 +14,8 @@ split_seat-seat-requires c =
     let words = c.requires.table.1 in (
       c.loop.invariant.table_is,
       omega (arith, words),
-      subst (λ (v : Record). Splits (IsKept {S = Unit {0}} c.args.table.now.shared.key.graph.value c.args.table.now.shared.key.workers) c.loop.root.id v (less_one v) (blank 1)) is
-          (splits (Unit {0}) c.args.table.now.shared.key.graph.value c.args.table.now.shared.key.workers c.loop.root.id left),
+      subst (λ (v : Record). Splits (IsKept {S = Unit {0}} c.args.table.now.shared.key.graph.value
+          c.args.table.now.shared.key.workers) c.loop.root.id v (less_one v) (blank 1)) is
+          (splits (Unit {0}) c.args.table.now.shared.key.graph.value c.args.table.now.shared.key.workers c.loop.root.id
+          left),
     )

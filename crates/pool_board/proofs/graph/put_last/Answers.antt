@@ -7,4 +7,5 @@ pub returns : goal.returns
 returns c =
     let row = row_at (λ v. v.items) c.args.table.now c.args.row c.index-table-row.result c.requires in
     map-set (λ v. v.items) c.args.table.now c.args.row c.push.new.self
-    ∙ ap (λ (r : List ℕ). set (map (λ v. v.items) c.args.table.now) c.args.row r) (c.in_ok-push.ensures.items ∙ ap (λ (r : List ℕ). r ++ c.args.job ∷ []) row)
+    ∙ ap (λ (r : List ℕ). set (map (λ v. v.items) c.args.table.now) c.args.row r)
+    (c.in_ok-push.ensures.items ∙ ap (λ (r : List ℕ). r ++ c.args.job ∷ []) row)

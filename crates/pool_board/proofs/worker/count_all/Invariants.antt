@@ -8,5 +8,6 @@ invariant-loop-edge l = record {
   had_is : l.seat.had ≡ l.initial.seat.had;
   fresh : (e : ℕ) → l.edge ≤ e → count_of_edge l.job e l.seat.counts ≡ 0;
   all_before : (e : ℕ) → e < l.edge → count_of_edge l.job e l.seat.counts ≡ 1;
-  others : (from e : ℕ) → from ≢ l.job → count_of_edge from e l.seat.counts ≡ count_of_edge from e l.initial.seat.counts;
+  others : (from e : ℕ) → from ≢ l.job → count_of_edge from e l.seat.counts
+      ≡ count_of_edge from e l.initial.seat.counts;
 }

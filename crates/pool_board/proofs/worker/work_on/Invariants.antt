@@ -10,5 +10,9 @@ invariant-loop g l = record {
   seat_is : IsWorked l.pool.board.now.id l.pool.graph.now l.member.seat;
   admitted : All (g.G.Gate.admits l.pool.gate.now) l.member.seat.had;
   ran_is : map (λ r. r.job) l.member.ran.items ≡ l.member.seat.had;
-  stands : All (λ r. MatchResult r.kept (λ n. IsRan (map cell_name l.pool.cells.now) l.pool.graph.now (g.W.Work.defines l.pool.work.now) r.job n.cell n.known (map (λ u. u.cell) r.used.items) (map (λ u. u.known) r.used.items)) (λ b. IsMade (map cell_name l.pool.cells.now) l.pool.graph.now (g.W.Work.defines l.pool.work.now) r.job b.value (map (λ u. u.cell) r.used.items) (map (λ u. u.known) r.used.items))) l.member.ran.items;
+  stands : All (λ r. MatchResult r.kept (λ n. IsRan (map cell_name l.pool.cells.now) l.pool.graph.now
+      (g.W.Work.defines l.pool.work.now) r.job n.cell n.known (map (λ u. u.cell) r.used.items)
+      (map (λ u. u.known) r.used.items)) (λ b. IsMade (map cell_name l.pool.cells.now) l.pool.graph.now
+      (g.W.Work.defines l.pool.work.now) r.job b.value (map (λ u. u.cell) r.used.items)
+      (map (λ u. u.known) r.used.items))) l.member.ran.items;
 }

@@ -5,9 +5,11 @@ use Rattle.scan_tokens.proofs.lengths.inside_len.Goals as goal
 
 pub returns-then-not-is_inside-clause-value : goal.returns-then-not-is_inside-clause-value
 returns-then-not-is_inside-clause-value c =
-    sym (prefix_len_is (is_inside c.args.quote) c.args.text.now c.loop-i.i 0 (omega arith) c.loop-i.invariant (λ _. sym c.is_inside.ensures ∙ c.if-not-is_inside.true))
+    sym (prefix_len_is (is_inside c.args.quote) c.args.text.now c.loop-i.i 0 (omega arith) c.loop-i.invariant
+    (λ _. sym c.is_inside.ensures ∙ c.if-not-is_inside.true))
 
 pub returns-clause-value : goal.returns-clause-value
 returns-clause-value c =
     let all = λ (k : ℕ) (h : k < length c.args.text.now). c.loop-i.invariant k (omega arith) in
-    sym (prefix_len_is (is_inside c.args.quote) c.args.text.now (length c.args.text.now) 0 (omega arith) all (λ h. absurd (omega arith)))
+    sym (prefix_len_is (is_inside c.args.quote) c.args.text.now (length c.args.text.now) 0 (omega arith) all
+    (λ h. absurd (omega arith)))

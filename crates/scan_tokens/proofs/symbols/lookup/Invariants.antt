@@ -3,7 +3,8 @@ use Rattle.scan_tokens.specs.Symbols.{lookup}
 use Rattle.scan_tokens.proofs.symbols.lookup.Given as goal
 
 abbrev pub invariant-loop-table : goal.invariant-loop-table
-invariant-loop-table l = lookup (map (λ e. (e.0.now, e.1)) l.table) l.word ≡ lookup (map (λ e. (e.0.now, e.1)) l.initial.table) l.word
+invariant-loop-table l = lookup (map (λ e. (e.0.now, e.1)) l.table) l.word
+    ≡ lookup (map (λ e. (e.0.now, e.1)) l.initial.table) l.word
 
 abbrev pub decreases-loop-table : goal.decreases-loop-table
 decreases-loop-table l = length l.table

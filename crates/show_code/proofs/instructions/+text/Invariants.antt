@@ -23,4 +23,5 @@ decreases-put_ops-loop-op l = length l.left
 
 abbrev pub invariant-put_ops-loop-op : goal.invariant-put_ops-loop-op
 invariant-put_ops-loop-op l =
-    (l.page ++ code_text l.level (tree l.left) ≡ l.fn.page ++ code_text l.level (tree l.ops)) × (length l.left ≤ length l.ops)
+    (l.page ++ code_text l.level (tree l.left) ≡ l.fn.page ++ code_text l.level (tree l.ops))
+    × (length l.left ≤ length l.ops)

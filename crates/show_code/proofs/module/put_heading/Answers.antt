@@ -7,5 +7,14 @@ pub returns : goal.returns
 unfolding heading_text
 returns c =
     let same : c.from.result ≡ c.args.type_index = search rules in
-    subst (λ (n : ℕ). OnOk c.put-3.result (c.put-3.new.self ≡ c.args.page.now ++ (codes "  (func (type " ++ (decimal n ++ (codes ")" ++ (title_at c.args.titles.now c.args.number ++ codes "\n")))))) same
-    (before c.put-3.result c.args.page.now c.put.new.self c.put-3.new.self (codes "  (func (type ") (decimal c.from.result ++ (codes ")" ++ (title_at c.args.titles.now c.args.number ++ codes "\n"))) c.in_ok-put.ensures (before c.put-3.result c.put.new.self c.put_number.new.self c.put-3.new.self (decimal c.from.result) (codes ")" ++ (title_at c.args.titles.now c.args.number ++ codes "\n")) c.in_ok-put_number.ensures (before c.put-3.result c.put_number.new.self c.put-2.new.self c.put-3.new.self (codes ")") (title_at c.args.titles.now c.args.number ++ codes "\n") c.in_ok-put-2.ensures (before c.put-3.result c.put-2.new.self c.put_title.new.page c.put-3.new.self (title_at c.args.titles.now c.args.number) (codes "\n") c.in_ok-put_title.ensures (c.put-3.ensures)))))
+    subst (λ (n : ℕ). OnOk c.put-3.result (c.put-3.new.self ≡ c.args.page.now
+    ++ (codes "  (func (type " ++ (decimal n
+    ++ (codes ")" ++ (title_at c.args.titles.now c.args.number ++ codes "\n")))))) same
+    (before c.put-3.result c.args.page.now c.put.new.self c.put-3.new.self (codes "  (func (type ")
+    (decimal c.from.result ++ (codes ")" ++ (title_at c.args.titles.now c.args.number ++ codes "\n")))
+    c.in_ok-put.ensures (before c.put-3.result c.put.new.self c.put_number.new.self c.put-3.new.self
+    (decimal c.from.result) (codes ")" ++ (title_at c.args.titles.now c.args.number ++ codes "\n"))
+    c.in_ok-put_number.ensures (before c.put-3.result c.put_number.new.self c.put-2.new.self c.put-3.new.self
+    (codes ")") (title_at c.args.titles.now c.args.number ++ codes "\n") c.in_ok-put-2.ensures
+    (before c.put-3.result c.put-2.new.self c.put_title.new.page c.put-3.new.self
+    (title_at c.args.titles.now c.args.number) (codes "\n") c.in_ok-put_title.ensures (c.put-3.ensures)))))

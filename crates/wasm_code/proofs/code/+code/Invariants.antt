@@ -21,5 +21,6 @@ decreases-sides_onto l = l.levels * 5 + 5
 
 abbrev pub invariant-code_in-loop : goal.invariant-code_in-loop
 invariant-code_in-loop l =
-    (onto_sequence l.scratch.items (sequence (nested_instruction l.levels) (l.end - l.counter) l.rest) ≡ onto_sequence l.fn.scratch.items (sequence (nested_instruction l.levels) (length l.bytes) l.bytes))
+    (onto_sequence l.scratch.items (sequence (nested_instruction l.levels) (l.end - l.counter) l.rest)
+    ≡ onto_sequence l.fn.scratch.items (sequence (nested_instruction l.levels) (length l.bytes) l.bytes))
     × IsBytes l.rest × (length l.rest ≤ length l.bytes)

@@ -69,9 +69,11 @@ write_op-returns-in-IfElse t c = grind (arith, common_steps, encoded-If-Some)
 
 pub write_ops-loop-op-preserved : goal.write_ops-loop-op-preserved
 write_ops-loop-op-preserved t c = (
-  one_written c.loop-op.out c.write_op.new.out _ c.in-Some.op c.loop-op.left.now c.in-Some.rest.now c.behind-left.result.now
+  one_written c.loop-op.out c.write_op.new.out _ c.in-Some.op c.loop-op.left.now c.in-Some.rest.now
+      c.behind-left.result.now
       c.in_ok-write_op.ensures c.in-Some.ensures c.behind-left.ensures c.loop-op.invariant.0,
-  no_longer (length c.args.ops.now) c.in-Some.op c.loop-op.left.now c.in-Some.rest.now c.behind-left.result.now c.in-Some.ensures c.behind-left.ensures c.loop-op.invariant.1,
+  no_longer (length c.args.ops.now) c.in-Some.op c.loop-op.left.now c.in-Some.rest.now c.behind-left.result.now
+      c.in-Some.ensures c.behind-left.ensures c.loop-op.invariant.1,
 )
 
 pub write_ops-returns : goal.write_ops-returns

@@ -24,4 +24,5 @@ decreases-write_ops-loop-op l = length l.left
 
 abbrev pub invariant-write_ops-loop-op : goal.invariant-write_ops-loop-op
 invariant-write_ops-loop-op l =
-    (l.out ++ flat_map instr_encoding (tree l.left) ≡ l.fn.out ++ flat_map instr_encoding (tree l.ops)) × (length l.left ≤ length l.ops)
+    (l.out ++ flat_map instr_encoding (tree l.left) ≡ l.fn.out ++ flat_map instr_encoding (tree l.ops))
+    × (length l.left ≤ length l.ops)

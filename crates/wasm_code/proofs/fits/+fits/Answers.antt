@@ -59,18 +59,22 @@ pub op_fits-returns-in-Numeric : goal.op_fits-returns-in-Numeric
 op_fits-returns-in-Numeric t c = grind (arith, common_steps, fits-Numeric)
 
 pub op_fits-returns-in-Unreachable : goal.op_fits-returns-in-Unreachable
-op_fits-returns-in-Unreachable t c = grind (arith, common_steps, fits-Unreachable, fits-Return, fits-Drop, fits-Load, fits-Store)
+op_fits-returns-in-Unreachable t c = grind
+    (arith, common_steps, fits-Unreachable, fits-Return, fits-Drop, fits-Load, fits-Store)
 
 pub ops_fit-returns-then-not-op_fits : goal.ops_fit-returns-then-not-op_fits
 ops_fit-returns-then-not-op_fits t c =
     let fails : c.op_fits.result ≡ false = search rules in
-    one_fails c.args.levels _ c.in-Some.op c.loop-op.left.now c.in-Some.rest.now (sym c.op_fits.ensures ∙ fails) c.in-Some.ensures c.loop-op.invariant.0
+    one_fails c.args.levels _ c.in-Some.op c.loop-op.left.now c.in-Some.rest.now (sym c.op_fits.ensures ∙ fails)
+    c.in-Some.ensures c.loop-op.invariant.0
 
 pub ops_fit-loop-op-preserved : goal.ops_fit-loop-op-preserved
 ops_fit-loop-op-preserved t c =
     let fits : c.op_fits.result ≡ true = search rules in (
-      one_fits c.args.levels _ c.in-Some.op c.loop-op.left.now c.in-Some.rest.now c.behind-left.result.now (sym c.op_fits.ensures ∙ fits) c.in-Some.ensures c.behind-left.ensures c.loop-op.invariant.0,
-      no_longer (length c.args.ops.now) c.in-Some.op c.loop-op.left.now c.in-Some.rest.now c.behind-left.result.now c.in-Some.ensures c.behind-left.ensures c.loop-op.invariant.1,
+      one_fits c.args.levels _ c.in-Some.op c.loop-op.left.now c.in-Some.rest.now c.behind-left.result.now
+          (sym c.op_fits.ensures ∙ fits) c.in-Some.ensures c.behind-left.ensures c.loop-op.invariant.0,
+      no_longer (length c.args.ops.now) c.in-Some.op c.loop-op.left.now c.in-Some.rest.now c.behind-left.result.now
+          c.in-Some.ensures c.behind-left.ensures c.loop-op.invariant.1,
     )
 
 pub ops_fit-returns : goal.ops_fit-returns

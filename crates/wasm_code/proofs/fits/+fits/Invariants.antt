@@ -17,4 +17,5 @@ decreases-ops_fit-loop-op l = length l.left
 
 abbrev pub invariant-ops_fit-loop-op : goal.invariant-ops_fit-loop-op
 invariant-ops_fit-loop-op l =
-    ((code_within l.levels).fits (tree l.left) ≡ (code_within l.levels).fits (tree l.ops)) × (length l.left ≤ length l.ops)
+    ((code_within l.levels).fits (tree l.left) ≡ (code_within l.levels).fits (tree l.ops))
+    × (length l.left ≤ length l.ops)

@@ -3,4 +3,9 @@ use Rattle.wasm_engine.proofs.Combining.{added}
 use Rattle.wasm_engine.proofs.combined.add.Goals as goal
 
 pub returns : goal.returns
-returns c = (_, I32 _, added c.args.stack.now.known.values _ c.top_i32-n.result c.args.number c.top_i32-n.ensures, c.set_i32.ensures)
+returns c = (
+  _,
+  I32 _,
+  added c.args.stack.now.known.values _ c.top_i32-n.result c.args.number c.top_i32-n.ensures,
+  c.set_i32.ensures,
+)

@@ -16,9 +16,15 @@ pub returns-then-not-is_between-clause-goes : goal.returns-then-not-is_between-c
 returns-then-not-is_between-clause-goes c = none_made c.args.modules.now (going c.args.machine.now)
 
 pub top_i64-number-requires : goal.top_i64-number-requires
-top_i64-number-requires c = has_number c.args.modules.now (store_of c.args.machine.now) (activation c.args.machine.now.now) (callers_of c.args.machine.now) c.args.table.now c.requires c.in-Some.bounds.check c.in-Some.bounds.low c.in-Some.bounds.high c.in-Some.bounds.fault (tree c.in-Some.rest.now) c.in-Some.ensures (c.is_check.ensures c.if-not-is_check.false)
+top_i64-number-requires c = has_number c.args.modules.now (store_of c.args.machine.now)
+    (activation c.args.machine.now.now) (callers_of c.args.machine.now) c.args.table.now c.requires
+    c.in-Some.bounds.check c.in-Some.bounds.low c.in-Some.bounds.high c.in-Some.bounds.fault (tree c.in-Some.rest.now)
+    c.in-Some.ensures (c.is_check.ensures c.if-not-is_check.false)
 
 pub returns-clause-goes : goal.returns-clause-goes
 returns-clause-goes c =
-    did_bounds c.args.modules.now (store_of c.args.machine.now) (activation c.args.machine.now.now) (callers_of c.args.machine.now) c.args.table.now c.requires c.in-Some.bounds.check c.in-Some.bounds.low c.in-Some.bounds.high c.in-Some.bounds.fault (tree c.in-Some.rest.now) c.in-Some.ensures (c.is_check.ensures c.if-not-is_check.false)
+    did_bounds c.args.modules.now (store_of c.args.machine.now) (activation c.args.machine.now.now)
+    (callers_of c.args.machine.now) c.args.table.now c.requires c.in-Some.bounds.check c.in-Some.bounds.low
+    c.in-Some.bounds.high c.in-Some.bounds.fault (tree c.in-Some.rest.now) c.in-Some.ensures
+    (c.is_check.ensures c.if-not-is_check.false)
     _ c.top_i64-number.result c.top_i64-number.ensures (c.is_between.ensures c.if-not-is_between.false)

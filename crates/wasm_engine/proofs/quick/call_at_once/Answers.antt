@@ -12,10 +12,16 @@ pub returns-in-Other-clause-goes : goal.returns-in-Other-clause-goes
 returns-in-Other-clause-goes c = none_made c.args.modules.now (going c.args.machine.now)
 
 pub fill_at_once-requires : goal.fill_at_once-requires
-fill_at_once-requires c = calls_known c.args.modules.now c.args.table.now c.args.machine.now c.in-Some.index (tree c.in-Some.rest.now) kind.Fill c.known_at-function.result c.requires c.in-Some.ensures c.known_at-function.ensures c.in-Fill.is
+fill_at_once-requires c = calls_known c.args.modules.now c.args.table.now c.args.machine.now c.in-Some.index
+    (tree c.in-Some.rest.now) kind.Fill c.known_at-function.result c.requires c.in-Some.ensures
+    c.known_at-function.ensures c.in-Fill.is
 
 pub copy_at_once-requires : goal.copy_at_once-requires
-copy_at_once-requires c = calls_known c.args.modules.now c.args.table.now c.args.machine.now c.in-Some.index (tree c.in-Some.rest.now) kind.Copy c.known_at-function.result c.requires c.in-Some.ensures c.known_at-function.ensures c.in-Copy.is
+copy_at_once-requires c = calls_known c.args.modules.now c.args.table.now c.args.machine.now c.in-Some.index
+    (tree c.in-Some.rest.now) kind.Copy c.known_at-function.result c.requires c.in-Some.ensures
+    c.known_at-function.ensures c.in-Copy.is
 
 pub calculate_at_once-requires : goal.calculate_at_once-requires
-calculate_at_once-requires c = calls_known c.args.modules.now c.args.table.now c.args.machine.now c.in-Some.index (tree c.in-Some.rest.now) c.known_at-function.result c.known_at-function.result c.requires c.in-Some.ensures c.known_at-function.ensures refl
+calculate_at_once-requires c = calls_known c.args.modules.now c.args.table.now c.args.machine.now c.in-Some.index
+    (tree c.in-Some.rest.now) c.known_at-function.result c.known_at-function.result c.requires c.in-Some.ensures
+    c.known_at-function.ensures refl

@@ -10,7 +10,9 @@ returns-then-is_empty c same =
     elim c.if-has_types.branch [
       | then-has_types w ↦ (
         c.args.function.function.now.type_index,
-        function_is three_narrow [] [] copy_code (typed_function c.args.function) (sym c.has_types.ensures ∙ w.if-has_types.true) (w.is_empty.ensures.0 (sym w.value-is ∙ c.if-is_empty.true)) (sym c.ops.ensures ∙ c.is_copy_code.ensures same),
+        function_is three_narrow [] [] copy_code (typed_function c.args.function)
+            (sym c.has_types.ensures ∙ w.if-has_types.true) (w.is_empty.ensures.0 (sym w.value-is ∙ c.if-is_empty.true))
+            (sym c.ops.ensures ∙ c.is_copy_code.ensures same),
       )
       | else-has_types w ↦ absurd (no (sym w.if-has_types.false ∙ sym w.value-is ∙ c.if-is_empty.true))
     ]

@@ -10,7 +10,10 @@ returns-then-is_one_wide c same =
     elim c.if-has_types.branch [
       | then-has_types w ↦ (
         c.args.function.function.now.type_index,
-        function_is two_wide wide one_wide mod_code (typed_function c.args.function) (sym c.has_types.ensures ∙ w.if-has_types.true) (sym w.as_slice.ensures ∙ w.is_one_wide.ensures (sym w.value-is ∙ c.if-is_one_wide.true)) (sym c.ops.ensures ∙ c.is_mod_code.ensures same),
+        function_is two_wide wide one_wide mod_code (typed_function c.args.function)
+            (sym c.has_types.ensures ∙ w.if-has_types.true)
+            (sym w.as_slice.ensures ∙ w.is_one_wide.ensures (sym w.value-is ∙ c.if-is_one_wide.true))
+            (sym c.ops.ensures ∙ c.is_mod_code.ensures same),
       )
       | else-has_types w ↦ absurd (no (sym w.if-has_types.false ∙ sym w.value-is ∙ c.if-is_one_wide.true))
     ]

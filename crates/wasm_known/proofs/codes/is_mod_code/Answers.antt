@@ -7,4 +7,6 @@ use Rattle.wasm_known.proofs.codes.is_mod_code.Goals as goal
 
 pub returns : goal.returns
 unfolding tree tree_within
-returns c same = ap tree (lists c.args.ops.now mod_ops mod_exact (ap (λ l. pointwise eqs c.args.ops.now l) (sym (c.as_slice.ensures ∙ c.mod_ops-code.ensures.ops)) ∙ sym c.eq.ensures ∙ same)) ∙ refl
+returns c same = ap tree (lists c.args.ops.now mod_ops mod_exact
+    (ap (λ l. pointwise eqs c.args.ops.now l) (sym (c.as_slice.ensures ∙ c.mod_ops-code.ensures.ops)) ∙ sym c.eq.ensures
+    ∙ same)) ∙ refl

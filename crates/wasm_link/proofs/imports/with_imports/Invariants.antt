@@ -4,4 +4,5 @@ use Rattle.wasm_link.proofs.imports.with_imports.Given as goal
 
 abbrev pub invariant-loop-import : goal.invariant-loop-import
 invariant-loop-import l =
-    each (with_import l.modules l.store l.tree) (drop l.import-index l.imports) l.instance ≡ each (with_import l.modules l.store l.tree) l.imports l.fn.instance
+    each (with_import l.modules l.store l.tree) (drop l.import-index l.imports) l.instance
+    ≡ each (with_import l.modules l.store l.tree) l.imports l.fn.instance

@@ -5,4 +5,5 @@ use Rattle.wasm_link.proofs.store.with_functions.Given as goal
 
 abbrev pub invariant-loop-function : goal.invariant-loop-function
 invariant-loop-function l =
-    with_functions l.number l.function (drop l.function l.functions) (link_result l.store l.instance) ≡ with_functions l.number 0 l.functions (link_result l.fn.store l.fn.instance)
+    with_functions l.number l.function (drop l.function l.functions) (link_result l.store l.instance)
+    ≡ with_functions l.number 0 l.functions (link_result l.fn.store l.fn.instance)

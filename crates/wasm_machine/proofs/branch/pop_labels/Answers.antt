@@ -5,5 +5,8 @@ use Rattle.wasm_machine.proofs.branch.pop_labels.Goals as goal
 
 pub returns : goal.returns
 returns c =
-    innermost_last c.truncate.new.self.items c.pop.new.self.items c.pop.result c.pop.ensures.items (no_more c.truncate.new.self.items c.pop.result _ _ _ (omega (arith, c.truncate.new.self.ok.0)) c.pop.ensures.cases)
-    ∙ ap split_last (labels_left c.args.labels.now.items c.truncate.new.self.items c.len.result c.args.label c.truncate.ensures.items (omega (arith, c.args.labels.now.ok.0, c.len.ensures)))
+    innermost_last c.truncate.new.self.items c.pop.new.self.items c.pop.result c.pop.ensures.items
+    (no_more c.truncate.new.self.items c.pop.result _ _ _ (omega (arith, c.truncate.new.self.ok.0))
+    c.pop.ensures.cases)
+    ∙ ap split_last (labels_left c.args.labels.now.items c.truncate.new.self.items c.len.result c.args.label
+    c.truncate.ensures.items (omega (arith, c.args.labels.now.ok.0, c.len.ensures)))

@@ -5,4 +5,5 @@ pub pop_i64-m-requires : goal.pop_i64-m-requires
 pop_i64-m-requires c = topmost_i64 c.args.stack.now.known.values c.requires
 
 pub top_i64-requires : goal.top_i64-requires
-top_i64-requires c = lower_i64 c.args.stack.now.known.values c.pop_i64-m.new.self.known.values c.pop_i64-m.result c.requires c.pop_i64-m.ensures
+top_i64-requires c = lower_i64 c.args.stack.now.known.values c.pop_i64-m.new.self.known.values c.pop_i64-m.result
+    c.requires c.pop_i64-m.ensures

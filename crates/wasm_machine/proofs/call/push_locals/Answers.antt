@@ -8,4 +8,6 @@ use Rattle.wasm_machine.proofs.call.push_locals.Goals as goal
 pub loop-group-preserved : goal.loop-group-preserved
 loop-group-preserved c =
     c.in_ok-push_zeros.ensures
-    ∙ (ap (λ (l : List Value). l ++ zeros (get_or c.args.groups.now c.loop-group.group-index none)) c.loop-group.invariant ∙ more zeros c.args.locals.now.known.values c.args.groups.now c.loop-group.group-index none c.loop-group-test.true)
+    ∙ (ap (λ (l : List Value). l ++ zeros (get_or c.args.groups.now c.loop-group.group-index none))
+    c.loop-group.invariant ∙ more zeros c.args.locals.now.known.values c.args.groups.now c.loop-group.group-index
+    none c.loop-group-test.true)

@@ -7,4 +7,10 @@ use Rattle.wasm_machine.proofs.variables.drop_operand.Goals as goal
 
 pub returns : goal.returns
 returns c = λ modules.
-    ap (λ (l : List Value). (Going (store_of c.args.machine.now) (record (activation c.args.machine.now.now) { stack = l }) (callers_of c.args.machine.now), [])) c.drop_last.ensures ∙ sym (begun_drop modules (store_of c.args.machine.now) (activation c.args.machine.now.now) (callers_of c.args.machine.now) c.requires)
+    ap (λ (l : List Value). (
+      Going (store_of c.args.machine.now)
+          (record (activation c.args.machine.now.now) { stack = l }) (callers_of c.args.machine.now),
+      [],
+    ))
+    c.drop_last.ensures ∙ sym (begun_drop modules (store_of c.args.machine.now) (activation c.args.machine.now.now)
+    (callers_of c.args.machine.now) c.requires)

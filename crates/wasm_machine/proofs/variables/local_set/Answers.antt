@@ -7,4 +7,11 @@ use Rattle.wasm_machine.proofs.variables.local_set.Goals as goal
 
 pub returns : goal.returns
 returns c = λ modules.
-    ap₂ (λ (l k : List Value). (Going (store_of c.args.machine.now) (record (activation c.args.machine.now.now) { locals = l; stack = k }) (callers_of c.args.machine.now), [])) c.set_last.ensures c.drop_last.ensures ∙ sym (begun_set modules (store_of c.args.machine.now) (activation c.args.machine.now.now) (callers_of c.args.machine.now) c.args.local c.requires.within c.requires.one)
+    ap₂ (λ (l k : List Value). (
+      Going (store_of c.args.machine.now)
+          (record (activation c.args.machine.now.now) { locals = l; stack = k }) (callers_of c.args.machine.now),
+      [],
+    ))
+    c.set_last.ensures c.drop_last.ensures
+    ∙ sym (begun_set modules (store_of c.args.machine.now) (activation c.args.machine.now.now)
+    (callers_of c.args.machine.now) c.args.local c.requires.within c.requires.one)

@@ -7,4 +7,10 @@ use Rattle.wasm_machine.proofs.variables.local_tee.Goals as goal
 
 pub returns : goal.returns
 returns c = λ modules.
-    ap (λ (l : List Value). (Going (store_of c.args.machine.now) (record (activation c.args.machine.now.now) { locals = l }) (callers_of c.args.machine.now), [])) c.set_last.ensures ∙ sym (begun_tee modules (store_of c.args.machine.now) (activation c.args.machine.now.now) (callers_of c.args.machine.now) c.args.local c.requires.within c.requires.one)
+    ap (λ (l : List Value). (
+      Going (store_of c.args.machine.now)
+          (record (activation c.args.machine.now.now) { locals = l }) (callers_of c.args.machine.now),
+      [],
+    ))
+    c.set_last.ensures ∙ sym (begun_tee modules (store_of c.args.machine.now) (activation c.args.machine.now.now)
+    (callers_of c.args.machine.now) c.args.local c.requires.within c.requires.one)

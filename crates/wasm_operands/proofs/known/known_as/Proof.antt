@@ -48,7 +48,8 @@ stayed = (
   ),
 )
 
-module _ {M : Type 1} {𝓤 : Ura M} (𝓛 : Logic 𝓤) (mem : Memory → SProp 𝓤) (run : Routine → Fun 𝓤) (C : Calls 𝓤 𝓛.H) (Λ : Loops 𝓤 𝓛.H) where
+module _ {M : Type 1} {𝓤 : Ura M} (𝓛 : Logic 𝓤) (mem : Memory → SProp 𝓤) (run : Routine → Fun 𝓤) (C : Calls 𝓤 𝓛.H)
+    (Λ : Loops 𝓤 𝓛.H) where
   open 𝓛 use {H}
 
   module _ (κs : Lfts 5) (qs : Shares 5) (a : Args f.signature κs) (all : List Value) where
@@ -71,22 +72,39 @@ module _ {M : Type 1} {𝓤 : Ura M} (𝓛 : Logic 𝓤) (mem : Memory → SProp
     bound = ((κs, qs, tt, a, (first ∷ [], (second ∷ [], (third ∷ [], (fourth ∷ [], (fifth ∷ [], tt)))))), all)
 
     abbrev passed : Fml
-    passed = owns (types_at f.signature.params κs) a (first ∷ [], (second ∷ [], (third ∷ [], (fourth ∷ [], (fifth ∷ [], tt)))))
+    passed = owns (types_at f.signature.params κs) a
+        (first ∷ [], (second ∷ [], (third ∷ [], (fourth ∷ [], (fifth ∷ [], tt)))))
 
-    walk : ent 𝓤 (on_entry 𝓛 f.signature κs qs a (first ∷ [], (second ∷ [], (third ∷ [], (fourth ∷ [], (fifth ∷ [], tt))))))
-        (WpFn 𝓤 H C Λ code.function (first ∷ second ∷ third ∷ fourth ∷ fifth ∷ []) ((walk_of 𝓛 f.ended stayed (f.clauses 𝓛 mem run)).post bound))
+    walk : ent 𝓤 (on_entry 𝓛 f.signature κs qs a
+        (first ∷ [], (second ∷ [], (third ∷ [], (fourth ∷ [], (fifth ∷ [], tt))))))
+        (WpFn 𝓤 H C Λ code.function (first ∷ second ∷ third ∷ fourth ∷ fifth ∷ [])
+        ((walk_of 𝓛 f.ended stayed (f.clauses 𝓛 mem run)).post bound))
     walk =
-        qed 𝓛 (raw (alive 𝓛 f.signature κs qs) ∷ ‵ passed ∷ []) ∵ enter ! C Λ code.function (first ∷ second ∷ third ∷ fourth ∷ fifth ∷ []) _ $
-        alloc_all ! (λ l. pass_all ! refl ((tt, tt), ((tt, tt), ((tt, tt), ((tt, tt), ((tt, tt), tt))))) $ sets ! (agg ! (no_more !)) refl (tt, tt) $
+        qed 𝓛 (raw (alive 𝓛 f.signature κs qs) ∷ ‵ passed ∷ []) ∵ enter ! C Λ code.function
+        (first ∷ second ∷ third ∷ fourth ∷ fifth ∷ []) _ $
+        alloc_all ! (λ l. pass_all ! refl ((tt, tt), ((tt, tt), ((tt, tt), ((tt, tt), ((tt, tt), tt))))) $ sets !
+        (agg ! (no_more !)) refl (tt, tt) $
         returns ! (look_at ! 0 refl) $ free_all ! refl $
-        suffices ! _ (ends_at 𝓛 f.ended stayed (f.clauses 𝓛 mem run) bound (vstruct vnil) (record { values = all }) (tt, (tt, (tt, (tt, (tt, tt))))) (tt, (tt, (tt, (tt, (tt, tt)))))) $
-        says ! refl $ pure_i ! (known.the_row.own_val (record { values = all }) (vstruct vnil ∷ [])) ((λ vss. (tt, tt)), tt) ((tt, (refl, tt)), tt) $
+        suffices ! _ (ends_at 𝓛 f.ended stayed (f.clauses 𝓛 mem run) bound (vstruct vnil) (record { values = all })
+        (tt, (tt, (tt, (tt, (tt, tt))))) (tt, (tt, (tt, (tt, (tt, tt)))))) $
+        says ! refl $ pure_i ! (known.the_row.own_val (record { values = all }) (vstruct vnil ∷ []))
+        ((λ vss. (tt, tt)), tt) ((tt, (refl, tt)), tt) $
         move ! (1 ∷ 2 ∷ 0 ∷ []) $ done !)
 
   walks : Walks 𝓛 f.ended stayed (WpFn 𝓤 H C Λ code.function) (f.clauses 𝓛 mem run)
   walks =
-      walked 𝓛 f.ended stayed (f.clauses 𝓛 mem run) (WpFn 𝓤 H C Λ code.function) (λ κs. (shr_vals, (shr_vals, (shr_vals, (shr_vals, (shr_vals, tt))))))
-      (λ κs. (shr_Tells (named 0) κs.0 known.the_row, (shr_Tells (named 1) κs.1.0 known.the_row, (shr_Tells (named 2) κs.1.1.0 value.the_row, (shr_Tells (named 3) κs.1.1.1.0 usize, (shr_Tells (named 4) κs.1.1.1.1.0 usize, tt))))))
+      walked 𝓛 f.ended stayed (f.clauses 𝓛 mem run) (WpFn 𝓤 H C Λ code.function)
+      (λ κs. (shr_vals, (shr_vals, (shr_vals, (shr_vals, (shr_vals, tt))))))
+      (λ κs. (
+        shr_Tells (named 0) κs.0 known.the_row,
+        (
+          shr_Tells (named 1) κs.1.0 known.the_row,
+          (
+            shr_Tells (named 2) κs.1.1.0 value.the_row,
+            (shr_Tells (named 3) κs.1.1.1.0 usize, (shr_Tells (named 4) κs.1.1.1.1.0 usize, tt)),
+          ),
+        ),
+      ))
       (λ κs qs bounds a g are. via 𝓤 _ (fst∗ 𝓤 _ (emp 𝓤)) (walk κs qs a g))
 
 meets : {M : Type 1} {𝓤 : Ura M} (𝓛 : Logic 𝓤) (mem : Memory → SProp 𝓤) (run : Routine → Fun 𝓤) (𝓣 : Tables 𝓤 𝓛.H)
@@ -98,7 +116,10 @@ meets {𝓤 = 𝓤} 𝓛 mem run 𝓣 =
         Goes-none_ref 𝓛 5 (1 ∷ []) tt (plain (λ _. known.the_row)) yes,
         (
           Goes-none_ref 𝓛 5 (2 ∷ []) tt (plain (λ _. value.the_row)) yes,
-          (Goes-none_ref 𝓛 5 (3 ∷ []) tt (plain (λ _. usize)) yes, (Goes-none_ref 𝓛 5 (4 ∷ []) tt (plain (λ _. usize)) yes, tt)),
+          (
+            Goes-none_ref 𝓛 5 (3 ∷ []) tt (plain (λ _. usize)) yes,
+            (Goes-none_ref 𝓛 5 (4 ∷ []) tt (plain (λ _. usize)) yes, tt),
+          ),
         ),
       ),
     ) (f.clauses 𝓛 mem run) (WpFn 𝓤 𝓛.H 𝓣.C 𝓣.Λ code.function)

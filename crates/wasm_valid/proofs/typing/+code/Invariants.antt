@@ -17,7 +17,12 @@ abbrev pub decreases-check_code : goal.decreases-check_code
 decreases-check_code l = 4 * length l.code.now
 
 abbrev pub invariant-check_code-ops : goal.invariant-check_code-ops
-invariant-check_code-ops l = record { on : Onward (frame_context l.frame l.fn.blocks) (tree l.code) (tree l.rest) l.operands; same : l.blocks ≡ l.fn.blocks; shorter : length l.rest ≤ length l.code }
+invariant-check_code-ops l = record {
+  on : Onward (frame_context l.frame l.fn.blocks) (tree l.code) (tree l.rest)
+      l.operands;
+  same : l.blocks ≡ l.fn.blocks;
+  shorter : length l.rest ≤ length l.code;
+}
 
 abbrev pub decreases-check_code-ops : goal.decreases-check_code-ops
 decreases-check_code-ops l = length l.rest

@@ -8,17 +8,28 @@ use Rattle.wasm_valid.proofs.valid.check_bodies.Goals as goal
 pub returns-in_err-check_functions : goal.returns-in_err-check_functions
 returns-in_err-check_functions c =
     let p = err_from_is_err_and c.from_residual.result c.from_residual.ensures.1 in
-    exit c.from_residual.result p.0 _ _ _ p.1 p.2 (not_part (IsFunction (scope_of c.args.scope)) c.as_slice.result.now c.args.tree.now.functions (AreBodies (scope_of c.args.scope) c.args.tree.now) _ c.as_slice.ensures (λ b. b.functions) c.in_err-check_functions.ensures)
+    exit c.from_residual.result p.0 _ _ _ p.1 p.2
+    (not_part (IsFunction (scope_of c.args.scope)) c.as_slice.result.now c.args.tree.now.functions
+    (AreBodies (scope_of c.args.scope) c.args.tree.now) _ c.as_slice.ensures (λ b. b.functions)
+    c.in_err-check_functions.ensures)
 
 pub returns-in_err-check_elements : goal.returns-in_err-check_elements
 returns-in_err-check_elements c =
-    let p = err_from_is_err_and c.from_residual-in_err-check_elements.result c.from_residual-in_err-check_elements.ensures.1 in
-    exit c.from_residual-in_err-check_elements.result p.0 _ _ _ p.1 p.2 (not_part (IsElement (scope_of c.args.scope)) c.as_slice-2.result.now c.args.tree.now.elements (AreBodies (scope_of c.args.scope) c.args.tree.now) _ c.as_slice-2.ensures (λ b. b.elements) c.in_err-check_elements.ensures)
+    let p = err_from_is_err_and c.from_residual-in_err-check_elements.result
+    c.from_residual-in_err-check_elements.ensures.1 in
+    exit c.from_residual-in_err-check_elements.result p.0 _ _ _ p.1 p.2
+    (not_part (IsElement (scope_of c.args.scope)) c.as_slice-2.result.now c.args.tree.now.elements
+    (AreBodies (scope_of c.args.scope) c.args.tree.now) _ c.as_slice-2.ensures (λ b. b.elements)
+    c.in_err-check_elements.ensures)
 
 pub returns-in_err-check_segments : goal.returns-in_err-check_segments
 returns-in_err-check_segments c =
-    let p = err_from_is_err_and c.from_residual-in_err-check_segments.result c.from_residual-in_err-check_segments.ensures.1 in
-    exit c.from_residual-in_err-check_segments.result p.0 _ _ _ p.1 p.2 (not_part (IsData (scope_of c.args.scope)) c.as_slice-3.result.now c.args.tree.now.data (AreBodies (scope_of c.args.scope) c.args.tree.now) _ c.as_slice-3.ensures (λ b. b.segments) c.in_err-check_segments.ensures)
+    let p = err_from_is_err_and c.from_residual-in_err-check_segments.result
+    c.from_residual-in_err-check_segments.ensures.1 in
+    exit c.from_residual-in_err-check_segments.result p.0 _ _ _ p.1 p.2
+    (not_part (IsData (scope_of c.args.scope)) c.as_slice-3.result.now c.args.tree.now.data
+    (AreBodies (scope_of c.args.scope) c.args.tree.now) _ c.as_slice-3.ensures (λ b. b.segments)
+    c.in_err-check_segments.ensures)
 
 pub returns : goal.returns
 returns c = record {

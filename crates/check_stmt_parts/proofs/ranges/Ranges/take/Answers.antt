@@ -9,5 +9,9 @@ pub invariant_of-self-inside : goal.invariant_of-self-inside
 invariant_of-self-inside c =
     let old = c.self.inside.ends.entries in
     let new = c.insert.new.self.entries in
-    let below : is_below c.args.high c.args.low ≡ false = grind (arith, c.if-is_empty.false, c.is_empty.ensures) in
-    (stays_apart c.insert.result c.args.low c.args.high old new c.insert.ensures.entries c.insert.ensures.err (not_behind c.args.low c.args.high below) c.self.inside.apart (grind (arith, c.if-is_met.false, c.is_met.ensures, c.self.view_is)), tt)
+    let below : is_below c.args.high c.args.low ≡ false = grind (arith, c.if-is_empty.false, c.is_empty.ensures) in (
+      stays_apart c.insert.result c.args.low c.args.high old new c.insert.ensures.entries c.insert.ensures.err
+          (not_behind c.args.low c.args.high below) c.self.inside.apart
+          (grind (arith, c.if-is_met.false, c.is_met.ensures, c.self.view_is)),
+      tt,
+    )

@@ -22,18 +22,21 @@ exprs-returns-in_err-expr-2 t c =
 pub exprs-loop-found-smaller : goal.exprs-loop-found-smaller
 exprs-loop-found-smaller t c =
     let w = c.loop-found-test.ensures in
-    turn_shorter (Comma ▸ expr) c.args.room _ _ _ refl (word_then (the.Symbol Comma) expr c.args.room _ _ _ _ _ w.2 c.in_ok-expr-2.ensures)
+    turn_shorter (Comma ▸ expr) c.args.room _ _ _ refl
+    (word_then (the.Symbol Comma) expr c.args.room _ _ _ _ _ w.2 c.in_ok-expr-2.ensures)
 
 pub exprs-loop-found-preserved : goal.exprs-loop-found-preserved
 exprs-loop-found-preserved t c =
     let w = c.loop-found-test.ensures in
     rw c.in_ok-push-2.ensures.ok
-    (sym (loop_turn (Comma ▸ expr) _ _ plain more_exprs c.args.room _ c.loop-found.found _ _ w.0 (word_then (the.Symbol Comma) expr c.args.room _ _ _ _ _ w.2 c.in_ok-expr-2.ensures)) ∙ c.loop-found.invariant)
+    (sym (loop_turn (Comma ▸ expr) _ _ plain more_exprs c.args.room _ c.loop-found.found _ _ w.0
+    (word_then (the.Symbol Comma) expr c.args.room _ _ _ _ _ w.2 c.in_ok-expr-2.ensures)) ∙ c.loop-found.invariant)
 
 pub exprs-returns : goal.exprs-returns
 exprs-returns t c =
     let w = c.loop-found-test.ensures in
-    rw w.1 (mapped_ok _ _ _ _ (sym c.loop-found.invariant ∙ loop_stop (Comma ▸ expr) _ _ plain more_exprs c.args.room _ c.loop-found.found w.0))
+    rw w.1 (mapped_ok _ _ _ _ (sym c.loop-found.invariant
+    ∙ loop_stop (Comma ▸ expr) _ _ plain more_exprs c.args.room _ c.loop-found.found w.0))
 
 pub items-returns-in_err-item-2 : goal.items-returns-in_err-item-2
 items-returns-in_err-item-2 t c =
@@ -43,18 +46,21 @@ items-returns-in_err-item-2 t c =
 pub items-loop-found-smaller : goal.items-loop-found-smaller
 items-loop-found-smaller t c =
     let w = c.loop-found-test.ensures in
-    turn_shorter (Comma ▸ item) c.args.room _ _ _ refl (word_then (the.Symbol Comma) item c.args.room _ _ _ _ _ w.2 c.in_ok-item-2.ensures)
+    turn_shorter (Comma ▸ item) c.args.room _ _ _ refl
+    (word_then (the.Symbol Comma) item c.args.room _ _ _ _ _ w.2 c.in_ok-item-2.ensures)
 
 pub items-loop-found-preserved : goal.items-loop-found-preserved
 items-loop-found-preserved t c =
     let w = c.loop-found-test.ensures in
     rw c.in_ok-push-2.ensures.ok
-    (sym (loop_turn (Comma ▸ item) _ _ plain more_items c.args.room _ c.loop-found.found _ _ w.0 (word_then (the.Symbol Comma) item c.args.room _ _ _ _ _ w.2 c.in_ok-item-2.ensures)) ∙ c.loop-found.invariant)
+    (sym (loop_turn (Comma ▸ item) _ _ plain more_items c.args.room _ c.loop-found.found _ _ w.0
+    (word_then (the.Symbol Comma) item c.args.room _ _ _ _ _ w.2 c.in_ok-item-2.ensures)) ∙ c.loop-found.invariant)
 
 pub items-returns : goal.items-returns
 items-returns t c =
     let w = c.loop-found-test.ensures in
-    rw w.1 (mapped_ok _ _ _ _ (sym c.loop-found.invariant ∙ loop_stop (Comma ▸ item) _ _ plain more_items c.args.room _ c.loop-found.found w.0))
+    rw w.1 (mapped_ok _ _ _ _ (sym c.loop-found.invariant
+    ∙ loop_stop (Comma ▸ item) _ _ plain more_items c.args.room _ c.loop-found.found w.0))
 
 pub terms-returns-in_err-term : goal.terms-returns-in_err-term
 terms-returns-in_err-term t c =
@@ -64,18 +70,22 @@ terms-returns-in_err-term t c =
 pub terms-loop-op-smaller : goal.terms-loop-op-smaller
 terms-loop-op-smaller t c =
     let w = c.in-Some.ensures in
-    turn_shorter (add_op · term) c.args.room _ _ _ refl (pair_then add_op term c.args.room _ _ _ _ _ w.2 c.in_ok-term.ensures)
+    turn_shorter (add_op · term) c.args.room _ _ _ refl
+    (pair_then add_op term c.args.room _ _ _ _ _ w.2 c.in_ok-term.ensures)
 
 pub terms-loop-op-preserved : goal.terms-loop-op-preserved
 terms-loop-op-preserved t c =
     let w = c.in-Some.ensures in
     rw (c.in_ok-push.ensures.ok, w.3)
-    (sym (loop_turn (add_op · term) _ _ (mapped_each add_operand) more_terms c.args.room _ c.loop-op.found _ _ w.0 (pair_then add_op term c.args.room _ _ _ _ _ w.2 c.in_ok-term.ensures)) ∙ c.loop-op.invariant)
+    (sym (loop_turn (add_op · term) _ _ (mapped_each add_operand) more_terms c.args.room _ c.loop-op.found _ _ w.0
+    (pair_then add_op term c.args.room _ _ _ _ _ w.2 c.in_ok-term.ensures)) ∙ c.loop-op.invariant)
 
 pub terms-returns : goal.terms-returns
 terms-returns t c =
     let w = c.in_default.ensures in
-    rw w.1 (mapped_ok (map add_operand) _ _ _ (sym c.loop-op.invariant ∙ loop_stop (add_op · term) _ _ (mapped_each add_operand) more_terms c.args.room _ c.loop-op.found w.0))
+    rw w.1 (mapped_ok (map add_operand) _ _ _
+    (sym c.loop-op.invariant ∙ loop_stop (add_op · term) _ _ (mapped_each add_operand) more_terms c.args.room _
+    c.loop-op.found w.0))
 
 pub factors-returns-in_err-factor : goal.factors-returns-in_err-factor
 factors-returns-in_err-factor t c =
@@ -85,18 +95,22 @@ factors-returns-in_err-factor t c =
 pub factors-loop-op-smaller : goal.factors-loop-op-smaller
 factors-loop-op-smaller t c =
     let w = c.in-Some.ensures in
-    turn_shorter (mul_op · factor) c.args.room _ _ _ refl (pair_then mul_op factor c.args.room _ _ _ _ _ w.2 c.in_ok-factor.ensures)
+    turn_shorter (mul_op · factor) c.args.room _ _ _ refl
+    (pair_then mul_op factor c.args.room _ _ _ _ _ w.2 c.in_ok-factor.ensures)
 
 pub factors-loop-op-preserved : goal.factors-loop-op-preserved
 factors-loop-op-preserved t c =
     let w = c.in-Some.ensures in
     rw (c.in_ok-push.ensures.ok, w.3)
-    (sym (loop_turn (mul_op · factor) _ _ (mapped_each multiply_operand) more_factors c.args.room _ c.loop-op.found _ _ w.0 (pair_then mul_op factor c.args.room _ _ _ _ _ w.2 c.in_ok-factor.ensures)) ∙ c.loop-op.invariant)
+    (sym (loop_turn (mul_op · factor) _ _ (mapped_each multiply_operand) more_factors c.args.room _ c.loop-op.found _ _
+    w.0 (pair_then mul_op factor c.args.room _ _ _ _ _ w.2 c.in_ok-factor.ensures)) ∙ c.loop-op.invariant)
 
 pub factors-returns : goal.factors-returns
 factors-returns t c =
     let w = c.in_default.ensures in
-    rw w.1 (mapped_ok (map multiply_operand) _ _ _ (sym c.loop-op.invariant ∙ loop_stop (mul_op · factor) _ _ (mapped_each multiply_operand) more_factors c.args.room _ c.loop-op.found w.0))
+    rw w.1 (mapped_ok (map multiply_operand) _ _ _
+    (sym c.loop-op.invariant ∙ loop_stop (mul_op · factor) _ _ (mapped_each multiply_operand) more_factors
+    c.args.room _ c.loop-op.found w.0))
 
 pub selectors-loop-self-init : goal.selectors-loop-self-init
 selectors-loop-self-init t c = rw c.new-found.ensures (sym (selectors_is c.args.room c.args.self.now))
@@ -108,7 +122,8 @@ pub selectors-loop-self-preserved : goal.selectors-loop-self-preserved
 selectors-loop-self-preserved t c =
     let w = c.in_ok-selector.ensures in
     let b : begins in_selector c.loop-self.self ≡ true = cc in
-    rw w.2 (sym (loop_turn selector _ _ (joined_each selectors_of) more_selectors c.args.room _ c.loop-self.found _ _ b w.1) ∙ c.loop-self.invariant)
+    rw w.2 (sym (loop_turn selector _ _ (joined_each selectors_of) more_selectors c.args.room _ c.loop-self.found _ _ b
+    w.1) ∙ c.loop-self.invariant)
 
 pub selectors-returns-in_err-selector : goal.selectors-returns-in_err-selector
 selectors-returns-in_err-selector t c =
@@ -119,29 +134,46 @@ selectors-returns-in_err-selector t c =
 pub selectors-returns : goal.selectors-returns
 selectors-returns t c =
     let b : begins in_selector c.loop-self.self ≡ false = cc in
-    sym c.loop-self.invariant ∙ loop_stop selector _ _ (joined_each selectors_of) more_selectors c.args.room _ c.loop-self.found b
+    sym c.loop-self.invariant ∙ loop_stop selector _ _ (joined_each selectors_of) more_selectors c.args.room _
+    c.loop-self.found b
 
 pub negation-returns : goal.negation-returns
 negation-returns t c =
     let e = not_is c.args.room c.args.self.now in
-    let w = c.in_ok-pos.ensures in
-    ((w.0, c.in_ok-operand.operand), first_of (search rules, grind (arith, common_steps)), first_of (search rules, grind (arith, common_steps)))
+    let w = c.in_ok-pos.ensures in (
+      (w.0, c.in_ok-operand.operand),
+      first_of (search rules, grind (arith, common_steps)),
+      first_of
+          (search rules, grind (arith, common_steps)),
+    )
 
 pub bracket_expr-returns : goal.bracket_expr-returns
 bracket_expr-returns t c =
     let e = group_is c.args.room c.args.self.now in
-    let w = c.in_ok-pos.ensures in
-    ((w.0, c.in_ok-value.value), first_of (search rules, grind (arith, common_steps)), first_of (search rules, grind (arith, common_steps)))
+    let w = c.in_ok-pos.ensures in (
+      (w.0, c.in_ok-value.value),
+      first_of (search rules, grind (arith, common_steps)),
+      first_of
+          (search rules, grind (arith, common_steps)),
+    )
 
 pub name_use-returns-then-sees : goal.name_use-returns-then-sees
 name_use-returns-then-sees t c =
-    let w = c.in_ok-name.ensures in
-    ((w.0, inl (c.in_ok-brace.brace, c.in_ok-brace.elements)), first_of (search rules, grind (arith, common_steps)), rw w.2 refl)
+    let w = c.in_ok-name.ensures in (
+      (w.0, inl (c.in_ok-brace.brace, c.in_ok-brace.elements)),
+      first_of (search rules, grind (arith, common_steps)),
+      rw
+          w.2 refl,
+    )
 
 pub name_use-returns-then-sees-2 : goal.name_use-returns-then-sees-2
 name_use-returns-then-sees-2 t c =
-    let w = c.in_ok-name.ensures in
-    ((w.0, inr (c.in_ok-selectors.selectors, Some c.in_ok-args.args)), first_of (search rules, grind (arith, common_steps)), rw (c.in_ok-boxed.ensures, w.2) refl)
+    let w = c.in_ok-name.ensures in (
+      (w.0, inr (c.in_ok-selectors.selectors, Some c.in_ok-args.args)),
+      first_of
+          (search rules, grind (arith, common_steps)),
+      rw (c.in_ok-boxed.ensures, w.2) refl,
+    )
 
 pub name_use-returns : goal.name_use-returns
 name_use-returns t c =
@@ -158,8 +190,12 @@ pub selector-returns : goal.selector-returns
 selector-returns t c =
     let w = c.in_ok-bracket.ensures in
     let place = ap (λ p. p.0) w.2 in
-    let indexes = ap (λ p. p.1) w.2 in
-    (inr w.0, first_of (search rules, grind (arith, common_steps)), rw (c.in_ok-push_indexes.ensures, place, indexes) refl)
+    let indexes = ap (λ p. p.1) w.2 in (
+      inr w.0,
+      first_of (search rules, grind (arith, common_steps)),
+      rw (c.in_ok-push_indexes.ensures, place, indexes)
+          refl,
+    )
 
 pub subscript-returns-in_err-indexes : goal.subscript-returns-in_err-indexes
 subscript-returns-in_err-indexes t c =

@@ -60,31 +60,36 @@ abbrev pub decreases-terms : goal.decreases-terms
 decreases-terms l = l.room * 32 + 19
 
 abbrev pub invariant-exprs-loop-found : goal.invariant-exprs-loop-found
-invariant-exprs-loop-found l = gather_turns (λ xs. xs) l.found (read (many (Comma ▸ expr)) l.room l.self) ≡ map_outcome with_first (read exprs l.room l.fn.self)
+invariant-exprs-loop-found l = gather_turns (λ xs. xs) l.found (read (many (Comma ▸ expr)) l.room l.self)
+    ≡ map_outcome with_first (read exprs l.room l.fn.self)
 
 abbrev pub decreases-exprs-loop-found : goal.decreases-exprs-loop-found
 decreases-exprs-loop-found l = length l.self
 
 abbrev pub invariant-items-loop-found : goal.invariant-items-loop-found
-invariant-items-loop-found l = gather_turns (λ xs. xs) l.found (read (many (Comma ▸ item)) l.room l.self) ≡ map_outcome with_first (read items l.room l.fn.self)
+invariant-items-loop-found l = gather_turns (λ xs. xs) l.found (read (many (Comma ▸ item)) l.room l.self)
+    ≡ map_outcome with_first (read items l.room l.fn.self)
 
 abbrev pub decreases-items-loop-found : goal.decreases-items-loop-found
 decreases-items-loop-found l = length l.self
 
 abbrev pub invariant-factors-loop-op : goal.invariant-factors-loop-op
-invariant-factors-loop-op l = gather_turns (map multiply_operand) l.found (read (many (mul_op · factor)) l.room l.self) ≡ gather_turns (map multiply_operand) [] (read (many (mul_op · factor)) l.room l.fn.self)
+invariant-factors-loop-op l = gather_turns (map multiply_operand) l.found (read (many (mul_op · factor)) l.room l.self)
+    ≡ gather_turns (map multiply_operand) [] (read (many (mul_op · factor)) l.room l.fn.self)
 
 abbrev pub decreases-factors-loop-op : goal.decreases-factors-loop-op
 decreases-factors-loop-op l = length l.self
 
 abbrev pub invariant-terms-loop-op : goal.invariant-terms-loop-op
-invariant-terms-loop-op l = gather_turns (map add_operand) l.found (read (many (add_op · term)) l.room l.self) ≡ gather_turns (map add_operand) [] (read (many (add_op · term)) l.room l.fn.self)
+invariant-terms-loop-op l = gather_turns (map add_operand) l.found (read (many (add_op · term)) l.room l.self)
+    ≡ gather_turns (map add_operand) [] (read (many (add_op · term)) l.room l.fn.self)
 
 abbrev pub decreases-terms-loop-op : goal.decreases-terms-loop-op
 decreases-terms-loop-op l = length l.self
 
 abbrev pub invariant-selectors-loop-self : goal.invariant-selectors-loop-self
-invariant-selectors-loop-self l = gather_turns (λ xs. flatten_lists (map selectors_of xs)) l.found (read (many selector) l.room l.self) ≡ read_rule l.room selectors_rule l.fn.self
+invariant-selectors-loop-self l = gather_turns (λ xs. flatten_lists (map selectors_of xs)) l.found
+    (read (many selector) l.room l.self) ≡ read_rule l.room selectors_rule l.fn.self
 
 abbrev pub decreases-selectors-loop-self : goal.decreases-selectors-loop-self
 decreases-selectors-loop-self l = length l.self

@@ -28,7 +28,8 @@ abbrev pub decreases-type_expr : goal.decreases-type_expr
 decreases-type_expr l = l.room * 32 + 20
 
 abbrev pub invariant-fields-loop-self : goal.invariant-fields-loop-self
-invariant-fields-loop-self l = gather_turns present l.found (read (many (Semicolon ▸ opt field)) l.room l.self) ≡ map_outcome (λ p. present (with_first p)) (read fields l.room l.fn.self)
+invariant-fields-loop-self l = gather_turns present l.found (read (many (Semicolon ▸ opt field)) l.room l.self)
+    ≡ map_outcome (λ p. present (with_first p)) (read fields l.room l.fn.self)
 
 abbrev pub decreases-fields-loop-self : goal.decreases-fields-loop-self
 decreases-fields-loop-self l = length l.self

@@ -20,7 +20,8 @@ loop-found-preserved c =
     let w = c.loop-found-test.ensures in
     let v = c.in_ok-ident-2.ensures in
     rw (c.in_ok-push-2.ensures.ok, v.2)
-    (sym (loop_turn (Comma ▸ ident) _ _ (mapped_each ident_of) each.more_names 0 _ c.loop-found.found _ _ w.0 (word_then (the.Symbol Comma) ident 0 _ _ _ _ _ w.2 v.1)) ∙ c.loop-found.invariant)
+    (sym (loop_turn (Comma ▸ ident) _ _ (mapped_each ident_of) each.more_names 0 _ c.loop-found.found _ _ w.0
+    (word_then (the.Symbol Comma) ident 0 _ _ _ _ _ w.2 v.1)) ∙ c.loop-found.invariant)
 
 pub loop-found-smaller : goal.loop-found-smaller
 loop-found-smaller c =
@@ -31,4 +32,5 @@ loop-found-smaller c =
 pub returns : goal.returns
 returns c =
     let w = c.loop-found-test.ensures in
-    rw w.1 (sym c.loop-found.invariant ∙ loop_stop (Comma ▸ ident) _ _ (mapped_each ident_of) each.more_names 0 _ c.loop-found.found w.0)
+    rw w.1 (sym c.loop-found.invariant ∙ loop_stop (Comma ▸ ident) _ _ (mapped_each ident_of) each.more_names 0 _
+    c.loop-found.found w.0)

@@ -9,7 +9,8 @@ use Rattle.def_grammar.specs.Reading.{gather_turns, read, read_rule}
 use Rattle.parse_expr.proofs.cursor.Cursor.idents.Given as goal
 
 abbrev pub invariant-loop-found : goal.invariant-loop-found
-invariant-loop-found l = gather_turns (map ident_of) l.found (read (many (Comma ▸ ident)) 0 l.self) ≡ read_rule 0 idents_rule l.fn.self
+invariant-loop-found l = gather_turns (map ident_of) l.found (read (many (Comma ▸ ident)) 0 l.self)
+    ≡ read_rule 0 idents_rule l.fn.self
 
 abbrev pub decreases-loop-found : goal.decreases-loop-found
 decreases-loop-found l = length l.self

@@ -11,5 +11,9 @@ returns-then-not-sees c =
 pub returns : goal.returns
 returns c =
     let e = qual_flat c.args.room c.args.self.now in
-    let w = c.in_ok-pos.ensures in
-    ((c.in_ok-name.name, Some w.0), first_of (search rules, grind (arith, common_steps)), first_of (search rules, grind (arith, common_steps)))
+    let w = c.in_ok-pos.ensures in (
+      (c.in_ok-name.name, Some w.0),
+      first_of (search rules, grind (arith, common_steps)),
+      first_of
+          (search rules, grind (arith, common_steps)),
+    )

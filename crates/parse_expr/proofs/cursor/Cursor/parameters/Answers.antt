@@ -18,14 +18,17 @@ pub loop-comma-preserved : goal.loop-comma-preserved
 loop-comma-preserved c =
     let w = c.in-Some.ensures in
     rw c.in_ok-push-2.ensures.ok
-    (sym (loop_turn (Comma ▸ parameter) _ _ plain each.more_parameters 0 _ c.loop-comma.found _ _ w.0 (word_then (the.Symbol Comma) parameter 0 _ _ _ _ _ w.2 c.in_ok-parameter-2.ensures)) ∙ c.loop-comma.invariant)
+    (sym (loop_turn (Comma ▸ parameter) _ _ plain each.more_parameters 0 _ c.loop-comma.found _ _ w.0
+    (word_then (the.Symbol Comma) parameter 0 _ _ _ _ _ w.2 c.in_ok-parameter-2.ensures)) ∙ c.loop-comma.invariant)
 
 pub loop-comma-smaller : goal.loop-comma-smaller
 loop-comma-smaller c =
     let w = c.in-Some.ensures in
-    turn_shorter (Comma ▸ parameter) 0 _ _ _ refl (word_then (the.Symbol Comma) parameter 0 _ _ _ _ _ w.2 c.in_ok-parameter-2.ensures)
+    turn_shorter (Comma ▸ parameter) 0 _ _ _ refl
+    (word_then (the.Symbol Comma) parameter 0 _ _ _ _ _ w.2 c.in_ok-parameter-2.ensures)
 
 pub returns : goal.returns
 returns c =
     let w = c.in_default.ensures in
-    rw w.1 (mapped_ok _ _ _ _ (sym c.loop-comma.invariant ∙ loop_stop (Comma ▸ parameter) _ _ plain each.more_parameters 0 _ c.loop-comma.found w.0))
+    rw w.1 (mapped_ok _ _ _ _ (sym c.loop-comma.invariant
+    ∙ loop_stop (Comma ▸ parameter) _ _ plain each.more_parameters 0 _ c.loop-comma.found w.0))

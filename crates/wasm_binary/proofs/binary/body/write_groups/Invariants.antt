@@ -5,4 +5,5 @@ use Rattle.wasm_binary.specs.Binary.{locals_encoding}
 use Rattle.wasm_binary.proofs.binary.body.write_groups.Given as goal
 
 abbrev pub invariant-loop-group : goal.invariant-loop-group
-invariant-loop-group l = l.out ≡ l.fn.out ++ (unsigned.encoding (length l.groups) ++ flat_map locals_encoding (take l.group-index l.groups))
+invariant-loop-group l = l.out ≡ l.fn.out
+    ++ (unsigned.encoding (length l.groups) ++ flat_map locals_encoding (take l.group-index l.groups))
