@@ -1,7 +1,7 @@
 -- What becomes of a module, from what became of those that it needs.
 use Rattle.std.specs.Prelude.{ℕ, Bool, true, false, cond, List, [], ◌∷◌, Option, Some, None, Result, Ok, Err}
 use Rattle.std.specs.List.{flat_map, list_all}
-use Rattle.m2_rule.specs.RuleNumber.{number_of}
+use Rattle.m2_rule.specs.Breaches.{breach}
 use Rattle.m2_rule.specs.declared.rule.Rule.TheVariants as rule
 use Rattle.m2_tree.specs.declared.pos.Pos.{Pos}
 use Rattle.m2_tree.specs.declared.decl.Contents.{Contents}
@@ -51,7 +51,7 @@ typed_body m number tables =
 -- Variables, texts or a frame that are too large are refused with 60. Else the module is emitted.
 abbrev pub of_fit : TypedModule → Option Pos → Compiled
 of_fit t None = Built (emitted t)
-of_fit t (Some at) = Refused (record { pos = at; number = number_of rule.LargeStorage })
+of_fit t (Some at) = Refused (breach at rule.LargeStorage)
 
 abbrev pub of_checked : Result TypedModule Breach → Compiled
 of_checked (Ok t) = of_fit t (too_large t)

@@ -19,6 +19,7 @@ use Rattle.check_scope.specs.Scopes.{State, finish_name}
 use Rattle.check_scope.specs.Elaborated.{Gathers, reported_where, beside, ◌▷◌}
 use Rattle.check_type_expr.specs.Made.{nothing_of, type_of}
 use Rattle.check_definition.specs.Declare.{with_constant, with_type, begun_name, with_variable_type, with_variables}
+use Rattle.check_definition.specs.Again.{Passing, passed, again_constant, again_declared, again_variables}
 use Rattle.check_definition.specs.Importing.{with_import}
 use Rattle.check_block.specs.declared.heading.Standing.{Standing}
 use Rattle.check_block.specs.declared.heading.Standing.TheVariants.{Free, Awaited, Taken}
@@ -73,21 +74,36 @@ abbrev pub with_decl : (g : Gathers) → (ends : List ℕ) → Course g.Reported
     → Course g.Reported
 with_decl g ends c d = decl_layer g ends c (out-Decl d)
 
+-- the same, read again
+abbrev pub again_layer : (g : Gathers) → {A B : Type 0} → Scope g.Reported → Passing g.Reported
+    → Decl-F A B → Passing g.Reported
+again_layer g s p (layer.Constants cs) = fold (again_constant g s) p cs
+again_layer g s p (layer.Types ts) = fold (again_declared g s) p ts
+again_layer g s p (layer.Variables vs) = fold (again_variables g s) p vs
+again_layer g s p (layer.Procedure h b) = (p.0, passed s p.1 h.name)
+
+abbrev pub again_decl : (g : Gathers) → Scope g.Reported → Passing g.Reported → Decl
+    → Passing g.Reported
+again_decl g s p d = again_layer g s p (out-Decl d)
+
 -- declarations of a block: the scope behind them, what is reported, and how many names stand before
 -- each
 abbrev pub Declared : Type 0 → Type 0
 Declared T = Scope T × Result (Unit {0}) T × List ℕ
 
-module _ {T X : Type 0} (marks : Scope T → X → Scope T) (declares : Course T → X → Course T) where
+-- behind all headings constant expressions are read again
+module _ {T X : Type 0} (marks : Scope T → X → Scope T) (declares : Course T → X → Course T)
+    (again : Scope T → Passing T → X → Passing T) where
   abbrev pub all_declared : State (Unit {0}) T → (first : ℕ) → List X → Declared T
   all_declared st first xs =
       let m = all_marked marks st.0 xs in
       let c = fold declares (m.0, st.1, first) xs in
-      (c.0, c.1, m.1)
+      (c.0, (fold (again c.0) (c.1, length st.0.own) xs).0, m.1)
 
 abbrev pub declared_block : (g : Gathers) → (ends : List ℕ) → State (Unit {0}) g.Reported
     → (first : ℕ) → List Decl → Declared g.Reported
-declared_block g ends st first decls = all_declared marked_decl (with_decl g ends) st first decls
+declared_block g ends st first decls =
+    all_declared marked_decl (with_decl g ends) (again_decl g) st first decls
 
 -- ---- a module's
 

@@ -6,12 +6,13 @@ ghost use Rattle.std.specs.Option.{option_map};
 ghost use Rattle.check_scope.specs.Elaborated.{least};
 ghost use Rattle.check_definition.specs.Steps.{if_some};
 ghost use Rattle.check_definition.specs.Declare.{with_constant, with_type};
-ghost use Rattle.check_block.specs.Declarations.{finished_local, with_locals, with_procedure, with_decl, declared_block, or_awaited, lacks, declared_module};
+ghost use Rattle.check_block.specs.Declarations.{finished_local, with_locals, with_procedure, with_decl, again_decl, declared_block, or_awaited, lacks, declared_module};
 
 use crate::heading::{Standing, standing_known, with_heading};
 use crate::naming::mark_decls;
 use check_definition::{
-    begin_all, declare_constants, declare_types, declare_variables, import_all, with_variable_type,
+    again_constants, again_types, again_variables, begin_all, declare_constants, declare_types,
+    declare_variables, import_all, pass, with_variable_type,
 };
 use check_scope::{Elaborated, Known, Scope, beside, finish, report};
 use check_type_expr::{nothing_of, type_of};
@@ -136,9 +137,52 @@ fn with_decl(
     }
 }
 
+fn again_decl(
+    alloc: Global,
+    scope: &mut Scope<Breach>,
+    seen: &mut usize,
+    before: Elaborated<()>,
+    decl: &Decl,
+) -> Result<Elaborated<()>, AllocError>
+    ensures here { OnOk result (scope.new ≡ scope.old) }
+    ensures again { IfOk result (λ j.
+        (j, seen.new) ≡ again_decl least scope.old (before, seen.old) decl.now) }
+{
+    match decl {
+        Decl::Constants(list) => again_constants(alloc, scope, seen, before, list.as_slice()),
+        Decl::Types(list) => again_types(alloc, scope, seen, before, list.as_slice()),
+        Decl::Variables(list) => again_variables(alloc, scope, seen, before, list.as_slice()),
+        Decl::Procedure(heading, _) => {
+            pass(scope, seen, &heading.name);
+            Ok(before)
+        }
+    }
+}
+
+/// Reads the constant expressions of declarations again, the first of which stands behind this many names.
+fn again_all(
+    alloc: Global,
+    scope: &mut Scope<Breach>,
+    first: usize,
+    before: Elaborated<()>,
+    decls: &[Decl],
+) -> Result<Elaborated<()>, AllocError>
+    ensures here { OnOk result (scope.new ≡ scope.old) }
+    ensures again { IfOk result (λ j.
+        j ≡ (fold (again_decl least scope.old) (before, first) decls.now).0) }
+{
+    let mut seen = first;
+    let mut elaborated = before;
+    for decl in decls {
+        elaborated = again_decl(alloc, scope, &mut seen, elaborated, decl)?;
+    }
+    Ok(elaborated)
+}
+
 /// Declares what a block declares, in order, and answers what is reported, and how many names of the block stand before
 /// each declaration. The names that the block declares are known to be declared wherever they stand, and all its
-/// procedures are known behind it. Its procedures are numbered from the first number on, if the block is a procedure's.
+/// procedures are known behind it. Behind all headings constant expressions are read again. Its procedures are numbered
+/// from the first number on, if the block is a procedure's.
 pub fn declare_block(
     alloc: Global,
     scope: &mut Scope<Breach>,
@@ -150,13 +194,14 @@ pub fn declare_block(
     ensures { IfOk result (λ r.
         (scope.new, r.0, r.1) ≡ declared_block least ends.now (scope.old, before) first decls.now) }
 {
+    let names = scope.own.len();
     let seen = mark_decls(alloc, scope, decls)?;
     let mut next = first;
     let mut elaborated = before;
     for decl in decls {
         elaborated = with_decl(alloc, scope, ends, &mut next, elaborated, decl)?;
     }
-    Ok((elaborated, seen))
+    Ok((again_all(alloc, scope, names, elaborated, decls)?, seen))
 }
 
 // ---- modules

@@ -1,25 +1,17 @@
-//! From a block into a procedure, and back.
+//! From a block into a procedure.
 
 ghost use Rattle.std.specs.Prelude.{◌≡◌, ◌∷◌, [], IfOk, OnOk};
 ghost use Rattle.check_scope.specs.Elaborated.{least};
-ghost use Rattle.check_block.specs.Inner.{outside, formal_kind, formal_meaning, with_formal, with_section, formals_in, entered_in, entered_procedure, split_last, pop_block, left_procedure};
+ghost use Rattle.check_scope.specs.Inwards.{outside};
+ghost use Rattle.check_block.specs.Inner.{formal_kind, formal_meaning, with_formal, with_section, formals_in, entered_in, entered_procedure};
 
-use check_scope::{Block, Elaborated, Known, Origin, Scope};
+use check_scope::{Elaborated, Known, Origin, Outside, Scope, step_in};
 use check_type_expr::{formal_of, result_of};
 use m2_rule::Breach;
 use m2_tree::{Heading, Ident, Section};
 use std::alloc::{AllocError, Global};
-use std::mem;
 use tree_parts::Items;
 use typed_tree::{Dictionary, Formal, LocalKind, LocalVariable, Meaning, TypeNo};
-
-/// What is put back behind a procedure.
-#[derive(Drop)]
-pub struct Outside {
-    pub level: usize,
-    /// The types of the variables of the block around the procedure.
-    pub variables: Items<TypeNo>,
-}
 
 /// A procedure that was entered.
 #[derive(Drop)]
@@ -130,32 +122,7 @@ pub fn enter(
         (scope.new, e.result) ≡ entered_procedure least scope.old seen heading.now) }
     ensures around { IfOk result (λ e. e.outside ≡ outside scope.old) }
 {
-    let names = mem::replace(&mut scope.own, Dictionary::new(alloc));
-    let variables = mem::replace(&mut scope.variables, Items::new(alloc));
-    let level = mem::replace(&mut scope.level, scope.outer.len());
-    scope.outer.push(Block { names, seen })?;
+    let outside = step_in(alloc, scope, seen)?;
     let result = enter_in(alloc, scope, heading)?;
-    Ok(Entered {
-        outside: Outside { level, variables },
-        result,
-    })
-}
-
-/// Takes the names of the innermost block around a place.
-fn pop_names(alloc: Global, outer: &mut Items<Block<Breach>>) -> Dictionary<Known<Breach>>
-    ensures { (outer.new, result) ≡ pop_block (split_last outer.old) }
-{
-    match outer.pop() {
-        None => Dictionary::new(alloc),
-        Some(block) => block.names,
-    }
-}
-
-/// Leaves a procedure. What is around it is as it was, but for the types that were made in it.
-pub fn leave(alloc: Global, scope: &mut Scope<Breach>, outside: Outside)
-    ensures { scope.new ≡ left_procedure outside scope.old }
-{
-    scope.own = pop_names(alloc, &mut scope.outer);
-    scope.level = outside.level;
-    scope.variables = outside.variables;
+    Ok(Entered { outside, result })
 }

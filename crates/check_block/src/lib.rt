@@ -12,5 +12,5 @@ mod nesting;
 pub use agreeing::{agree, signature_of};
 pub use declarations::{declare_block, declare_module};
 pub use heading::{Standing, with_heading};
-pub use inner::{Entered, Outside, enter, leave};
+pub use inner::{Entered, enter};
 pub use nesting::procedure_ends;

@@ -19,10 +19,11 @@ use Rattle.check_scope.specs.declared.scope.Scope.{Scope}
 use Rattle.check_scope.specs.Scopes.{State}
 use Rattle.check_scope.specs.Elaborated.{least}
 use Rattle.check_block.specs.Naming.{marked_layer, marked_decl, with_marks, all_marked}
-use Rattle.check_block.specs.Declarations.{Course, Declared, decl_layer, with_decl, all_declared, declared_block}
+use Rattle.check_definition.specs.Again.{Passing}
+use Rattle.check_block.specs.Declarations.{Course, Declared, decl_layer, with_decl, again_layer, again_decl, all_declared, declared_block}
 use Rattle.check_body.specs.declared.procedure.Walk.{Walk}
 use Rattle.check_body.specs.Elaborating.{Elaborates, statements_of}
-use Rattle.check_body.specs.Bodies.{Checked, ChecksBlock, Steps, marked_by, declared_by, checked_by, with_body, with_bodies, begun_block, with_statements, block_from, procedure_checked, steps_layer, block_layer, steps, checks_block, checks_decl, bodies_checked}
+use Rattle.check_body.specs.Bodies.{Checked, ChecksBlock, Steps, marked_by, declared_by, again_by, checked_by, with_body, with_bodies, begun_block, with_statements, block_from, procedure_checked, steps_layer, block_layer, steps, checks_block, checks_decl, bodies_checked}
 
 fold_agrees : {A X Y : Type 0} (f : A → Y → A) (k : A → X → A) (h : X → Y) → ((a : A) (x : X) → f a (h x) ≡ k a x)
     → (a : A) (xs : List X) → fold f a (map h xs) ≡ fold k a xs
@@ -68,6 +69,18 @@ module _ (elaborates : Elaborates Breach) (ends : List ℕ) where
   declares_is : (c : Course Breach) (d : Decl) → (steps least elaborates ends d).declares c ≡ with_decl least ends c d
   declares_is c d = ap (λ (x : S). x.declares c) (at d (out-Decl d) refl) ∙ declared_mapped c (out-Decl d)
 
+  again_mapped : (s : Scope Breach) (p : Passing Breach) (x : Decl-F Decl Block)
+      → again_layer least s p (map-Decl Decl Block S B (steps least elaborates ends)
+      (checks_block least elaborates ends) x) ≡ again_layer least s p x
+  again_mapped s p (layer.Constants cs) = refl
+  again_mapped s p (layer.Types ts) = refl
+  again_mapped s p (layer.Variables vs) = refl
+  again_mapped s p (layer.Procedure h b) = refl
+
+  again_is : (s : Scope Breach) (p : Passing Breach) (d : Decl)
+      → (steps least elaborates ends d).again s p ≡ again_decl least s p d
+  again_is s p d = ap (λ (x : S). x.again s p) (at d (out-Decl d) refl) ∙ again_mapped s p (out-Decl d)
+
   -- ---- bodies
 
   module _ (around : Option Which) (seen : ℕ) (w : Walk Breach) where
@@ -101,17 +114,26 @@ module _ (elaborates : Elaborates Breach) (ends : List ℕ) where
       → fold declared_by c (map (steps least elaborates ends) ds) ≡ fold (with_decl least ends) c ds
   all_declares c ds = fold_agrees declared_by (with_decl least ends) (steps least elaborates ends) declares_is c ds
 
-  abbrev behind : List ℕ → Course Breach → Declared Breach
-  behind seen c = (c.0, c.1, seen)
+  all_again : (s : Scope Breach) (p : Passing Breach) (ds : List Decl)
+      → fold (again_by s) p (map (steps least elaborates ends) ds) ≡ fold (again_decl least s) p ds
+  all_again s p ds =
+      fold_agrees (again_by s) (again_decl least s) (steps least elaborates ends) (again_is s) p ds
+
+  abbrev behind : (names : ℕ) → List S → List ℕ → Course Breach → Declared Breach
+  behind names xs seen c = (c.0, (fold (again_by c.0) (c.1, names) xs).0, seen)
 
   declared_is : (st : State (Unit {0}) Breach) (first : ℕ) (ds : List Decl)
-      → all_declared marked_by declared_by st first (map (steps least elaborates ends) ds)
+      → all_declared marked_by declared_by again_by st first (map (steps least elaborates ends) ds)
       ≡ declared_block least ends st first ds
   declared_is st first ds =
-      ap (λ (m : Scope Breach × List ℕ). behind m.1
-      (fold declared_by (m.0, st.1, first) (map (steps least elaborates ends) ds))) (all_marks st.0 ds)
-      ∙ ap (behind (all_marked marked_decl st.0 ds).1)
-      (all_declares ((all_marked marked_decl st.0 ds).0, st.1, first) ds)
+      let xs : List S = map (steps least elaborates ends) ds in
+      let names : ℕ = length st.0.own in
+      let m : Scope Breach × List ℕ = all_marked marked_decl st.0 ds in
+      let c : Course Breach = fold (with_decl least ends) (m.0, st.1, first) ds in
+      ap (λ (n : Scope Breach × List ℕ). behind names xs n.1 (fold declared_by (n.0, st.1, first) xs))
+      (all_marks st.0 ds)
+      ∙ ap (behind names xs m.1) (all_declares (m.0, st.1, first) ds)
+      ∙ ap (λ (p : Passing Breach). (c.0, p.0, m.1)) (all_again c.0 (c.1, names) ds)
 
   bodies_is : (around : Option Which) (seen : List ℕ) (w : Walk Breach) (ds : List Decl)
       → with_bodies (λ x. checked_by x around) seen w (map (steps least elaborates ends) ds)

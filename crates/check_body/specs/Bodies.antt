@@ -13,7 +13,8 @@ use Rattle.typed_tree.specs.declared.typed_module.Which.{Which}
 use Rattle.check_scope.specs.declared.scope.Scope.{Scope}
 use Rattle.check_scope.specs.Elaborated.{Gathers}
 use Rattle.check_block.specs.Naming.{marked_layer}
-use Rattle.check_block.specs.Declarations.{Course, Declared, decl_layer, all_declared, declared_block}
+use Rattle.check_definition.specs.Again.{Passing}
+use Rattle.check_block.specs.Declarations.{Course, Declared, decl_layer, again_layer, all_declared, declared_block}
 use Rattle.check_body.specs.declared.routine.Bodies.{Bodies}
 use Rattle.check_body.specs.declared.procedure.Walk.{Walk}
 use Rattle.check_body.specs.Elaborating.{Elaborates, statements_of}
@@ -36,12 +37,14 @@ Checks T = (around : Option Which) → (seen : ℕ) → Walk T → Walk T
 abbrev pub ChecksBlock : Type 0 → Type 0
 ChecksBlock T = (around : Option Which) → (returns : Option (Result TypeNo T)) → Walk T → Checked T
 
--- what comes of a declaration, in the three walks over its block
+-- what comes of a declaration, in the four walks over its block
 pub record Steps (T : Type 0) : Type 0 where
   -- its names are known to be declared
   pub marks : Scope T → Scope T
   -- it is declared
   pub declares : Course T → Course T
+  -- its constant expressions are read again
+  pub again : Scope T → Passing T → Passing T
   -- its body is checked
   pub checks : Checks T
 
@@ -51,6 +54,9 @@ module _ {T : Type 0} where
 
   abbrev pub declared_by : Course T → Steps T → Course T
   declared_by c x = x.declares c
+
+  abbrev pub again_by : Scope T → Passing T → Steps T → Passing T
+  again_by s p x = x.again s p
 
   abbrev pub checked_by : Steps T → Checks T
   checked_by x = x.checks
@@ -102,6 +108,7 @@ module _ (g : Gathers) (elaborates : Elaborates g.Reported) (ends : List ℕ) wh
   steps_layer x = record {
     marks = λ s. marked_layer s x;
     declares = λ c. decl_layer g ends c x;
+    again = λ s p. again_layer g s p x;
     checks = checks_layer x;
   }
 
@@ -109,7 +116,8 @@ module _ (g : Gathers) (elaborates : Elaborates g.Reported) (ends : List ℕ) wh
       → ChecksBlock g.Reported
   block_layer b around returns w =
       let d =
-      all_declared marked_by declared_by (w.scope, w.so_far) (length w.bodies.locals) b.decls in
+      all_declared marked_by declared_by again_by (w.scope, w.so_far) (length w.bodies.locals)
+      b.decls in
       block_from elaborates checked_by around returns d b.decls b.body w.bodies
 
   unfoldable pub steps : Decl → Steps g.Reported

@@ -8,7 +8,8 @@ use Rattle.typed_tree.specs.declared.typed_module.Which.{Which}
 use Rattle.check_scope.specs.declared.scope.Scope.{Scope}
 use Rattle.check_scope.specs.Scopes.{State}
 use Rattle.check_scope.specs.Elaborated.{Gathers, beside, ◌▷◌}
-use Rattle.check_block.specs.Inner.{entered_procedure, outside, left_procedure}
+use Rattle.check_scope.specs.Inwards.{outside, left_procedure}
+use Rattle.check_block.specs.Inner.{entered_procedure}
 use Rattle.check_body.specs.declared.routine.Numbered.{Numbered}
 use Rattle.check_body.specs.declared.routine.Bodies.{Bodies}
 use Rattle.check_body.specs.Routines.{procedure_named, begun_at, put_routine, routine}

@@ -5,8 +5,8 @@ ghost use Rattle.check_scope.specs.Elaborated.{least};
 ghost use Rattle.check_body.specs.Inside.{which_of, begun_procedure, with_routine, ended_procedure};
 
 use crate::{Bodies, Numbered, begin_at, fill, procedure_named, routine_of};
-use check_block::{Outside, enter, leave};
-use check_scope::{Elaborated, Scope, beside};
+use check_block::enter;
+use check_scope::{Elaborated, Outside, Scope, beside, step_out};
 use m2_rule::Breach;
 use m2_tree::{Heading, Ident};
 use std::alloc::{AllocError, Global};
@@ -126,6 +126,6 @@ pub fn end_procedure(
         begun.procedure,
         body,
     )?;
-    leave(alloc, &mut walk.scope, begun.outside);
+    step_out(alloc, &mut walk.scope, begun.outside);
     Ok(())
 }

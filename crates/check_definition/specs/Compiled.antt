@@ -1,5 +1,5 @@
 -- The table of a definition.
-use Rattle.std.specs.Prelude.{ℕ, List, [], ◌∷◌, ◌++◌, Result, Ok}
+use Rattle.std.specs.Prelude.{ℕ, List, [], ◌∷◌, ◌++◌, length, Result, Ok}
 use Rattle.std.specs.List.{fold}
 use Rattle.m2_rule.specs.declared.rule.Rule.TheVariants as rule
 use Rattle.m2_tree.specs.declared.decl.Def.{Def}
@@ -14,6 +14,7 @@ use Rattle.check_definition.specs.Marking.{marked_def}
 use Rattle.check_definition.specs.Predeclared.{console, first_scope}
 use Rattle.check_definition.specs.Importing.{numbered_modules, with_import}
 use Rattle.check_definition.specs.Declare.{with_def}
+use Rattle.check_definition.specs.Again.{again_def}
 use Rattle.check_definition.specs.Export.{exports, reached_of, imported_modules}
 
 abbrev pub table_of : {T : Type 0} → Module → List (List ℕ × ℕ) → Scope T → Table
@@ -29,12 +30,14 @@ abbrev pub table_or : {T : Type 0} → Module → List (List ℕ × ℕ) → Sco
     → Result Table T
 table_or m modules s elaborated = elaborated ▷ λ fine. Ok (table_of m modules s)
 
--- its imports and its declarations, in order; the names that it declares are known to be declared
--- wherever they stand
+-- Its imports and its declarations, in order. The names that it declares are known to be declared
+-- wherever they stand. Behind all headings constant expressions are read again.
 abbrev pub declared_in : (g : Gathers) → Module → List (List ℕ × ℕ) → Scope g.Reported → List Def
     → State (Unit {0}) g.Reported
 declared_in g m modules s defs =
-    fold (with_def g) (fold (with_import g modules) (fold marked_def s defs, Ok tt) m.imports) defs
+    let i = fold (with_import g modules) (s, Ok tt) m.imports in
+    let d = fold (with_def g) (fold marked_def i.0 defs, i.1) defs in
+    (d.0, (fold (again_def g d.0) (d.1, length i.0.own) defs).0)
 
 abbrev pub of_definition : (g : Gathers) → ℕ → Module → List Table → List Def
     → Result Table g.Reported

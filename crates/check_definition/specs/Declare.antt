@@ -1,5 +1,5 @@
 -- What declarations mean.
-use Rattle.std.specs.Prelude.{ℕ, ◌+◌, [], ◌∷◌, ◌++◌, length, Result, Ok, Err}
+use Rattle.std.specs.Prelude.{ℕ, ◌+◌, false, [], ◌∷◌, ◌++◌, length, Result, Ok, Err}
 use Rattle.std.specs.List.{fold}
 use Rattle.m2_tree.specs.declared.name.Ident.{Ident}
 use Rattle.m2_tree.specs.declared.decl.Constant.{Constant}
@@ -18,7 +18,7 @@ use Rattle.typed_tree.specs.declared.meaning.Value.{Value}
 use Rattle.typed_tree.specs.declared.meaning.Meaning.{Meaning}
 use Rattle.typed_tree.specs.declared.meaning.Meaning.TheVariants as meaning
 use Rattle.check_scope.specs.declared.scope.Scope.{Scope}
-use Rattle.check_scope.specs.Scopes.{State, declare_name, begin_name, finish_name}
+use Rattle.check_scope.specs.Scopes.{State, heading_means, begin_name, head_name, finish_name}
 use Rattle.check_scope.specs.Elaborated.{Gathers, beside, ◌▷◌}
 use Rattle.check_const.specs.Parts.{constant}
 use Rattle.check_expr.specs.Meanings.{part}
@@ -107,8 +107,8 @@ with_procedure_type s (Err e) = s
 abbrev pub declared_procedure : (g : Gathers) → Scope g.Reported → Ident → Result TypeNo g.Reported
     → State (Unit {0}) g.Reported
 declared_procedure g s name t =
-    declare_name g (with_procedure_type s t) name
-    (procedure_meaning s.types.home (length s.procedures) t)
+    head_name g (with_procedure_type s t) name
+    (heading_means false (procedure_meaning s.types.home (length s.procedures) t))
 
 abbrev pub with_procedure : (g : Gathers) → State (Unit {0}) g.Reported → Heading
     → State (Unit {0}) g.Reported

@@ -6,7 +6,7 @@ ghost use Rattle.check_scope.specs.Elaborated.{least};
 ghost use Rattle.check_definition.specs.Declare.{with_constant, brings_with, with_type, begun_name, with_variable_type, finished_variable, with_variables, procedure_meaning, with_procedure_type, declared_procedure, with_procedure, with_def};
 
 use check_expr::constant_of;
-use check_scope::{Elaborated, Scope, begin, beside, declare, finish};
+use check_scope::{Elaborated, Scope, begin, beside, finish, head, heading_means};
 use check_type_expr::{heading_of, names_of, nothing_of, type_of, with_made};
 use m2_rule::Breach;
 use m2_tree::{Constant, Def, Heading, Ident, Simple, TypeDecl, TypeExpr, Variables};
@@ -244,7 +244,7 @@ fn declare_procedure(
 {
     let means = procedure_meaning(scope.types.home, scope.procedures.len(), t);
     with_procedure_type(scope, t)?;
-    declare(alloc, scope, name, means)
+    head(alloc, scope, name, heading_means(false, means))
 }
 
 fn with_procedure(

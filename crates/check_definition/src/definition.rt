@@ -5,6 +5,7 @@ ghost use Rattle.check_scope.specs.Elaborated.{least};
 ghost use Rattle.check_definition.specs.Predeclared.{console};
 ghost use Rattle.check_definition.specs.Compiled.{declared_in, table_or, of_definition, definition_table};
 
+use crate::again::again_defs;
 use crate::declare::declare_all;
 use crate::export::{exports, imported_modules, reached_of};
 use crate::importing::{import_all, modules_of};
@@ -70,9 +71,11 @@ fn declared_in(
     ensures { IfOk result (λ j.
         (scope.new, j) ≡ declared_in least tree.now modules.now scope.old defs.now) }
 {
-    mark_defs(alloc, scope, defs)?;
     let elaborated = import_all(alloc, scope, modules, tree.imports.as_slice())?;
-    declare_all(alloc, scope, elaborated, defs)
+    let first = scope.own.len();
+    mark_defs(alloc, scope, defs)?;
+    let elaborated = declare_all(alloc, scope, elaborated, defs)?;
+    again_defs(alloc, scope, first, elaborated, defs)
 }
 
 fn of_definition(

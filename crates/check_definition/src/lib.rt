@@ -1,6 +1,7 @@
 //! What definitions mean: their tables.
 #![tactic(auto)]
 
+mod again;
 mod declare;
 mod definition;
 mod export;
@@ -8,6 +9,7 @@ mod importing;
 mod marking;
 mod predeclared;
 
+pub use again::{again_constants, again_types, again_variables, pass};
 pub use declare::{
     begin_all, declare_constants, declare_types, declare_variables, procedure_meaning,
     with_procedure_type, with_variable_type,

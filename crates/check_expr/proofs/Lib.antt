@@ -1,3 +1,2 @@
 pub mod Layers
-pub mod Leading
 pub mod Variants

@@ -37,8 +37,7 @@ use Rattle.check_const.specs.Parts as constants
 use Rattle.check_value.specs.declared.computed.Computed.{Computed}
 use Rattle.check_value.specs.declared.computed.Designated.{Designated}
 use Rattle.check_value.specs.Signs.{negation}
-use Rattle.check_expr.specs.Meanings.{Meant, Picks, meanings_of, picks, head, item, part, type_of, names_by, with_look, breaches_in_all, look_in, value_standing, constant_factor_in, constant_term_in, constant_pick_in, item_in, of_computed, signed_first, relation, relation_value, leading_name, field_at, index_at, as_constant, value_of, factor, term, call_in_expression, with_actual, factor_in, term_in, pick_in, actual_in, use_with}
-use Rattle.check_expr.proofs.Leading.{leading_mapped}
+use Rattle.check_expr.specs.Meanings.{Meant, Picks, meanings_of, picks, head, item, part, type_of, names_by, with_look, breaches_in_all, look_in, value_standing, constant_factor_in, constant_term_in, constant_pick_in, item_in, of_computed, signed_first, relation, relation_value, first_name, field_at, index_at, as_constant, value_of, factor, term, call_in_expression, with_actual, factor_in, term_in, pick_in, actual_in, use_with}
 use Rattle.check_expr.proofs.Layers.{at, at_selector, at_designator, at_item}
 
 pub fold_mapped : {A X Y : Type 0} (f : A → Y → A) (h : X → Y) (a : A) (xs : List X)
@@ -122,14 +121,10 @@ module _ (s : Scope Breach) where
       (at_selector (Index p e) (layer.Index p e) (outs-Index p e))
 
   pub means_head : (d : Designator) → (head least d).means s
-      ≡ fold (pick_in s) (leading_name least s (out-Designator d).name (out-Designator d).selectors)
-      (out-Designator d).selectors
+      ≡ fold (pick_in s) (first_name least s (out-Designator d).name) (out-Designator d).selectors
   means_head d = ap (λ (x : Meant Breach). x.means s) (at_designator d (out-Designator d) refl)
       ∙ fold_mapped (λ x (p : Picks Breach). p.picks s x) (picks least)
-      (leading_name least s (out-Designator d).name (map (picks least) (out-Designator d).selectors))
-      (out-Designator d).selectors
-      ∙ ap (λ x. fold (pick_in s) x (out-Designator d).selectors)
-      (leading_mapped least s (out-Designator d).name (picks least) (out-Designator d).selectors)
+      (first_name least s (out-Designator d).name) (out-Designator d).selectors
 
   -- ---- expressions
 

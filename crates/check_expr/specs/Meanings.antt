@@ -91,18 +91,6 @@ abbrev pub first_name : (g : Gathers) → Scope g.Reported → Ident
     → Result Designated (Meaningless g.Reported)
 first_name g s name = looked_up g s name ▷ λ m. plain (designated_by g s.level name.pos m)
 
--- A procedure has no components, in front of its heading as behind it.
-abbrev pub leading_meaning : (g : Gathers) → (level : ℕ) → Pos → Meaning
-    → Result Designated (Meaningless g.Reported)
-leading_meaning g level at meaning.Ahead = Err (Headless false (g.one (breach at rule.Undeclared)))
-leading_meaning g level at other = plain (designated_by g level at other)
-
--- the first name in front of these components
-abbrev pub leading_name : (g : Gathers) → Scope g.Reported → Ident → {X : Type 0} → List X
-    → Result Designated (Meaningless g.Reported)
-leading_name g s name [] = first_name g s name
-leading_name g s name (x ∷ xs) = looked_up g s name ▷ leading_meaning g s.level name.pos
-
 abbrev pub name_in_module : (g : Gathers) → Scope g.Reported → ℕ → Ident
     → Result Designated g.Reported
 name_in_module g s k name = exported_meaning g s.tables k name ▷ designated_by g s.level name.pos
@@ -341,7 +329,7 @@ module _ (g : Gathers) where
   abbrev pub designation : Scope g.Reported → Ident → List (Picks g.Reported)
       → Result Designated (Meaningless g.Reported)
   designation s name selectors =
-      fold (λ x p. p.picks s x) (leading_name g s name selectors) selectors
+      fold (λ x p. p.picks s x) (first_name g s name) selectors
 
   abbrev pub denotation : Scope g.Reported → Ident → List (Picks g.Reported)
       → Result Denoted g.Reported

@@ -16,8 +16,8 @@ ghost use Rattle.check_expr.specs.Meanings.{part, meanings_of, picks, head, item
 use crate::fixed::denotation;
 use crate::pieces::{
     argument_by, breaches_in, call_given, field_at, first_name, first_of, formals_of, high_at,
-    index_at, leading_name, of_computed, place_of, related_parts, relation_value, signed_first,
-    type_at, type_of, unary_of,
+    index_at, of_computed, place_of, related_parts, relation_value, signed_first, type_at, type_of,
+    unary_of,
 };
 use check_const::{
     Denoted, Sort, add_op, bound as bound_by, constant_by,
@@ -208,14 +208,8 @@ pub fn designation(
 ) -> Result<Sought<Designated>, AllocError>
     ensures { IfOk result (λ d. d ≡ (head least designator.now).means scope.now) }
 {
-    let selectors = designator.selectors.as_slice();
-    match selectors {
-        [] => first_name(alloc, scope, &designator.name),
-        [_, ..] => {
-            let first = leading_name(alloc, scope, &designator.name)?;
-            selection(alloc, scope, first, selectors)
-        }
-    }
+    let first = first_name(alloc, scope, &designator.name)?;
+    selection(alloc, scope, first, designator.selectors.as_slice())
 }
 
 /// What selectors pick, one after another.

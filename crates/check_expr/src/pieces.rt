@@ -7,13 +7,13 @@ ghost use Rattle.check_scope.specs.Scopes.{looked_up};
 ghost use Rattle.check_value.specs.Values.{designated_by};
 ghost use Rattle.check_const.specs.Parts as constants;
 ghost use Rattle.check_value.specs.Functions.{type_named, high_of, unary_at};
-ghost use Rattle.check_expr.specs.Meanings.{part, meanings_of, head, of_computed, signed_first, relation_value, first_name, leading_meaning, field_of, field_at, index_at, formals_of, argument_by, call_given, type_of};
+ghost use Rattle.check_expr.specs.Meanings.{part, meanings_of, head, of_computed, signed_first, relation_value, first_name, field_of, field_at, index_at, formals_of, argument_by, call_given, type_of};
 ghost use Rattle.m2_rule.specs.declared.rule.Rule.TheVariants as rule;
 
 use check_const::{BinaryOp, Denoted, exported_meaning, set_place, sign_place};
 use check_scope::{
-    Elaborated, Meaningless, Scope, Sought, looked_up, of_heading, of_sort, of_sort_of_value,
-    of_value, plain, report,
+    Elaborated, Scope, Sought, looked_up, of_heading, of_sort, of_sort_of_value, of_value, plain,
+    report,
 };
 use check_value::{
     Callee, Computed, Designated, Unary, actual, call_by, designated_by, element_at_index, field,
@@ -129,45 +129,6 @@ pub fn first_name(
     match looked_up(scope, name)? {
         Err(meaningless) => Ok(Err(meaningless)),
         Ok(meaning) => standing_of(alloc, scope.level, name.pos, meaning),
-    }
-}
-
-/// What a name of this meaning stands for in front of components, of which a procedure has none.
-fn leading_meaning(
-    alloc: Global,
-    level: usize,
-    at: Pos,
-    meaning: Meaning,
-) -> Result<Sought<Designated>, AllocError>
-    ensures { IfOk result (λ d. d ≡ leading_meaning least level at meaning) }
-{
-    match meaning {
-        Meaning::Ahead => Ok(Err(Meaningless::Headless(false, Breach::at(at, Rule::Undeclared)))),
-        Meaning::Constant(_)
-        | Meaning::Type(_, _)
-        | Meaning::Variable(_)
-        | Meaning::Local(_)
-        | Meaning::Field(_)
-        | Meaning::Procedure(_)
-        | Meaning::LocalProcedure(_)
-        | Meaning::Standard(_)
-        | Meaning::Module(_) => standing_of(alloc, level, at, meaning),
-    }
-}
-
-/// What the first name of a designator stands for, if components stand behind it.
-pub fn leading_name(
-    alloc: Global,
-    scope: &Scope<Breach>,
-    name: &Ident,
-) -> Result<Sought<Designated>, AllocError>
-    ensures { IfOk result (λ d.
-        d
-        ≡ looked_up least scope.now name.now ▷ leading_meaning least scope.now.level name.now.pos) }
-{
-    match looked_up(scope, name)? {
-        Err(meaningless) => Ok(Err(meaningless)),
-        Ok(meaning) => leading_meaning(alloc, scope.level, name.pos, meaning),
     }
 }
 

@@ -1,2 +1,3 @@
 pub mod Elaborated
 pub mod Scopes
+pub mod Inwards

@@ -161,6 +161,11 @@ declare_name g s name m = unless_declared g s name (Declared Here m)
 abbrev pub begin_name : (g : Gathers) → Scope g.Reported → Ident → State (Unit {0}) g.Reported
 begin_name g s name = unless_declared g s name Begun
 
+-- a procedure, by the meaning of its heading
+abbrev pub head_name : (g : Gathers) → Scope g.Reported → Ident
+    → Result Meaning (Meaningless g.Reported) → State (Unit {0}) g.Reported
+head_name g s name m = unless_declared g s name (Headed m)
+
 abbrev pub is_begun : {T : Type 0} → Option (Known T) → Bool
 is_begun None = false
 is_begun (Some Later) = false

@@ -4,7 +4,7 @@ ghost use Rattle.std.specs.Prelude.{◌≡◌, Ok, IfOk, OnOk, Option};
 ghost use Rattle.std.specs.List.{fold};
 ghost use Rattle.std.specs.Option.{option_copied};
 ghost use Rattle.check_scope.specs.Elaborated.{least, plain};
-ghost use Rattle.check_scope.specs.Scopes.{sight_of_entry, seen_at, in_block, nearer, or_outside, known_outside, sight_of, fields_made, fields_at, field_at, field_in, open_field, heading_means, means_seen, means_as, looked_up, is_free, with_known, declare_name, begin_name, is_begun, finish_name, is_one_origin, is_again, import_name, mark_name};
+ghost use Rattle.check_scope.specs.Scopes.{sight_of_entry, seen_at, in_block, nearer, or_outside, known_outside, sight_of, fields_made, fields_at, field_at, field_in, open_field, heading_means, means_seen, means_as, looked_up, is_free, with_known, declare_name, begin_name, head_name, is_begun, finish_name, is_one_origin, is_again, import_name, mark_name};
 
 use crate::elaborated::{Elaborated, report};
 use crate::known::{Known, Origin};
@@ -305,6 +305,22 @@ pub fn begin(
         return Ok(report(name.pos, Rule::DeclaredTwice));
     }
     with_known(alloc, scope, name.name.as_bytes(), Known::Begun)?;
+    Ok(Ok(()))
+}
+
+/// Declares a procedure by the meaning of its heading, unless its name is declared.
+pub fn head(
+    alloc: Global,
+    scope: &mut Scope<Breach>,
+    name: &Ident,
+    means: Sought<Meaning>,
+) -> Result<Elaborated<()>, AllocError>
+    ensures { IfOk result (λ j. (scope.new, j) ≡ head_name least scope.old name.now means) }
+{
+    if !is_free(scope.own.find(name.name.as_bytes())) {
+        return Ok(report(name.pos, Rule::DeclaredTwice));
+    }
+    with_known(alloc, scope, name.name.as_bytes(), Known::Headed(means))?;
     Ok(Ok(()))
 }
 

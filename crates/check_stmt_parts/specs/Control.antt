@@ -69,7 +69,7 @@ control_by g s at (meaning.Local v) =
 control_by g s at (meaning.Field f) = report g at rule.WrongControl
 control_by g s at (meaning.Procedure p) = report g at rule.WrongControl
 control_by g s at (meaning.LocalProcedure p) = report g at rule.WrongControl
-control_by g s at meaning.Ahead = report g at rule.Undeclared
+control_by g s at meaning.Ahead = report g at rule.Ahead
 control_by g s at (meaning.Standard f) = report g at rule.WrongControl
 control_by g s at (meaning.Module k) = report g at rule.WrongControl
 

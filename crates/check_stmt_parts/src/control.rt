@@ -88,7 +88,7 @@ fn control_by(
             let place = root_place(alloc, Root::Local(slot));
             control_variable(&scope.types, at, variable.of, place)
         }
-        Meaning::Ahead => report(at, Rule::Undeclared),
+        Meaning::Ahead => report(at, Rule::Ahead),
         Meaning::Constant(_) => report(at, Rule::WrongControl),
         Meaning::Type(_, _) => report(at, Rule::WrongControl),
         Meaning::Field(_) => report(at, Rule::WrongControl),

@@ -58,7 +58,7 @@ designated_by g level at (meaning.Local v) = Ok (local_by level v v.kind)
 designated_by g level at (meaning.Field f) = Ok (opened_by f)
 designated_by g level at (meaning.Procedure p) = Ok (designated.Procedure p)
 designated_by g level at (meaning.LocalProcedure p) = Ok (designated.Nested (nested_by level p))
-designated_by g level at meaning.Ahead = report g at rule.Undeclared
+designated_by g level at meaning.Ahead = report g at rule.Ahead
 designated_by g level at (meaning.Standard f) = Ok (designated.Standard f)
 designated_by g level at (meaning.Module k) = Ok (designated.Module k)
 

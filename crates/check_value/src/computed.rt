@@ -102,7 +102,7 @@ pub fn designated_by(
             number: procedure.number,
             heading: procedure.heading,
         }))),
-        Meaning::Ahead => Ok(report(at, Rule::Undeclared)),
+        Meaning::Ahead => Ok(report(at, Rule::Ahead)),
         Meaning::Standard(standard) => Ok(Ok(Designated::Standard(standard))),
         Meaning::Module(place) => Ok(Ok(Designated::Module(place))),
     }

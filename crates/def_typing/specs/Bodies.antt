@@ -17,6 +17,8 @@ use Rattle.typed_tree.specs.declared.known_types.Types.{Types}
 use Rattle.def_typing.specs.Things.{Thing, AVariable, AnOpenArray, AProcedure, ANested, Headless, Standing, Known, Undeclared, Unknown}
 use Rattle.def_typing.specs.Parts.{Among}
 use Rattle.def_typing.specs.TypeNames.{NamesType}
+pub use Rattle.def_typing.specs.Seen.{IsProcedure, of_module, of_procedure, headless, Sees, in_front, a_procedure, not_yet}
+use Rattle.def_typing.specs.Again.{BrokenAgain}
 use Rattle.def_typing.specs.Headings.{GivesBack}
 use Rattle.def_typing.specs.Returns.{Giving, Nothing, AResult, AnyResult}
 use Rattle.def_typing.specs.Declarations.{Declaration, names_of, constants_of, declared_by, declarations_of, AnyDeclares, Declared, in_order, types_behind, is_among, AllAdded, AllStand, IsOwn, Lacks, BrokenIn}
@@ -36,28 +38,14 @@ abbrev pub formal : (is_open : Bool) → TypeNo → Thing
 formal true t = AnOpenArray t
 formal false t = AVariable t
 
-pub data IsProcedure : Standing → Type 0 where
-  of_module : {t : TypeNo} → IsProcedure (Known (AProcedure t))
-  of_procedure : {t : TypeNo} → IsProcedure (Known (ANested t))
-  -- Rules are broken in its heading.
-  headless : {nested : Bool} → IsProcedure (Known (Headless nested))
-
 abbrev pub is_declared : List ℕ → List Declaration → Bool
 is_declared n ds = list_any (λ d. is_among n (names_of d ++ constants_of d)) ds
 
 -- block: the declarations of the block around; front: the ones in front of the procedure; names:
 -- what names stand for behind all declarations of the block.
-module _ (taken : List ℕ → Bool) (block front : List Declaration) (names : Ident → Standing) where
-  -- what a name of outside stands for in a procedure
-  pub data SeenAs (name : Ident) : Standing → Type 0 where
-    in_front : (taken name.name ≡ false → AnyDeclares block name.name
-        → AnyDeclares front name.name) → SeenAs name (names name)
-    -- A procedure is known in all bodies of its block.
-    a_procedure : IsProcedure (names name) → SeenAs name (names name)
-    -- Constants, types and variables are declared before use.
-    not_yet : taken name.name ≡ false → AnyDeclares block name.name
-        → (AnyDeclares front name.name → ⊥) → (IsProcedure (names name) → ⊥)
-        → SeenAs name Undeclared
+abbrev pub SeenAs : (taken : List ℕ → Bool) → (block front : List Declaration)
+    → (names : Ident → Standing) → Ident → Standing → Type 0
+SeenAs taken block front names = Sees taken block (AnyDeclares front) names
 
 module _ (exports : ℕ → Ident → Standing) (seen : Ident → Standing) (h : Heading) where
   -- what a name stands for where the block of a procedure begins: its formals come before the names
@@ -167,8 +155,8 @@ module _ (exports : ℕ → Ident → Standing) where
           → ReadsBodies p block names own (front ++ declared_by (out-Decl d)) mid ds end
           → ReadsBodies p block names own front types (d ∷ ds) end
 
-  -- the rules that are broken in it: in its declarations, in the blocks of its procedures, and in
-  -- its statements
+  -- the rules that are broken in it: in its declarations, also where they are read again, in the
+  -- blocks of its procedures, and in its statements
   abbrev mutual
     pub BrokenBlock : {p : Place} {types end : Types} {b : Block} → Reads p types b end
         → Breach → Type 0
@@ -176,9 +164,11 @@ module _ (exports : ℕ → Ident → Standing) where
         (reads whole names own order added stand owned bodies) f =
         BrokenIn types exports p.names p.taken p.awaited p.nested
         (declarations_of (out-Block b).decls) whole f
+        ⊎ (BrokenAgain (types_behind types whole) exports p.taken
+        (declarations_of (out-Block b).decls) names [] (declarations_of (out-Block b).decls) f
         ⊎ (BrokenBodies bodies f
         ⊎ ((x : Stmt) × Among x (statements_in (out-Block b).body)
-        × Broken end exports (body_spot p names own) x f))
+        × Broken end exports (body_spot p names own) x f)))
 
     pub BrokenBodies : {p : Place} {block front : List Declaration} {names : Ident → Standing}
         {own : Ident → Bool} {types end : Types} {ds : List Decl}

@@ -5,11 +5,11 @@ use Rattle.m2_tree.specs.declared.name.Ident.{Ident}
 use Rattle.typed_tree.specs.declared.types.TypeNo.{TypeNo}
 use Rattle.typed_tree.specs.declared.known_types.Types.{Types}
 use Rattle.typed_tree.specs.Names.{find_name}
-use Rattle.def_typing.specs.Things.{Standing, Unknown}
+use Rattle.def_typing.specs.Things.{Standing}
 use Rattle.def_typing.specs.Parts.{Among, Named}
 use Rattle.def_typing.specs.TypeExprs.{Twice, with_types, Member, member_stands, Added, Setting}
 use Rattle.def_typing.specs.Declarations as blocks
-use Rattle.def_typing.specs.Declarations.{Declaration, names_of, constants_of, formals_in, Declares, is_among, Says, Brings, Misdeclares}
+use Rattle.def_typing.specs.Declarations.{Declaration, names_of, constants_of, formals_in, Declares, is_among, without, Says, Brings, Misdeclares}
 
 -- what is known where a declaration stands
 pub record Context : Type 0 where
@@ -55,7 +55,7 @@ module _ (exports : ℕ → Ident → Standing) (p : Placed) where
     -- Rules are broken in it.
     says_nothing : {names : Ident → Standing} → AllStand names
         → ((a : Added) (s : Standing) → Says exports (setting names) false p.what a s → ⊥)
-        → Means Unknown
+        → Means (without false p.what)
 
   -- what a name stands for behind it: the first declaration of a name holds
   pub data Behind (name : Ident) : Standing → Type 0 where

@@ -56,12 +56,6 @@ pub data HasComponents : Expr → Type 0 where
   has_components : {e : Expr} {d : Designator} {s : Selector} {ss : List Selector}
       → out-Expr e ≡ layer.Use d None → (out-Designator d).selectors ≡ s ∷ ss → HasComponents e
 
--- What the first name of a designator stands for, if it has these components. A procedure has none,
--- in front of its heading as behind it.
-abbrev pub leading : List Selector → Standing → Standing
-leading (s ∷ ss) Ahead = Known (Headless false)
-leading ss other = other
-
 -- ---- what expressions stand for
 
 -- The types that are known, what names stand for, and what modules export.
@@ -220,11 +214,10 @@ module _ (types : Types) (names : Ident → Standing) (exports : ℕ → Ident �
     -- have a meaning.
     pub data Fails : Expr-F Expr Selector Designator Item → Breach → Type 0 where
       at_name : {d : Designator} {args : Option (List Expr)} {f : Breach}
-          → Misnamed (out-Designator d).name.pos
-          (leading (out-Designator d).selectors (names (out-Designator d).name)) f
+          → Misnamed (out-Designator d).name.pos (names (out-Designator d).name) f
           → Fails (layer.Use d args) f
       at_selector : {d : Designator} {args : Option (List Expr)} {x : Thing} {f : Breach}
-          → leading (out-Designator d).selectors (names (out-Designator d).name) ≡ Known x
+          → names (out-Designator d).name ≡ Known x
           → SelectionFails x (out-Designator d).selectors f → Fails (layer.Use d args) f
       at_call : {d : Designator} {args : List Expr} {x : Thing} {f : Breach} → Denotes d x
           → Miscalled (out-Designator d).name.pos x args f → Fails (layer.Use d (Some args)) f

@@ -11,6 +11,8 @@ pub mod Agreements
 pub mod Subranges
 pub mod TypeExprs
 pub mod Declarations
+pub mod Seen
+pub mod Again
 pub mod Definitions
 pub mod Imports
 pub mod Expressions

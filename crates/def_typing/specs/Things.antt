@@ -52,7 +52,8 @@ pub data Standing : Type 0 where
 pub data Misnamed (at : Pos) : Standing → Breach → Type 0 where
   -- Constants, types and variables are declared before use.
   undeclared : Misnamed at Undeclared (at ! rule.Undeclared)
-  not_yet : Misnamed at Ahead (at ! rule.Undeclared)
+  -- A procedure in front of its heading is refused only if nothing else is.
+  not_yet : Misnamed at Ahead (at ! rule.Ahead)
   -- A name of a module is one that the module exports.
   not_exported : Misnamed at NotExported (at ! rule.NotExported)
 

@@ -34,7 +34,7 @@ use Rattle.check_body.specs.Routines.{empty_routine, begun_at, put_routine, rout
 use Rattle.check_body.specs.declared.procedure.Walk.{Walk}
 use Rattle.check_body.specs.Elaborating.{Elaborates, statements_of}
 use Rattle.check_body.specs.Inside.{which_of, begun_procedure, with_routine}
-use Rattle.check_body.specs.Bodies.{Steps, Checks, ChecksBlock, marked_by, declared_by, checked_by, begun_from}
+use Rattle.check_body.specs.Bodies.{Steps, Checks, ChecksBlock, marked_by, declared_by, again_by, checked_by, begun_from}
 use Rattle.check_body.specs.Bodies.{with_body, with_bodies, procedure_checked, steps_layer, block_layer, steps}
 use Rattle.check_body.specs.Bodies.{checks_block, checks_decl, bodies_checked}
 use Rattle.check_body.specs.Checked.{begun_module, walk_body, of_walk, of_implementation, of_contents, body_module}
@@ -366,7 +366,7 @@ module _ (way : Way) where
       block_most y around returns w k p =
           let ds = map steps_of (map (λ (x : SD). x.0) y.decls) in
           let ns = map (bound_decl way) (map (λ (x : SD). x.0) y.decls) in
-          let d = all_declared marked_by declared_by (w.scope, w.so_far) (length w.bodies.locals) ds in
+          let d = all_declared marked_by declared_by again_by (w.scope, w.so_far) (length w.bodies.locals) ds in
           let e = with_bodies (λ (x : Steps g.Reported). checked_by x around) d.2 (begun_from d w.bodies) ds in (
             total_of way ns,
             bound_body way y.body,

@@ -46,7 +46,7 @@ use Rattle.check_body.specs.Routines.{empty_routine, put_routine, routine, typed
 use Rattle.check_body.specs.declared.procedure.Walk.{Walk}
 use Rattle.check_body.specs.Elaborating.{Elaborates}
 use Rattle.check_body.specs.Inside.{which_of, begun_procedure, with_routine}
-use Rattle.check_body.specs.Bodies.{Steps, Checks, ChecksBlock, marked_by, declared_by, checked_by, begun_from, with_body, procedure_checked, steps_layer, block_layer, steps, checks_block, checks_decl, bodies_checked}
+use Rattle.check_body.specs.Bodies.{Steps, Checks, ChecksBlock, marked_by, declared_by, again_by, checked_by, begun_from, with_body, procedure_checked, steps_layer, block_layer, steps, checks_block, checks_decl, bodies_checked}
 use Rattle.check_body.specs.Checked.{begun_module, walk_body, of_walk, of_implementation, of_contents, body_module}
 use Rattle.law_well_formed.specs.FormedBodies.{FormsStatements}
 use Rattle.law_well_formed.specs.FormedScopes.{is_awaiting}
@@ -167,7 +167,7 @@ module _ (g : Gathers) (elaborates : Elaborates g.Reported) where
     block_same : (y : Block-F SD SB) → SameBlock (block_layer g elaborates ends (opened_block (bare_block y)))
     block_same y around returns w =
         let ds = map steps_of (map (λ (x : SD). x.0) y.decls) in
-        let d = all_declared marked_by declared_by (w.scope, w.so_far) (length w.bodies.locals) ds in
+        let d = all_declared marked_by declared_by again_by (w.scope, w.so_far) (length w.bodies.locals) ds in
         bodies_same around d.2 y.decls (begun_from d w.bodies, 0)
 
     step_decl : (x : Decl-F Decl Block) (y : Decl-F SD SB) → bare y ≡ x → PD (roll-Decl x)

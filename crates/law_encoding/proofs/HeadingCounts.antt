@@ -20,7 +20,7 @@ use Rattle.check_scope.specs.declared.known.Known.TheVariants.{Headed}
 use Rattle.check_scope.specs.declared.scope.Scope.{Scope}
 use Rattle.layout_storage.specs.Frames.{formals_in, formals_made, formals_of}
 use Rattle.check_type_expr.specs.Headings.{formal_of}
-use Rattle.check_block.specs.Inner.{inwards}
+use Rattle.check_scope.specs.Inwards.{inwards}
 use Rattle.check_block.specs.Naming.{marked_decl, with_marks}
 use Rattle.check_block.specs.Declarations.{Course, with_decl}
 use Rattle.law_well_formed.specs.FormedNumbers.{with_one, with_names, with_formals_of, all_formals}

@@ -55,13 +55,12 @@ use Rattle.check_value.specs.declared.callee.Called.TheVariants as called
 use Rattle.check_value.specs.declared.standard.Form.{Form}
 use Rattle.check_value.specs.declared.standard.Form.TheVariants as form
 use Rattle.check_value.specs.declared.standard.Unary.{Unary}
-use Rattle.check_expr.proofs.Leading.{leading_keeps}
-use Rattle.check_expr.specs.Meanings.{Meant, Picks, of_computed, signed_first, first_name, leading_name, field_of, formals_of}
+use Rattle.check_expr.specs.Meanings.{Meant, Picks, of_computed, signed_first, first_name, field_of, formals_of}
 use Rattle.check_expr.specs.Meanings.{argument_by, call_given, as_constant, value_of, breaches_in_all, with_actual}
 use Rattle.check_expr.specs.Meanings.{actuals, routine_called, unary, bound, conversion, high, by_form, callee_value}
 use Rattle.check_expr.specs.Meanings.{call_in_expression, factor, term, relation, expr_layer, selector_layer}
 use Rattle.check_expr.specs.Meanings.{designator_layer, item_layer, meanings_of, picks, head, item}
-use Rattle.law_encoding.specs.Counted.{AtMost, fine, broken}
+use Rattle.law_encoding.specs.Counted.{AtMost, fine}
 use Rattle.law_encoding.proofs.Sums.{le_of, le_by}
 use Rattle.law_encoding.proofs.Ways.{Way, ◌⊕⟨◌⟩◌, node, operand, second, all_of, total_of, arguments, operands}
 use Rattle.law_encoding.proofs.Ways.{weight_passed, weight_value, weight_meant}
@@ -299,17 +298,12 @@ module _ (w : Way) where
         (rooted_weight w (root.With f.with)) (component_is w _ (part.outs-Field f.whole f.number)))
     by_meaning at (meaning.Procedure f) = fine (designated.Procedure f) (procedure_name w)
     by_meaning at (meaning.LocalProcedure f) = fine _ (nested_name w s.level f.level near)
-    by_meaning at meaning.Ahead = reported_most g at rule.Undeclared
+    by_meaning at meaning.Ahead = reported_most g at rule.Ahead
     by_meaning at (meaning.Standard f) = fine (designated.Standard f) (omega arith)
     by_meaning at (meaning.Module k) = fine (designated.Module k) (omega arith)
 
     named_most : (name : Ident) → Designated_ g s (base w) (first_name g s name)
     named_most name = then_most (any_most _) (λ x p. plain_most (by_meaning name.pos x))
-
-    leading_most : (name : Ident) (ps : List (Picks g.Reported))
-        → Designated_ g s (base w) (leading_name g s name ps)
-    leading_most name ps =
-        leading_keeps g s name (λ d. Designated_ g s (base w) d) (λ e. broken e) ps (named_most name)
 
     field_of_most : (n : ℕ) (at : Pos) (name : Ident) (d : Designated) → base w ≤ n → weight_meant w d ≤ n
         → Designated_ g s (node w ⊕ n) (field_of g s at name d)
@@ -462,8 +456,7 @@ module _ (w : Way) where
     designator_most y =
         at_more (of_selectors w (bare_designator y))
         (picks_most g s (base w) _ (map (picks g) (map (λ (e : SS). e.0) y.selectors))
-        (leading_name g s y.name (map (picks g) (map (λ (e : SS). e.0) y.selectors))) (omega arith)
-        (leading_most y.name (map (picks g) (map (λ (e : SS). e.0) y.selectors))) (all_picks y.selectors))
+        (first_name g s y.name) (omega arith) (named_most y.name) (all_picks y.selectors))
 
     -- ---- the induction
 

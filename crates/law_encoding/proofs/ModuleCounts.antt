@@ -28,6 +28,7 @@ use Rattle.check_body.specs.Elaborating.{Elaborates}
 use Rattle.check_body.specs.Bodies.{bodies_checked}
 use Rattle.check_body.specs.Checked.{begun_module, walk_body, of_walk, of_implementation, of_contents, body_module}
 use Rattle.law_well_formed.specs.FormedBodies.{FormsStatements}
+use Rattle.law_folds.proofs.AgainSteps.{block_reported}
 use Rattle.law_well_formed.proofs.ScopesDeclarations.{beside_left}
 use Rattle.law_encoding.specs.Sizes.{sum_of, size_decl, size_block, size_section, size_stmts, size_stmts_if, size_contents, size_module}
 use Rattle.law_encoding.specs.Sizes as sizes
@@ -143,8 +144,9 @@ module _ (g : Gathers) where
           let e : Ends types g elaborates forms small last = record { reported = ok; within = λ t x k. k } in
           let first : Ends types g elaborates forms small begun.0 =
           ends_at types g elaborates forms small ends begun.1 ds (begun.0, 0) e in
-          let block_ok = beside_left g (declared_block g ends imported 0 ds).1
-          (reported_of_lack g m.name.pos (declared_block g ends imported 0 ds).0) first.reported in
+          let block_ok = block_reported g ends imported 0 ds
+          (beside_left g (declared_block g ends imported 0 ds).1
+          (reported_of_lack g m.name.pos (declared_block g ends imported 0 ds).0) first.reported) in
           let fits = block_fits types g ends 0 ds imported.0 imported.1 imported_withs block_ok first.within in
           let heads = headings_few (type_weight types) heading_names g modules s m ds fits.1
           (begins.awaits (type_weight types)) first.reported in

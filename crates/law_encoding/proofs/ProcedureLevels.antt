@@ -37,7 +37,7 @@ use Rattle.check_body.specs.Own.{implementation_scope}
 use Rattle.check_body.specs.Routines.{empty_routine, put_routine, routine, typed_module}
 use Rattle.check_body.specs.Elaborating.{Elaborates}
 use Rattle.check_body.specs.Inside.{which_of, with_routine}
-use Rattle.check_body.specs.Bodies.{Steps, Checks, ChecksBlock, marked_by, declared_by, checked_by, begun_from, with_body, procedure_checked, steps_layer, block_layer, steps, checks_block, checks_decl, bodies_checked}
+use Rattle.check_body.specs.Bodies.{Steps, Checks, ChecksBlock, marked_by, declared_by, again_by, checked_by, begun_from, with_body, procedure_checked, steps_layer, block_layer, steps, checks_block, checks_decl, bodies_checked}
 use Rattle.check_body.specs.Checked.{begun_module, walk_body, of_walk, of_implementation, of_contents, body_module}
 use Rattle.law_well_formed.specs.FormedScopes.{Leads}
 use Rattle.law_well_formed.specs.FormedBodies.{FormsStatements, Keeps, FormedBlock}
@@ -151,7 +151,7 @@ module _ (most : ℕ) where
 
       abbrev behind : (s : Scope g.Reported) (so_far : Result (Unit {0}) g.Reported) (first : ℕ) (ds : List Decl)
           → Declared g.Reported
-      behind s so_far first ds = all_declared marked_by declared_by (s, so_far) first (map steps_of ds)
+      behind s so_far first ds = all_declared marked_by declared_by again_by (s, so_far) first (map steps_of ds)
 
       behind_level : (s : Scope g.Reported) (so_far : Result (Unit {0}) g.Reported) (first : ℕ) (ds : List Decl)
           → ((behind s so_far first ds).0.outer ≡ s.outer) × ((behind s so_far first ds).0.level ≡ s.level)

@@ -1,6 +1,6 @@
 -- Results that count at most so many.
 use Rattle.std.proofs.Common.{ℕ, ◌≤◌, Bool, true, false, Result, Ok, Err, arith}
-use Rattle.m2_rule.specs.RuleNumber.{number_of}
+use Rattle.m2_rule.specs.Breaches.{breach}
 use Rattle.m2_rule.specs.declared.rule.Rule.{Rule}
 use Rattle.m2_rule.specs.declared.rule.Rule.TheVariants as rule
 use Rattle.m2_tree.specs.declared.pos.Pos.{Pos}
@@ -42,7 +42,7 @@ module _ (g : Gathers) where
 
   pub reported_beside_most : {A : Type 0} {f : A → ℕ} {n : ℕ} (at : Pos) (k : Rule)
       (rest : Result (Unit {0}) g.Reported) → AtMost f n (reported_beside g {A = A} at k rest)
-  reported_beside_most at k rest = refused_most (g.one (record { pos = at; number = number_of k })) rest
+  reported_beside_most at k rest = refused_most (g.one (breach at k)) rest
 
   pub ahead_most : {A B : Type 0} {f : A → ℕ} {n : ℕ} {h : B → ℕ} {k : ℕ} {r : Result A g.Reported}
       (rest : Result (Unit {0}) g.Reported) {q : A → Result B g.Reported}

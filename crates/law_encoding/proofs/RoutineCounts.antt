@@ -36,7 +36,7 @@ use Rattle.check_body.specs.Routines.{numbered_by, numbered_elaborated, numbered
 use Rattle.check_body.specs.declared.procedure.Walk.{Walk}
 use Rattle.check_body.specs.Elaborating.{Elaborates, statements_of}
 use Rattle.check_body.specs.Inside.{which_of, with_routine}
-use Rattle.check_body.specs.Bodies.{Steps, Checks, ChecksBlock, marked_by, declared_by, checked_by, begun_from, with_body, procedure_checked, steps_layer, block_layer, steps, checks_block, checks_decl}
+use Rattle.check_body.specs.Bodies.{Steps, Checks, ChecksBlock, marked_by, declared_by, again_by, checked_by, begun_from, with_body, procedure_checked, steps_layer, block_layer, steps, checks_block, checks_decl}
 use Rattle.law_well_formed.specs.FormedBodies.{FormsStatements, Keeps, FormedBlock}
 use Rattle.law_well_formed.specs.FormedHeadings.{heading_in}
 use Rattle.law_well_formed.specs.FormedScopes.{Leads}
@@ -44,6 +44,7 @@ use Rattle.law_well_formed.proofs.Parts.{nothing_at, no_home, nothing_open, all_
 use Rattle.law_well_formed.proofs.Checks.{entry, inner, inner_ok}
 use Rattle.law_well_formed.proofs.BodiesBlocks.{step_own, step_keeps, step_reported}
 use Rattle.law_well_formed.proofs.Induction.{decls_formed, blocks_formed}
+use Rattle.law_folds.proofs.AgainSteps.{block_reported}
 use Rattle.law_well_formed.proofs.ModulesSteps.{are_steps, declared_is}
 use Rattle.law_encoding.specs.Sizes.{sum_of, total, size_decl, size_block, size_section, size_stmts, size_stmts_if, size_heading}
 use Rattle.law_encoding.specs.Sizes as sizes
@@ -339,7 +340,7 @@ module _ (types : Types) where
 
       block_headings : (s : Scope g.Reported) (so_far : Result (Unit {0}) g.Reported) (first : ℕ) (ds : List Decl)
           → s.withs ≡ []
-          → let d = all_declared marked_by declared_by (s, so_far) first (map steps_of ds) in
+          → let d = all_declared marked_by declared_by again_by (s, so_far) first (map steps_of ds) in
           (d.0.withs ≡ []) × (d.1 ≡ Ok tt → Within types d.0 → HeadingsFit types g d.0.own ds)
       block_headings s so_far first ds withs =
           subst (λ (d : Behind g.Reported). (d.0.withs ≡ [])
@@ -347,7 +348,8 @@ module _ (types : Types) where
           (declared_is g elaborates forms ends (s, so_far) first ds) (
             block_withs types g ends first ds s so_far withs,
             λ ok in_types.
-                (block_fits types g ends first ds s so_far withs ok in_types).0,
+                (block_fits types g ends first ds s so_far withs
+                (block_reported g ends (s, so_far) first ds ok) in_types).0,
           )
 
       block_sum : (n j : ℕ) → n + j ≤ 1 + n + j
@@ -358,8 +360,8 @@ module _ (types : Types) where
       block_most y around returns w k withs e p =
           let ds = map (λ (x : SD). x.0) y.decls in
           let ns = map size_decl ds in
-          let d : Behind g.Reported = all_declared marked_by declared_by (w.scope, w.so_far) (length w.bodies.locals)
-          (map steps_of ds) in
+          let d : Behind g.Reported = all_declared marked_by declared_by again_by (w.scope, w.so_far)
+          (length w.bodies.locals) (map steps_of ds) in
           let start : Walk g.Reported = begun_from d w.bodies in
           let begun : Ends start = ends_before around d.2 ds (start, 0) e in
           let heads = block_headings w.scope w.so_far (length w.bodies.locals) ds withs in (

@@ -159,7 +159,7 @@ module _ (w : Way) where
     control_by_most near at (meaning.Field f) = reported_most g at rule.WrongControl
     control_by_most near at (meaning.Procedure f) = reported_most g at rule.WrongControl
     control_by_most near at (meaning.LocalProcedure f) = reported_most g at rule.WrongControl
-    control_by_most near at meaning.Ahead = reported_most g at rule.Undeclared
+    control_by_most near at meaning.Ahead = reported_most g at rule.Ahead
     control_by_most near at (meaning.Standard f) = reported_most g at rule.WrongControl
     control_by_most near at (meaning.Module k) = reported_most g at rule.WrongControl
 

@@ -1,5 +1,5 @@
 -- The bodies of the procedures of a block, with other numbers of modules.
-use Rattle.std.proofs.Common.{◌≡◌, ℕ, List, [], ◌∷◌, ◌+◌, map, fold, length, Option, Some, None, Result, refl, sym, ap, subst, ◌∙◌, slice_get}
+use Rattle.std.proofs.Common.{◌≡◌, ℕ, List, [], ◌∷◌, ◌+◌, map, fold, length, Option, Some, None, Result, refl, sym, ap, ap₂, subst, ◌∙◌, slice_get}
 use Rattle.std.specs.Option.{unwrap_or}
 use Rattle.std.proofs.lemmas.List.{length-map}
 use Rattle.m2_tree.specs.declared.stmt.Stmt.{Stmt}
@@ -12,6 +12,7 @@ use Rattle.typed_tree.specs.declared.typed_module.Which.{Which}
 use Rattle.check_scope.specs.declared.scope.Scope.{Scope}
 use Rattle.check_scope.specs.Elaborated.{Gathers}
 use Rattle.check_scope.specs.Scopes.{State}
+use Rattle.check_definition.specs.Again.{Passing}
 use Rattle.check_block.specs.Naming.{with_marks, all_marked}
 use Rattle.check_block.specs.Declarations.{Course, Declared, all_declared, declared_block}
 use Rattle.check_body.specs.declared.routine.Bodies.{Bodies}
@@ -19,7 +20,7 @@ use Rattle.check_body.specs.declared.procedure.Walk.{Walk}
 use Rattle.check_body.specs.declared.procedure.Begun.{Begun}
 use Rattle.check_body.specs.Elaborating.{Elaborates, statements_of}
 use Rattle.check_body.specs.Inside.{which_of, begun_procedure, ended_procedure}
-use Rattle.check_body.specs.Bodies.{begun_from, Checked, Checks, ChecksBlock, Steps, marked_by, declared_by, checked_by, with_body, with_bodies, begun_block, with_statements, block_from, procedure_checked, checks_layer, steps_layer, block_layer, steps, checks_block, checks_decl, bodies_checked}
+use Rattle.check_body.specs.Bodies.{begun_from, Checked, Checks, ChecksBlock, Steps, marked_by, declared_by, again_by, checked_by, with_body, with_bodies, begun_block, with_statements, block_from, procedure_checked, checks_layer, steps_layer, block_layer, steps, checks_block, checks_decl, bodies_checked}
 use Rattle.def_exchange.specs.Moved.{Exchange}
 use Rattle.law_exchange_types.specs.Scopes.{moved_scope, moved_state}
 use Rattle.law_exchange_types.proofs.Basics.{fold_moves}
@@ -27,7 +28,7 @@ use Rattle.law_exchange_bodies.specs.Modules.{moved_course, moved_declared, move
 use Rattle.law_exchange_bodies.specs.Premises.{BodiesElaborate}
 use Rattle.typed_tree.specs.declared.statement.TypedStmt.{TypedStmt}
 use Rattle.law_exchange_bodies.proofs.Naming.{moved_marked, with_marks_moves, marked_layer_moves}
-use Rattle.law_exchange_bodies.proofs.Declarations.{decl_layer_moves, declared_behind, declared_block_moves}
+use Rattle.law_exchange_bodies.proofs.Declarations.{decl_layer_moves, again_layer_moves, own_moves, read_behind, declared_behind, declared_block_moves}
 use Rattle.law_exchange_bodies.proofs.Inside.{which_of_moves, begun_procedure_moves, ended_procedure_moves}
 
 -- ---- the bodies of a block, one after another
@@ -94,6 +95,7 @@ module _ (z : Exchange) (g : Gathers) (elaborates : Elaborates g.Reported)
   pub record StepsMove (f : Steps g.Reported) : Type 0 where
     pub marks : (s : Scope g.Reported) → f.marks (moved_scope z s) ≡ moved_scope z (f.marks s)
     pub declares : (c : Course g.Reported) → f.declares (moved_course z c) ≡ moved_course z (f.declares c)
+    pub again : (s : Scope g.Reported) (p : Passing g.Reported) → f.again (moved_scope z s) p ≡ f.again s p
     pub checks : ChecksMove f.checks
 
   abbrev AllMove : List (Steps g.Reported) → Type 0
@@ -116,13 +118,24 @@ module _ (z : Exchange) (g : Gathers) (elaborates : Elaborates g.Reported)
   declares_all c (f ∷ fs) h =
       ap (λ (c : Course g.Reported). fold declared_by c fs) (h.0.declares c) ∙ declares_all (f.declares c) fs h.1
 
+  again_all : (s : Scope g.Reported) (p : Passing g.Reported) (fs : List (Steps g.Reported)) → AllMove fs
+      → fold (again_by (moved_scope z s)) p fs ≡ fold (again_by s) p fs
+  again_all s p [] h = refl
+  again_all s p (f ∷ fs) h =
+      ap (λ (p : Passing g.Reported). fold (again_by (moved_scope z s)) p fs) (h.0.again s p)
+      ∙ again_all s (f.again s p) fs h.1
+
   block_declared : (st : State (Unit {0}) g.Reported) (first : ℕ) (fs : List (Steps g.Reported)) → AllMove fs
-      → all_declared marked_by declared_by (moved_state z st) first fs
-      ≡ moved_declared z (all_declared marked_by declared_by st first fs)
+      → all_declared marked_by declared_by again_by (moved_state z st) first fs
+      ≡ moved_declared z (all_declared marked_by declared_by again_by st first fs)
   block_declared st first fs h =
       let m : Scope g.Reported × List ℕ = all_marked marked_by st.0 fs in
-      ap (declared_behind declared_by st.1 first fs) (marks_all (st.0, []) fs h)
-      ∙ ap (λ (c : Course g.Reported). (c.0, c.1, m.1)) (declares_all (m.0, st.1, first) fs h)
+      let c : Course g.Reported = fold declared_by (m.0, st.1, first) fs in
+      let n : ℕ = length st.0.own in
+      ap₂ (λ (n : ℕ) (m : Scope g.Reported × List ℕ). declared_behind declared_by again_by st.1 n first fs m)
+      (own_moves z st.0) (marks_all (st.0, []) fs h)
+      ∙ (ap (read_behind again_by n fs m.1) (declares_all (m.0, st.1, first) fs h)
+      ∙ ap (λ (p : Passing g.Reported). (moved_scope z c.0, p.0, m.1)) (again_all c.0 (c.1, n) fs h))
 
   abbrev body_step : Option Which → List ℕ → Walk g.Reported × ℕ → Steps g.Reported → Walk g.Reported × ℕ
   body_step around seen st f = with_body (λ (x : Steps g.Reported). checked_by x around) seen st f
@@ -155,12 +168,12 @@ module _ (z : Exchange) (g : Gathers) (elaborates : Elaborates g.Reported)
   block_layer_moves b h around returns w =
       ap (λ (d : Declared g.Reported).
       block_from elaborates checked_by around (moved_returns z returns) d b.decls b.body (moved_bodies z w.bodies))
-      (ap (λ (n : ℕ). all_declared marked_by declared_by (moved_state z (w.scope, w.so_far)) n b.decls)
+      (ap (λ (n : ℕ). all_declared marked_by declared_by again_by (moved_state z (w.scope, w.so_far)) n b.decls)
       (length-map w.bodies.locals (moved_routine z))
       ∙ block_declared (w.scope, w.so_far) (length w.bodies.locals) b.decls h)
       ∙ block_from_moves around returns
-      (all_declared marked_by declared_by (w.scope, w.so_far) (length w.bodies.locals) b.decls) b.decls b.body w.bodies
-      h
+      (all_declared marked_by declared_by again_by (w.scope, w.so_far) (length w.bodies.locals) b.decls) b.decls b.body
+      w.bodies h
 
   -- ---- a declaration
 
@@ -198,6 +211,7 @@ module _ (z : Exchange) (g : Gathers) (elaborates : Elaborates g.Reported)
   steps_layer_moves x k = record {
     marks = λ s. marked_layer_moves z s x;
     declares = λ c. decl_layer_moves z g ends c x;
+    again = λ s p. again_layer_moves z g s p x;
     checks = checks_layer_moves x k;
   }
 

@@ -1,5 +1,5 @@
 -- The declarations of a block, with other numbers of modules.
-use Rattle.std.proofs.Common.{◌≡◌, ℕ, ◌==◌, Bool, false, ◌||◌, cond, List, fold, Result, Ok, refl, sym, ap, ap₂, ◌∙◌}
+use Rattle.std.proofs.Common.{◌≡◌, ℕ, ◌==◌, Bool, false, ◌||◌, cond, List, fold, length, Result, Ok, refl, sym, ap, ap₂, ◌∙◌}
 use Rattle.std.proofs.lemmas.List.{length-map}
 use Rattle.m2_rule.specs.declared.rule.Rule.TheVariants as rule
 use Rattle.m2_tree.specs.declared.pos.Pos.{Pos}
@@ -16,13 +16,14 @@ use Rattle.check_scope.specs.Elaborated.{Gathers, beside, reported_where}
 use Rattle.check_scope.specs.Scopes.{State}
 use Rattle.check_type_expr.specs.Made.{nothing_of, type_of}
 use Rattle.check_definition.specs.Declare.{with_constant, with_type, begun_name, finished_variable, with_variables}
+use Rattle.check_definition.specs.Again.{Passing}
 use Rattle.check_definition.specs.Importing.{with_import}
 use Rattle.check_block.specs.declared.heading.Standing.{Standing}
 use Rattle.check_block.specs.declared.heading.Standing.TheVariants.{Free, Awaited, Taken}
 use Rattle.check_block.specs.Headings.{standing_known}
 use Rattle.check_block.specs.Nesting.{number_behind}
 use Rattle.check_block.specs.Naming.{marked_decl, all_marked}
-use Rattle.check_block.specs.Declarations.{local_meaning, finished_local, with_locals, with_variables_of, Course, going_on, with_procedure, decl_layer, with_decl, Declared, all_declared, declared_block, is_awaited, or_awaited, lacks, reported_of_lack, declared_module}
+use Rattle.check_block.specs.Declarations.{local_meaning, finished_local, with_locals, with_variables_of, Course, going_on, with_procedure, decl_layer, with_decl, again_layer, again_decl, Declared, all_declared, declared_block, is_awaited, or_awaited, lacks, reported_of_lack, declared_module}
 use Rattle.def_exchange.specs.Moved.{Exchange, moved_meaning, moved_type}
 use Rattle.law_exchange_types.specs.Pieces.{map_ok, moved_pair, same}
 use Rattle.law_exchange_types.specs.Scopes.{moved_known, moved_names, moved_scope, moved_state, moved_state_of}
@@ -35,6 +36,7 @@ use Rattle.law_exchange_bodies.proofs.Headings.{standing_known_moves, with_headi
 use Rattle.law_exchange_bodies.proofs.Naming.{all_marked_moves, marked_decl_moves}
 use Rattle.law_exchange_types.proofs.Types.{type_moves}
 use Rattle.law_exchange_types.proofs.Begin.{import_moves}
+use Rattle.law_exchange_types.proofs.Again.{same_fold, passed_again, constants_again, types_again, lists_again}
 
 -- ---- variables of a procedure
 
@@ -121,34 +123,62 @@ module _ (z : Exchange) (g : Gathers) where
       → with_decl g ends (moved_course z c) d ≡ moved_course z (with_decl g ends c d)
   with_decl_moves ends c d = decl_layer_moves ends c (out-Decl d)
 
+-- ---- declarations, read again
+
+module _ (z : Exchange) (g : Gathers) where
+  pub again_layer_moves : {A B : Type 0} (s : Scope g.Reported) (p : Passing g.Reported) (d : Decl-F A B)
+      → again_layer g (moved_scope z s) p d ≡ again_layer g s p d
+  again_layer_moves s p (layer.Constants cs) = constants_again z g s p cs
+  again_layer_moves s p (layer.Types ts) = types_again z g s p ts
+  again_layer_moves s p (layer.Variables vs) = lists_again z g s p vs
+  again_layer_moves s p (layer.Procedure h b) = passed_again z g s p h.name
+
+  again_decl_moves : (s : Scope g.Reported) (p : Passing g.Reported) (d : Decl)
+      → again_decl g (moved_scope z s) p d ≡ again_decl g s p d
+  again_decl_moves s p d = again_layer_moves s p (out-Decl d)
+
 -- ---- a block
 
+-- behind its declarations
+abbrev pub read_behind : {T X : Type 0} → (Scope T → Passing T → X → Passing T) → ℕ → List X → List ℕ → Course T
+    → Declared T
+read_behind again n xs seen c = (c.0, (fold (again c.0) (c.1, n) xs).0, seen)
+
 -- behind its marks
-abbrev pub declared_behind : {T X : Type 0} → (Course T → X → Course T) → Result (Unit {0}) T → ℕ → List X
-    → Scope T × List ℕ → Declared T
-declared_behind declares so first xs m =
-    let c = fold declares (m.0, so, first) xs in
-    (c.0, c.1, m.1)
+abbrev pub declared_behind : {T X : Type 0} → (Course T → X → Course T) → (Scope T → Passing T → X → Passing T)
+    → Result (Unit {0}) T → ℕ → ℕ → List X → Scope T × List ℕ → Declared T
+declared_behind declares again so n first xs m = read_behind again n xs m.1 (fold declares (m.0, so, first) xs)
+
+-- how many names stand in front of it
+pub own_moves : (z : Exchange) {T : Type 0} (s : Scope T) → length (moved_names z s.own) ≡ length s.own
+own_moves z {T} s = length-map s.own (λ (e : List ℕ × Known T). (e.0, moved_known z e.1))
 
 module _ (z : Exchange) {T X : Type 0} (marks : Scope T → X → Scope T) (declares : Course T → X → Course T)
+    (again : Scope T → Passing T → X → Passing T)
     (marks_move : (s : Scope T) (x : X) → marks (moved_scope z s) x ≡ moved_scope z (marks s x))
-    (declares_move : (c : Course T) (x : X) → declares (moved_course z c) x ≡ moved_course z (declares c x)) where
+    (declares_move : (c : Course T) (x : X) → declares (moved_course z c) x ≡ moved_course z (declares c x))
+    (again_moves : (s : Scope T) (p : Passing T) (x : X) → again (moved_scope z s) p x ≡ again s p x) where
   pub all_declared_moves : (st : State (Unit {0}) T) (first : ℕ) (xs : List X)
-      → all_declared marks declares (moved_state z st) first xs
-      ≡ moved_declared z (all_declared marks declares st first xs)
+      → all_declared marks declares again (moved_state z st) first xs
+      ≡ moved_declared z (all_declared marks declares again st first xs)
   all_declared_moves st first xs =
       let m : Scope T × List ℕ = all_marked marks st.0 xs in
-      ap (declared_behind declares st.1 first xs) (all_marked_moves z marks marks_move st.0 xs)
-      ∙ ap (λ (c : Course T). (c.0, c.1, m.1))
+      let c : Course T = fold declares (m.0, st.1, first) xs in
+      let n : ℕ = length st.0.own in
+      ap₂ (λ (n : ℕ) (m : Scope T × List ℕ). declared_behind declares again st.1 n first xs m)
+      (own_moves z st.0) (all_marked_moves z marks marks_move st.0 xs)
+      ∙ (ap (read_behind again n xs m.1)
       (fold_moves (moved_course z) declares declares declares_move (m.0, st.1, first) xs)
+      ∙ ap (λ (p : Passing T). (moved_scope z c.0, p.0, m.1))
+      (same_fold (again c.0) (again (moved_scope z c.0)) (again_moves c.0) (c.1, n) xs))
 
 module _ (z : Exchange) (g : Gathers) where
   pub declared_block_moves : (ends : List ℕ) (st : State (Unit {0}) g.Reported) (first : ℕ) (decls : List Decl)
       → declared_block g ends (moved_state z st) first decls
       ≡ moved_declared z (declared_block g ends st first decls)
   declared_block_moves ends st first decls =
-      all_declared_moves z marked_decl (with_decl g ends) (marked_decl_moves z) (with_decl_moves z g ends)
-      st first decls
+      all_declared_moves z marked_decl (with_decl g ends) (again_decl g) (marked_decl_moves z)
+      (with_decl_moves z g ends) (again_decl_moves z g) st first decls
 
 -- ---- a module's
 

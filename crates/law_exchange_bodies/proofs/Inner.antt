@@ -1,6 +1,7 @@
 -- Inner of check_block, with other numbers of modules.
-use Rattle.check_block.specs.Inner.{left_procedure, entered_procedure, formal_kind, formal_meaning, with_section, outwards, pop_block, inwards, with_formal_type, with_formal, outside, formals_in, entered_in, Formals, with_formals, unless_found, split_last}
-use Rattle.check_block.specs.declared.inner.Outside.{Outside}
+use Rattle.check_scope.specs.Inwards.{left_procedure, outwards, pop_block, inwards, outside, split_last}
+use Rattle.check_block.specs.Inner.{entered_procedure, formal_kind, formal_meaning, with_section, with_formal_type, with_formal, formals_in, entered_in, Formals, with_formals, unless_found}
+use Rattle.check_scope.specs.declared.inner.Outside.{Outside}
 use Rattle.check_scope.specs.Elaborated.{Gathers}
 use Rattle.check_scope.specs.declared.known.Known.{Known}
 use Rattle.check_scope.specs.declared.scope.Block.{Block}
@@ -8,6 +9,7 @@ use Rattle.check_scope.specs.declared.scope.Scope.{Scope}
 use Rattle.def_exchange.specs.Moved.{moved_formal, moved_meaning, moved_type, Exchange}
 use Rattle.law_exchange_types.proofs.Headings.{formal_of_moves, result_of_moves}
 use Rattle.law_exchange_bodies.specs.Modules.{moved_formals, moved_outside}
+use Rattle.law_exchange_types.proofs.InScope.{inwards_moves}
 use Rattle.law_exchange_types.proofs.Basics.{then_map, map_then, fold_moves}
 use Rattle.law_exchange_types.specs.Pieces.{map_ok, moved_pair}
 use Rattle.law_exchange_types.specs.Scopes.{moved_block, moved_names, moved_scope, moved_state_of, moved_known}
@@ -23,10 +25,6 @@ use Rattle.typed_tree.specs.declared.meaning.Meaning.{Meaning}
 use Rattle.check_scope.specs.declared.known.Origin.TheVariants.{Here}
 use Rattle.check_scope.specs.declared.known.Known.TheVariants.{Declared}
 use Rattle.law_exchange_bodies.proofs.Pieces.{unless_found_moves, split_moves}
-
-pub inwards_moves : (z : Exchange) {T : Type 0} (s : Scope T) (seen : ℕ)
-    → inwards (moved_scope z s) seen ≡ moved_scope z (inwards s seen)
-inwards_moves z s seen = simp (length-map, map-append)
 
 pub outside_moves : (z : Exchange) {T : Type 0} (s : Scope T)
     → outside (moved_scope z s) ≡ moved_outside z (outside s)

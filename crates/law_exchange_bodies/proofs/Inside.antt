@@ -22,7 +22,8 @@ use Rattle.std.proofs.lemmas.List.{length-map}
 use Rattle.typed_tree.specs.declared.statement.TypedStmt.{TypedStmt}
 use Rattle.typed_tree.specs.declared.typed_module.Which.{Which}
 use Rattle.typed_tree.specs.declared.types.TypeNo.{TypeNo}
-use Rattle.check_block.specs.Inner.{outside, left_procedure, entered_procedure}
+use Rattle.check_scope.specs.Inwards.{outside, left_procedure}
+use Rattle.check_block.specs.Inner.{entered_procedure}
 use Rattle.check_body.specs.Routines.{procedure_named, put_routine, routine}
 
 pub returns_of_moves : (z : Exchange) {T : Type 0} (r : Result (Option TypeNo) T)

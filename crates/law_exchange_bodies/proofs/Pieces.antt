@@ -6,7 +6,8 @@ use Rattle.std.specs.Option.{is_some}
 use Rattle.std.proofs.lemmas.List.{map-append}
 use Rattle.indexmap.specs.IndexMap.{insert_entry}
 use Rattle.typed_tree.specs.Names.{find_name, enter_name}
-use Rattle.check_block.specs.Inner.{unless_found, split_last}
+use Rattle.check_scope.specs.Inwards.{split_last}
+use Rattle.check_block.specs.Inner.{unless_found}
 use Rattle.def_exchange.specs.Moved.{Exchange}
 use Rattle.law_exchange_types.specs.Pieces.{moved_pair, moved_entries}
 use Rattle.law_exchange_types.proofs.Basics.{same_number, find_moves, enter_moves, cond_moves, if_in}

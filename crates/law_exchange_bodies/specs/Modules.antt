@@ -8,7 +8,7 @@ use Rattle.typed_tree.specs.declared.typed_module.Routine.{Routine}
 use Rattle.typed_tree.specs.declared.typed_module.TypedModule.{TypedModule}
 use Rattle.check_block.specs.declared.heading.Standing.{Standing}
 use Rattle.check_block.specs.declared.heading.Standing.TheVariants.{Free, Awaited, Taken}
-use Rattle.check_block.specs.declared.inner.Outside.{Outside}
+use Rattle.check_scope.specs.declared.inner.Outside.{Outside}
 use Rattle.check_block.specs.Inner.{Formals}
 use Rattle.check_block.specs.Declarations.{Course, Declared}
 use Rattle.check_body.specs.declared.routine.Numbered.{Numbered}

@@ -1,5 +1,6 @@
 -- The table of a definition, with other numbers of modules.
 use Rattle.check_const.specs.Parts.{constant}
+use Rattle.check_definition.specs.Again.{Passing, again_def}
 use Rattle.check_definition.specs.Compiled.{of_contents, definition_table, declared_in, table_of, table_or, of_definition}
 use Rattle.check_definition.specs.Declare.{with_def, brings_with, with_type, finished_variable, nothing_reported, with_procedure, with_variables, begun_name, with_procedure_type, with_constant, declared_procedure, variable_meaning, procedure_meaning, type_meaning, with_variable_type, constant_meaning}
 use Rattle.check_definition.specs.Export.{exports, reached_of, imported_modules, with_meaning, with_import_of, with_imported, with_types, own_types, with_table_if, with_imports_of, with_export, with_known, with_place_if}
@@ -7,8 +8,8 @@ use Rattle.check_definition.specs.Importing.{numbered_modules, with_import}
 use Rattle.check_definition.specs.Marking.{marked_def}
 use Rattle.check_definition.specs.Predeclared.{console, first_scope}
 use Rattle.check_expr.specs.Meanings.{part}
-use Rattle.check_scope.specs.Elaborated.{least, beside, Gathers, ◌▷◌}
-use Rattle.check_scope.specs.Scopes.{State, declare_name, begin_name, finish_name}
+use Rattle.check_scope.specs.Elaborated.{least, beside, Gathers}
+use Rattle.check_scope.specs.Scopes.{State, heading_means, begin_name, head_name, finish_name}
 use Rattle.check_scope.specs.declared.known.Known.{Known}
 use Rattle.check_scope.specs.declared.known.Known.TheVariants.{Later, Ahead, Begun, Headed, Declared}
 use Rattle.check_scope.specs.declared.known.Origin.TheVariants.{Here, Export}
@@ -16,12 +17,13 @@ use Rattle.check_scope.specs.declared.scope.Scope.{Scope}
 use Rattle.check_type_expr.specs.Headings.{heading_of, names_of}
 use Rattle.check_type_expr.specs.Made.{type_of, nothing_of, with_made}
 use Rattle.def_exchange.specs.Moved.{moved_made, moved_meaning, moved_reached, moved_table, moved_type, moved_types, moved_value, Exchange}
+use Rattle.law_exchange_types.proofs.Again.{nothing_moves, defs_again}
 use Rattle.law_exchange_types.proofs.Basics.{enter_moves, fold_moves, folds_move}
 use Rattle.law_exchange_types.proofs.Begin.{first_moves, import_moves, marked_moves, numbered_moves}
 use Rattle.law_exchange_types.proofs.Exprs.{part_moves}
 use Rattle.law_exchange_types.proofs.Fixed.{constant_moves}
 use Rattle.law_exchange_types.proofs.Headings.{heading_of_moves}
-use Rattle.law_exchange_types.proofs.InScope.{begin_name_moves, declare_name_moves, finish_name_moves}
+use Rattle.law_exchange_types.proofs.InScope.{begin_name_moves, head_name_moves, finish_name_moves, heading_means_moves}
 use Rattle.law_exchange_types.proofs.MadePieces.{nothing_of_moves, with_made_moves}
 use Rattle.law_exchange_types.proofs.Types.{type_moves}
 use Rattle.law_exchange_types.specs.Laws.{DefinitionsMove}
@@ -36,7 +38,7 @@ use Rattle.m2_tree.specs.declared.decl.Module.{Module}
 use Rattle.m2_tree.specs.declared.decl.TypeDecl.{TypeDecl}
 use Rattle.m2_tree.specs.declared.decl.Variables.{Variables}
 use Rattle.m2_tree.specs.declared.name.Ident.{Ident}
-use Rattle.std.proofs.Common.{◌≡◌, Err, List, None, Ok, Option, Result, Some, ap, ap₂, fold, length, map, option_map, refl, slice_get, sym, ℕ, ◌∷◌, ◌++◌, ◌∙◌, []}
+use Rattle.std.proofs.Common.{◌≡◌, Err, List, None, Ok, Option, Result, Some, ap, ap₂, false, fold, length, map, option_map, refl, slice_get, sym, ℕ, ◌∷◌, ◌++◌, ◌∙◌, []}
 use Rattle.std.proofs.lemmas.List.{map-append, length-map}
 use Rattle.std.proofs.lemmas.Option.{slice_get-map}
 use Rattle.typed_tree.specs.Names.{find_name}
@@ -56,14 +58,6 @@ module _ (z : Exchange) (g : Gathers) where
   abbrev St : Type 0
   St = State (Unit {0}) g.Reported
 
-  abbrev silent : {A : Type 0} → Result A g.Reported → Result (Unit {0}) g.Reported
-  silent r = r ▷ λ a. Ok tt
-
-  nothing_moves : {A B : Type 0} (f : A → B) (r : Result A g.Reported)
-      → silent (map_ok f r) ≡ silent r
-  nothing_moves f (Ok a) = refl
-  nothing_moves f (Err e) = refl
-
   -- ---- constants
 
   value_meaning : (v : Result Value g.Reported)
@@ -79,7 +73,7 @@ module _ (z : Exchange) (g : Gathers) where
   ended_moves name st b v =
       ap₂ (λ (m : Result Meaning g.Reported) (r : Result (Unit {0}) g.Reported).
       (finish_name (moved_scope z b.0) name m, beside g st.1 (beside g b.1 r)))
-      (value_meaning v) (nothing_moves (moved_value z) v)
+      (value_meaning v) (nothing_moves z g v)
       ∙ ap (λ (s : Scope g.Reported). (s, beside g st.1 (beside g b.1 (nothing_reported v))))
       (finish_name_moves z b.0 name (constant_meaning v))
 
@@ -184,17 +178,23 @@ module _ (z : Exchange) (g : Gathers) where
       (sym (map-append (moved_type z) s.procedures (t ∷ [])))
   procedure_type_noted s (Err e) = refl
 
+  heading_is : (home n : ℕ) (t : Result TypeNo g.Reported)
+      → heading_means false (procedure_meaning (z.there home) n (map_ok (moved_type z) t))
+      ≡ map_ok (moved_meaning z) (heading_means false (procedure_meaning home n t))
+  heading_is home n t =
+      ap (heading_means false) (procedure_is home n t) ∙ heading_means_moves z false (procedure_meaning home n t)
+
   procedure_named : (s : Scope g.Reported) (name : Ident) (t : Result TypeNo g.Reported)
       → declared_procedure g (moved_scope z s) name (map_ok (moved_type z) t)
       ≡ moved_state z (declared_procedure g s name t)
   procedure_named s name t =
-      ap₂ (λ (u : Scope g.Reported) (n : ℕ). declare_name g u name
-      (procedure_meaning (z.there s.types.home) n (map_ok (moved_type z) t)))
+      ap₂ (λ (u : Scope g.Reported) (n : ℕ). head_name g u name
+      (heading_means false (procedure_meaning (z.there s.types.home) n (map_ok (moved_type z) t))))
       (procedure_type_noted s t) (length-map s.procedures (moved_type z))
-      ∙ (ap (declare_name g (moved_scope z (with_procedure_type s t)) name)
-      (procedure_is s.types.home (length s.procedures) t)
-      ∙ declare_name_moves z g (with_procedure_type s t) name
-      (procedure_meaning s.types.home (length s.procedures) t))
+      ∙ (ap (head_name g (moved_scope z (with_procedure_type s t)) name)
+      (heading_is s.types.home (length s.procedures) t)
+      ∙ head_name_moves z g (with_procedure_type s t) name
+      (heading_means false (procedure_meaning s.types.home (length s.procedures) t)))
 
   abbrev headed : Heading → St → Result TypeNo g.Reported → St → St
   headed h st t d = (d.0, beside g st.1 (beside g (names_of g h) (beside g (nothing_of t) d.1)))
@@ -223,16 +223,36 @@ module _ (z : Exchange) (g : Gathers) where
       st vs
   def_moves st (def.Procedure h) = procedure_declared st h
 
+  -- ---- all that stands in it
+
+  -- constant expressions, read again
+  abbrev read_again : List Def → ℕ → St → St
+  read_again defs n d = (d.0, (fold (again_def g d.0) (d.1, n) defs).0)
+
+  abbrev behind_imports : List Def → St → St
+  behind_imports defs i =
+      read_again defs (length i.0.own) (fold (with_def g) (fold marked_def i.0 defs, i.1) defs)
+
+  defs_move : (i : St) (defs : List Def)
+      → fold (with_def g) (fold marked_def (moved_scope z i.0) defs, i.1) defs
+      ≡ moved_state z (fold (with_def g) (fold marked_def i.0 defs, i.1) defs)
+  defs_move i defs =
+      ap (λ (u : Scope g.Reported). fold (with_def g) (u, i.1) defs)
+      (fold_moves (moved_scope z) marked_def marked_def (marked_moves z g.Reported) i.0 defs)
+      ∙ fold_moves (moved_state z) (with_def g) (with_def g) def_moves (fold marked_def i.0 defs, i.1) defs
+
   pub declared_moves : (m : Module) (modules : List (List ℕ × ℕ)) (s : Scope g.Reported) (defs : List Def)
       → declared_in g m modules (moved_scope z s) defs ≡ moved_state z (declared_in g m modules s defs)
   declared_moves m modules s defs =
-      ap (λ (u : Scope g.Reported). fold (with_def g) (fold (with_import g modules) (u, Ok tt) m.imports) defs)
-      (fold_moves (moved_scope z) marked_def marked_def (marked_moves z g.Reported) s defs)
-      ∙ (ap (λ (u : St). fold (with_def g) u defs)
+      let i : St = fold (with_import g modules) (s, Ok tt) m.imports in
+      let d : St = fold (with_def g) (fold marked_def i.0 defs, i.1) defs in
+      ap (behind_imports defs)
       (fold_moves (moved_state z) (with_import g modules) (with_import g modules) (import_moves z g modules)
-      (fold marked_def s defs, Ok tt) m.imports)
-      ∙ fold_moves (moved_state z) (with_def g) (with_def g) def_moves
-      (fold (with_import g modules) (fold marked_def s defs, Ok tt) m.imports) defs)
+      (s, Ok tt) m.imports)
+      ∙ (ap₂ (read_again defs)
+      (length-map i.0.own (λ (e : List ℕ × Known g.Reported). (e.0, moved_known z e.1))) (defs_move i defs)
+      ∙ ap (λ (p : Passing g.Reported). (moved_scope z d.0, p.0))
+      (defs_again z g d.0 (d.1, length i.0.own) defs))
 
 -- ---- exports
 

@@ -1,10 +1,12 @@
 -- Scopes of check_scope, with other numbers of modules.
 use Rattle.check_scope.specs.Elaborated.{Gathers}
-use Rattle.check_scope.specs.Scopes.{is_begun, begin_name, heading_means, unless_declared, is_free, seen_at, means_as, fields_at, with_known, is_again, field_in, sight_of, Sight, field_numbered, nearer, finish_name, means_or, field_at, or_around, field_among, open_field, unless_marked, known_outside, means_seen, fields_made, looked_up, fields_shape, in_block, mark_name, import_name, declare_name}
+use Rattle.check_scope.specs.Scopes.{is_begun, begin_name, heading_means, unless_declared, is_free, seen_at, means_as, fields_at, with_known, is_again, field_in, sight_of, Sight, field_numbered, nearer, finish_name, means_or, field_at, or_around, field_among, open_field, unless_marked, known_outside, means_seen, fields_made, looked_up, fields_shape, in_block, mark_name, import_name, declare_name, head_name}
+use Rattle.check_scope.specs.Inwards.{inwards}
 use Rattle.check_scope.specs.declared.known.Known.{Known}
 use Rattle.check_scope.specs.declared.known.Known.TheVariants.{Later, Ahead, Begun, Headed, Declared}
 use Rattle.check_scope.specs.declared.known.Origin.{Origin}
 use Rattle.check_scope.specs.declared.known.Origin.TheVariants.{Here}
+use Rattle.check_scope.specs.declared.meaningless.Meaningless.{Meaningless}
 use Rattle.check_scope.specs.declared.scope.Block.{Block}
 use Rattle.check_scope.specs.declared.scope.OpenedRecord.{OpenedRecord}
 use Rattle.check_scope.specs.declared.scope.Scope.{Scope}
@@ -16,6 +18,7 @@ use Rattle.law_exchange_types.specs.Scopes.{moved_block, moved_known, moved_name
 use Rattle.m2_tree.specs.declared.name.Ident.{Ident}
 use Rattle.m2_tree.specs.declared.pos.Pos.{Pos}
 use Rattle.std.proofs.Common.{◌≡◌, refl, Bool, Err, List, None, Ok, Option, Result, Some, ap, false, map, option_map, true, ℕ, ◌∷◌, []}
+use Rattle.std.proofs.lemmas.List.{length-map, map-append}
 use Rattle.std.proofs.lemmas.Option.{slice_get-map}
 use Rattle.typed_tree.specs.declared.known_types.Types.{Types}
 use Rattle.typed_tree.specs.declared.meaning.Meaning.{Meaning}
@@ -160,6 +163,11 @@ pub begin_name_moves : (z : Exchange) (g : Gathers) (s : Scope g.Reported) (name
     → begin_name g (moved_scope z s) name ≡ moved_state z (begin_name g s name)
 begin_name_moves z g s name = unless_declared_moves z g s name Begun
 
+pub head_name_moves : (z : Exchange) (g : Gathers) (s : Scope g.Reported) (name : Ident)
+    (m : Result Meaning (Meaningless g.Reported))
+    → head_name g (moved_scope z s) name (map_ok (moved_meaning z) m) ≡ moved_state z (head_name g s name m)
+head_name_moves z g s name m = unless_declared_moves z g s name (Headed m)
+
 pub is_begun_moves : (z : Exchange) {T : Type 0} (a0 : Option (Known T))
     → is_begun (option_map (moved_known z) a0) ≡ is_begun a0
 is_begun_moves z None = refl
@@ -204,3 +212,7 @@ unless_marked_moves z name k s None = with_known_moves z name k s
 pub mark_name_moves : (z : Exchange) {T : Type 0} (name : Ident) (k : Known T) (s : Scope T)
     → mark_name name (moved_known z k) (moved_scope z s) ≡ moved_scope z (mark_name name k s)
 mark_name_moves z name k s = simp (unless_marked_moves, find_name_moves)
+
+pub inwards_moves : (z : Exchange) {T : Type 0} (s : Scope T) (seen : ℕ)
+    → inwards (moved_scope z s) seen ≡ moved_scope z (inwards s seen)
+inwards_moves z s seen = simp (length-map, map-append)

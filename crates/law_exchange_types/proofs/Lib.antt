@@ -1,4 +1,5 @@
 pub mod Actuals
+pub mod Again
 pub mod Agreement
 pub mod Basics
 pub mod Begin

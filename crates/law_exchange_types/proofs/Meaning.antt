@@ -1,9 +1,8 @@
 -- Expressions, with other numbers of modules.
 use Rattle.check_const.specs.Operators.{mul_op, add_op}
 use Rattle.check_const.specs.Parts.{named_type, Part, constant, sign_place}
-use Rattle.check_expr.specs.Meanings.{leading_name, high, Meant, routine_called, as_constant, designation, actuals, of_computed, used_with, relation_value, factor, scalar_named, wrong_count, unary, with_look, bound, value_of, argument_by, term, callee_value, names_by, breaches_in_all, formals_of, value_standing, signed_first, by_form, designator_layer, index_at, denotation, relation, leading_meaning, with_actual, type_of, conversion, call_in_expression, call_given, Picks}
+use Rattle.check_expr.specs.Meanings.{first_name, high, Meant, routine_called, as_constant, designation, actuals, of_computed, used_with, relation_value, factor, scalar_named, wrong_count, unary, with_look, bound, value_of, argument_by, term, callee_value, names_by, breaches_in_all, formals_of, value_standing, signed_first, by_form, designator_layer, index_at, denotation, relation, with_actual, type_of, conversion, call_in_expression, call_given, Picks}
 use Rattle.check_scope.specs.Elaborated.{Gathers, reported_beside, beside, ahead, of_sort, of_heading, of_sort_of_value, plain, ◌▷◌}
-use Rattle.check_scope.specs.Scopes.{looked_up}
 use Rattle.check_scope.specs.declared.meaningless.Meaningless.{Meaningless}
 use Rattle.check_scope.specs.declared.scope.Scope.{Scope}
 use Rattle.check_value.specs.Actuals.{next_formal, with_argument}
@@ -18,15 +17,14 @@ use Rattle.check_value.specs.declared.computed.Computed.{Computed}
 use Rattle.check_value.specs.declared.computed.Designated.{Designated}
 use Rattle.check_value.specs.declared.standard.Form.{Form}
 use Rattle.check_value.specs.declared.standard.Unary.{Unary}
-use Rattle.def_exchange.specs.Moved.{moved_formal, moved_meaning, moved_scalar, moved_signature, moved_type, moved_types, moved_value, Exchange}
+use Rattle.def_exchange.specs.Moved.{moved_formal, moved_scalar, moved_signature, moved_type, moved_types, moved_value, Exchange}
 use Rattle.law_exchange_types.proofs.Actuals.{with_argument_moves}
 use Rattle.law_exchange_types.proofs.Basics.{then_moves, plain_moves, sort_moves, heading_moves, sort_of_value_moves, refusal_moves, ahead_moves}
 use Rattle.law_exchange_types.proofs.Callees.{callee_of_moves, function_of_moves}
 use Rattle.law_exchange_types.proofs.Classes.{signature_at_moves}
 use Rattle.law_exchange_types.proofs.Fixed.{PartMoves, PickMoves, PicksMove, constant_moves, selection_moves}
 use Rattle.law_exchange_types.proofs.Functions.{bound_at_moves, conversion_at_moves, high_of_moves, type_named_moves, unary_at_moves}
-use Rattle.law_exchange_types.proofs.InScope.{looked_up_moves}
-use Rattle.law_exchange_types.proofs.MeaningPieces.{signed_first_moves, relation_value_moves, first_name_moves as meant_first_moves, leading_meaning_moves, type_of_moves, of_computed_moves, value_standing_moves, argument_by_moves, call_given_moves, index_at_moves}
+use Rattle.law_exchange_types.proofs.MeaningPieces.{signed_first_moves, relation_value_moves, first_name_moves as meant_first_moves, type_of_moves, of_computed_moves, value_standing_moves, argument_by_moves, call_given_moves, index_at_moves}
 use Rattle.law_exchange_types.proofs.Operations.{operation_between_moves}
 use Rattle.law_exchange_types.proofs.PartPieces.{named_type_moves}
 use Rattle.law_exchange_types.proofs.Signs.{negation_moves}
@@ -45,7 +43,6 @@ use Rattle.m2_tree.specs.declared.name.Ident.{Ident}
 use Rattle.m2_tree.specs.declared.pos.Pos.{Pos}
 use Rattle.std.proofs.Common.{◌≡◌, Err, List, MatchOption, None, Ok, Option, Result, Some, ap, ap₂, fold, length, map, option_map, refl, sym, ◌∷◌, ◌∙◌, []}
 use Rattle.typed_tree.specs.declared.computed.Argument.{Argument}
-use Rattle.typed_tree.specs.declared.meaning.Meaning.{Meaning}
 use Rattle.typed_tree.specs.declared.meaning.Standard.{Standard}
 use Rattle.typed_tree.specs.declared.meaning.Value.{Value}
 use Rattle.typed_tree.specs.declared.shape.Formal.{Formal}
@@ -372,15 +369,6 @@ module _ (z : Exchange) (g : Gathers) where
       ap (index_at g (moved_types z s.types) at (map_ok (moved_designated z) d) m.fixed.at) (value_of_moves s m h)
       ∙ index_at_moves z g s.types at d m.fixed.at (value_of g s m)
 
-  leading_moves : (s : Scope g.Reported) (name : Ident) {X : Type 0} (xs : List X)
-      → leading_name g (moved_scope z s) name xs ≡ map_ok (moved_designated z) (leading_name g s name xs)
-  leading_moves s name [] = meant_first_moves z g s name
-  leading_moves s name (x ∷ xs) =
-      ap (λ (m : Result Meaning (Meaningless g.Reported)). m ▷ leading_meaning g s.level name.pos)
-      (looked_up_moves z g s name)
-      ∙ then_moves (moved_meaning z) (moved_designated z) (looked_up g s name) (leading_meaning g s.level name.pos)
-      (leading_meaning g s.level name.pos) (leading_meaning_moves z g s.level name.pos)
-
   picking_moves : (s : Scope g.Reported) (ps : List (Picks g.Reported)) (d : Result Designated (Meaningless g.Reported))
       → AllPicked ps → fold (λ x p. p.picks (moved_scope z s) x) (map_ok (moved_designated z) d) ps
       ≡ map_ok (moved_designated z) (fold (λ x p. p.picks s x) d ps)
@@ -394,7 +382,7 @@ module _ (z : Exchange) (g : Gathers) where
       → designation g (moved_scope z s) name ps ≡ map_ok (moved_designated z) (designation g s name ps)
   designation_moves s name ps h =
       ap (λ (u : Result Designated (Meaningless g.Reported)). fold (λ x p. p.picks (moved_scope z s) x) u ps)
-      (leading_moves s name ps) ∙ picking_moves s ps (leading_name g s name ps) h
+      (meant_first_moves z g s name) ∙ picking_moves s ps (first_name g s name) h
 
   pub fixed_picks : (ps : List (Picks g.Reported)) → AllPicked ps → PicksMove z g (map (λ p. p.fixed) ps)
   fixed_picks [] h = tt

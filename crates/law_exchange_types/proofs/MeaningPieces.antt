@@ -1,15 +1,15 @@
 -- Meanings of check_expr, with other numbers of modules.
-use Rattle.check_expr.specs.Meanings.{formals_of, value_standing, signed_first, passed_for, first_name, name_in_module, index_at, of_computed, field_of, relation_value, argument_by, field_at, leading_meaning, type_of, call_given, type_in}
+use Rattle.check_expr.specs.Meanings.{formals_of, value_standing, signed_first, passed_for, first_name, name_in_module, index_at, of_computed, field_of, relation_value, argument_by, field_at, type_of, call_given, type_in}
 use Rattle.check_scope.specs.Elaborated.{Gathers, of_sort, plain, ◌▷◌}
 use Rattle.check_scope.specs.declared.meaningless.Meaningless.{Meaningless}
 use Rattle.check_scope.specs.declared.scope.Scope.{Scope}
 use Rattle.check_value.specs.Callees.{call_by}
 use Rattle.check_value.specs.Selection.{indices, element_at_index}
-use Rattle.check_value.specs.Values.{designated_by, function_result}
+use Rattle.check_value.specs.Values.{function_result}
 use Rattle.check_value.specs.declared.callee.Callee.{Callee}
 use Rattle.check_value.specs.declared.computed.Computed.{Computed}
 use Rattle.check_value.specs.declared.computed.Designated.{Designated}
-use Rattle.def_exchange.specs.Moved.{moved_formal, moved_meaning, moved_signature, moved_type, moved_types, Exchange}
+use Rattle.def_exchange.specs.Moved.{moved_formal, moved_signature, moved_type, moved_types, Exchange}
 use Rattle.law_exchange_types.proofs.Actuals.{actual_moves}
 use Rattle.law_exchange_types.proofs.Basics.{plain_moves, then_map, map_then, value_moves as of_value_moves, sort_moves as of_sort_moves, cond_ok}
 use Rattle.law_exchange_types.proofs.Callees.{call_by_moves}
@@ -32,13 +32,11 @@ use Rattle.m2_tree.specs.declared.pos.Pos.{Pos}
 use Rattle.std.proofs.Common.{◌≡◌, refl, List, None, Ok, Option, Result, Some, ap, map, option_map, sym, ℕ, ◌∙◌}
 use Rattle.typed_tree.specs.declared.computed.Argument.{Argument}
 use Rattle.typed_tree.specs.declared.known_types.Types.{Types}
-use Rattle.typed_tree.specs.declared.meaning.Meaning.{Meaning}
 use Rattle.typed_tree.specs.declared.shape.Formal.{Formal}
 use Rattle.typed_tree.specs.declared.shape.Signature.{Signature}
 use Rattle.typed_tree.specs.declared.types.TypeNo.{TypeNo}
 use Rattle.m2_rule.specs.declared.rule.Rule.TheVariants as rule
 use Rattle.typed_tree.specs.declared.computed.TypedExpr.TheVariants as expr
-use Rattle.typed_tree.specs.declared.meaning.Meaning.TheVariants as meaning
 use Rattle.check_const.specs.declared.operator.BinaryOp.TheVariants as op
 use Rattle.check_value.specs.declared.computed.Designated.TheVariants as designated
 use Rattle.law_exchange_types.proofs.Basics.{then_moves, plain_moves, sort_moves}
@@ -68,14 +66,6 @@ relation_value_moves z g types o at x at' y = operation_between_moves z g types 
 pub first_name_moves : (z : Exchange) (g : Gathers) (s : Scope g.Reported) (name : Ident)
     → first_name g (moved_scope z s) name ≡ map_ok (moved_designated z) (first_name g s name)
 first_name_moves z g s name = simp (looked_up_moves, plain_moves, designated_by_moves, then_map, map_then)
-
-pub leading_meaning_moves : (z : Exchange) (g : Gathers) (level : ℕ) (at : Pos) (other : Meaning)
-    → leading_meaning g level at (moved_meaning z other)
-    ≡ map_ok (moved_designated z) (leading_meaning g level at other)
-leading_meaning_moves z g level at meaning.Ahead = refl
-leading_meaning_moves z g level at other =
-    ap plain (designated_by_moves z g level at other)
-    ∙ sym (plain_moves (moved_designated z) (designated_by g level at other))
 
 pub name_in_module_moves : (z : Exchange) (g : Gathers) (s : Scope g.Reported) (k : ℕ) (name : Ident)
     → name_in_module g (moved_scope z s) k name ≡ map_ok (moved_designated z) (name_in_module g s k name)

@@ -8,7 +8,7 @@
 //! - Each function of the checker has a law in `proofs/`, in a file for each of its files: `Known`, `InScope`, `Operands` to `Calls`
 //!   of constants, `Classes` to `Actuals` of values, `Named` to `MadePieces` of types. What takes parts of expressions follows by
 //!   hand in `Fixed` and `Meaning`, and `Exprs` is the induction over all expressions. `Types` is the one over types, `Begin` has
-//!   marks and imports, and `Defs` the table of a definition.
+//!   marks and imports, `Again` constant expressions that are read again, and `Defs` the table of a definition.
 #![tactic(auto)]
 
 ghost use Rattle.law_exchange_types.specs.Laws.{NamesMove, ConstantsMove, ExpressionsMove, TypesMove, HeadingsMove, DefinitionsMove};

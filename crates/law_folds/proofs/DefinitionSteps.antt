@@ -1,5 +1,5 @@
 -- What a definition declares: what each entry of a name keeps, the whole definition keeps.
-use Rattle.std.proofs.Common.{◌≡◌, ℕ, true, List, length, Result, Ok}
+use Rattle.std.proofs.Common.{◌≡◌, ℕ, true, false, List, length, Result, Ok}
 use Rattle.std.specs.List.{fold}
 use Rattle.m2_rule.specs.declared.rule.Rule.TheVariants as rule
 use Rattle.m2_tree.specs.declared.decl.Heading.{Heading}
@@ -8,9 +8,9 @@ use Rattle.m2_tree.specs.declared.decl.Def.TheVariants as def
 use Rattle.typed_tree.specs.declared.types.TypeNo.{TypeNo}
 use Rattle.typed_tree.specs.Names.{find_name}
 use Rattle.check_scope.specs.Elaborated.{Gathers, report}
-use Rattle.check_scope.specs.Scopes.{State, is_free, with_known}
-use Rattle.check_scope.specs.declared.known.Known.TheVariants.{Declared}
-use Rattle.check_scope.specs.declared.known.Origin.TheVariants.{Here}
+use Rattle.check_scope.specs.Scopes.{State, is_free, with_known, heading_means}
+use Rattle.check_scope.specs.declared.known.Known.{Known}
+use Rattle.check_scope.specs.declared.known.Known.TheVariants.{Headed}
 use Rattle.check_scope.specs.declared.scope.Scope.{Scope}
 use Rattle.check_type_expr.specs.Headings.{heading_of}
 use Rattle.check_type_expr.specs.Made.{with_made}
@@ -25,7 +25,7 @@ pub record KeepsDefinitions (g : Gathers) (R : Scope g.Reported → Scope g.Repo
   pub headed : (s : Scope g.Reported) (t : Result TypeNo g.Reported) → R s (with_procedure_type s t)
   pub procedure : (s : Scope g.Reported) (name : List ℕ) (t : Result TypeNo g.Reported)
       → let p : Scope g.Reported = with_procedure_type s t in is_free (find_name name p.own) ≡ true
-      → R s (with_known name (Declared Here (procedure_meaning s.types.home (length s.procedures) t)) p)
+      → R s (with_known name (Headed (heading_means false (procedure_meaning s.types.home (length s.procedures) t))) p)
 
 module _ (g : Gathers) {R : Scope g.Reported → Scope g.Reported → Type 0} (k : KeepsDefinitions g R) where
   abbrev St : Type 0
@@ -42,9 +42,11 @@ module _ (g : Gathers) {R : Scope g.Reported → Scope g.Reported → Type 0} (k
       let m : State TypeNo g.Reported = with_made st.0 (heading_of g st.0 h) in
       let s : Scope g.Reported = m.0 in
       let p : Scope g.Reported = with_procedure_type s m.1 in
+      let n : Known g.Reported =
+      Headed (heading_means false (procedure_meaning s.types.home (length s.procedures) m.1)) in
       order.next st.0 s _ (k.names.types.headings st.0 h)
       (either order s (is_free (find_name h.name.name p.own))
-      (with_known h.name.name (Declared Here (procedure_meaning s.types.home (length s.procedures) m.1)) p, Ok tt)
+      (with_known h.name.name n p, Ok tt)
       (p, report g h.name.pos rule.DeclaredTwice) (k.procedure s h.name.name m.1) (k.headed s m.1))
 
   pub def_keeps : (st : St) (d : Def) → R st.0 (with_def g st d).0

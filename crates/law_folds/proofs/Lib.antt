@@ -6,3 +6,4 @@ pub mod ImportSteps
 pub mod NameSteps
 pub mod BlockSteps
 pub mod DefinitionSteps
+pub mod AgainSteps

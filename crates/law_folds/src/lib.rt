@@ -10,6 +10,8 @@
 //!   (`KeepsExports`).
 //! - `proofs/NameSteps` has constants, types and variables (`KeepsNames`), `proofs/DefinitionSteps` definitions
 //!   (`KeepsDefinitions`), and `proofs/BlockSteps` blocks (`KeepsBlocks`).
+//! - `proofs/AgainSteps` says of constant expressions that are read again behind all headings: if nothing is reported
+//!   there, nothing was reported before (`decls_report`, `defs_report`).
 //!
 //! Each of these records has the small steps, and the functions behind it the walks.
 #![tactic(auto)]

@@ -8,6 +8,7 @@ use Rattle.check_block.specs.Naming.{marked_decl, all_marked}
 use Rattle.check_block.specs.Declarations.{with_decl, declared_block}
 use Rattle.def_typing.specs.Declarations.{declarations_of}
 use Rattle.def_typed.specs.Numbers.{variables_in, headings_in}
+use Rattle.law_folds.proofs.AgainSteps.{block_reported}
 use Rattle.law_numbers.specs.Numbered.{AreNumbered, no_heading, BlocksAreNumbered}
 use Rattle.law_numbers.proofs.Walking.{decls_marks}
 use Rattle.law_numbers.proofs.Declaring as placing
@@ -25,6 +26,9 @@ module _ (g : Gathers) (ends : List ℕ) (s : Scope g.Reported) (first : ℕ) (d
   abbrev marked : Scope g.Reported
   marked = (all_marked marked_decl s ds).0
 
+  before : (fold (with_decl g ends) (marked, Ok tt, first) ds).1 ≡ Ok tt
+  before = block_reported g ends (s, Ok tt) first ds fine
+
   placed_marks : placing.IsPlaced g home s.level base [] marked
   placed_marks = decls_marks g (placing.IsPlaced g home s.level base []) (placing.free g home s.level base []) ds
       (s, [])
@@ -37,7 +41,7 @@ module _ (g : Gathers) (ends : List ℕ) (s : Scope g.Reported) (first : ℕ) (d
 
   placed : placing.IsPlaced g home s.level base (variables_in (declarations_of ds))
       (declared_block g ends (s, Ok tt) first ds).0
-  placed = placing.decls_placed g home s.level ends base [] ds (marked, Ok tt, first) placed_marks fine
+  placed = placing.decls_placed g home s.level ends base [] ds (marked, Ok tt, first) placed_marks before
 
   headed_marks : heading.IsNumbered g home s.level ends s (length s.procedures) first [] (length s.procedures) first
       marked
@@ -59,7 +63,7 @@ module _ (g : Gathers) (ends : List ℕ) (s : Scope g.Reported) (first : ℕ) (d
   pub headed : (m : ℕ) × heading.IsNumbered g home s.level ends s (length s.procedures) first (headings_in ds) m
       (fold (with_decl g ends) (marked, Ok tt, first) ds).2 (declared_block g ends (s, Ok tt) first ds).0
   headed = heading.decls_numbered g home s.level ends s (length s.procedures) first [] (length s.procedures) ds
-      (marked, Ok tt, first) headed_marks fine
+      (marked, Ok tt, first) headed_marks before
 
   pub block_numbered : AreNumbered ends s first ds (declared_block g ends (s, Ok tt) first ds).0
   block_numbered = record {

@@ -36,7 +36,7 @@ use Rattle.def_typed.specs.Named.{named, named_by}
 use Rattle.def_typed.specs.Numbers.{variables_by, variables_in, variable_at, headings_by, headings_in, unless_awaited, new_headings, nested_by, next_nested, nested_numbers}
 use Rattle.def_typed.specs.Blocks.{StandsWithoutCode, Before, MeansBehind, from_outside, a_variable, of_module, of_procedure, without_code}
 use Rattle.law_typing.specs.Judging.{Judges}
-use Rattle.law_typing.specs.Exact.{of_local, standing, Sees, sees, sees_nothing, sees_headless, sees_unknown, Knows, TakenAs, is_taken, awaits, not_taken, IsAsBefore, as_before, has_heading, is_nested}
+use Rattle.law_typing.specs.Exact.{of_local, standing, Sees, sees, sees_nothing, sees_headless, sees_unknown, Knows, TakenAs, is_taken, awaits, is_a_heading, not_taken, IsAsBefore, as_before, has_heading, is_nested}
 use Rattle.law_typing.proofs.Combining.{Lawful}
 use Rattle.law_typing.proofs.Blocks.{block_answers}
 use Rattle.law_numbers.specs.Numbered.{Entry, AreNumbered}
@@ -181,17 +181,20 @@ module _ {g : Gathers} {j : Judges g} where
           (Some (Declared Here (Ok (meaning.Procedure p)))) → None ≡ Some p.heading
       by_standing s e = absurd cc
   awaits_as (awaits q) p e = let z : q ≡ p = cc e in ap (λ (p : ModuleProcedure). Some p.heading) z
+  awaits_as is_a_heading p e = absurd cc
   awaits_as not_taken p e = absurd cc
 
   waits_as : {b : Bool} {u : Option TypeNo} {o : Option (Entered g.Reported)} → TakenAs g j b u o → (t : TypeNo)
       → u ≡ Some t → (p : ModuleProcedure) × (o ≡ Some (Declared Here (Ok (meaning.Procedure p))))
   waits_as (is_taken s) t e = absurd cc
   waits_as (awaits p) t e = (p, refl)
+  waits_as is_a_heading t e = absurd cc
   waits_as not_taken t e = absurd cc
 
   free_as : {b : Bool} {u : Option TypeNo} {o : Option (Entered g.Reported)} → TakenAs g j b u o → b ≡ false → u ≡ None
   free_as (is_taken s) e = absurd cc
   free_as (awaits p) e = absurd cc
+  free_as is_a_heading e = absurd cc
   free_as not_taken e = refl
 
 module _ (g : Gathers) (j : Judges g) where

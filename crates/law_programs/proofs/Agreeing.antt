@@ -23,12 +23,13 @@ use Rattle.check_scope.specs.declared.scope.Scope.{Scope}
 use Rattle.layout_storage.specs.Frames.{formals_in, formals_made}
 use Rattle.law_simulation.specs.Passing.{Result as Gives, result_in, result_made}
 use Rattle.check_type_expr.specs.Headings.{result_of}
-use Rattle.check_block.specs.Inner.{inwards}
+use Rattle.check_scope.specs.Inwards.{inwards}
 use Rattle.check_block.specs.Naming.{marked_decl, with_marks}
-use Rattle.check_block.specs.Declarations.{Course, Declared, with_decl, declared_block}
+use Rattle.check_block.specs.Declarations.{Course, Declared, with_decl, again_decl, declared_block}
 use Rattle.check_body.specs.declared.routine.Numbered.{Numbered}
 use Rattle.check_body.specs.Routines.{numbered_by, numbered_known}
 use Rattle.check_body.specs.Inside.{returns_of}
+use Rattle.law_folds.proofs.AgainSteps.{decls_report}
 use Rattle.law_well_formed.proofs.ScopesDeclarations.{decl_reported}
 use Rattle.law_well_formed.specs.FormedHeadings.{heading_in, HeadingStands}
 use Rattle.law_well_formed.proofs.Headings.{headings_stay}
@@ -144,11 +145,17 @@ module _ (g : Gathers) where
   pub headings_agree : HeadingsAgree g
   headings_agree ends st first ds fresh ok =
       let behind : Scope g.Reported × List ℕ → Declared g.Reported =
-      λ m. (let c : Course g.Reported = fold (with_decl g ends) (m.0, st.1, first) ds in (c.0, c.1, m.1)) in
+      λ m. (
+      let c : Course g.Reported = fold (with_decl g ends) (m.0, st.1, first) ds in
+      (c.0, (fold (again_decl g c.0) (c.1, length st.0.own) ds).0, m.1)
+      ) in
+      let c : Course g.Reported = fold (with_decl g ends) (marked st.0 ds, st.1, first) ds in
+      let back : (behind (marked st.0 ds, counts st.0 ds)).1 ≡ Ok tt → c.1 ≡ Ok tt =
+      decls_report g c.0 ds (c.1, length st.0.own) in
       let is : declared_block g ends st first ds ≡ behind (marked st.0 ds, counts st.0 ds) =
       ap behind (marks_are ds st.0 []) in
       subst (λ (d : Declared g.Reported). d.1 ≡ Ok tt → DeclsAgree g d.0 d.2 0 ds) (sym is) (λ k.
       (subst (λ (r : Result (Unit {0}) g.Reported). (fold (with_decl g ends) (marked st.0 ds, r, first) ds).1 ≡ Ok tt
       → DeclsAgree g (fold (with_decl g ends) (marked st.0 ds, r, first) ds).0 (counts st.0 ds) 0 ds)
-      (sym (all_reported ends ds (marked st.0 ds, st.1, first) k))
-      (λ q. all_from ends st.0 first fresh.withs ds q [] ds refl 0 refl)) k) ok
+      (sym (all_reported ends ds (marked st.0 ds, st.1, first) (back k)))
+      (λ q. all_from ends st.0 first fresh.withs ds q [] ds refl 0 refl)) (back k)) ok

@@ -29,6 +29,7 @@ use Rattle.check_block.specs.Headings.{name_standing, nothing_made, nested_meani
 use Rattle.check_block.specs.Naming.{marked_decl, with_marks}
 use Rattle.check_block.specs.Declarations.{Course, decl_layer, with_decl, declared_block}
 use Rattle.check_body.specs.Routines.{numbered_known}
+use Rattle.law_folds.proofs.AgainSteps.{block_reported}
 use Rattle.law_well_formed.specs.FormedScopes.{Leads}
 use Rattle.law_well_formed.proofs.Names.{found_self}
 use Rattle.law_well_formed.proofs.ScopesGrowth.{leads_refl, leads_then}
@@ -259,6 +260,7 @@ module _ (g : Gathers) (ends : List ℕ) where
       let marks : Scope g.Reported × List ℕ = fold (with_marks marked_decl) (st.0, []) ds in
       let lead = marks_lead m ds (st.0, []) in
       let one = reaches_by m st.0 marks.0 lead in
-      all_apart ds (marks.0, st.1, first) (ap (λ (n : ℕ). n == 0) one.level ∙ level) ok
+      all_apart ds (marks.0, st.1, first) (ap (λ (n : ℕ). n == 0) one.level ∙ level)
+      (block_reported g ends st first ds ok)
       (awaits_kept g m nothing_open st.0 marks.0 lead own)
       (λ a b p z e f n. apart a b p z (one.awaits a p e) (one.awaits b z f) n)

@@ -32,7 +32,7 @@ use Rattle.check_body.specs.Own.{exported_headings, implementation_scope}
 use Rattle.check_body.specs.Routines.{empty_routine, no_bodies, typed_module}
 use Rattle.check_body.specs.declared.procedure.Walk.{Walk}
 use Rattle.check_body.specs.Elaborating.{Elaborates, statements_of}
-use Rattle.check_body.specs.Bodies.{Checked, Steps, steps, marked_by, declared_by, with_statements, bodies_checked}
+use Rattle.check_body.specs.Bodies.{Checked, Steps, steps, marked_by, declared_by, again_by, with_statements, bodies_checked}
 use Rattle.check_body.specs.Checked.{module_or, walk_body, of_body, of_implementation, of_contents, body_module}
 use Rattle.law_modules.specs.WellFormed.{IsRoutine}
 use Rattle.law_well_formed.specs.Formed.{Holds, fine, broken}
@@ -43,7 +43,7 @@ use Rattle.law_well_formed.proofs.ScopesDeclarations.{beside_left}
 use Rattle.law_well_formed.proofs.ScopesImports.{OpenTables, OpensAll, imports_lead}
 use Rattle.law_well_formed.proofs.NamedTables.{import_keeps}
 use Rattle.law_well_formed.specs.FormedBodies.{FormsStatements, Keeps}
-use Rattle.law_well_formed.proofs.Parts.{AreSteps, nothing_at, no_home, nothing_open, all_marks, all_lead}
+use Rattle.law_well_formed.proofs.Parts.{AreSteps, nothing_at, no_home, nothing_open, all_marks, all_again, all_lead}
 use Rattle.law_well_formed.proofs.BodiesBlocks.{from, all_keep, checked_reported}
 use Rattle.law_well_formed.specs.FormedModules.{AreForOwn, AreFor}
 use Rattle.law_well_formed.proofs.Heads.{AwaitsOwn, awaits_kept, ModuleHeadsIn, heads_in, heads_formed}
@@ -96,10 +96,13 @@ module _ (g : Gathers) (elaborates : Elaborates g.Reported) (forms : FormsStatem
   abbrev course : Course g.Reported
   course = fold declared_by (marks.0, imported.1, 0) xs
 
+  abbrev again : Result (Unit {0}) g.Reported
+  again = (fold (again_by course.0) (course.1, length imported.0.own) xs).0
+
   abbrev start : Walk g.Reported
   start = record {
     scope = course.0;
-    so_far = beside g course.1 (reported_of_lack g m.name.pos course.0);
+    so_far = beside g again (reported_of_lack g m.name.pos course.0);
     bodies =
         no_bodies course.0.procedures;
   }
@@ -164,8 +167,9 @@ module _ (g : Gathers) (elaborates : Elaborates g.Reported) (forms : FormsStatem
         (k.0, ap (λ (hs : List TypeNo). slice_get hs p.number) starts.procedures ∙ k.1)
 
     course_ok : course.1 ≡ Ok tt
-    course_ok = beside_left g course.1 (reported_of_lack g m.name.pos course.0)
-        (checked_reported g elaborates ends None marks.1 ps (start, 0) ok)
+    course_ok = all_again g elaborates ends ps course.0 (course.1, length imported.0.own)
+        (beside_left g again (reported_of_lack g m.name.pos course.0)
+        (checked_reported g elaborates ends None marks.1 ps (start, 0) ok))
 
     heads : ModuleHeadsIn g elaborates ends course.0.own course.0.types course.0.procedures ps
     heads = heads_in g elaborates ends course.0.own course.0.types course.0.procedures ps (marks.0, imported.1, 0)

@@ -25,8 +25,9 @@ use Rattle.check_scope.specs.declared.scope.Scope.{Scope}
 use Rattle.check_type_expr.specs.Headings.{formal_of}
 use Rattle.check_definition.specs.Predeclared.{predeclared_as, with_types, truth, with_truth, with_functions, with_bounds, with_procedures, predeclared_names, first_scope}
 use Rattle.check_definition.specs.Export.{with_meaning, with_declared, with_known, with_export, exports}
-use Rattle.check_block.specs.declared.inner.Outside.{Outside}
-use Rattle.check_block.specs.Inner.{inwards, formal_kind, formal_meaning, Formals, with_formal, with_section, entered_procedure, split_last, pop_block, left_procedure}
+use Rattle.check_scope.specs.declared.inner.Outside.{Outside}
+use Rattle.check_scope.specs.Inwards.{inwards, split_last, pop_block, left_procedure}
+use Rattle.check_block.specs.Inner.{formal_kind, formal_meaning, Formals, with_formal, with_section, entered_procedure}
 use Rattle.law_well_formed.specs.Formed.{Holds, fine, broken}
 use Rattle.law_well_formed.proofs.RangesDeclarations.{meant_holds}
 use Rattle.law_programs.specs.Carried.{MeaningWord, KnownWord, NamesWords, BlocksWords, ExportsWords, TablesWords, ScopeWords}

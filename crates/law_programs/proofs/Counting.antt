@@ -9,7 +9,7 @@ use Rattle.typed_tree.specs.declared.types.TypeNo.{TypeNo}
 use Rattle.typed_tree.specs.Names.{enter_name}
 use Rattle.check_scope.specs.Scopes.{with_known}
 use Rattle.check_scope.specs.declared.known.Origin.TheVariants.{Here}
-use Rattle.check_scope.specs.declared.known.Known.TheVariants.{Declared}
+use Rattle.check_scope.specs.declared.known.Known.TheVariants.{Headed, Declared}
 use Rattle.check_scope.specs.declared.scope.Scope.{Scope}
 use Rattle.check_definition.specs.Declare.{with_variable_type, with_procedure_type}
 use Rattle.check_body.specs.Own.{with_variable_of}
@@ -84,21 +84,21 @@ module _ {T : Type 0} where
 
   -- so is a procedure
   pub procedure_counts : (s : Scope T) (name : List ℕ) (t : TypeNo) → Behind name s.own → Counts s
-      → Counts (with_known name (Declared Here
+      → Counts (with_known name (Headed
       (Ok (meaning.Procedure (record { home = s.types.home; number = length s.procedures; heading = t }))))
       (with_procedure_type s (Ok t)))
   procedure_counts s name t b c =
       let v : Meaning = meaning.Procedure (record { home = s.types.home; number = length s.procedures; heading = t }) in
-      let d : done (enter_name name (Declared Here (Ok v)) s.own) ≡ done s.own ++ v ∷ [] =
-      next_done name (Declared Here (Ok v)) v s.own refl b c.front in
+      let d : done (enter_name name (Headed (Ok v)) s.own) ≡ done s.own ++ v ∷ [] =
+      next_done name (Headed (Ok v)) v s.own refl b c.front in
       let count : length (s.procedures ++ t ∷ []) ≡ length s.procedures + 1 = length-append s.procedures (t ∷ []) in
       let one : suc (length s.procedures) ≡ length (s.procedures ++ t ∷ []) = omega (arith, count) in
       record {
         variables = ap (λ (ms : List Meaning). fold with_variable_of [] ms) d
             ∙ fold-append with_variable_of [] (done s.own) (v ∷ []) ∙ c.variables;
-        procedures = subst (λ (c : ℕ). From 0 c (numbers (done (enter_name name (Declared Here (Ok v)) s.own)))) one
+        procedures = subst (λ (c : ℕ). From 0 c (numbers (done (enter_name name (Headed (Ok v)) s.own)))) one
             (subst (λ (ks : List ℕ). From 0 (suc (length s.procedures)) ks)
             (sym (ap numbers d ∙ numbers_both (done s.own) (v ∷ [])))
             (from_next 0 (length s.procedures) (numbers (done s.own)) c.procedures));
-        front = next_front name (Declared Here (Ok v)) s.own refl b c.front;
+        front = next_front name (Headed (Ok v)) s.own refl b c.front;
       }

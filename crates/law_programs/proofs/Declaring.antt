@@ -278,16 +278,6 @@ module _ (g : Gathers) where
       (λ q. heading_means_holds true (meant_holds m (λ u. tt) t))
       (λ fs l. heading_means_holds true (meant_holds m (λ u. tt) t))
 
-  procedure_ends : (s : Scope g.Reported) (name : List ℕ) (t : Result TypeNo g.Reported)
-      → Goes s (with_known name (Declared Here (procedure_meaning s.types.home (length s.procedures) t))
-      (with_procedure_type s t))
-  procedure_ends s name t =
-      let m : TypeNo → Meaning =
-      λ u. meaning.Procedure (record { home = s.types.home; number = length s.procedures; heading = u }) in
-      carries_then (procedure_type_carries s t)
-      (known_carries (with_procedure_type s t) name _ (meant_holds m (λ u. tt) t) (λ q. meant_holds m (λ u. tt) t)
-      (λ fs l. meant_holds m (λ u. tt) t))
-
   -- ---- all declarations
 
   blocks : KeepsBlocks g Goes
@@ -310,7 +300,7 @@ module _ (g : Gathers) where
     varied = variable_type_carries;
     variable_ends = variable_ends;
     headed = procedure_type_carries;
-    procedure = λ s name t e. procedure_ends s name t;
+    procedure = λ s name t e. procedure_heads s name t;
   }
 
   -- ---- imports
@@ -406,10 +396,9 @@ module _ (g : Gathers) where
   pub definition_carries : (m : Module) (modules : List (List ℕ × ℕ)) (s : Scope g.Reported) (ds : List Def)
       → TablesElsewhere s.types.home s.tables → Goes s (declared_in g m modules s ds).0
   definition_carries m modules s ds p =
-      let one = defs_marks marks ds s in
-      let there : FromElsewhere (fold marked_def s ds) = elsewhere_on s (fold marked_def s ds) one p in
-      carries_then one (carries_then (imports_carry modules m.imports (fold marked_def s ds, Ok tt) there)
-      (defs_keep g definitions ds (fold (with_import g modules) (fold marked_def s ds, Ok tt) m.imports)))
+      let i : State (Unit {0}) g.Reported = fold (with_import g modules) (s, Ok tt) m.imports in
+      carries_then (imports_carry modules m.imports (s, Ok tt) p)
+      (carries_then (defs_marks marks ds i.0) (defs_keep g definitions ds (fold marked_def i.0 ds, i.1)))
 
   pub module_carries_on : (modules : List (List ℕ × ℕ)) (ends : List ℕ) (s : Scope g.Reported) (m : Module)
       (ds : List Decl) → TablesElsewhere s.types.home s.tables → Goes s (declared_module g modules ends s m ds).0

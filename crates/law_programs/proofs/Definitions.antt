@@ -17,7 +17,7 @@ use Rattle.typed_tree.specs.declared.types.TypeNo.{TypeNo}
 use Rattle.m2_tree.specs.Names.{same_name}
 use Rattle.typed_tree.specs.Names.{find_name, enter_name}
 use Rattle.check_scope.specs.Elaborated.{Gathers, report, beside}
-use Rattle.check_scope.specs.Scopes.{State, is_free, with_known, begin_name, is_begun, mark_name}
+use Rattle.check_scope.specs.Scopes.{State, is_free, with_known, heading_means, begin_name, is_begun, mark_name}
 use Rattle.check_scope.specs.declared.known.Origin.TheVariants.{Here}
 use Rattle.check_scope.specs.declared.known.Known.{Known}
 use Rattle.check_scope.specs.declared.known.Known.TheVariants.{Later, Ahead, Begun, Headed, Declared}
@@ -29,6 +29,9 @@ use Rattle.check_definition.specs.Declare.{begun_name, with_variable_type, finis
 use Rattle.check_definition.specs.Importing.{with_import}
 use Rattle.check_definition.specs.Marking.{marked_later, marked_constant, marked_type, marked_variables, marked_def}
 use Rattle.check_definition.specs.Predeclared.{first_scope}
+use Rattle.law_folds.proofs.Orders.{fact}
+use Rattle.law_folds.proofs.ImportSteps.{KeepsImports, imports_keep}
+use Rattle.law_folds.proofs.AgainSteps.{definition_reported}
 use Rattle.law_well_formed.proofs.ImportsLists.{same_refl, same_is, or_left, or_right}
 use Rattle.law_well_formed.specs.FormedScopes.{holds_of}
 use Rattle.law_well_formed.proofs.Names.{found_self}
@@ -36,7 +39,7 @@ use Rattle.law_well_formed.proofs.HeadingsLists.{found_other}
 use Rattle.law_well_formed.proofs.Order.{has, mark_key, has_more, keys, keys_entered, Distinct, distinct_entered, is_taken, taken_entered, now_taken, AllTaken}
 use Rattle.law_well_formed.proofs.Order as order
 use Rattle.law_well_formed.proofs.TablesSteps.{mark_more, Goes, ◌⨾◌, fold_goes, made_goes, type_of_goes, constant_goes, type_decl_goes, begun_all_go, variables_go, import_goes}
-use Rattle.law_well_formed.proofs.Takes.{beside_left, beside_right, then_ok, marked_keys, name_covers, Keeps, keeps_then, def_keeps, defs_keep, constants_all, types_all, variables_all, def_reported, defs_reported}
+use Rattle.law_well_formed.proofs.Takes.{beside_left, beside_right, then_ok, all_marked, marked_keys, name_covers, Keeps, keeps_then, def_keeps, defs_keep, constants_all, types_all, variables_all, def_reported, defs_reported}
 use Rattle.law_programs.proofs.Done.{is_settled, SettledIn, AllSettled, free_unsettled, begun_unsettled, settled_kept, behind_at}
 use Rattle.law_programs.proofs.Counting.{Counts, counts_kept, variable_counts, procedure_counts}
 use Rattle.law_programs.proofs.GraphsSteps.{Stays, same_stays, made_stays, all_marks, begun_stays, type_of_stays, NoneBegun, Ends, stays_end, constants_end, types_end, import_stays}
@@ -97,6 +100,14 @@ module _ {T : Type 0} where
     by : (b : Bool) → has name ks ≡ b → b ≡ false
     by false e = refl
     by true e = absurd (let t : holds_of is_settled (find_name name own) ≡ true = all name e in cc)
+
+  settled_taken : (o : Option (Known T)) → holds_of is_settled o ≡ true → order.holds_of is_taken o ≡ true
+  settled_taken None e = absurd cc
+  settled_taken (Some Later) e = absurd cc
+  settled_taken (Some Ahead) e = absurd cc
+  settled_taken (Some Begun) e = absurd cc
+  settled_taken (Some (Headed r)) e = refl
+  settled_taken (Some (Declared o r)) e = refl
 
   -- ---- names that are marked
 
@@ -402,13 +413,16 @@ module _ (g : Gathers) where
 
   -- ---- a procedure
 
+  -- it stands by its heading
+  abbrev headed : Scope g.Reported → TypeNo → Known g.Reported
+  headed s x = Headed (heading_means false (procedure_meaning s.types.home (length s.procedures) (Ok x)))
+
   next_procedure : (end s s0 : Scope g.Reported) (h : Heading) (x : TypeNo) → Keeps (mark_name h.name Ahead s0) end
       → is_free (find_name h.name.name s.own) ≡ true → Begins end s s0
-      → Begins end (with_known h.name.name (Declared Here (procedure_meaning s.types.home (length s.procedures) (Ok x)))
-      (with_procedure_type s (Ok x))) (mark_name h.name Ahead s0)
+      → Begins end (with_known h.name.name (headed s x) (with_procedure_type s (Ok x))) (mark_name h.name Ahead s0)
   next_procedure end s s0 h x k f b =
       let name : List ℕ = h.name.name in
-      let kn : Known g.Reported = Declared Here (procedure_meaning s.types.home (length s.procedures) (Ok x)) in
+      let kn : Known g.Reported = headed s x in
       let u : holds_of is_settled (find_name name s.own) ≡ false = free_unsettled (find_name name s.own) f in
       let all : AllSettled (keys s0.own) s.own = all_settled end s s0 b in
       let mine : keys (mark_name h.name Ahead s0).own ≡ keys s0.own ++ name ∷ [] = marked_keys h.name Ahead s0
@@ -432,16 +446,10 @@ module _ (g : Gathers) where
       }
     where
       by : (y : List ℕ) (c : Bool) → same_name y h.name.name ≡ c
-          → is_begun (find_name y (enter_name h.name.name
-          (Declared Here (procedure_meaning s.types.home (length s.procedures) (Ok x))) s.own)) ≡ false
-      by y true e = subst (λ (z : List ℕ). is_begun
-          (find_name z (enter_name h.name.name
-          (Declared Here (procedure_meaning s.types.home (length s.procedures) (Ok x))) s.own)) ≡ false)
-          (sym (same_is y h.name.name e))
-          (ap is_begun (found_self h.name.name
-          (Declared Here (procedure_meaning s.types.home (length s.procedures) (Ok x))) s.own))
-      by y false e = ap is_begun (found_other h.name.name
-          (Declared Here (procedure_meaning s.types.home (length s.procedures) (Ok x))) s.own y e) ∙ b.none y
+          → is_begun (find_name y (enter_name h.name.name (headed s x) s.own)) ≡ false
+      by y true e = subst (λ (z : List ℕ). is_begun (find_name z (enter_name h.name.name (headed s x) s.own)) ≡ false)
+          (sym (same_is y h.name.name e)) (ap is_begun (found_self h.name.name (headed s x) s.own))
+      by y false e = ap is_begun (found_other h.name.name (headed s x) s.own y e) ∙ b.none y
 
   declared_by : (end s s0 : Scope g.Reported) (h : Heading) (t : Result TypeNo g.Reported)
       → Keeps (mark_name h.name Ahead s0) end → Begins end s s0 → nothing_of t ≡ Ok tt
@@ -450,8 +458,7 @@ module _ (g : Gathers) where
   declared_by end s s0 h (Err z) k b e q = absurd cc
   declared_by end s s0 h (Ok x) k b e q =
       let t : Scope g.Reported = with_procedure_type s (Ok x) in
-      let to : Scope g.Reported = with_known h.name.name
-      (Declared Here (procedure_meaning s.types.home (length s.procedures) (Ok x))) t in
+      let to : Scope g.Reported = with_known h.name.name (headed s x) t in
       let f : is_free (find_name h.name.name s.own) ≡ true =
       free_if (is_free (find_name h.name.name s.own)) t to h.name q in
       subst (λ (s : Scope g.Reported). Begins end s (mark_name h.name Ahead s0))
@@ -496,29 +503,54 @@ module _ (g : Gathers) where
       (def_begins (fold marked_def s0 (d ∷ ds)) st s0 d (defs_keep g.Reported ds (marked_def s0 d))
       (defs_reported g ds (with_def g st d) e) b)
 
+  -- what is imported is taken
+  abbrev OwnTaken : Scope g.Reported → Type 0
+  OwnTaken s = AllTaken (keys s.own) s.own
+
+  entered_taken : (s : Scope g.Reported) (name : List ℕ) (k : Known g.Reported) → is_taken k ≡ true → OwnTaken s
+      → OwnTaken (with_known name k s)
+  entered_taken s name k t all =
+      let own : List (List ℕ × Known g.Reported) = enter_name name k s.own in
+      subst (λ (ks : List (List ℕ)). AllTaken ks own) (sym (keys_entered name k s.own))
+      (all_marked own name (keys s.own) (λ y h. taken_entered y name k s.own t (all y h)) (now_taken name k s.own t))
+
+  imports : KeepsImports g (λ s t. OwnTaken s → OwnTaken t)
+  imports = record {
+    order = fact OwnTaken;
+    modules = λ s name n e. entered_taken s name _ refl;
+    exports = λ s name n m e. entered_taken s name _ refl;
+  }
+
   none_taken : (own : List (List ℕ × Known g.Reported)) → AllTaken [] own
   none_taken own y h = absurd cc
 
+  -- the scope behind the imports
+  abbrev imported : (m : Module) (home : ℕ) (modules : List (List ℕ × ℕ)) (tables : List Table)
+      → State (Unit {0}) g.Reported
+  imported m home modules tables = fold (with_import g modules) (first_scope home tables, Ok tt) m.imports
+
   first_begins : (m : Module) (home : ℕ) (modules : List (List ℕ × ℕ)) (tables : List Table) (defs : List Def)
-      → Begins (fold marked_def (first_scope home tables) defs)
-      (fold (with_import g modules) (fold marked_def (first_scope home tables) defs, Ok tt) m.imports).0
-      (first_scope home tables)
+      → Begins (fold marked_def (imported m home modules tables).0 defs)
+      (fold marked_def (imported m home modules tables).0 defs) (imported m home modules tables).0
   first_begins m home modules tables defs =
       let s : Scope g.Reported = first_scope home tables in
-      let t : Scope g.Reported = fold marked_def s defs in
-      let u : Scope g.Reported = (fold (with_import g modules) (t, Ok tt) m.imports).0 in
-      let k = defs_keep g.Reported defs s in
-      let i = import_goes g modules m.imports (t, Ok tt) in
-      let marks : Stays [] s t = all_marks g.Reported defs s in
-      let stays : Stays [] t u = import_stays g modules m.imports (t, Ok tt) in
+      let u : Scope g.Reported = (imported m home modules tables).0 in
+      let t : Scope g.Reported = fold marked_def u defs in
+      let k = defs_keep g.Reported defs u in
+      let i = import_goes g modules m.imports (s, Ok tt) in
+      let stays : Stays [] s u = import_stays g modules m.imports (s, Ok tt) in
+      let marks : Stays [] u t = all_marks g.Reported defs u in
+      let none : NoneBegun g u = λ y. stays.begun y refl in
+      let taken : OwnTaken u = imports_keep g imports modules m.imports (s, Ok tt) (none_taken s.own) in
       record {
-        all = none_taken _;
-        none = λ y. stays.begun y refl ∙ marks.begun y refl;
-        more = i.more;
-        keys_are = i.keys_are;
-        distinct = i.distinct (k.distinct tt);
-        counts = counts_kept s u (stays.done_same ∙ marks.done_same) (stays.variables ∙ marks.variables)
-            (stays.procedures ∙ marks.procedures) (λ h. stays.front (marks.front h))
+        all = λ y h. settled_taken (find_name y t.own)
+            (marks.settled y (taken_settled (find_name y u.own) (taken y h) (none y)));
+        none = λ y. marks.begun y refl ∙ none y;
+        more = [];
+        keys_are = sym (append-nil (keys t.own));
+        distinct = k.distinct (i.distinct tt);
+        counts = counts_kept s t (marks.done_same ∙ stays.done_same) (marks.variables ∙ stays.variables)
+            (marks.procedures ∙ stays.procedures) (λ h. marks.front (stays.front h))
             (record { variables = refl; procedures = refl; front = tt });
       }
 
@@ -527,7 +559,7 @@ module _ (g : Gathers) where
       → Counts (declared_in g m modules (first_scope home tables) defs).0
       × Distinct (declared_in g m modules (first_scope home tables) defs).0.own
   definition_counts m home modules tables defs e =
-      let s : Scope g.Reported = first_scope home tables in
-      let b = all_end defs (fold (with_import g modules) (fold marked_def s defs, Ok tt) m.imports) s e
-      (first_begins m home modules tables defs) in
+      let i : State (Unit {0}) g.Reported = imported m home modules tables in
+      let b = all_end defs (fold marked_def i.0 defs, i.1) i.0
+      (definition_reported g m modules (first_scope home tables) defs e) (first_begins m home modules tables defs) in
       (b.counts, b.distinct)

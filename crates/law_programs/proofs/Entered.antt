@@ -17,7 +17,8 @@ use Rattle.check_scope.specs.declared.known.Known.TheVariants.{Declared}
 use Rattle.check_scope.specs.declared.known.Origin.TheVariants.{Here}
 use Rattle.check_scope.specs.declared.scope.Scope.{Scope}
 use Rattle.check_type_expr.specs.Headings.{formal_of}
-use Rattle.check_block.specs.Inner.{inwards, formal_kind, formal_meaning, Formals, with_formal, with_section, formals_in, entered_procedure}
+use Rattle.check_scope.specs.Inwards.{inwards}
+use Rattle.check_block.specs.Inner.{formal_kind, formal_meaning, Formals, with_formal, with_section, formals_in, entered_procedure}
 use Rattle.law_well_formed.specs.Formed.{fine}
 use Rattle.law_well_formed.proofs.Basics.{then_holds, any_holds}
 use Rattle.law_well_formed.proofs.RangesBlocks.{entered_ranged}

@@ -20,7 +20,8 @@ use Rattle.check_scope.specs.declared.known.Origin.TheVariants.{Here}
 use Rattle.check_scope.specs.declared.scope.Scope.{Scope}
 use Rattle.check_type_expr.specs.Headings.{formal_of, formal_for_each, joined_formals, with_section}
 use Rattle.check_type_expr.specs.Named.{named_type}
-use Rattle.check_block.specs.Inner.{inwards, formal_kind, formal_meaning, Formals, with_formal, with_section as entered_section, formals_in, entered_procedure}
+use Rattle.check_scope.specs.Inwards.{inwards}
+use Rattle.check_block.specs.Inner.{formal_kind, formal_meaning, Formals, with_formal, with_section as entered_section, formals_in, entered_procedure}
 use Rattle.law_well_formed.specs.Formed.{fine}
 use Rattle.law_well_formed.proofs.Names.{get_last, get_more}
 use Rattle.law_programs.specs.Scopes.{formal_slot, variable_slot}

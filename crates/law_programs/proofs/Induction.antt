@@ -24,11 +24,12 @@ use Rattle.check_const.specs.Denote.{exported_meaning}
 use Rattle.check_block.specs.Naming.{with_marks}
 use Rattle.check_block.specs.Nesting as nesting
 use Rattle.check_block.specs.Nesting.{append_names, within_decl, within}
+use Rattle.check_definition.specs.Again.{Passing}
 use Rattle.check_block.specs.Declarations.{Course, Declared, all_declared, declared_block}
 use Rattle.check_body.specs.Routines.{numbered_known}
 use Rattle.check_body.specs.declared.procedure.Walk.{Walk}
 use Rattle.check_body.specs.Elaborating.{Elaborates, statements_of}
-use Rattle.check_body.specs.Bodies.{ChecksBlock, Steps, marked_by, declared_by, steps_layer, block_layer, steps, checks_block}
+use Rattle.check_body.specs.Bodies.{ChecksBlock, Steps, marked_by, declared_by, again_by, steps_layer, block_layer, steps, checks_block}
 use Rattle.check_body.specs.Checks.{elaborate_body}
 use Rattle.law_simulation.specs.Passing.{Result as Gives}
 use Rattle.law_simulation.specs.TreesTyped.{Context}
@@ -38,7 +39,7 @@ use Rattle.law_well_formed.proofs.Basics.{holds_weaker}
 use Rattle.law_well_formed.specs.FormedScopes.{AreFormedNames, Leads}
 use Rattle.law_well_formed.specs.FormedBodies.{FormsStatements, Keeps}
 use Rattle.law_well_formed.proofs.Places.{is_within}
-use Rattle.law_well_formed.proofs.Parts.{IsStep, constants_step, types_step, variables_step, procedure_step, AreSteps, no_steps, more_steps, nothing_at, no_home, nothing_open, all_marks, all_lead, HeadsIn, heads_in, RoutinesIn, all_formed}
+use Rattle.law_well_formed.proofs.Parts.{IsStep, constants_step, types_step, variables_step, procedure_step, AreSteps, no_steps, more_steps, nothing_at, no_home, nothing_open, all_marks, all_again, all_lead, HeadsIn, heads_in, RoutinesIn, all_formed}
 use Rattle.law_well_formed.proofs.Checks.{keeps_refl, keeps_then, leads_keeps, holds_at}
 use Rattle.law_well_formed.proofs.BodiesBlocks.{from, Here, all_own, all_keep, checked_reported}
 use Rattle.law_well_formed.proofs.Induction.{blocks_formed}
@@ -85,14 +86,15 @@ module _ (g : Gathers) (elaborates : Elaborates g.Reported) (forms : FormsStatem
 
   -- what the declarations of a block lead to
   record Declares {xs : List (Steps g.Reported)} {ls : List ℕ} (ps : AreSteps g elaborates ends xs ls) : Type 0 where
-    known : (st : State (Unit {0}) g.Reported) (first : ℕ) → (all_declared marked_by declared_by st first xs).1 ≡ Ok tt
-        → ScopeKnown base st.0 → ScopeKnown base (all_declared marked_by declared_by st first xs).0
+    known : (st : State (Unit {0}) g.Reported) (first : ℕ)
+        → (all_declared marked_by declared_by again_by st first xs).1 ≡ Ok tt
+        → ScopeKnown base st.0 → ScopeKnown base (all_declared marked_by declared_by again_by st first xs).0
     locals : (st : State (Unit {0}) g.Reported) (first : ℕ) → (st.0.level == 0) ≡ false → NamesLocal st.0.own
-        → NamesLocal (all_declared marked_by declared_by st first xs).0.own
+        → NamesLocal (all_declared marked_by declared_by again_by st first xs).0.own
     agrees : (st : State (Unit {0}) g.Reported) (first : ℕ) → IsFresh st.0
-        → (all_declared marked_by declared_by st first xs).1 ≡ Ok tt
-        → StepsAgree g elaborates base ends (all_declared marked_by declared_by st first xs).0
-        (all_declared marked_by declared_by st first xs).2 0 ps
+        → (all_declared marked_by declared_by again_by st first xs).1 ≡ Ok tt
+        → StepsAgree g elaborates base ends (all_declared marked_by declared_by again_by st first xs).0
+        (all_declared marked_by declared_by again_by st first xs).2 0 ps
 
   -- ---- a block, whose parts are known
 
@@ -106,8 +108,11 @@ module _ (g : Gathers) (elaborates : Elaborates g.Reported) (forms : FormsStatem
     abbrev course : Course g.Reported
     course = fold declared_by (marks.0, w.so_far, length w.bodies.locals) xs
 
+    abbrev passing : Passing g.Reported
+    passing = fold (again_by course.0) (course.1, length w.scope.own) xs
+
     abbrev start : Walk g.Reported
-    start = record { scope = course.0; so_far = course.1; bodies = w.bodies }
+    start = record { scope = course.0; so_far = passing.0; bodies = w.bodies }
 
     abbrev end : Walk g.Reported
     end = from g elaborates ends around marks.1 (start, 0) xs
@@ -129,8 +134,11 @@ module _ (g : Gathers) (elaborates : Elaborates g.Reported) (forms : FormsStatem
     end_keeps : Keeps start.scope end.scope
     end_keeps = all_keep g elaborates ends around marks.1 ps (start, 0)
 
-    start_ok : end.so_far ≡ Ok tt → course.1 ≡ Ok tt
+    start_ok : end.so_far ≡ Ok tt → passing.0 ≡ Ok tt
     start_ok ok = checked_reported g elaborates ends around marks.1 ps (start, 0) ok
+
+    course_ok : end.so_far ≡ Ok tt → course.1 ≡ Ok tt
+    course_ok ok = all_again g elaborates ends ps course.0 (course.1, length w.scope.own) (start_ok ok)
 
     start_known : end.so_far ≡ Ok tt → ScopeKnown base w.scope → ScopeKnown base course.0
     start_known ok k = d.known (w.scope, w.so_far) (length w.bodies.locals) (start_ok ok) k
@@ -145,7 +153,7 @@ module _ (g : Gathers) (elaborates : Elaborates g.Reported) (forms : FormsStatem
           (marks.0, w.so_far, length w.bodies.locals) course.0 refl refl refl refl
           (ap (λ (n : ℕ). n == 0) (marks_lead other nothing_open).level ∙ enters.begins.level)
           (λ name. (marks_lead other nothing_open).awaits name (enters.begins.awaits name)) enters.begins.numbers
-          (start_ok ok)
+          (course_ok ok)
 
       here : Here g elaborates ends around course.0.own course.0.types marks.0.level start (length w.bodies.locals) ls
       here = record {

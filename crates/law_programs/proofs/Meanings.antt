@@ -62,14 +62,13 @@ use Rattle.check_value.specs.declared.callee.Called.TheVariants as called
 use Rattle.check_value.specs.declared.standard.Form.{Form}
 use Rattle.check_value.specs.declared.standard.Form.TheVariants as form
 use Rattle.check_value.specs.declared.standard.Unary.{Unary}
-use Rattle.check_expr.proofs.Leading.{leading_keeps}
-use Rattle.check_expr.specs.Meanings.{Meant, Picks, of_computed, signed_first, first_name, leading_name, field_of, formals_of, passed_for, argument_by, call_given, as_constant, value_of, breaches_in_all, with_actual, actuals, routine_called, unary, bound, conversion, high, by_form, callee_value, call_in_expression, factor, term, relation, expr_layer, selector_layer, designator_layer, item_layer, meanings_of, picks, head, item}
+use Rattle.check_expr.specs.Meanings.{Meant, Picks, of_computed, signed_first, first_name, field_of, formals_of, passed_for, argument_by, call_given, as_constant, value_of, breaches_in_all, with_actual, actuals, routine_called, unary, bound, conversion, high, by_form, callee_value, call_in_expression, factor, term, relation, expr_layer, selector_layer, designator_layer, item_layer, meanings_of, picks, head, item}
 use Rattle.layout_storage.specs.Shapes.{tree}
 use Rattle.layout_storage.specs.Types.{Ty}
 use Rattle.law_simulation.specs.Frames.{kind_at}
 use Rattle.law_simulation.specs.Passing.{Forms, form_of}
 use Rattle.law_simulation.specs.TreesTyped.{Context, GlobalRoot, LocalRoot, AliasRoot, WithRoot}
-use Rattle.law_well_formed.specs.Formed.{Holds, fine, broken}
+use Rattle.law_well_formed.specs.Formed.{Holds, fine}
 use Rattle.law_well_formed.proofs.Basics.{then_holds, reported_holds, both_holds, refused_holds, reported_beside_holds, ahead_holds, sort_holds, of_heading_holds, of_value_holds, sort_of_value_holds, plain_holds, any_holds, heading_kept}
 use Rattle.law_well_formed.specs.FormedRanges.{itself, fits_layer}
 use Rattle.law_well_formed.proofs.RangesTypes.{both_left, both_right}
@@ -165,15 +164,12 @@ module _ (g : Gathers) (x : Context) (ws : List Ty) (opens : ℕ → Bool) (s : 
       (WithRoot f.with (tree types f.whole) p.0)) (made.field_typed x ws f.whole f.number (tree types f.of) p.1))
   by_meaning at (meaning.Procedure f) p = fine (designated.Procedure f) p
   by_meaning at (meaning.LocalProcedure f) p = fine _ p
-  by_meaning at meaning.Ahead p = reported_holds g at rule.Undeclared
+  by_meaning at meaning.Ahead p = reported_holds g at rule.Ahead
   by_meaning at (meaning.Standard f) p = fine (designated.Standard f) tt
   by_meaning at (meaning.Module k) p = fine (designated.Module k) p
 
   named_typed : (name : Ident) → Designated_ (first_name g s name)
   named_typed name = then_holds (h.names name) (λ y p. plain_holds (by_meaning name.pos y p))
-
-  leading_typed : (name : Ident) (ps : List (Picks g.Reported)) → Designated_ (leading_name g s name ps)
-  leading_typed name ps = leading_keeps g s name (λ d. Designated_ d) (λ e. broken e) ps (named_typed name)
 
   component_typed : (at : Pos) (name : Ident) (d : Designated) → DesignatedTyped x ws opens d
       → Designated_ (field g s.types at name d)
@@ -557,8 +553,7 @@ module _ (g : Gathers) (x : Context) (ws : List Ty) (opens : ℕ → Bool) (s : 
   designator_typed : (y : Designator-F SE SS SD SI) → fits_designator (fitting_designator (bare_designator y)) ≡ true
       → FM (designator_layer g (opened_designator (bare_designator y)))
   designator_typed y e = picks_typed (map (picks g) (map (λ (e : SS). e.0) y.selectors))
-      (leading_name g s y.name (map (picks g) (map (λ (e : SS). e.0) y.selectors)))
-      (leading_typed y.name (map (picks g) (map (λ (e : SS). e.0) y.selectors))) (all_picks y.selectors e)
+      (first_name g s y.name) (named_typed y.name) (all_picks y.selectors e)
 
   -- ---- the induction
 

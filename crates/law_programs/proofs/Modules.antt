@@ -32,11 +32,11 @@ use Rattle.check_definition.specs.Importing.{with_import}
 use Rattle.check_block.specs.Naming.{with_marks}
 use Rattle.check_block.specs.Nesting as nesting
 use Rattle.check_block.specs.Nesting.{within_decl, within, ends_from, with_procedure_ends, with_decl_ends, procedure_ends}
-use Rattle.check_block.specs.Declarations.{Declared, all_declared, declared_block, reported_of_lack}
+use Rattle.check_block.specs.Declarations.{Course, Declared, all_declared, declared_block, reported_of_lack}
 use Rattle.check_body.specs.Routines.{empty_routine, no_bodies}
 use Rattle.check_body.specs.declared.procedure.Walk.{Walk}
 use Rattle.check_body.specs.Elaborating.{Elaborates, statements_of}
-use Rattle.check_body.specs.Bodies.{Steps, marked_by, declared_by, steps}
+use Rattle.check_body.specs.Bodies.{Steps, marked_by, declared_by, again_by, steps}
 use Rattle.check_body.specs.Checks.{elaborate_body}
 use Rattle.law_well_formed.proofs.BodyFolds.{declared_same}
 use Rattle.law_well_formed.specs.Formed.{Holds}
@@ -45,7 +45,7 @@ use Rattle.law_well_formed.specs.FormedScopes.{Leads}
 use Rattle.law_well_formed.proofs.ScopesDeclarations.{beside_left}
 use Rattle.law_well_formed.specs.FormedBodies.{AreNumbered, FormsStatements, Keeps}
 use Rattle.law_well_formed.proofs.Places.{before_end, behind_end, is_within}
-use Rattle.law_well_formed.proofs.Parts.{IsStep, constants_step, types_step, variables_step, procedure_step, AreSteps, no_steps, more_steps, nothing_at, no_home, nothing_open, all_marks, all_lead}
+use Rattle.law_well_formed.proofs.Parts.{IsStep, constants_step, types_step, variables_step, procedure_step, AreSteps, no_steps, more_steps, nothing_at, no_home, nothing_open, all_marks, all_again, all_lead}
 use Rattle.law_well_formed.proofs.Checks.{keeps_refl, keeps_then, leads_keeps, holds_at}
 use Rattle.law_well_formed.proofs.BodiesBlocks.{from, all_own, all_keep, checked_reported}
 use Rattle.law_well_formed.proofs.Induction.{elaborated_formed}
@@ -267,24 +267,28 @@ module _ (g : Gathers) (elaborates : Elaborates g.Reported) (forms : FormsStatem
     abbrev marks : Scope g.Reported × List ℕ
     marks = fold (with_marks marked_by) (st.0, []) xs
 
+    abbrev course : Course g.Reported
+    course = fold declared_by (marks.0, st.1, 0) xs
+
     abbrev other : TypedModule
     other = nothing_at marks.0.types.home
 
     marks_lead : Leads other nothing_open st.0 marks.0
     marks_lead = all_marks g elaborates ends other nothing_open ps (st.0, [])
 
-    steps_lead : Leading (all_declared marked_by declared_by st 0 xs)
+    steps_lead : Leading (all_declared marked_by declared_by again_by st 0 xs)
     steps_lead = record {
       keeps_all = keeps_then (leads_keeps other nothing_open marks_lead)
           (leads_keeps other nothing_open (all_lead g elaborates ends other nothing_open ps (marks.0, st.1, 0)
           (no_home marks.0.types.home)));
       heads_all = λ ok.
-          heads_in g elaborates ends (all_declared marked_by declared_by st 0 xs).0.own
-          (all_declared marked_by declared_by st 0 xs).0.types
-          (all_declared marked_by declared_by st 0 xs).0.procedures ps (marks.0, st.1, 0)
-          (all_declared marked_by declared_by st 0 xs).0 refl refl refl refl
+          heads_in g elaborates ends (all_declared marked_by declared_by again_by st 0 xs).0.own
+          (all_declared marked_by declared_by again_by st 0 xs).0.types
+          (all_declared marked_by declared_by again_by st 0 xs).0.procedures ps (marks.0, st.1, 0)
+          (all_declared marked_by declared_by again_by st 0 xs).0 refl refl refl refl
           (ap (λ (n : ℕ). n == 0) marks_lead.level ∙ begins.level)
-          (awaits_kept g other nothing_open st.0 marks.0 marks_lead begins.awaits) ok;
+          (awaits_kept g other nothing_open st.0 marks.0 marks_lead begins.awaits)
+          (all_again g elaborates ends ps course.0 (course.1, length st.0.own) ok);
     }
 
     abbrev d : Declared g.Reported

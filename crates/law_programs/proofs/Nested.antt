@@ -19,7 +19,7 @@ use Rattle.check_scope.specs.declared.known.Known.{Known}
 use Rattle.check_scope.specs.declared.known.Known.TheVariants.{Headed}
 use Rattle.layout_storage.specs.Frames.{formals_of}
 use Rattle.layout_storage.specs.Shapes.{tree}
-use Rattle.check_block.specs.Inner.{inwards}
+use Rattle.check_scope.specs.Inwards.{inwards}
 use Rattle.check_body.specs.declared.routine.Bodies.{Bodies}
 use Rattle.check_body.specs.declared.routine.Numbered.{Numbered}
 use Rattle.check_body.specs.Routines.{numbered_known, empty_routine, routine}

@@ -23,7 +23,7 @@ use Rattle.check_scope.specs.declared.scope.Block.{Block}
 use Rattle.check_scope.specs.declared.scope.Scope.{Scope}
 use Rattle.layout_storage.specs.Frames.{formals_of}
 use Rattle.layout_storage.specs.Shapes.{tree}
-use Rattle.check_block.specs.Inner.{inwards}
+use Rattle.check_scope.specs.Inwards.{inwards}
 use Rattle.check_body.specs.declared.routine.Bodies.{Bodies}
 use Rattle.check_body.specs.declared.routine.Numbered.{Numbered}
 use Rattle.check_body.specs.Routines.{numbered_known, put_routine, routine}

@@ -278,7 +278,7 @@ module _ (g : Gathers) (x : Context) (ws : List Ty) (opens : ℕ → Bool) (s : 
   control_by_typed at (meaning.Field f) p = reported_holds g at rule.WrongControl
   control_by_typed at (meaning.Procedure f) p = reported_holds g at rule.WrongControl
   control_by_typed at (meaning.LocalProcedure f) p = reported_holds g at rule.WrongControl
-  control_by_typed at meaning.Ahead p = reported_holds g at rule.Undeclared
+  control_by_typed at meaning.Ahead p = reported_holds g at rule.Ahead
   control_by_typed at (meaning.Standard f) p = reported_holds g at rule.WrongControl
   control_by_typed at (meaning.Module k) p = reported_holds g at rule.WrongControl
 

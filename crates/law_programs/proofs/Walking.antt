@@ -31,7 +31,7 @@ use Rattle.check_body.specs.Own.{shape_copy, made_copy, types_made_in, implement
 use Rattle.check_body.specs.declared.procedure.Walk.{Walk}
 use Rattle.check_body.specs.Elaborating.{Elaborates}
 use Rattle.check_body.specs.Inside.{which_of, begun_procedure}
-use Rattle.check_body.specs.Bodies.{ChecksBlock, Steps, marked_by, declared_by, checked_by, with_body, begun_from, procedure_checked, steps_layer, block_layer, steps, checks_block, checks_decl}
+use Rattle.check_body.specs.Bodies.{ChecksBlock, Steps, marked_by, declared_by, again_by, checked_by, with_body, begun_from, procedure_checked, steps_layer, block_layer, steps, checks_block, checks_decl}
 use Rattle.check_body.specs.Checked.{walk_body, of_body, of_contents, body_module}
 use Rattle.law_well_formed.proofs.BodyFolds.{OfDecl, OfBlock, bare, opened, declared_same, all_decls as all_steps_by}
 use Rattle.law_well_formed.specs.Formed.{Holds, fine}
@@ -100,19 +100,15 @@ module _ (g : Gathers) (elaborates : Elaborates g.Reported) (ends : List ℕ) wh
       → BlockIndexed (block_layer g elaborates ends (record { decls = map steps_of (decls_of xs); body = body }))
   block_indexed xs body around returns w p =
       let first : ℕ = length w.bodies.locals in
-      let is : all_declared marked_by declared_by (w.scope, w.so_far) first (map steps_of (decls_of xs))
-      ≡ declared_block g ends (w.scope, w.so_far) first (decls_of xs) =
+      let ys : List (Steps g.Reported) = map steps_of (decls_of xs) in
+      let d : Declared g.Reported = all_declared marked_by declared_by again_by (w.scope, w.so_far) first ys in
+      let is : d ≡ declared_block g ends (w.scope, w.so_far) first (decls_of xs) =
       declared_same g elaborates ends (decls_of xs) (w.scope, w.so_far) first in
-      let start : WalkIndexed (begun_from (all_declared marked_by declared_by (w.scope, w.so_far) first
-      (map steps_of (decls_of xs))) w.bodies)
-      = subst (λ (d : Declared g.Reported). WalkIndexed (begun_from d w.bodies)) (sym is)
+      let start : WalkIndexed (begun_from d w.bodies) =
+      subst (λ (d : Declared g.Reported). WalkIndexed (begun_from d w.bodies)) (sym is)
       (let c = block_carries g ends (w.scope, w.so_far) first (decls_of xs) in c.indexed p) in
-      bodies_indexed (λ (x : Steps g.Reported). checked_by x around)
-      (all_declared marked_by declared_by (w.scope, w.so_far) first (map steps_of (decls_of xs))).2
-      (map steps_of (decls_of xs)) (all_steps xs around) (
-        begun_from (all_declared marked_by declared_by (w.scope, w.so_far) first (map steps_of (decls_of xs))) w.bodies,
-        0,
-      ) start
+      bodies_indexed (λ (x : Steps g.Reported). checked_by x around) d.2 ys (all_steps xs around)
+      (begun_from d w.bodies, 0) start
 
   step_at : (y : Decl-F SD SB) → StepIndexed (steps_layer g elaborates ends (opened g elaborates ends (stripped y)))
   step_at (layer.Constants cs) = λ around seen w p. p

@@ -76,12 +76,12 @@ module _ (g : Gathers) (m : Module) where
   tables_stay : (modules : List (List ℕ × ℕ)) (s : Scope g.Reported) (defs : List Def)
       → (types.declared_in g m modules s defs).0.tables ≡ s.tables
   tables_stay modules s defs =
-      let t = fold marked_def s defs in
+      let i = fold (with_import g modules) (s, Ok tt) m.imports in
       ap (λ (k : List Table × ℕ). k.0)
       (fold_keeps (λ (st : State (Unit {0}) g.Reported). st.0) (with_def g) (def_keeps g) defs
-      (fold (with_import g modules) (t, Ok tt) m.imports)
-      ∙ (import_keeps g modules m.imports (t, Ok tt)
-      ∙ fold_keeps (λ (s : Scope g.Reported). s) marked_def (def_marks g.Reported) defs s))
+      (fold marked_def i.0 defs, i.1)
+      ∙ (fold_keeps (λ (s : Scope g.Reported). s) marked_def (def_marks g.Reported) defs i.0
+      ∙ import_keeps g modules m.imports (s, Ok tt)))
 
   module _ (IsMade : Table → Type 0) (home : ℕ) where
     definition_listed : (tables : List Table) → AreMade IsMade tables → (defs : List Def)

@@ -40,8 +40,9 @@ use Rattle.check_definition.specs.Compiled.{declared_in}
 use Rattle.check_definition.specs.Export.{exports, reached_of}
 use Rattle.check_definition.specs.Predeclared.{console, first_scope}
 use Rattle.check_block.specs.Declarations.{Course, with_decl, declared_block, declared_module}
-use Rattle.check_block.specs.declared.inner.Outside.{Outside}
-use Rattle.check_block.specs.Inner.{inwards, entered_procedure, left_procedure}
+use Rattle.check_scope.specs.declared.inner.Outside.{Outside}
+use Rattle.check_scope.specs.Inwards.{inwards, left_procedure}
+use Rattle.check_block.specs.Inner.{entered_procedure}
 use Rattle.check_body.specs.Own.{implementation_scope}
 use Rattle.check_body.specs.Elaborating.{Elaborates}
 use Rattle.check_body.specs.Checked.{body_module}

@@ -44,7 +44,8 @@ use Rattle.check_block.specs.declared.heading.Standing.TheVariants.{Awaited}
 use Rattle.check_block.specs.Headings.{name_standing}
 use Rattle.check_block.specs.Nesting.{within, procedure_ends}
 use Rattle.check_block.specs.Declarations.{declared_block, declared_module}
-use Rattle.check_block.specs.Inner.{inwards, entered_procedure}
+use Rattle.check_scope.specs.Inwards.{inwards}
+use Rattle.check_block.specs.Inner.{entered_procedure}
 use Rattle.check_body.specs.declared.routine.Numbered.{Numbered}
 use Rattle.check_body.specs.Routines.{numbered_known, procedure_named}
 use Rattle.check_body.specs.declared.procedure.Walk.{Walk}

@@ -6,8 +6,9 @@ use Rattle.check_scope.specs.Elaborated.{Gathers}
 use Rattle.check_scope.specs.Scopes.{State}
 use Rattle.check_scope.specs.declared.scope.Scope.{Scope}
 use Rattle.check_block.specs.Declarations.{declared_block}
-use Rattle.check_block.specs.declared.inner.Outside.{Outside}
-use Rattle.check_block.specs.Inner.{entered_procedure, left_procedure}
+use Rattle.check_scope.specs.declared.inner.Outside.{Outside}
+use Rattle.check_scope.specs.Inwards.{left_procedure}
+use Rattle.check_block.specs.Inner.{entered_procedure}
 use Rattle.law_programs.specs.Carried.{ScopeWords}
 
 -- The declarations of a block lead from a scope of this kind to another, and so do the ways into a

@@ -19,9 +19,10 @@ use Rattle.def_typing.specs.TypeNames.{NamesType}
 use Rattle.def_typing.specs.Headings.{GivesBack}
 use Rattle.def_typing.specs.Returns.{Giving, AResult}
 use Rattle.def_typing.specs.Declarations.{Declaration, AnyDeclares, Declared, in_order, IsThere, types_behind, declarations_of, AllStand, AllAdded, BrokenIn, Lacks, IsOwn}
+use Rattle.def_typing.specs.Again.{BrokenAgain}
 use Rattle.def_typing.specs.Statements.{Broken}
 use Rattle.def_typing.specs.Bodies as rules
-use Rattle.def_typing.specs.Bodies.{formal, SeenAs, InsideAs, BodyGives, Place, module_variables, in_procedure, statements_in, body_spot, IsNoProcedure, Reads, reads, ReadsBodies, BrokenBlock, BrokenBodies, LacksHeading}
+use Rattle.def_typing.specs.Bodies.{formal, Sees, InsideAs, BodyGives, Place, module_variables, in_procedure, statements_in, body_spot, IsNoProcedure, Reads, reads, ReadsBodies, BrokenBlock, BrokenBodies, LacksHeading}
 use Rattle.m2_tree.specs.declared.decl.Module.{Module}
 use Rattle.m2_tree.specs.declared.decl.Decl.{out-Decl}
 use Rattle.typed_tree.specs.declared.meaning.Meaning.{Meaning}
@@ -42,10 +43,10 @@ use Rattle.law_readings.proofs.Declaring.{IsWithin, all_one, owns_one, whole_one
 
 -- ---- what is in front of a procedure, and in it
 
-seen_one : {taken : List ℕ → Bool} {block front : List Declaration} {names : Ident → Standing}
-    {name : Ident} {s t : Standing}
-    → SeenAs taken block front names name s
-    → SeenAs taken block front names name t
+seen_one : {taken : List ℕ → Bool} {block : List Declaration} {Front : List ℕ → Type 0}
+    {names : Ident → Standing} {name : Ident} {s t : Standing}
+    → Sees taken block Front names name s
+    → Sees taken block Front names name t
     → s ≡ t
 seen_one (rules.in_front c) (rules.in_front d) = refl
 seen_one (rules.in_front c) (rules.a_procedure p) = refl
@@ -298,6 +299,15 @@ module _ (exports : ℕ → Ident → Standing) where
     abbrev Breaks : List Declared → Breach → Type 0
     Breaks = BrokenIn types exports p.names p.taken p.awaited p.nested Ds
 
+    abbrev Rebreaks : List Declared → (Ident → Standing) → Breach → Type 0
+    Rebreaks whole names f = BrokenAgain (types_behind types whole) exports p.taken Ds names [] Ds f
+
+    rebreaks_as : {whole others : List Declared} {names named : Ident → Standing} {f : Breach} → whole ≡ others
+        → names ≡ named → Rebreaks whole names f → Rebreaks others named f
+    rebreaks_as {others = others} {names = names} {f = f} w e k =
+        subst (λ (named : Ident → Standing). Rebreaks others named f) e
+        (subst (λ (whole : List Declared). Rebreaks whole names f) w k)
+
     abbrev Stand : List Declared → (Ident → Standing) → Type 0
     Stand = AllStand types exports p.names p.taken p.awaited p.nested Ds
 
@@ -350,16 +360,22 @@ module _ (exports : ℕ → Ident → Standing) where
               | inl k ↦
                   inl (subst (λ (whole : List Declared). Breaks p types b whole f) w k)
               | inr y ↦ elim y [
-                | inl k ↦ inr (inl ((z.same_rules f).0 k))
-                | inr k ↦ inr (inr (stating_as p b z.same_end e o k))
+                | inl k ↦ inr (inl (rebreaks_as p types b w e k))
+                | inr v ↦ elim v [
+                  | inl k ↦ inr (inr (inl ((z.same_rules f).0 k)))
+                  | inr k ↦ inr (inr (inr (stating_as p b z.same_end e o k)))
+                ]
               ]
             ]),
             (λ x. elim x [
               | inl k ↦ inl
                   (subst (λ (whole : List Declared). Breaks p types b whole f) (sym w) k)
               | inr y ↦ elim y [
-                | inl k ↦ inr (inl ((z.same_rules f).1 k))
-                | inr k ↦ inr (inr (stating_as p b (sym z.same_end) (sym e) (sym o) k))
+                | inl k ↦ inr (inl (rebreaks_as p types b (sym w) (sym e) k))
+                | inr v ↦ elim v [
+                  | inl k ↦ inr (inr (inl ((z.same_rules f).1 k)))
+                  | inr k ↦ inr (inr (inr (stating_as p b (sym z.same_end) (sym e) (sym o) k)))
+                ]
               ]
             ]),
           );

@@ -3,6 +3,7 @@ use Rattle.std.proofs.Common.{◌≡◌, ℕ, suc, ◌≤◌, Bool, true, false,
 use Rattle.std.specs.Prelude.{◌==◌}
 use Rattle.std.specs.List.{fold}
 use Rattle.m2_tree.specs.Names.{same_name}
+use Rattle.m2_tree.specs.declared.decl.Def.{Def}
 use Rattle.m2_tree.specs.declared.decl.Decl.{Decl, out-Decl}
 use Rattle.typed_tree.specs.declared.types.TypeNo.{TypeNo}
 use Rattle.typed_tree.specs.declared.shape.Made.{Made}
@@ -15,19 +16,20 @@ use Rattle.check_scope.specs.declared.known.Known.{Known}
 use Rattle.check_scope.specs.declared.known.Known.TheVariants.{Later, Ahead, Begun, Headed, Declared}
 use Rattle.check_scope.specs.declared.known.Origin.TheVariants.{Here}
 use Rattle.check_scope.specs.declared.scope.Scope.{Scope}
-use Rattle.check_scope.specs.Scopes.{with_known}
-use Rattle.check_scope.specs.Scopes.{heading_means}
+use Rattle.check_scope.specs.Scopes.{State, with_known, heading_means}
 use Rattle.check_scope.specs.declared.meaningless.Meaningless.TheVariants as meaningless
 use Rattle.check_const.specs.Parts.{constant}
 use Rattle.check_expr.specs.Meanings.{part}
 use Rattle.check_type_expr.specs.Made.{with_shape, enumeration_constant}
-use Rattle.check_definition.specs.Declare.{with_variable_type, with_procedure_type}
+use Rattle.check_definition.specs.Declare.{with_variable_type, with_procedure_type, with_def}
 use Rattle.check_block.specs.Naming.{marked_decl}
 use Rattle.check_block.specs.Declarations.{Course, with_decl}
 use Rattle.law_folds.proofs.TypeSteps.{by_shapes}
 use Rattle.law_folds.proofs.Orders.{IsOrder, steps}
 use Rattle.law_folds.proofs.MarkSteps.{KeepsMarks, decl_layer_marks}
-use Rattle.law_folds.proofs.BlockSteps.{KeepsBlocks, decls_keep}
+use Rattle.law_folds.proofs.NameSteps.{AtLevel, varied_level, level_names}
+use Rattle.law_folds.proofs.DefinitionSteps.{KeepsDefinitions, defs_keep}
+use Rattle.law_folds.proofs.BlockSteps.{headed_level, KeepsBlocks, decls_keep}
 use Rattle.law_typing.proofs.Entering.{entered_all}
 use Rattle.law_typing.proofs.Naming.{index}
 
@@ -290,6 +292,20 @@ module _ (g : Gathers) where
         (λ x. tt));
     awaited = λ s name p e. known_keeps s name (Headed (Ok (meaning.Procedure p))) tt;
   }
+
+  -- a definition is no procedure's block
+  definitions : KeepsDefinitions g (AtLevel true Goes)
+  definitions = record {
+    names = level_names g true blocks.names;
+    varied = λ s t. (varied_level s t, λ l. varied s t);
+    variable_ends = λ s name t e. (varied_level s t, λ l. blocks.variable_ends s name t l e);
+    headed = λ s t. (headed_level s t, λ l. headed s t);
+    procedure = λ s name t e. (headed_level s t, λ l. blocks.procedure s name t l e);
+  }
+
+  pub definitions_keep : (ds : List Def) (st : State (Unit {0}) g.Reported) → (st.0.level == 0) ≡ true
+      → Keeps st.0 (fold (with_def g) st ds).0
+  definitions_keep ds st l = (defs_keep g definitions ds st).1 l
 
   pub declarations_keep : (ends : List ℕ) (ds : List Decl) (c : Course g.Reported)
       → Goes c.0 (fold (with_decl g ends) c ds).0

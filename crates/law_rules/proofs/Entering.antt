@@ -62,7 +62,7 @@ module _ (g : Gathers) (j : Judges g) (lawful : Lawful g j) (exports : ℕ → I
     → (is_nested start ≡ true) × (x.level < length start.outer)
     × ((is_own x.kind && (x.level == start.level)) ≡ false))
     (front : List Declaration) (h : Heading) (rest : List Declaration) (text : block ≡ front ++ OfProcedure h ∷ rest)
-    (seen : ℕ) (places : (n : List ℕ) → PlaceIs g j p.taken block front start.level v seen n (find_name n v.own))
+    (seen : ℕ) (places : (n : List ℕ) → PlaceIs g j p.taken block (AnyDeclares front) start.level v seen n (find_name n v.own))
     (extends : Extends (types_behind start.types whole) v.types)
     (nested : p.nested ≡ is_nested start) where
   pub no_withs_now : v.withs ≡ []
@@ -78,10 +78,10 @@ module _ (g : Gathers) (j : Judges g) (lawful : Lawful g j) (exports : ℕ → I
   -- ---- around it
 
   abbrev pub around : Scope g.Reported
-  around = In g j p.taken block front start.level v seen exports names knows_names no_withs_now places ahead
+  around = In g j p.taken block (AnyDeclares front) start.level v seen exports names knows_names no_withs_now places ahead
 
   pub sights : (sight : Ident → Standing) × ((name : Ident) → SeenAs p.taken block front names name (sight name))
-  sights = seen_there g j p.taken block front start.level v seen exports names knows_names no_withs_now places ahead
+  sights = seen_there g j p.taken block (AnyDeclares front) start.level v seen exports names knows_names no_withs_now places ahead
 
   abbrev pub sight : Ident → Standing
   sight = sights.0
@@ -90,11 +90,11 @@ module _ (g : Gathers) (j : Judges g) (lawful : Lawful g j) (exports : ℕ → I
   sees = sights.1
 
   pub sight_knows : Knows g j sight exports around
-  sight_knows = seen_knows g j p.taken block front start.level v seen exports names knows_names no_withs_now places
+  sight_knows = seen_knows g j p.taken block (AnyDeclares front) start.level v seen exports names knows_names no_withs_now places
       ahead sight sees
 
   sight_repeats : (f : Breach) → Repeats g j sight around f → Repeats g j names v f
-  sight_repeats = seen_repeats g j p.taken block front start.level v seen exports names knows_names no_withs_now places
+  sight_repeats = seen_repeats g j p.taken block (AnyDeclares front) start.level v seen exports names knows_names no_withs_now places
       ahead sight sees
 
   -- ---- inside
@@ -150,7 +150,7 @@ module _ (g : Gathers) (j : Judges g) (lawful : Lawful g j) (exports : ℕ → I
   Name = NameIs g j lawful exports sight around no_withs_now refl sight_knows h
 
   pub around_known : (name : Ident) (m : Meaning) → looked_up g around name ≡ Ok m → looked_up g v name ≡ Ok m
-  around_known = known_around g j p.taken block front start.level v seen exports names knows_names no_withs_now places
+  around_known = known_around g j p.taken block (AnyDeclares front) start.level v seen exports names knows_names no_withs_now places
       ahead sight sees
 
   formal_own : (f : Formal) (l n : ℕ) {m : Meaning}

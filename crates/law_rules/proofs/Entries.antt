@@ -17,29 +17,33 @@ use Rattle.law_typing.proofs.Combining.{Decided, holds, fails_it}
 use Rattle.law_typing.proofs.Entering.{name_decided}
 use Rattle.law_rules.proofs.Keys.{keys, entered_last, entered_other, there_found, once_found}
 
+-- It is declared here, and means this.
+pub data IsDeclared {T : Type 0} (m : Meaning) : Option (Known T) → Type 0 where
+  by_declaration : IsDeclared m (Some (known.Declared Here (Ok m)))
+  by_heading : IsDeclared m (Some (known.Headed (Ok m)))
+
 -- the names that are declared here, with what they mean
 pub data Found {T : Type 0} (own : List (List ℕ × Known T)) : List Ident → List Entry → Type 0 where
   no_more : Found own [] []
   one_more : {x : Ident} {xs : List Ident} {m : Meaning} {es : List Entry}
-      → find_name x.name own ≡ Some (known.Declared Here (Ok m)) → Found own xs es
-      → Found own (x ∷ xs) ((x.name, m) ∷ es)
+      → IsDeclared m (find_name x.name own) → Found own xs es → Found own (x ∷ xs) ((x.name, m) ∷ es)
 
 one_meaning : {a b : Meaning} → ◌≡◌ {A = Option Meaning} (Some a) (Some b) → a ≡ b
 one_meaning q = cc
 
 module _ {T : Type 0} where
   named_by : (own : List (List ℕ × Known T)) (n : List ℕ) (m : Meaning) (x : Ident) (w : Meaning) (o : Option Meaning)
-      {b : Bool} → Decided (n ≡ x.name) b → find_name x.name own ≡ Some (known.Declared Here (Ok w))
-      → (o ≡ Some m → find_name n own ≡ Some (known.Declared Here (Ok m))) → cond b (Some w) o ≡ Some m
-      → find_name n own ≡ Some (known.Declared Here (Ok m))
+      {b : Bool} → Decided (n ≡ x.name) b → IsDeclared w (find_name x.name own)
+      → (o ≡ Some m → IsDeclared m (find_name n own)) → cond b (Some w) o ≡ Some m
+      → IsDeclared m (find_name n own)
   named_by own n m x w o (holds q) e h z =
-      subst (λ (k : List ℕ). find_name k own ≡ Some (known.Declared Here (Ok m))) (sym q)
-      (e ∙ ap (λ (w : Meaning). let k : Option (Known T) = Some (known.Declared Here (Ok w)) in k) (one_meaning z))
+      subst (λ (k : List ℕ). IsDeclared m (find_name k own)) (sym q)
+      (subst (λ (w : Meaning). IsDeclared w (find_name x.name own)) (one_meaning z) e)
   named_by own n m x w o (fails_it c) e h z = h z
 
   -- What is listed is declared.
   pub found_named : {own : List (List ℕ × Known T)} {xs : List Ident} {es : List Entry} → Found own xs es
-      → (n : List ℕ) (m : Meaning) → find_name n es ≡ Some m → find_name n own ≡ Some (known.Declared Here (Ok m))
+      → (n : List ℕ) (m : Meaning) → find_name n es ≡ Some m → IsDeclared m (find_name n own)
   found_named no_more n m z = absurd cc
   found_named {own = own} (one_more {x = x} {m = w} {es = es} e f) n m z =
       named_by own n m x w (find_name n es) (name_decided n x.name) e (λ q. found_named f n m q) z
@@ -108,8 +112,9 @@ module _ {T : Type 0} where
     foreign_entries (e ∷ es) h = ap (λ (fs : List Entry). fs ++ entries es) (h e here)
         ∙ foreign_entries es (λ f m. h f (later m))
 
-    one_known : {k l : Known T} → ◌≡◌ {A = Option (Known T)} (Some k) (Some l) → k ≡ l
-    one_known q = cc
+    entry_is : (n : List ℕ) {m : Meaning} {k : Known T} → IsDeclared m (Some k) → entry_of n k ≡ (n, m) ∷ []
+    entry_is n by_declaration = refl
+    entry_is n by_heading = refl
 
     -- names that come first are exported, and no other is
     found_entries : {xs : List Ident} {fs : List Entry} (es : List (List ℕ × Known T)) (rest : List (List ℕ))
@@ -130,16 +135,32 @@ module _ {T : Type 0} where
         tail : keys es ≡ map (λ (x : Ident). x.name) xs ++ rest
         tail = cc
 
-        known_so : e.1 ≡ known.Declared Here (Ok m)
-        known_so = one_known (sym (a e here) ∙ subst
-            (λ (n : List ℕ). find_name n own ≡ Some (known.Declared Here (Ok m))) (sym head) w)
+        known_so : IsDeclared m (Some e.1)
+        known_so = subst (λ (k : Option (Known T)). IsDeclared m k) (a e here)
+            (subst (λ (n : List ℕ). IsDeclared m (find_name n own)) (sym head) w)
 
         first : entry_of e.0 e.1 ≡ (x.name, m) ∷ []
-        first = ap (λ (k : Known T). entry_of e.0 k) known_so
-            ∙ ap (λ (n : List ℕ). let y : List Entry = (n, m) ∷ [] in y) head
+        first = entry_is e.0 known_so ∙ ap (λ (n : List ℕ). let y : List Entry = (n, m) ∷ [] in y) head
+
+    -- so it is behind names of others
+    found_behind : {xs : List Ident} {fs : List Entry} (es : List (List ℕ × Known T)) (front rest : List (List ℕ))
+        → Found own xs fs → AsFound es → keys es ≡ front ++ (map (λ (x : Ident). x.name) xs ++ rest)
+        → ((e : List ℕ × Known T) → Among e es → Among e.0 front → entry_of e.0 e.1 ≡ [])
+        → ((e : List ℕ × Known T) → Among e es → (n : List ℕ) → Among n rest → e.0 ≡ n → entry_of e.0 e.1 ≡ [])
+        → entries es ≡ fs
+    found_behind es [] rest f a q b c = found_entries es rest f a q c
+    found_behind [] (k ∷ front) rest f a q b c = absurd cc
+    found_behind (e ∷ es) (k ∷ front) rest f a q b c = let head : e.0 ≡ k = cc in
+        let tail : keys es ≡ front ++ (map (λ (x : Ident). x.name) _ ++ rest) = cc in
+        ap (λ (gs : List Entry). gs ++ entries es) (b e here (subst (λ (n : List ℕ). Among n (k ∷ front)) (sym head)
+        here))
+        ∙ found_behind es front rest f (λ d n. a d (later n)) tail (λ d n w. b d (later n) (later w))
+        (λ d n. c d (later n))
 
   pub exported_are : {own : List (List ℕ × Known T)} {xs : List Ident} {fs : List Entry} → AreOnce own
-      → (rest : List (List ℕ)) → Found own xs fs → keys own ≡ map (λ (x : Ident). x.name) xs ++ rest
-      → ((e : List ℕ × Known T) → Among e own → (n : List ℕ) → Among n rest → e.0 ≡ n → entry_of e.0 e.1 ≡ [])
-      → exports own ≡ fs
-  exported_are {own = own} o rest f q c = exports_are o ∙ found_entries own own rest f (once_found o) q c
+      → (front rest : List (List ℕ)) → Found own xs fs
+      → keys own ≡ front ++ (map (λ (x : Ident). x.name) xs ++ rest)
+      → ((e : List ℕ × Known T) → Among e own → Among e.0 front → entry_of e.0 e.1 ≡ [])
+      → ((e : List ℕ × Known T) → Among e own → Among e.0 rest → entry_of e.0 e.1 ≡ []) → exports own ≡ fs
+  exported_are {own = own} o front rest f q b c = exports_are o ∙ found_behind own own front rest f (once_found o) q b
+      (λ e m n w h. c e m (subst (λ (k : List ℕ). Among k rest) (sym h) w))

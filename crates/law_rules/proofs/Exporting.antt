@@ -1,12 +1,11 @@
 -- If nothing is reported, a declaration exports what the rules say.
-use Rattle.std.proofs.Common.{◌≡◌, ℕ, Bool, true, false, List, ◌∷◌, length, Some, Result, Ok, inl, inr, refl, subst}
+use Rattle.std.proofs.Common.{◌≡◌, ℕ, Bool, true, false, List, ◌∷◌, length, Option, Result, Ok, inl, inr, refl, sym, subst}
 use Rattle.m2_rule.specs.declared.breach.Breach.{Breach}
 use Rattle.m2_tree.specs.declared.name.Ident.{Ident}
 use Rattle.typed_tree.specs.declared.meaning.Meaning.{Meaning}
 use Rattle.typed_tree.specs.declared.known_types.Types.{Types}
 use Rattle.typed_tree.specs.Names.{find_name}
-use Rattle.check_scope.specs.declared.known.Known.TheVariants as known
-use Rattle.check_scope.specs.declared.known.Origin.TheVariants.{Here}
+use Rattle.check_scope.specs.declared.known.Known.{Known}
 use Rattle.check_scope.specs.declared.scope.Scope.{Scope}
 use Rattle.check_scope.specs.Elaborated.{Gathers}
 use Rattle.def_typing.specs.Things.{Standing}
@@ -21,6 +20,7 @@ use Rattle.law_rules.specs.Exports.{IsEntry, constant_means, OwnMeans, ConstantM
 use Rattle.law_rules.proofs.Formals.{twice_split}
 use Rattle.law_rules.proofs.Among.{among_left, among_right}
 use Rattle.law_rules.proofs.Taking.{new_of, Takes}
+use Rattle.law_rules.proofs.Entries.{IsDeclared, by_declaration}
 use Rattle.law_rules.proofs.Listing.{all_names, found_both, listed_from, OneListed, OneListing}
 use Rattle.law_rules.proofs.Stepping.{Standpoint, place, NowKnown, owned_means, constant_is, other_kept}
 
@@ -54,7 +54,7 @@ module _ (g : Gathers) (j : Judges g) (exports : ℕ → Ident → Standing) (st
     free_name x m = not_true (taken x.name) (new_of Taken (all_names d.what) all_new x m)
 
     each_own : (x : Ident) → Among x (names_of d.what) → (m : Meaning)
-        × (find_name x.name t.own ≡ Some (known.Declared Here (Ok m))) × Own x m
+        × IsDeclared m (find_name x.name t.own) × Own x m
     each_own x y = let q = takes.own x y in (
       q.0,
       q.1,
@@ -68,12 +68,15 @@ module _ (g : Gathers) (j : Judges g) (exports : ℕ → Ident → Standing) (st
     )
 
     each_constant : (x : Ident) → Among x (constants_of d.what) → (m : Meaning)
-        × (find_name x.name t.own ≡ Some (known.Declared Here (Ok m))) × ConstantMeans exports P x m
+        × IsDeclared m (find_name x.name t.own) × ConstantMeans exports P x m
     each_constant x y = let q = constant_is g j exports start names taken d ds v x.name (now x.name)
         (free_name x (among_right (names_of d.what) y))
         (λ h. new_of (Adding (names_of d.what) Taken) (constants_of d.what) constants_new x y
-        (adding_name (names_of d.what) Taken x.name h.0 h.1 h.2)) (named_right (names_of d.what) (x, y, refl)) in
-        (constant_means q.0, q.2, (q.0, q.1, refl))
+        (adding_name (names_of d.what) Taken x.name h.0 h.1 h.2)) (named_right (names_of d.what) (x, y, refl)) in (
+          constant_means q.0,
+          subst (λ (k : Option (Known g.Reported)). IsDeclared (constant_means q.0) k) (sym q.2) by_declaration,
+          (q.0, q.1, refl),
+        )
 
     one_listed : OneListed g exports P s t
     one_listed = let q = listed_from (names_of d.what) each_own in

@@ -1,6 +1,6 @@
 -- What is reported of a block behind imports stands beside what is reported of these.
 use Rattle.std.proofs.Common.{◌≡◌, ℕ, Bool, true, false, cond, List, [], ◌∷◌, Result, Ok, Err, ◌⊎◌, inl, inr, refl, sym, ap, subst, ◌∙◌, append_assoc}
-use Rattle.std.specs.Prelude.{◌==◌}
+use Rattle.std.specs.Prelude.{◌==◌, map, length}
 use Rattle.std.specs.List.{fold}
 use Rattle.m2_rule.specs.declared.breach.Breach.{Breach}
 use Rattle.m2_rule.specs.Breaches.{is_less}
@@ -11,17 +11,29 @@ use Rattle.m2_tree.specs.declared.decl.Variables.{Variables}
 use Rattle.m2_tree.specs.declared.decl.Decl.{Decl, Decl-F, out-Decl}
 use Rattle.m2_tree.specs.declared.decl.Decl.TheOpen as layer
 use Rattle.m2_tree.specs.declared.decl.Block.{Block}
+use Rattle.m2_tree.specs.declared.decl.Simple.{Simple}
+use Rattle.m2_tree.specs.declared.decl.Simple.TheVariants as simple
+use Rattle.m2_tree.specs.declared.decl.TypeExpr.{TypeExpr, TypeExpr-F}
+use Rattle.m2_tree.specs.declared.decl.TypeExpr.TheOpen as type_layer
+use Rattle.m2_tree.specs.declared.decl.Field.{Field}
+use Rattle.m2_tree.specs.declared.expr.Expr.{Expr}
 use Rattle.check_scope.specs.declared.scope.Scope.{Scope}
 use Rattle.check_scope.specs.Elaborated.{Gathers, every, least, beside}
 use Rattle.check_scope.specs.Scopes.{State, begin_name}
 use Rattle.check_type_expr.specs.Made.{nothing_of, type_of}
 use Rattle.check_definition.specs.Declare.{with_constant, with_type, begun_name, finished_variable, with_variables}
-use Rattle.check_block.specs.Declarations.{finished_local, with_locals, with_variables_of, Course, going_on, decl_layer, with_decl, declared_block}
+use Rattle.check_definition.specs.Again as again
+use Rattle.check_definition.specs.Again.{Passing, Passes, reported_at, again_value, again_simple, then_passes, again_type, again_field, again_constant, again_declared, again_variables}
+use Rattle.check_scope.specs.Inwards.{inwards}
+use Rattle.check_block.specs.Declarations.{finished_local, with_locals, with_variables_of, Course, going_on, decl_layer, with_decl, again_layer, again_decl, declared_block}
+use Rattle.law_folds.proofs.TypeFolds.{Typed, Fielded, bare, all_trees}
+use Rattle.law_folds.proofs.AgainSteps.{again_opened, again_at, again_fields_at}
 use Rattle.law_typing.specs.Judging.{Judges, Reports, reports_nothing, reports_broken}
 use Rattle.law_typing.proofs.Order.{below, above}
 use Rattle.law_typing.proofs.Combining.{Lawful, Tells, silent, tells, beside_tells}
 use Rattle.law_rules.specs.Importing.{imported_all, FollowingBlocksAreExact}
 use Rattle.law_rules.proofs.Behind.{imports_answer}
+use Rattle.law_rules.proofs.BlocksAgain.{block_again}
 
 -- ---- it does not matter which two are gathered first
 
@@ -135,13 +147,98 @@ module _ (g : Gathers) (associates : Associates g) where
     all_move ends [] z = z
     all_move ends (d ∷ ds) z = all_move ends ds (layer_moves ends (out-Decl d) z)
 
-    moved_is : {c d : Course g.Reported} → Moved c d → (d.0 ≡ c.0) × (d.1 ≡ beside g r c.1)
-    moved_is (moved e) = (refl, e)
+    -- ---- reading again
+
+    data Passed : Passing g.Reported → Passing g.Reported → Type 0 where
+      passed_on : {b a : R} {n : ℕ} → a ≡ beside g r b → Passed (b, n) (a, n)
+
+    abbrev Passing_on : Passes g → Type 0
+    Passing_on f = (s : Scope g.Reported) (p q : Passing g.Reported) → Passed p q → Passed (f s p) (f s q)
+
+    value_passes : (e : Expr) → Passing_on (λ s p. again_value g s e p)
+    value_passes e s _ _ (passed_on {b = b} {a = a} {n = n} z) =
+        passed_on (more a b (reported_at g (inwards s n) e) z)
+
+    simple_passes : (x : Simple) → Passing_on (again_simple g x)
+    simple_passes (simple.Named n) s p q z = z
+    simple_passes (simple.Enumeration at names) s _ _ (passed_on z) = passed_on z
+    simple_passes (simple.Subrange of at low high) s p q z =
+        value_passes high s (again_value g s low p) (again_value g s low q) (value_passes low s p q z)
+
+    abbrev PT : TypeExpr → Passes g → Type 0
+    PT t f = Passing_on f
+
+    abbrev PF : Field → Passes g → Type 0
+    PF d f = Passing_on f
+
+    abbrev ST : Type 0
+    ST = Typed (again_type g) (again_field g) PT PF
+
+    abbrev SF : Type 0
+    SF = Fielded (again_type g) (again_field g) PT PF
+
+    abbrev shut : TypeExpr-F ST SF → TypeExpr-F TypeExpr Field
+    shut y = bare (again_type g) (again_field g) PT PF y
+
+    fields_pass : (fs : List SF) (s : Scope g.Reported) (p q : Passing g.Reported) → Passed p q
+        → Passed (fold (then_passes g s) p (map (again_field g) (map (λ (f : SF). f.0) fs)))
+        (fold (then_passes g s) q (map (again_field g) (map (λ (f : SF). f.0) fs)))
+    fields_pass [] s p q z = z
+    fields_pass (f ∷ fs) s p q z = fields_pass fs s (again_field g f.0 s p) (again_field g f.0 s q) (f.1 s p q z)
+
+    type_step : (y : TypeExpr-F ST SF) → Passing_on (again.type_layer g (again_opened g (shut y)))
+    type_step (type_layer.Simple x) s p q z = simple_passes x s p q z
+    type_step (type_layer.Array at index t) s p q z =
+        t.1 s (again_simple g index s p) (again_simple g index s q) (simple_passes index s p q z)
+    type_step (type_layer.Record at fields) s p q z = fields_pass fields s p q z
+    type_step (type_layer.Procedure at formals t) s p q z = z
+
+    type_passes : (t : TypeExpr) → Passing_on (again_type g t)
+    type_passes = all_trees (again_type g) (again_field g) PT PF (again.type_layer g) (again.field_layer g) (again_at g)
+        (again_fields_at g) type_step (λ y s p q z. y.of.1 s p q z)
+
+    module _ (s : Scope g.Reported) where
+      fold_passes : {X : Type 0} (f : Passing g.Reported → X → Passing g.Reported)
+          → ((x : X) (p q : Passing g.Reported) → Passed p q → Passed (f p x) (f q x))
+          → (xs : List X) {p q : Passing g.Reported} → Passed p q → Passed (fold f p xs) (fold f q xs)
+      fold_passes f h [] z = z
+      fold_passes f h (x ∷ xs) {p = p} {q = q} z = fold_passes f h xs (h x p q z)
+
+      constant_passes : (c : Constant) (p q : Passing g.Reported) → Passed p q
+          → Passed (again_constant g s p c) (again_constant g s q c)
+      constant_passes c _ _ (passed_on {b = b} {a = a} {n = n} z) =
+          passed_on (more a b (reported_at g (inwards s n) c.value) z)
+
+      declared_passes : (d : TypeDecl) (p q : Passing g.Reported) → Passed p q
+          → Passed (again_declared g s p d) (again_declared g s q d)
+      declared_passes d _ _ (passed_on z) = type_passes d.of s _ _ (passed_on z)
+
+      variables_pass : (v : Variables) (p q : Passing g.Reported) → Passed p q
+          → Passed (again_variables g s p v) (again_variables g s q v)
+      variables_pass v _ _ (passed_on z) = type_passes v.of s _ _ (passed_on z)
+
+      layer_passes : (y : Decl-F Decl Block) (p q : Passing g.Reported) → Passed p q
+          → Passed (again_layer g s p y) (again_layer g s q y)
+      layer_passes (layer.Constants cs) p q z = fold_passes (again_constant g s) constant_passes cs z
+      layer_passes (layer.Types ts) p q z = fold_passes (again_declared g s) declared_passes ts z
+      layer_passes (layer.Variables vs) p q z = fold_passes (again_variables g s) variables_pass vs z
+      layer_passes (layer.Procedure h k) _ _ (passed_on z) = passed_on z
+
+      decls_pass : (ds : List Decl) {p q : Passing g.Reported} → Passed p q
+          → Passed (fold (again_decl g s) p ds) (fold (again_decl g s) q ds)
+      decls_pass = fold_passes (again_decl g s) (λ d p q z. layer_passes (out-Decl d) p q z)
+
+    passed_is : {p q : Passing g.Reported} → Passed p q → q.0 ≡ beside g r p.0
+    passed_is (passed_on e) = e
+
+    moved_is : (ds : List Decl) (n : ℕ) {c d : Course g.Reported} → Moved c d → (d.0 ≡ c.0)
+        × ((fold (again_decl g d.0) (d.1, n) ds).0 ≡ beside g r (fold (again_decl g c.0) (c.1, n) ds).0)
+    moved_is ds n (moved {s = s} e) = (refl, passed_is (decls_pass s ds (passed_on e)))
 
     pub block_moves : (ends : List ℕ) (s : Scope g.Reported) (first : ℕ) (ds : List Decl)
         → ((declared_block g ends (s, r) first ds).0 ≡ (declared_block g ends (s, Ok tt) first ds).0)
         × ((declared_block g ends (s, r) first ds).1 ≡ beside g r (declared_block g ends (s, Ok tt) first ds).1)
-    block_moves ends s first ds = moved_is (all_move ends ds (moved (beside_nothing r)))
+    block_moves ends s first ds = moved_is ds (length s.own) (all_move ends ds (moved (beside_nothing r)))
 
 module _ (g : Gathers) (j : Judges g) (lawful : Lawful g j) (associates : Associates g) where
   -- what is reported, if more may be repeated
@@ -171,6 +268,8 @@ module _ (g : Gathers) (j : Judges g) (lawful : Lawful g j) (associates : Associ
       let m = block_moves g associates (imported_all g s imports).1 ends (imported_all g s imports).0 first ds in (
         b.whole,
         b.in_text,
-        both_reported i.reported b.reported m.1,
+        (λ behind all. both_reported i.reported (b.reported behind all
+            (block_again g j exports names (imported_all g s imports).0 taken awaited t
+            (ap (λ (z : Scope g.Reported). z.withs) i.rest ∙ e) ends first ds b behind all)) m.1),
         m.0,
       )

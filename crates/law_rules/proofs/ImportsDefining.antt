@@ -1,55 +1,37 @@
--- Where the imports of a definition stand, what it declares is marked alone.
-use Rattle.std.proofs.Common.{◌≡◌, ℕ, true, false, List, Some, refl, ap, ◌∙◌}
+-- Behind the imports of a definition, what it declares is marked.
+use Rattle.std.proofs.Common.{◌≡◌, List, refl, ap, ◌∙◌}
 use Rattle.std.specs.List.{fold}
-use Rattle.typed_tree.specs.Names.{find_name}
-use Rattle.check_scope.specs.declared.known.Known.{Known}
-use Rattle.check_scope.specs.declared.known.Known.TheVariants.{Later, Ahead}
+use Rattle.m2_tree.specs.declared.decl.Def.{Def}
 use Rattle.check_scope.specs.declared.scope.Scope.{Scope}
 use Rattle.check_scope.specs.Elaborated.{Gathers}
-use Rattle.check_scope.specs.Scopes.{is_free, with_known}
 use Rattle.check_definition.specs.Predeclared.{first_scope}
 use Rattle.check_definition.specs.Marking.{marked_def}
 use Rattle.law_folds.proofs.MarkSteps.{KeepsMarks, defs_marks}
 use Rattle.law_typing.specs.Judging.{Judges}
 use Rattle.law_typing.proofs.Combining.{Lawful}
-use Rattle.law_typing.proofs.Entering.{entered_all}
-use Rattle.law_rules.specs.Importing.{not_own, DefinitionImportsAreExact}
-use Rattle.law_rules.proofs.Behind.{imports_answer}
+use Rattle.law_rules.specs.Importing.{imported_all, DefinitionImportsAreExact}
+use Rattle.law_rules.proofs.Behind.{first_imports}
 
-abbrev AreFree : {T : Type 0} → Scope T → Type 0
-AreFree s = (n : List ℕ) → is_free (find_name n s.own) ≡ true
+-- Names alone are new.
+abbrev NamesNew : {T : Type 0} → Scope T → Scope T → Type 0
+NamesNew s t = t ≡ record s { own = t.own }
 
--- Names alone are new, and all of them are declared later.
-record Leaves {T : Type 0} (s t : Scope T) : Type 0 where
-  rest : t ≡ record s { own = t.own }
-  free : AreFree s → AreFree t
+new_then : {T : Type 0} (s t u : Scope T) → NamesNew s t → NamesNew t u → NamesNew s u
+new_then {T = T} s t u a b = b ∙ ap (λ (t : Scope T). record t { own = u.own }) a
 
-leaves_refl : {T : Type 0} (s : Scope T) → Leaves s s
-leaves_refl s = record { rest = refl; free = λ f. f }
-
-leaves_then : {T : Type 0} {s t u : Scope T} → Leaves s t → Leaves t u → Leaves s u
-leaves_then {T = T} {u = u} a b = record {
-  rest = b.rest ∙ ap (λ (t : Scope T). record t { own = u.own }) a.rest;
-  free =
-      λ f. b.free (a.free f);
-}
-
-new_leaves : {T : Type 0} (s : Scope T) (name : List ℕ) (k : Known T) → is_free (Some k) ≡ true
-    → Leaves s (with_known name k s)
-new_leaves s name k h =
-    record { rest = refl; free = λ f. entered_all (λ n o. is_free o ≡ true) name k s.own h (λ n c. f n) }
-
-marks : {T : Type 0} → KeepsMarks {T = T} Leaves
+marks : {T : Type 0} → KeepsMarks {T = T} NamesNew
 marks = record {
-  order = record { same = leaves_refl; next = λ a b c p q. leaves_then p q };
-  later = λ s name e. new_leaves s name Later refl;
-  ahead = λ s name e. new_leaves s name Ahead refl;
+  order = record { same = λ s. refl; next = λ a b c p q. new_then a b c p q };
+  later = λ s name e. refl;
+  ahead = λ s name e. refl;
 }
+
+pub marks_new : {T : Type 0} (defs : List Def) (s : Scope T)
+    → fold marked_def s defs ≡ record s { own = (fold marked_def s defs).own }
+marks_new defs s = defs_marks marks defs s
 
 pub definition_imports : (g : Gathers) (j : Judges g) → Lawful g j → DefinitionImportsAreExact g j
-definition_imports g j lawful home tables defs imports =
-    let z = defs_marks marks defs (first_scope home tables) in (
-      z.rest,
-      imports_answer g j lawful (λ n. false) (fold marked_def (first_scope home tables) defs)
-          (λ n. not_own (z.free (λ n. refl) n)) imports,
-    )
+definition_imports g j lawful home tables defs imports = (
+  first_imports g j lawful home tables imports,
+  marks_new defs (imported_all g (first_scope home tables) imports).0,
+)

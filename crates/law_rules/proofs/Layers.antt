@@ -12,10 +12,11 @@ use Rattle.check_scope.specs.declared.scope.Scope.{Scope}
 use Rattle.check_scope.specs.Scopes.{State}
 use Rattle.check_scope.specs.Elaborated.{Gathers}
 use Rattle.check_block.specs.Naming.{marked_layer, marked_decl, with_marks, all_marked}
-use Rattle.check_block.specs.Declarations.{Course, Declared, decl_layer, with_decl, all_declared, declared_block}
+use Rattle.check_definition.specs.Again.{Passing}
+use Rattle.check_block.specs.Declarations.{Course, Declared, decl_layer, with_decl, again_layer, again_decl, all_declared, declared_block}
 use Rattle.check_body.specs.declared.procedure.Walk.{Walk}
 use Rattle.check_body.specs.Elaborating.{Elaborates}
-use Rattle.check_body.specs.Bodies.{Checked, ChecksBlock, Steps, marked_by, declared_by, checked_by, with_body, with_bodies, begun_block, with_statements, block_from, checks_layer, steps_layer, block_layer, steps, checks_block, checks_decl, bodies_checked}
+use Rattle.check_body.specs.Bodies.{Checked, ChecksBlock, Steps, marked_by, declared_by, again_by, checked_by, with_body, with_bodies, begun_block, with_statements, block_from, checks_layer, steps_layer, block_layer, steps, checks_block, checks_decl, bodies_checked}
 use Rattle.def_typing.specs.Parts.{Among, here, later}
 
 -- ---- lists
@@ -57,6 +58,13 @@ module _ (g : Gathers) (elaborates : Elaborates g.Reported) (ends : List ℕ) wh
   declared_mapped c (layer.Variables vs) = refl
   declared_mapped c (layer.Procedure h b) = refl
 
+  again_mapped : (s : Scope g.Reported) (p : Passing g.Reported) (x : Decl-F Decl Block)
+      → again_layer g s p (opened x) ≡ again_layer g s p x
+  again_mapped s p (layer.Constants cs) = refl
+  again_mapped s p (layer.Types ts) = refl
+  again_mapped s p (layer.Variables vs) = refl
+  again_mapped s p (layer.Procedure h b) = refl
+
   declares_is : (c : Course g.Reported) (d : Decl) → (steps g elaborates ends d).declares c ≡ with_decl g ends c d
   declares_is c d = ap (λ (x : S). x.declares c) (at d) ∙ declared_mapped c (out-Decl d)
 
@@ -81,17 +89,28 @@ module _ (g : Gathers) (elaborates : Elaborates g.Reported) (ends : List ℕ) wh
       → fold declared_by c (map (steps g elaborates ends) ds) ≡ fold (with_decl g ends) c ds
   all_declares c ds = fold_agrees declared_by (with_decl g ends) (steps g elaborates ends) declares_is c ds
 
-  abbrev behind : List ℕ → Course g.Reported → Declared g.Reported
-  behind seen c = (c.0, c.1, seen)
+  again_is : (s : Scope g.Reported) (p : Passing g.Reported) (d : Decl)
+      → (steps g elaborates ends d).again s p ≡ again_decl g s p d
+  again_is s p d = ap (λ (x : S). x.again s p) (at d) ∙ again_mapped s p (out-Decl d)
+
+  all_again : (s : Scope g.Reported) (p : Passing g.Reported) (ds : List Decl)
+      → fold (again_by s) p (map (steps g elaborates ends) ds) ≡ fold (again_decl g s) p ds
+  all_again s p ds = fold_agrees (again_by s) (again_decl g s) (steps g elaborates ends) (again_is s) p ds
+
+  abbrev behind : ℕ → List Decl → List ℕ → Course g.Reported → Declared g.Reported
+  behind n ds seen c = (c.0, (fold (again_by c.0) (c.1, n) (map (steps g elaborates ends) ds)).0, seen)
 
   declared_is : (st : State (Unit {0}) g.Reported) (first : ℕ) (ds : List Decl)
-      → all_declared marked_by declared_by st first (map (steps g elaborates ends) ds)
+      → all_declared marked_by declared_by again_by st first (map (steps g elaborates ends) ds)
       ≡ declared_block g ends st first ds
   declared_is st first ds =
-      ap (λ (m : Scope g.Reported × List ℕ). behind m.1
+      ap (λ (m : Scope g.Reported × List ℕ). behind (length st.0.own) ds m.1
       (fold declared_by (m.0, st.1, first) (map (steps g elaborates ends) ds))) (all_marks st.0 ds)
-      ∙ ap (behind (all_marked marked_decl st.0 ds).1)
+      ∙ ap (behind (length st.0.own) ds (all_marked marked_decl st.0 ds).1)
       (all_declares ((all_marked marked_decl st.0 ds).0, st.1, first) ds)
+      ∙ (let c : Course g.Reported = fold (with_decl g ends) ((all_marked marked_decl st.0 ds).0, st.1, first) ds in
+      ap (λ (p : Passing g.Reported). let d : Declared g.Reported = (c.0, p.0, (all_marked marked_decl st.0 ds).1) in d)
+      (all_again c.0 (c.1, length st.0.own) ds))
 
   bodies_is : (around : Option Which) (seen : List ℕ) (w : Walk g.Reported) (ds : List Decl)
       → with_bodies (λ x. checked_by x around) seen w (map (steps g elaborates ends) ds)

@@ -3,13 +3,11 @@ pub mod ImportsImporting
 pub mod Behind
 pub mod ImportsDefining
 pub mod Implementing
-pub mod Following
 pub mod Among
 pub mod Twices
 pub mod Keys
 pub mod Keeping
 pub mod Once
-pub mod Unheaded
 pub mod Bare
 pub mod Sections
 pub mod Stepping
@@ -27,6 +25,7 @@ pub mod Marks
 pub mod Modules
 pub mod Meeting
 pub mod Finding
+pub mod DefinitionsAgain
 pub mod Starting
 pub mod Outside
 pub mod DefinitionsImporting
@@ -37,7 +36,11 @@ pub mod Reading
 pub mod Seeing
 pub mod BodiesFormals
 pub mod Refusing
+pub mod Turns
+pub mod Insides
 pub mod Placing
+pub mod BlocksAgain
+pub mod Following
 pub mod Owning
 pub mod Entering
 pub mod Stating

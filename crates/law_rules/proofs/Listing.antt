@@ -1,12 +1,10 @@
 -- If nothing is reported, the names that are declared are exported in the order of the text.
-use Rattle.std.proofs.Common.{◌≡◌, ℕ, ◌+◌, Bool, true, List, [], ◌∷◌, ◌++◌, length, Some, Ok, ◌⊎◌, inl, inr, refl, sym, ap, subst, ◌∙◌}
+use Rattle.std.proofs.Common.{◌≡◌, ℕ, ◌+◌, Bool, true, List, [], ◌∷◌, ◌++◌, length, Option, Ok, ◌⊎◌, inl, inr, refl, sym, ap, subst, ◌∙◌}
 use Rattle.std.specs.Prelude.{◌||◌}
 use Rattle.m2_tree.specs.declared.name.Ident.{Ident}
 use Rattle.typed_tree.specs.declared.meaning.Meaning.{Meaning}
 use Rattle.typed_tree.specs.Names.{find_name}
 use Rattle.check_scope.specs.declared.known.Known.{Known}
-use Rattle.check_scope.specs.declared.known.Known.TheVariants as known
-use Rattle.check_scope.specs.declared.known.Origin.TheVariants.{Here}
 use Rattle.check_scope.specs.declared.scope.Scope.{Scope}
 use Rattle.check_scope.specs.Elaborated.{Gathers}
 use Rattle.check_scope.specs.Scopes.{State}
@@ -24,7 +22,7 @@ use Rattle.law_rules.specs.Exports.{Lists, no_name, a_name, OwnMeans, ConstantMe
 use Rattle.law_rules.proofs.Formals.{twice_split}
 use Rattle.law_rules.proofs.Among.{among_left, among_right}
 use Rattle.law_rules.proofs.Twices.{twice_as, either_first, either_second}
-use Rattle.law_rules.proofs.Entries.{Found, no_more, one_more}
+use Rattle.law_rules.proofs.Entries.{IsDeclared, Found, no_more, one_more}
 
 -- ---- names of declarations
 
@@ -54,11 +52,13 @@ module _ {T : Type 0} where
   pub found_moves : {own new : List (List ℕ × Known T)} {xs : List Ident} {es : List Entry}
       → ((x : Ident) → Among x xs → find_name x.name new ≡ find_name x.name own) → Found own xs es → Found new xs es
   found_moves h no_more = no_more
-  found_moves h (one_more {x = x} e f) = one_more (h x here ∙ e) (found_moves (λ y m. h y (later m)) f)
+  found_moves h (one_more {x = x} {m = w} e f) =
+      one_more (subst (λ (k : Option (Known T)). IsDeclared w k) (sym (h x here)) e)
+      (found_moves (λ y m. h y (later m)) f)
 
   -- one name after another
   pub listed_from : {own : List (List ℕ × Known T)} {Is : Ident → Meaning → Type 0} (xs : List Ident)
-      → ((x : Ident) → Among x xs → (m : Meaning) × (find_name x.name own ≡ Some (known.Declared Here (Ok m))) × Is x m)
+      → ((x : Ident) → Among x xs → (m : Meaning) × IsDeclared m (find_name x.name own) × Is x m)
       → (es : List Entry) × Found own xs es × Lists Is xs es
   listed_from [] h = ([], no_more, no_name)
   listed_from (x ∷ xs) h = let q = h x here in let z = listed_from xs (λ y m. h y (later m)) in

@@ -42,7 +42,7 @@ fold_both f a (x ∷ xs) ys = fold_both f (f a x) xs ys
 -- ---- types mark their constants, in their order
 
 module _ (T : Type 0) where
-  abbrev marked : Scope T → List Ident → Scope T
+  abbrev pub marked : Scope T → List Ident → Scope T
   marked s xs = fold marked_later s xs
 
   abbrev PT : TypeExpr → Marks T → Type 0
@@ -110,7 +110,7 @@ module _ (T : Type 0) where
       let x : Field-F TypeExpr Field = shut_field y in
       y.of.1 s ∙ sym (ap (λ (xs : List Ident). marked s xs) (field_at (roll-Field x) x (out-roll-Field x)))
 
-  type_marked : (t : TypeExpr) (s : Scope T) → marked_in t s ≡ marked s (constants_in t)
+  pub type_marked : (t : TypeExpr) (s : Scope T) → marked_in t s ≡ marked s (constants_in t)
   type_marked =
       all_trees marked_in marked_field PT PF marking.type_layer marking.field_layer marks_at
       marks_at_field type_step field_step

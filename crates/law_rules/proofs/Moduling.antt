@@ -169,18 +169,26 @@ module _ (g : Gathers) (j : Judges g) (lawful : Lawful g j) (associates : Associ
       (tells_as g j lawful U
       (λ f z. elim z [
         | inl y ↦ elim y [
-          | inl x ↦ elim x [ inl w ↦ elim w [ inl a ↦ inl a | inr a ↦ inr (inl (inl a)) ] | inr a ↦ inr (inr a) ]
-          | inr a ↦ inr (inl (inr (inl a)))
+          | inl x ↦ elim x [
+            | inl w ↦ elim w [
+              | inl a ↦ inl a
+              | inr v ↦ elim v [ inl a ↦ inr (inl (inl a)) | inr a ↦ inr (inl (inr (inl a))) ]
+            ]
+            | inr a ↦ inr (inr a)
+          ]
+          | inr a ↦ inr (inl (inr (inr (inl a))))
         ]
-        | inr a ↦ inr (inl (inr (inr a)))
+        | inr a ↦ inr (inl (inr (inr (inr a))))
       ])
       (λ f z. elim z [
         | inl a ↦ inl (inl (inl (inl a)))
         | inr y ↦ elim y [
           | inl x ↦ elim x [
-            | inl a ↦ inl (inl (inl (inr a)))
-            | inr w ↦ elim w
-                [ inl a ↦ inl (inr a) | inr a ↦ inr a ]
+            | inl a ↦ inl (inl (inl (inr (inl a))))
+            | inr v ↦ elim v [
+              | inl a ↦ inl (inl (inl (inr (inr a))))
+              | inr w ↦ elim w [ inl a ↦ inl (inr a) | inr a ↦ inr a ]
+            ]
           ]
           | inr a ↦ inl (inl (inr a))
         ]

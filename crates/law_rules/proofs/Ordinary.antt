@@ -1,5 +1,5 @@
 -- A declaration of a definition, but a procedure, is read as the first of a block.
-use Rattle.std.proofs.Common.{◌≡◌, ℕ, Bool, true, false, List, [], ◌∷◌, cond, Option, Some, None, Result, Ok, ◌⊎◌, inl, inr, refl, sym, subst, Err, ap, ◌∙◌}
+use Rattle.std.proofs.Common.{◌≡◌, ℕ, Bool, true, false, List, [], ◌∷◌, cond, Option, Some, None, Result, Ok, ◌⊎◌, inl, inr, refl, sym, Err, ap, ◌∙◌}
 use Rattle.std.specs.Prelude.{◌||◌}
 use Rattle.std.specs.List.{fold}
 use Rattle.m2_rule.specs.declared.breach.Breach.{Breach}
@@ -18,17 +18,17 @@ use Rattle.check_scope.specs.Elaborated.{Gathers, report, beside}
 use Rattle.m2_rule.specs.declared.rule.Rule.TheVariants as rule
 use Rattle.check_scope.specs.Scopes.{State, is_free, is_begun, with_known, begin_name}
 use Rattle.check_type_expr.specs.Made.{nothing_of, type_of}
-use Rattle.check_definition.specs.Declare.{with_constant, with_type, type_meaning, brings_with, begun_name, with_variables, constant_meaning}
+use Rattle.check_definition.specs.Declare.{with_constant, with_type, begun_name, with_variables}
 use Rattle.check_block.specs.Headings.{standing_known}
 use Rattle.check_block.specs.declared.heading.Standing.TheVariants as place
-use Rattle.def_typing.specs.Things.{Standing, Undeclared, Unknown}
+use Rattle.def_typing.specs.Things.{Standing, Undeclared}
 use Rattle.def_typing.specs.Parts.{here, later}
 use Rattle.def_typing.specs.TypeExprs.{Added, nothing_added, Setting, IsTypeOf, Adds}
 use Rattle.def_typing.specs.Declarations as blocks
 use Rattle.def_typing.specs.Declarations.{Declaration, OfConstant, OfType, OfVariables, names_of, constants_of, is_among, IsFirst, at_first, later_on, nearest, farther, Declared as Resolved, in_front_of, without, Brings, There}
 use Rattle.def_typing.specs.Definitions.{Placed, IsAdded, is_added, Means, says, says_nothing, Follows, Breaks, inside, twice, formal_twice}
 use Rattle.law_typing.specs.Judging.{Judges, Answers, means, refuses}
-use Rattle.law_typing.specs.Exact.{Repeats, TakenAs, is_taken}
+use Rattle.law_typing.specs.Exact.{Repeats, TakenAs, is_taken, is_a_heading}
 use Rattle.law_typing.proofs.Combining.{Lawful, Decided, holds, fails_it, Tells, silent, tells}
 use Rattle.law_typing.proofs.Entering.{among_decided}
 use Rattle.law_typing.proofs.Beginning.{Adding, added}
@@ -36,7 +36,6 @@ use Rattle.law_typing.proofs.Recording.{NoTwice}
 use Rattle.law_typing.proofs.Sayings.{Saids, said_constant, said_type, said_variables, Exactly}
 use Rattle.law_typing.proofs.Declaring.{clash, no_heads, KnownAs, outer, headed, ahead, reading, behind, a_member, Saying, KnowsBlock, Elsewhere, standings, all_stand}
 use Rattle.law_typing.proofs.Recording.{type_read}
-use Rattle.law_rules.proofs.Unheaded.{Unheaded, AreUnheaded, enters_unheaded, begin_unheaded, begun_unheaded, finish_unheaded, finished_unheaded}
 use Rattle.law_rules.proofs.Twices.{twice_as, either_first, either_second}
 use Rattle.law_rules.proofs.Constants.{type_new}
 use Rattle.law_rules.proofs.Taking.{right_fine, Takes, constant_takes, type_takes, variables_take}
@@ -95,7 +94,6 @@ module _ (g : Gathers) (j : Judges g) (lawful : Lawful g j) (exports : ℕ → I
     pub follows : Follows exports p (context start names taken)
     pub stands : Standpoint g j exports start names taken p.left (λ f. B f ⊎ Breaks exports p f) st.0
     pub told : Tells g j lawful (λ f. ⊥) (λ f. B f ⊎ Breaks exports p f) st.1
-    pub unheaded : AreUnheaded st.0.own
     pub listing : OneListing g exports p old st
     -- It adds nothing else, and its names stand for nothing else.
     pub only : (a : Added) → IsAdded exports (record { at = p.at; what = p.what; adds = a; left = p.left }) → a ≡ p.adds
@@ -127,8 +125,7 @@ module _ (g : Gathers) (j : Judges g) (lawful : Lawful g j) (exports : ℕ → I
 
   module _ (start : Scope g.Reported) (names : Ident → Standing) (taken : List ℕ → Bool) (d : Resolved)
       (ds : List Declaration) {B : Breach → Type 0} {s : Scope g.Reported}
-      (v : Standpoint g j exports start names taken (d.what ∷ ds) B s) (undeclared : in_front_of d.what ≡ Undeclared)
-      (unknown : without false d.what ≡ Unknown) where
+      (v : Standpoint g j exports start names taken (d.what ∷ ds) B s) (undeclared : in_front_of d.what ≡ Undeclared) where
     abbrev P : Placed
     P = placed g j exports start names taken d ds v
 
@@ -152,13 +149,11 @@ module _ (g : Gathers) (j : Judges g) (lawful : Lawful g j) (exports : ℕ → I
 
     means_so : {t : Standing} → Means_there t → Means exports P t
     means_so (blocks.says all m) = says (λ x. stand_as (all x)) m
-    means_so (blocks.says_nothing all n) =
-        subst (λ (t : Standing). Means exports P t) (sym unknown) (says_nothing (λ x. stand_as (all x)) n)
+    means_so (blocks.says_nothing all n) = says_nothing (λ x. stand_as (all x)) n
 
     so_means : {t : Standing} → Means exports P t → Means_there t
     so_means (says all m) = blocks.says (λ x. stand_as (all x)) m
-    so_means (says_nothing all n) = subst (λ (t : Standing). Means_there t) unknown
-        (blocks.says_nothing (λ x. stand_as (all x)) n)
+    so_means (says_nothing all n) = blocks.says_nothing (λ x. stand_as (all x)) n
 
     unwaited : {x : Declaration} → in_front_of x ≡ Undeclared → (t : TypeNo)
         → blocks.IsAwaited start.types exports names taken v.awaited false block [] t x → ⊥
@@ -184,43 +179,43 @@ module _ (g : Gathers) (j : Judges g) (lawful : Lawful g j) (exports : ℕ → I
 
     -- ---- what is known behind it
 
-    settled_as : (k : Known g.Reported) → is_free (Some k) ≡ false → is_begun (Some k) ≡ false → Unheaded (Some k)
+    settled_as : (k : Known g.Reported) → is_free (Some k) ≡ false → is_begun (Some k) ≡ false
         → standing_known k ≡ place.Taken → TakenAs g j true None (Some k)
-    settled_as known.Later f b h e = absurd cc
-    settled_as known.Ahead f b h e = absurd cc
-    settled_as known.Begun f b h e = absurd cc
-    settled_as (known.Headed m) f b h e = absurd h
-    settled_as (known.Declared o m) f b h e = is_taken e
+    settled_as known.Later f b e = absurd cc
+    settled_as known.Ahead f b e = absurd cc
+    settled_as known.Begun f b e = absurd cc
+    settled_as (known.Headed m) f b e = is_a_heading
+    settled_as (known.Declared o m) f b e = is_taken e
 
     owns_so : {k : Known g.Reported} → Saying g j exports names start taken v.awaited false block [] d k
-        → Unheaded (Some k) → Owns g j exports start names taken P M k
-    owns_so {k = k} w h = record {
+        → Owns g j exports start names taken P M k
+    owns_so {k = k} w = record {
       stands = (w.stands.0, means_so w.stands.1);
       seen = λ t m at. w.seen t (so_means m) at;
       heading = λ at b r e f m. repeated_so (w.heading at b r e f m);
       broken = λ at r e f m. repeated_so (w.broken at r e f m);
-      taking = (None, settled_as k w.not_free w.not_begun h w.settled);
+      taking = (None, settled_as k w.not_free w.not_begun w.settled);
     }
 
-    now_so : {n : List ℕ} {k : Option (Known g.Reported)} → Unheaded k
+    now_so : {n : List ℕ} {k : Option (Known g.Reported)}
         → KnownAs g j exports names start taken v.awaited false block (d ∷ []) Th n k
         → Now g j exports start names taken P M n k
-    now_so u (outer c w e) = kept c e
-    now_so {n = n} u (headed p y w e) = absurd (unheads w)
+    now_so (outer c w e) = kept c e
+    now_so {n = n} (headed p y w e) = absurd (unheads w)
       where
         unheads : blocks.IsHeaded (d ∷ []) n → ⊥
         unheads (_, here, h) = no_heads d.what undeclared n h
         unheads (x, later m, h) = elim m [ ]
-    now_so {n = n} u (ahead c t i h b) = marked c t (behind_it i) (λ w. h (d.what, here, w))
+    now_so {n = n} (ahead c t i h b) = marked c t (behind_it i) (λ w. h (d.what, here, w))
       where
         behind_it : {c : Declaration} → IsFirst n c block → IsFirst n c ds
         behind_it (at_first w) = absurd (h (d.what, here, w))
         behind_it (later_on w k) = k
-    now_so u (reading c t i h b e) = elim b [ inl q ↦ absurd (clash q t) | inr a ↦ absurd (h a) ]
-    now_so u (behind k t (nearest h c) o w) = owned t o (owns_so w u)
-    now_so u (behind k t (farther i) o w) = elim i [ ]
-    now_so u (a_member t (nearest h c) o a e) = a_constant t o h e
-    now_so u (a_member t (farther i) o a e) = elim i [ ]
+    now_so (reading c t i h b e) = elim b [ inl q ↦ absurd (clash q t) | inr a ↦ absurd (h a) ]
+    now_so (behind k t (nearest h c) o w) = owned t o (owns_so w)
+    now_so (behind k t (farther i) o w) = elim i [ ]
+    now_so (a_member t (nearest h c) o a e) = a_constant t o h e
+    now_so (a_member t (farther i) o a e) = elim i [ ]
 
     abbrev Told_there : Result (Unit {0}) g.Reported → Type 0
     Told_there r = Tells g j lawful (Repeats g j names start) (λ f. B f ⊎ Broken_there f) r
@@ -265,27 +260,26 @@ module _ (g : Gathers) (j : Judges g) (lawful : Lawful g j) (exports : ℕ → I
 
     pub stepped : {t : Scope g.Reported} {r : Result (Unit {0}) g.Reported}
         → KnowsBlock g j exports names start taken v.awaited false block (d ∷ []) ds Th t → Told_there r
-        → blocks.IsAdded start.types exports names taken v.awaited false block [] d → AreUnheaded t.own
+        → blocks.IsAdded start.types exports names taken v.awaited false block [] d
         → (q : Result (Unit {0}) g.Reported) → (r ≡ Ok tt → (q ≡ Ok tt) × Takes g s d.what t)
         → (r ≡ Ok tt → NoTwice (Adding (names_of d.what) (λ n. taken n ≡ true)) (constants_of d.what))
         → {A : Type 0} (said : A → Saids) {result : Result A g.Reported}
         → Exactly g j lawful exports names start taken v.awaited false block said [] d.what result
         → ((ns : Ident → Standing) → StandsAll ns → (a : Added) → Brings exports (setting_at ns) (λ n. ⊥) d.what a
         → a ≡ d.adds) → Stepped P start.tables B (s, q) (t, r)
-    stepped {t = t} {r = r} k w a u q fine new said exact only = record {
+    stepped {t = t} {r = r} k w a q fine new said exact only = record {
       start = bare t;
       names = names_now g j exports start names taken d ds v t k.same.withs k.same.outer k.same.types k.same.tables
-          (k.once v.once) (λ n. now_so (u n) (k.own n));
+          (k.once v.once) (λ n. now_so (k.own n));
       taken = taken_now g j exports start names taken d ds v;
       tables = k.same.tables;
       added = added_so a;
       follows = follows_next g j exports start names taken d ds v t k.same.withs k.same.outer k.same.types k.same.tables
-          (k.once v.once) (λ n. now_so (u n) (k.own n));
+          (k.once v.once) (λ n. now_so (k.own n));
       stands = stands_next g j exports start names taken d ds v t k.same.withs k.same.outer k.same.types k.same.tables
-          (k.once v.once) (λ n. now_so (u n) (k.own n));
+          (k.once v.once) (λ n. now_so (k.own n));
       told = told_so w;
-      unheaded = u;
-      listing = listing_one g j exports start names taken d ds v t (λ n. now_so (u n) (k.own n)) q r fine
+      listing = listing_one g j exports start names taken d ds v t (λ n. now_so (k.own n)) q r fine
           (λ e f h. silent_of (told_so w) e f (inr (twice h))) new;
       only = adds_one only;
       one = λ t u m n. means_one said exact m n;
@@ -313,7 +307,7 @@ module _ (g : Gathers) (j : Judges g) (lawful : Lawful g j) (exports : ℕ → I
 
   module _ (start : Scope g.Reported) (names : Ident → Standing) (taken : List ℕ → Bool) (ds : List Declaration)
       (B : Breach → Type 0) (s : Scope g.Reported) (r : Result (Unit {0}) g.Reported)
-      (told : Tells g j lawful (λ f. ⊥) B r) (unheaded : AreUnheaded s.own) where
+      (told : Tells g j lawful (λ f. ⊥) B r) where
     abbrev Stands : Declaration → Type 0
     Stands x = Standpoint g j exports start names taken (x ∷ ds) B s
 
@@ -337,18 +331,10 @@ module _ (g : Gathers) (j : Judges g) (lawful : Lawful g j) (exports : ℕ → I
         let q = sections.declare_constant g j lawful exports names start taken v.awaited false (OfConstant c ∷ ds)
         v.takes v.knows v.no_withs B [] c ds v.block (told_there (OfConstant c) v) in (
           nothing_added,
-          stepped start names taken (record { what = OfConstant c; adds = nothing_added }) ds v refl refl
-              q.1.0 q.1.1 q.1.2 (finish_unheaded (begin_name g s c.name).0 c.name (constant_meaning _)
-              (begin_unheaded g s c.name unheaded)) r (constant_takes g (s, r) c) (λ e f h. absurd h) said_constant q.0
+          stepped start names taken (record { what = OfConstant c; adds = nothing_added }) ds v refl
+              q.1.0 q.1.1 q.1.2 r (constant_takes g (s, r) c) (λ e f h. absurd h) said_constant q.0
               (λ ns all a b. constant_brings_nothing b),
         )
-
-    type_unheaded : (d : TypeDecl) → (begin_name g s d.name).0.withs ≡ [] → AreUnheaded (with_type g (s, r) d).0.own
-    type_unheaded d w = let b = (begin_name g s d.name).0 in
-        let q = type_read g j lawful exports d.of b w in
-        finish_unheaded (type_of g d.of b).0 d.name (type_meaning (type_of g d.of b).1 (brings_with d.of))
-        (subst (λ (t : Scope g.Reported). AreUnheaded t.own) (sym q.is)
-        (enters_unheaded q.enters (begin_unheaded g s d.name unheaded)))
 
     -- the constants in a type that is right are new
     module _ (x : Declaration) (v : Stands x) where
@@ -397,22 +383,14 @@ module _ (g : Gathers) (j : Judges g) (lawful : Lawful g j) (exports : ℕ → I
         let w = begin_withs s d.name v.block.same.withs in
         let t = type_read g j lawful exports d.of b w in (
           q.0,
-          stepped start names taken (record { what = OfType d; adds = q.0 }) ds v refl refl q.2.0 q.2.1 q.2.2
-              (type_unheaded d w) r (type_takes g (s, r) d t.adds.makes t.own t.is t.enters)
+          stepped start names taken (record { what = OfType d; adds = q.0 }) ds v refl q.2.0 q.2.1 q.2.2
+              r (type_takes g (s, r) d t.adds.makes t.own t.is t.enters)
               (λ e. let k = typed_right (q.1 (names_there (OfType d) v) (stand_there (OfType d) v))
               (right_fine g (begin_name g s d.name).1 (nothing_of (type_of g d.of b).1)
               (right_fine g r (beside g (begin_name g s d.name).1 (nothing_of (type_of g d.of b).1)) e)) in
               new_constants (OfType d) v (type_new exports (type_is k.1).1)) (said_type q.0) q.1
               (λ ns all a b. q.3 ns all a (type_adds b)),
         )
-
-    variables_unheaded : (w : Variables) → (fold (begun_name g) (s, r) w.names).0.withs ≡ []
-        → AreUnheaded (with_variables g (s, r) w).0.own
-    variables_unheaded w e = let b = (fold (begun_name g) (s, r) w.names).0 in
-        let q = type_read g j lawful exports w.of b e in
-        finished_unheaded (type_of g w.of b).1 w.names (type_of g w.of b).0
-        (subst (λ (t : Scope g.Reported). AreUnheaded t.own) (sym q.is)
-        (enters_unheaded q.enters (begun_unheaded g w.names s r unheaded)))
 
     pub variables_stepped : (w : Variables) → Stands (OfVariables w)
         → One start names taken (OfVariables w) ds B (s, r) (with_variables g (s, r) w)
@@ -422,10 +400,9 @@ module _ (g : Gathers) (j : Judges g) (lawful : Lawful g j) (exports : ℕ → I
         let c = fold (begun_name g) (s, r) w.names in
         let e = begun_withs w.names s r v.block.same.withs in
         let t = type_read g j lawful exports w.of c.0 e in
-        let told_now = told_so start names taken (record { what = OfVariables w; adds = q.0 }) ds v refl refl q.2.1 in (
+        let told_now = told_so start names taken (record { what = OfVariables w; adds = q.0 }) ds v refl q.2.1 in (
           q.0,
-          stepped start names taken (record { what = OfVariables w; adds = q.0 }) ds v refl refl q.2.0 q.2.1 q.2.2
-              (variables_unheaded w e) r
+          stepped start names taken (record { what = OfVariables w; adds = q.0 }) ds v refl q.2.0 q.2.1 q.2.2 r
               (λ z. variables_take g (s, r) w (λ n. taken n ≡ true) (λ f h. silent_of told_now z f (inr (twice h)))
               t.adds.makes t.own t.is t.enters z)
               (λ z. let k = typed_right (q.1 (names_there (OfVariables w) v) (stand_there (OfVariables w) v))

@@ -15,7 +15,7 @@ use Rattle.check_block.specs.Declarations.{declared_block}
 use Rattle.def_typing.specs.Things.{Standing}
 use Rattle.def_typing.specs.Declarations.{Declaration, declarations_of, AnyDeclares}
 use Rattle.law_typing.specs.Judging.{Judges}
-use Rattle.law_typing.specs.Exact.{TakenAs, is_taken, awaits, not_taken, is_nested, IsAsBefore, as_before, has_heading}
+use Rattle.law_typing.specs.Exact.{TakenAs, is_taken, awaits, is_a_heading, not_taken, is_nested, IsAsBefore, as_before, has_heading}
 use Rattle.law_typing.proofs.Declaring.{any_first, clash, KnownAs, outer, headed, ahead, reading, behind, a_member}
 use Rattle.law_typing.proofs.Marking.{block_begins}
 use Rattle.law_typing.proofs.Naming.{index_less}
@@ -70,7 +70,7 @@ module _ (g : Gathers) (ends : List ℕ) (first : ℕ) (start : Scope g.Reported
   abbrev pub behind_all : List Decl → Scope g.Reported
   behind_all ds = (declared_block g ends (start, Ok tt) first ds).0
 
-  marks_behind : (ds : List Decl) → Keeps (fold marked_decl start ds) (behind_all ds)
+  pub marks_behind : (ds : List Decl) → Keeps (fold marked_decl start ds) (behind_all ds)
   marks_behind ds = subst (λ (t : Scope g.Reported). Keeps t (behind_all ds)) (marks_from ds (start, []))
       (declarations_keep g ends ds ((all_marked marked_decl start ds).0, Ok tt, first))
 
@@ -96,6 +96,8 @@ module _ (g : Gathers) (j : Judges g) (exports : ℕ → Ident → Standing) (ou
         subst (λ (k : Option (Known g.Reported)). Marked b D k) (sym e) (is_marked (inl refl))
     taken_marked {b = b} {D = D} (awaits p) e c =
         subst (λ (k : Option (Known g.Reported)). Marked b D k) (sym e) (is_marked (inl refl))
+    taken_marked {b = b} {D = D} is_a_heading e c =
+        subst (λ (k : Option (Known g.Reported)). Marked b D k) (sym e) (is_marked (inl refl))
     taken_marked {b = b} {D = D} not_taken e c =
         subst (λ (k : Option (Known g.Reported)). Marked b D k) (sym e) (unmarked refl (c refl))
 
@@ -103,6 +105,7 @@ module _ (g : Gathers) (j : Judges g) (exports : ℕ → Ident → Standing) (ou
         → o ≡ None
     taken_none (is_taken s) e = absurd cc
     taken_none (awaits p) e = absurd cc
+    taken_none is_a_heading e = absurd cc
     taken_none not_taken e = refl
 
     pub none_first : (n : List ℕ) → taken n ≡ false → find_name n start.own ≡ None
@@ -128,6 +131,17 @@ module _ (g : Gathers) (j : Judges g) (exports : ℕ → Ident → Standing) (ou
     found_none : {A : Type 0} {v : A} {o : Option A} → o ≡ None → o ≡ Some v → ⊥
     found_none e f = let z = sym e ∙ f in absurd cc
 
+    -- Behind all declarations a name of the block is there.
+    there_by : {b : Bool} {D : Type 0} {o : Option (Known g.Reported)} → Marked b D o → D
+        → ((k : Known g.Reported) → o ≡ Some k → ⊥) → ⊥
+    there_by (is_marked {k = k} m) d h = h k refl
+    there_by (unmarked u c) d h = c d
+
+    pub declares_there : (ends : List ℕ) (first : ℕ) (ds : List Decl) (n : List ℕ) → taken n ≡ false
+        → AnyDeclares (declarations_of ds) n → find_name n (behind_all g ends first start ds).own ≡ None → ⊥
+    declares_there ends first ds n t a e = there_by (marked_in ds n) a
+        (λ k q. found_none e ((marks_behind g ends first start ds).grows.kept n k q).1)
+
     module _ (pre : List Decl) (d : Decl) (rest : List Decl) (w : Scope g.Reported)
         (grows : (xs ys : List Decl) → xs ++ ys ≡ pre ++ d ∷ rest → Grows (fold marked_decl start xs).own w.own)
         (keeps : Keeps start w)
@@ -143,7 +157,7 @@ module _ (g : Gathers) (j : Judges g) (exports : ℕ → Ident → Standing) (ou
       seen = length (fold marked_decl start pre).own
 
       abbrev Place : List ℕ → Option (Known g.Reported) → Type 0
-      Place = PlaceIs g j taken block front start.level w seen
+      Place = PlaceIs g j taken block (AnyDeclares front) start.level w seen
 
       nil : (xs : List Decl) → xs ++ [] ≡ xs
       nil [] = refl

@@ -1,5 +1,5 @@
 -- A procedure of a definition is answered exactly.
-use Rattle.std.proofs.Common.{◌≡◌, ℕ, Bool, true, false, cond, List, [], ◌∷◌, length, Option, Some, None, Result, Ok, Err, ◌⊎◌, inl, inr, refl, sym, ap, subst, ◌∙◌}
+use Rattle.std.proofs.Common.{◌≡◌, ℕ, Bool, true, false, cond, List, [], ◌∷◌, length, Option, None, Result, Ok, Err, ◌⊎◌, inl, inr, refl, sym, ap, subst, ◌∙◌}
 use Rattle.std.specs.Prelude.{not}
 use Rattle.m2_rule.specs.declared.breach.Breach.{Breach}
 use Rattle.m2_rule.specs.declared.rule.Rule.TheVariants as rule
@@ -14,7 +14,6 @@ use Rattle.typed_tree.specs.declared.meaning.Procedure.{Procedure}
 use Rattle.typed_tree.specs.Names.{find_name}
 use Rattle.check_scope.specs.declared.known.Known.{Known}
 use Rattle.check_scope.specs.declared.known.Known.TheVariants as known
-use Rattle.check_scope.specs.declared.known.Origin.TheVariants.{Here}
 use Rattle.check_scope.specs.declared.meaningless.Meaningless.{Meaningless}
 use Rattle.check_scope.specs.declared.meaningless.Meaningless.TheVariants as meaningless
 use Rattle.check_scope.specs.declared.scope.Scope.{Scope}
@@ -27,21 +26,20 @@ use Rattle.def_typing.specs.Operators.{◌!◌}
 use Rattle.typed_tree.specs.declared.shape.Signature.{Signature}
 use Rattle.def_typing.specs.Headings.{procedure_made, IsHeading}
 use Rattle.def_typing.specs.Things as things
-use Rattle.def_typing.specs.Things.{AProcedure, Standing, Unknown}
+use Rattle.def_typing.specs.Things.{AProcedure, Headless, Standing}
 use Rattle.def_typing.specs.Parts.{here, later}
 use Rattle.def_typing.specs.TypeExprs.{Twice, with_types, next_type, Added, nothing_added, type_added, Setting}
 use Rattle.def_typing.specs.Declarations as blocks
 use Rattle.def_typing.specs.Declarations.{Declaration, OfProcedure, names_in, Declares, IsFirst, at_first, later_on, Declared as Resolved, Says, Brings, Misdeclares, There}
 use Rattle.def_typing.specs.Definitions.{Placed, AllStand, IsAdded, is_added, Means, says, says_nothing, Breaks, inside, twice, formal_twice}
 use Rattle.law_typing.specs.Judging.{Judges, Answers, means, refuses}
-use Rattle.law_typing.specs.Exact.{standing, Sees, sees, sees_unknown, Repeats, is_taken, awaits, AreOnce}
+use Rattle.law_typing.specs.Exact.{standing, Sees, sees, sees_headless, Repeats, is_a_heading, AreOnce}
 use Rattle.law_typing.proofs.Combining.{Lawful, Decided, holds, fails_it, decided_as, Tells, silent, tells, tells_as, beside_tells, accounts_one, accounts_as}
 use Rattle.law_typing.proofs.Entering.{entered_all, once_more}
 use Rattle.law_typing.proofs.TypeReading.{no_types}
 use Rattle.law_typing.proofs.Declaring.{clash, KnownAs, outer, headed, ahead, reading, behind, a_member, knowing, repeating, standings, all_stand}
 use Rattle.law_typing.proofs.Beginning.{free_decided}
 use Rattle.law_typing.proofs.Sayings.{Saids, said_procedure, tells_all, more_answers, procedure_says}
-use Rattle.law_rules.proofs.Unheaded.{Unheaded, AreUnheaded}
 use Rattle.law_rules.proofs.Bare.{bare}
 use Rattle.law_rules.proofs.Formals.{formals_told}
 use Rattle.law_rules.proofs.Stepping.{context, Standpoint, Owns, Now, kept, marked, owned, names_now, taken_now, stands_next, follows_next}
@@ -128,7 +126,7 @@ module _ (g : Gathers) (j : Judges g) (lawful : Lawful g j) (exports : ℕ → I
     it_is_seen x (says_nothing {names = ns} all w) at = absurd (never_silent (x (type_added m) ns all) w)
 
     its_own_known : AllSo (Ok m) → Owns g j exports start names taken (P (type_added m)) (M (type_added m))
-        (known.Declared Here (Ok (meaning.Procedure here_made)))
+        (known.Headed (Ok (meaning.Procedure here_made)))
     its_own_known x = record {
       stands = (
         its_standing,
@@ -138,7 +136,7 @@ module _ (g : Gathers) (j : Judges g) (lawful : Lawful g j) (exports : ℕ → I
       seen = λ t w at. it_is_seen x w at;
       heading = λ at b r e f w. absurd cc;
       broken = λ at r e f w. absurd cc;
-      taking = (Some here_made.heading, awaits here_made);
+      taking = (None, is_a_heading);
     }
 
     brings_it : {w : Setting} {a : Added} {t : Standing} → Says exports w false E a t → Brings exports w (λ n. ⊥) E a
@@ -152,33 +150,33 @@ module _ (g : Gathers) (j : Judges g) (lawful : Lawful g j) (exports : ℕ → I
     it_says_nothing : {ns : Ident → Standing} → So ns (Err e) → (a : Added) (t : Standing) → SaysAt ns (a, t) → ⊥
     it_says_nothing (refuses _ c n) a t w = n (a, t) w
 
-    it_is_unknown : AllSo (Err e) → {t : Standing} → Means exports (P nothing_added) t → (at : Pos)
-        → Sees g j at t (Err (meaningless.Broken e))
-    it_is_unknown x {t = t} (says {names = ns} all w) at =
+    it_is_headless : AllSo (Err e) → {t : Standing} → Means exports (P nothing_added) t → (at : Pos)
+        → Sees g j at t (Err (meaningless.Headless false e))
+    it_is_headless x {t = t} (says {names = ns} all w) at =
         absurd (it_says_nothing (x nothing_added ns all) nothing_added t w)
-    it_is_unknown x (says_nothing all w) at = sees_unknown e
+    it_is_headless x (says_nothing all w) at = sees_headless false e
 
     its_refusals : {ns : Ident → Standing} → So ns (Err e) → AllStand exports (P nothing_added) ns → (f : Breach)
         → j.Among e f → M nothing_added f
     its_refusals (refuses _ c n) all f w = elim (c.only f w) [ inl b ↦ inr (inside all b) | inr b ↦ inl b ]
 
-    one_broken : {r : g.Reported} → ◌≡◌ {A = Result Meaning (Meaningless g.Reported)} (Err (meaningless.Broken e))
-        (Err (meaningless.Broken r)) → e ≡ r
-    one_broken q = cc
+    one_headless : {b : Bool} {r : g.Reported} → ◌≡◌ {A = Result Meaning (Meaningless g.Reported)}
+        (Err (meaningless.Headless false e)) (Err (meaningless.Headless b r)) → e ≡ r
+    one_headless q = cc
 
-    its_unknown : AllSo (Err e) → Owns g j exports start names taken (P nothing_added) (M nothing_added)
-        (known.Declared Here (Err e))
-    its_unknown x = record {
+    its_headless : AllSo (Err e) → Owns g j exports start names taken (P nothing_added) (M nothing_added)
+        (known.Headed (Err (meaningless.Headless false e)))
+    its_headless x = record {
       stands = (
-        Unknown,
+        things.Known (Headless false),
         says_nothing (all_there nothing_added)
             (it_says_nothing (x nothing_added names_there (all_there nothing_added))),
       );
-      seen = λ t w at. it_is_unknown x w at;
-      heading = λ at b r q f w. absurd cc;
-      broken = λ at r q f w. its_refusals (x nothing_added names_there (all_there nothing_added))
-          (all_there nothing_added) f (subst (λ (r : g.Reported). j.Among r f) (sym (one_broken q)) w);
-      taking = (None, is_taken refl);
+      seen = λ t w at. it_is_headless x w at;
+      heading = λ at b r q f w. its_refusals (x nothing_added names_there (all_there nothing_added))
+          (all_there nothing_added) f (subst (λ (r : g.Reported). j.Among r f) (sym (one_headless q)) w);
+      broken = λ at r q f w. absurd cc;
+      taking = (None, is_a_heading);
     }
 
     nothing_is_added : AllSo (Err e) → IsAdded exports (P nothing_added)
@@ -306,11 +304,11 @@ module _ (g : Gathers) (j : Judges g) (lawful : Lawful g j) (exports : ℕ → I
 
   -- ---- all of it
 
-  module _ (unheaded : AreUnheaded s.own) {r : Result (Unit {0}) g.Reported} (told : Tells g j lawful (λ f. ⊥) B r)
-      (a : Added) (t : Scope g.Reported) (m : Result Meaning g.Reported) (own : t.own ≡ s.own) (withs : t.withs ≡ [])
+  module _ {r : Result (Unit {0}) g.Reported} (told : Tells g j lawful (λ f. ⊥) B r) (a : Added)
+      (t : Scope g.Reported) (m : Result Meaning (Meaningless g.Reported)) (own : t.own ≡ s.own) (withs : t.withs ≡ [])
       (around : t.outer ≡ start.outer) (types : t.types ≡ with_types start.types a.makes)
       (tables : t.tables ≡ start.tables) (add : IsAdded exports (P a))
-      (owns : Owns g j exports start names taken (P a) (M a) (known.Declared Here m))
+      (owns : Owns g j exports start names taken (P a) (M a) (known.Headed m))
       (only : (b : Added) → IsAdded exports (P b) → b ≡ a)
       (one : (t u : Standing) → Means exports (P a) t → Means exports (P a) u → t ≡ u) where
     abbrev d : Resolved
@@ -324,23 +322,16 @@ module _ (g : Gathers) (j : Judges g) (lawful : Lawful g j) (exports : ℕ → I
     other_now n w = subst (λ (o : List (List ℕ × Known g.Reported)). Now g j exports start names taken (P a) (M a) n
         (find_name n o)) (sym own) (other_name a n w (v.block.own n))
 
-    still_unheaded : AreUnheaded t.own
-    still_unheaded = subst (λ (o : List (List ℕ × Known g.Reported)). AreUnheaded o) (sym own) unheaded
-
     abbrev new : Scope g.Reported
-    new = with_known h.name.name (known.Declared Here m) t
+    new = with_known h.name.name (known.Headed m) t
 
     new_now : taken h.name.name ≡ false → (n : List ℕ)
         → Now g j exports start names taken (P a) (M a) n (find_name n new.own)
     new_now f = entered_all (λ n o. Now g j exports start names taken (P a) (M a) n o) h.name.name
-        (known.Declared Here m) t.own (owned f (h.name, here, refl) owns) (λ n c. other_now n (λ e. absurd (c e)))
+        (known.Headed m) t.own (owned f (h.name, here, refl) owns) (λ n c. other_now n (λ e. absurd (c e)))
 
     new_once : AreOnce new.own
-    new_once = once_more h.name.name (known.Declared Here m) once
-
-    new_unheaded : AreUnheaded new.own
-    new_unheaded = entered_all (λ n o. Unheaded o) h.name.name (known.Declared Here m) t.own tt
-        (λ n c. still_unheaded n)
+    new_once = once_more h.name.name (known.Headed m) once
 
     not_taken : (taken h.name.name ≡ true → ⊥) → (b : Bool) → taken h.name.name ≡ b → taken h.name.name ≡ false
     not_taken c true e = absurd (c e)
@@ -362,7 +353,6 @@ module _ (g : Gathers) (j : Judges g) (lawful : Lawful g j) (exports : ℕ → I
       follows = follows_next g j exports start names taken d ds v new withs around types tables new_once (new_now f);
       stands = stands_next g j exports start names taken d ds v new withs around types tables new_once (new_now f);
       told = w (silent (λ f z. c z.0));
-      unheaded = new_unheaded;
       listing = listing_one g j exports start names taken d ds v new (new_now f) r q fine
           (λ e f h. silent_of g j lawful exports (w (silent (λ f z. c z.0))) e f (inr (twice h))) (λ e f h. absurd h);
       only = only;
@@ -383,7 +373,6 @@ module _ (g : Gathers) (j : Judges g) (lawful : Lawful g j) (exports : ℕ → I
           follows = follows_next g j exports start names taken d ds v t withs around types tables once now;
           stands = stands_next g j exports start names taken d ds v t withs around types tables once now;
           told = w twice_told;
-          unheaded = still_unheaded;
           listing = listing_one g j exports start names taken d ds v t now r q fine
               (λ e f h. silent_of g j lawful exports (w twice_told) e f (inr (twice h))) (λ e f h. absurd h);
           only = only;
@@ -396,28 +385,28 @@ module _ (g : Gathers) (j : Judges g) (lawful : Lawful g j) (exports : ℕ → I
       (There start.types exports names taken v.awaited false (E ∷ ds) []) v.block.includes h.name.name
       (E, here, (h.name, here, refl)) (v.block.own h.name.name))
 
-  by_made : AreUnheaded s.own → {r : Result (Unit {0}) g.Reported} → Tells g j lawful (λ f. ⊥) B r
+  by_made : {r : Result (Unit {0}) g.Reported} → Tells g j lawful (λ f. ⊥) B r
       → (made : Result Made g.Reported) → AllSo made → let t = with_made s made in
       let d = declared_procedure g t.0 h.name t.1 in
       (beside g r (beside g (formals_of g h) (beside g (nothing_of t.1) d.1)) ≡ Ok tt → (r ≡ Ok tt) × Takes g s E d.0)
       → One g j lawful exports start names taken E ds B (s, r)
       (d.0, beside g r (beside g (formals_of g h) (beside g (nothing_of t.1) d.1)))
-  by_made u t (Ok m) x fine = (
+  by_made t (Ok m) x fine = (
     type_added m,
-    ends u t (type_added m) (with_procedure_type (with_shape s m) (Ok (next_type s.types)))
+    ends t (type_added m) (with_procedure_type (with_shape s m) (Ok (next_type s.types)))
         (Ok (meaning.Procedure here_made)) refl v.block.same.withs v.block.same.outer
         (ap (λ (types : Types). with_types types (m ∷ [])) v.block.same.types) v.block.same.tables (it_is_added m x)
         (its_own_known m x) (λ b w. it_adds m x b w) (λ t u p q. its_meaning (Ok m) x p q)
         (is_free (find_name h.name.name s.own)) name_decided _ (λ w. all_told (type_added m) x t w) fine,
   )
-  by_made u t (Err e) x fine = (
+  by_made t (Err e) x fine = (
     nothing_added,
-    ends u t nothing_added s (Err e) refl v.block.same.withs v.block.same.outer
-        (v.block.same.types ∙ sym (no_types start.types)) v.block.same.tables (nothing_is_added e x) (its_unknown e x)
+    ends t nothing_added s (Err (meaningless.Headless false e)) refl v.block.same.withs v.block.same.outer
+        (v.block.same.types ∙ sym (no_types start.types)) v.block.same.tables (nothing_is_added e x) (its_headless e x)
         (λ b w. it_adds_nothing e x b w) (λ t u p q. its_meaning (Err e) x p q)
         (is_free (find_name h.name.name s.own)) name_decided _ (λ w. all_told nothing_added x t w) fine,
   )
 
-  pub procedure_stepped : AreUnheaded s.own → {r : Result (Unit {0}) g.Reported} → Tells g j lawful (λ f. ⊥) B r
+  pub procedure_stepped : {r : Result (Unit {0}) g.Reported} → Tells g j lawful (λ f. ⊥) B r
       → One g j lawful exports start names taken (OfProcedure h) ds B (s, r) (with_procedure g (s, r) h)
-  procedure_stepped u {r = r} t = by_made u t (heading_of g s h) exact (procedure_takes g (s, r) h)
+  procedure_stepped {r = r} t = by_made t (heading_of g s h) exact (procedure_takes g (s, r) h)

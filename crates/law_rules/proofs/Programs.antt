@@ -14,7 +14,7 @@ use Rattle.typed_tree.specs.Names.{find_name}
 use Rattle.check_scope.specs.declared.known.Known.{Known}
 use Rattle.check_scope.specs.declared.meaningless.Meaningless.{Meaningless}
 use Rattle.check_scope.specs.declared.scope.Scope.{Scope}
-use Rattle.check_scope.specs.Elaborated.{Gathers, every, least}
+use Rattle.check_scope.specs.Elaborated.{Gathers, least}
 use Rattle.check_scope.specs.Scopes.{looked_up, known_outside, or_around, means_as}
 use Rattle.check_definition.specs.Predeclared.{console, first_scope}
 use Rattle.check_block.specs.Headings.{standing_from}

@@ -18,7 +18,6 @@ use Rattle.def_typing.specs.Definitions.{Context, Placed, Breaks, AllFollow, not
 use Rattle.law_typing.specs.Judging.{Judges}
 use Rattle.law_typing.proofs.Combining.{Lawful, Tells, tells_as}
 use Rattle.law_rules.specs.Defining.{declared_in, all_declared}
-use Rattle.law_rules.proofs.Unheaded.{AreUnheaded}
 use Rattle.law_rules.proofs.Among.{among_left, among_right, among_split}
 use Rattle.law_rules.proofs.Listing.{Listing, listing_nothing, listing_more, listing_both}
 use Rattle.law_rules.proofs.Stepping.{context, Standpoint}
@@ -46,7 +45,6 @@ module _ (g : Gathers) (j : Judges g) (lawful : Lawful g j) (exports : ℕ → I
         → AllFollow exports (context start names taken) (xs ++ rest) (whole ++ ps) last
     pub stands : Standpoint g j exports next next_names next_taken rest (λ f. B f ⊎ BrokenIn exports whole f) st.0
     pub told : Tells g j lawful (λ f. ⊥) (λ f. B f ⊎ BrokenIn exports whole f) st.1
-    pub unheaded : AreUnheaded st.0.own
     pub listing : Listing g exports taken next_taken xs whole old st
     -- There is no other reading.
     pub only : (others : List Placed) (end : Context)
@@ -64,7 +62,6 @@ module _ (g : Gathers) (j : Judges g) (lawful : Lawful g j) (exports : ℕ → I
     pub follow : AllFollow exports (context start names taken) xs whole (context next next_names next_taken)
     pub stands : Standpoint g j exports next next_names next_taken [] (λ f. B f ⊎ BrokenIn exports whole f) st.0
     pub told : Tells g j lawful (λ f. ⊥) (λ f. B f ⊎ BrokenIn exports whole f) st.1
-    pub unheaded : AreUnheaded st.0.own
     pub listing : Listing g exports taken next_taken xs whole old st
     pub only : (others : List Placed) (end : Context) → AllFollow exports (context start names taken) xs others end
         → (others ≡ whole) × (end ≡ context next next_names next_taken)
@@ -115,9 +112,9 @@ module _ (g : Gathers) (j : Judges g) (lawful : Lawful g j) (exports : ℕ → I
 
   module _ {start : S} {names : Ident → Standing} {taken : List ℕ → Bool} {B : Breach → Type 0} where
     ran_nothing : (rest : List Declaration) (st : State (Unit {0}) g.Reported)
-        → Standpoint g j exports start names taken rest B st.0 → Tells g j lawful (λ f. ⊥) B st.1 → AreUnheaded st.0.own
+        → Standpoint g j exports start names taken rest B st.0 → Tells g j lawful (λ f. ⊥) B st.1
         → Ran start names taken [] rest B st st
-    ran_nothing rest st v t u = record {
+    ran_nothing rest st v t = record {
       whole = [];
       next = start;
       next_names = names;
@@ -126,7 +123,6 @@ module _ (g : Gathers) (j : Judges g) (lawful : Lawful g j) (exports : ℕ → I
       follow = λ ps last k. k;
       stands = stands_as (λ f b. inl b) v;
       told = tells_as g j lawful (λ f. ⊥) (λ f b. inl b) (none_in B) t;
-      unheaded = u;
       listing = listing_nothing g exports taken st;
       only = λ others end k. (others, refl, k);
     }
@@ -145,7 +141,6 @@ module _ (g : Gathers) (j : Judges g) (lawful : Lawful g j) (exports : ℕ → I
       follow = λ ps last k. one_follows q.1.added q.1.follows (z.follow ps last k);
       stands = stands_as (in_first B) z.stands;
       told = tells_as g j lawful (λ f. ⊥) (in_first B) (first_in B) z.told;
-      unheaded = z.unheaded;
       listing = listing_more g exports (record
           { at = context start names taken; what = x; adds = q.0; left = xs ++ rest }) q.1.taken z.next_taken
           q.1.follows.taken xs z.whole old st up q.1.listing z.listing;
@@ -171,7 +166,6 @@ module _ (g : Gathers) (j : Judges g) (lawful : Lawful g j) (exports : ℕ → I
       follow = q.follow z.whole (context z.next z.next_names z.next_taken) z.follow;
       stands = stands_as (in_both q.whole z.whole B) z.stands;
       told = tells_as g j lawful (λ f. ⊥) (in_both q.whole z.whole B) (both_in q.whole z.whole B) z.told;
-      unheaded = z.unheaded;
       listing = listing_both g exports taken q.next_taken z.next_taken xs ys q.whole z.whole old st up q.listing
           z.listing;
       only = λ others end k. let f = q.only others end k in let w = z.only f.0 end f.2 in
@@ -179,8 +173,8 @@ module _ (g : Gathers) (j : Judges g) (lawful : Lawful g j) (exports : ℕ → I
     }
 
     all_nothing : (st : State (Unit {0}) g.Reported) → Standpoint g j exports start names taken [] B st.0
-        → Tells g j lawful (λ f. ⊥) B st.1 → AreUnheaded st.0.own → RanAll start names taken [] B st st
-    all_nothing st v t u = record {
+        → Tells g j lawful (λ f. ⊥) B st.1 → RanAll start names taken [] B st st
+    all_nothing st v t = record {
       whole = [];
       next = start;
       next_names = names;
@@ -189,7 +183,6 @@ module _ (g : Gathers) (j : Judges g) (lawful : Lawful g j) (exports : ℕ → I
       follow = nothing_follows;
       stands = stands_as (λ f b. inl b) v;
       told = tells_as g j lawful (λ f. ⊥) (λ f b. inl b) (none_in B) t;
-      unheaded = u;
       listing = listing_nothing g exports taken st;
       only = λ others end k. nothing_only exports k;
     }
@@ -199,51 +192,50 @@ module _ (g : Gathers) (j : Judges g) (lawful : Lawful g j) (exports : ℕ → I
     abbrev Steps : List X → Type 1
     Steps xs =
         (x : X) → Among x xs → (start : S) (names : Ident → Standing) (taken : List ℕ → Bool) (ds : List Declaration)
-        (B : Breach → Type 0) (s : S) (r : R) → Tells g j lawful (λ f. ⊥) B r → AreUnheaded s.own
+        (B : Breach → Type 0) (s : S) (r : R) → Tells g j lawful (λ f. ⊥) B r
         → Standpoint g j exports start names taken (of x ∷ ds) B s
         → One g j lawful exports start names taken (of x) ds B (s, r) (f (s, r) x)
 
     section_ran : (xs : List X) → Steps xs
         → (start : S) (names : Ident → Standing) (taken : List ℕ → Bool) (rest : List Declaration) (B : Breach → Type 0)
         (s : S) (r : R) → Standpoint g j exports start names taken (map of xs ++ rest) B s
-        → Tells g j lawful (λ f. ⊥) B r → AreUnheaded s.own
+        → Tells g j lawful (λ f. ⊥) B r
         → Ran start names taken (map of xs) rest B (s, r) (fold f (s, r) xs)
-    section_ran [] h start names taken rest B s r v t u = ran_nothing rest (s, r) v t u
-    section_ran (x ∷ xs) h start names taken rest B s r v t u = let q =
-        h x here start names taken (map of xs ++ rest) B s r t u v in
+    section_ran [] h start names taken rest B s r v t = ran_nothing rest (s, r) v t
+    section_ran (x ∷ xs) h start names taken rest B s r v t = let q =
+        h x here start names taken (map of xs ++ rest) B s r t v in
         ran_more (of x) (map of xs) rest q (section_ran xs (λ y m. h y (later m)) q.1.start q.1.names q.1.taken rest _
-        (f (s, r) x).0 (f (s, r) x).1 q.1.stands q.1.told q.1.unheaded)
+        (f (s, r) x).0 (f (s, r) x).1 q.1.stands q.1.told)
 
   -- ---- all of a definition
 
   def_ran : (d : Def) (start : S) (names : Ident → Standing) (taken : List ℕ → Bool) (rest : List Declaration)
       (B : Breach → Type 0) (s : S) (r : R) → Standpoint g j exports start names taken (declared_in d ++ rest) B s
-      → Tells g j lawful (λ f. ⊥) B r → AreUnheaded s.own
+      → Tells g j lawful (λ f. ⊥) B r
       → Ran start names taken (declared_in d) rest B (s, r) (with_def g (s, r) d)
-  def_ran (def.Constants cs) start names taken rest B s r v t u =
+  def_ran (def.Constants cs) start names taken rest B s r v t =
       section_ran (with_constant g) OfConstant cs
-      (λ c m start names taken ds B s r t u v. constant_stepped g j lawful exports start names taken ds B s r t u c v)
-      start names taken rest B s r v t u
-  def_ran (def.Types ts) start names taken rest B s r v t u =
-      section_ran (with_type g) OfType ts (λ d m start names taken ds B s r t u v. type_stepped g j lawful exports start
-      names taken ds B s r t u d v) start names taken rest B s r v t u
-  def_ran (def.Variables vs) start names taken rest B s r v t u =
+      (λ c m start names taken ds B s r t v. constant_stepped g j lawful exports start names taken ds B s r t c v)
+      start names taken rest B s r v t
+  def_ran (def.Types ts) start names taken rest B s r v t =
+      section_ran (with_type g) OfType ts (λ d m start names taken ds B s r t v. type_stepped g j lawful exports start
+      names taken ds B s r t d v) start names taken rest B s r v t
+  def_ran (def.Variables vs) start names taken rest B s r v t =
       section_ran (with_variables g) OfVariables vs
-      (λ w m start names taken ds B s r t u v. variables_stepped g j lawful exports start names taken ds B s r t u w v)
-      start names taken rest B s r v t u
-  def_ran (def.Procedure h) start names taken rest B s r v t u = let q =
-      procedure_stepped g j lawful exports start names taken h rest v u t in
-      ran_more (OfProcedure h) [] rest q (ran_nothing rest (with_def g (s, r) (def.Procedure h)) q.1.stands q.1.told
-      q.1.unheaded)
+      (λ w m start names taken ds B s r t v. variables_stepped g j lawful exports start names taken ds B s r t w v)
+      start names taken rest B s r v t
+  def_ran (def.Procedure h) start names taken rest B s r v t = let q =
+      procedure_stepped g j lawful exports start names taken h rest v t in
+      ran_more (OfProcedure h) [] rest q (ran_nothing rest (with_def g (s, r) (def.Procedure h)) q.1.stands q.1.told)
 
   pub defs_ran : (ds : List Def) (start : S) (names : Ident → Standing) (taken : List ℕ → Bool) (B : Breach → Type 0)
       (s : S) (r : R) → Standpoint g j exports start names taken (all_declared ds) B s → Tells g j lawful (λ f. ⊥) B r
-      → AreUnheaded s.own → RanAll start names taken (all_declared ds) B (s, r) (fold (with_def g) (s, r) ds)
-  defs_ran [] start names taken B s r v t u = all_nothing (s, r) v t u
-  defs_ran (d ∷ ds) start names taken B s r v t u = let q = def_ran d start names taken (all_declared ds) B s r v t u in
+      → RanAll start names taken (all_declared ds) B (s, r) (fold (with_def g) (s, r) ds)
+  defs_ran [] start names taken B s r v t = all_nothing (s, r) v t
+  defs_ran (d ∷ ds) start names taken B s r v t = let q = def_ran d start names taken (all_declared ds) B s r v t in
       ran_all (declared_in d) (all_declared ds) q
       (defs_ran ds q.next q.next_names q.next_taken _ (with_def g (s, r) d).0 (with_def g (s, r) d).1 q.stands
-      q.told q.unheaded)
+      q.told)
 
 -- Types are those of one module.
 pub home_kept : {exports : ℕ → Ident → Standing} {c last : Context} {ds : List Declaration} {ps : List Placed}

@@ -22,13 +22,13 @@ use Rattle.check_scope.specs.declared.scope.OpenedRecord.{OpenedRecord}
 use Rattle.check_scope.specs.declared.scope.Scope.{Scope}
 use Rattle.check_scope.specs.Elaborated.{Gathers}
 use Rattle.check_scope.specs.Scopes.{Sight, in_block, seen_at, nearer, or_outside, or_around, known_outside, means_seen, means_as, means_or, open_field, looked_up}
-use Rattle.check_block.specs.Inner.{inwards}
+use Rattle.check_scope.specs.Inwards.{inwards}
 use Rattle.def_typing.specs.Operators.{◌!◌}
 use Rattle.def_typing.specs.Things as things
 use Rattle.def_typing.specs.Things.{Headless, Standing, Undeclared, Unknown}
 use Rattle.def_typing.specs.Declarations.{Declaration, AnyDeclares}
 use Rattle.def_typing.specs.Bodies as bodies
-use Rattle.def_typing.specs.Bodies.{IsProcedure, SeenAs}
+use Rattle.def_typing.specs.Bodies.{IsProcedure, Sees as Sees_in}
 use Rattle.law_typing.specs.Judging.{Judges}
 use Rattle.law_typing.specs.Exact.{of_local, standing, Sees, sees, sees_nothing, sees_headless, sees_unknown, Knows, Repeats, of_heading, of_declaration}
 use Rattle.law_typing.proofs.Naming.{index, place_found, place_none, stands_at}
@@ -167,13 +167,15 @@ module _ (g : Gathers) (j : Judges g) where
 
   -- ---- one name of a block, inside a procedure
 
-  module _ (taken : List ℕ → Bool) (block front : List Declaration) (level : ℕ) (w : Scope g.Reported) (seen : ℕ) where
+  -- Front: the names in front of the procedure
+  module _ (taken : List ℕ → Bool) (block : List Declaration) (Front : List ℕ → Type 0) (level : ℕ)
+      (w : Scope g.Reported) (seen : ℕ) where
     -- what the scope has of a name behind the declarations, and where it stands
     pub data PlaceIs (n : List ℕ) : Option (Known g.Reported) → Type 0 where
       nowhere : (taken n ≡ false → AnyDeclares block n → ⊥) → PlaceIs n None
-      stands_in_front : (k : Known g.Reported) → (taken n ≡ false → AnyDeclares block n → AnyDeclares front n)
+      stands_in_front : (k : Known g.Reported) → (taken n ≡ false → AnyDeclares block n → Front n)
           → nat_lt (index n w.own) seen ≡ true → PlaceIs n (Some k)
-      stands_behind : (k : Known g.Reported) → taken n ≡ false → AnyDeclares block n → (AnyDeclares front n → ⊥)
+      stands_behind : (k : Known g.Reported) → taken n ≡ false → AnyDeclares block n → (Front n → ⊥)
           → nat_lt (index n w.own) seen ≡ false → Fits level k → PlaceIs n (Some k)
 
     module _ (exports : ℕ → Ident → Standing) (names : Ident → Standing) (knows : Knows g j names exports w)
@@ -184,17 +186,17 @@ module _ (g : Gathers) (j : Judges g) where
       In = inner g w seen no_withs
 
       pub data Looked (name : Ident) : Type 0 where
-        is_in_front : (taken name.name ≡ false → AnyDeclares block name.name → AnyDeclares front name.name)
+        is_in_front : (taken name.name ≡ false → AnyDeclares block name.name → Front name.name)
             → looked_up g In name ≡ looked_up g w name → Looked name
         is_procedure : IsProcedure (names name) → looked_up g In name ≡ looked_up g w name → Looked name
-        is_unseen : taken name.name ≡ false → AnyDeclares block name.name → (AnyDeclares front name.name → ⊥)
+        is_unseen : taken name.name ≡ false → AnyDeclares block name.name → (Front name.name → ⊥)
             → (IsProcedure (names name) → ⊥) → looked_up g In name
             ≡ Err (meaningless.Broken (g.one (name.pos ! rule.Undeclared))) → Looked name
 
       module _ (name : Ident) where
         -- a name that stands behind
         behind_by : (k : Known g.Reported) → find_name name.name w.own ≡ Some k → taken name.name ≡ false
-            → AnyDeclares block name.name → (AnyDeclares front name.name → ⊥) → Fits level k
+            → AnyDeclares block name.name → (Front name.name → ⊥) → Fits level k
             → looked_up g In name ≡ means_seen g name.pos k false → looked_up g w name ≡ means_seen g name.pos k true
             → Looked name
         behind_by Later e t a c f i o = is_unseen t a c (no_procedure (sees_broken (knows.of_names name) o)) i
@@ -224,7 +226,7 @@ module _ (g : Gathers) (j : Judges g) where
         looked = looked_by (places name.name) refl
 
         abbrev S : Standing → Type 0
-        S = SeenAs taken block front names name
+        S = Sees_in taken block Front names name
 
         seen_by : Looked name → (s : Standing) × S s
         seen_by (is_in_front h e) = (names name, bodies.in_front h)
@@ -270,10 +272,10 @@ module _ (g : Gathers) (j : Judges g) where
 
       -- ---- all names
 
-      pub seen_there : (sight : Ident → Standing) × ((name : Ident) → SeenAs taken block front names name (sight name))
+      pub seen_there : (sight : Ident → Standing) × ((name : Ident) → Sees_in taken block Front names name (sight name))
       seen_there = ((λ name. (seen_by name (looked name)).0), (λ name. (seen_by name (looked name)).1))
 
-      module _ (sight : Ident → Standing) (all : (name : Ident) → SeenAs taken block front names name (sight name))
+      module _ (sight : Ident → Standing) (all : (name : Ident) → Sees_in taken block Front names name (sight name))
         where
           pub seen_knows : Knows g j sight exports In
           seen_knows = record {

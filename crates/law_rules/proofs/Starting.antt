@@ -1,7 +1,8 @@
 -- Where the declarations of a definition begin, its imports are known, and its own names are marked.
 use Rattle.std.proofs.Common.{◌≡◌, ℕ, Bool, true, false, List, [], ◌∷◌, ◌++◌, length, Option, Result, Ok, Err, ◌⊎◌, inl, inr, refl, sym, ap, subst, ◌∙◌, None, Some}
-use Rattle.std.specs.Prelude.{map}
+use Rattle.std.specs.Prelude.{◌==◌, map}
 use Rattle.std.specs.List.{fold}
+use Rattle.std.specs.Option.{is_some}
 use Rattle.m2_rule.specs.declared.breach.Breach.{Breach}
 use Rattle.m2_tree.specs.declared.pos.Pos.{Pos}
 use Rattle.m2_tree.specs.declared.name.Ident.{Ident}
@@ -25,14 +26,14 @@ use Rattle.check_scope.specs.declared.known.Known.{Known}
 use Rattle.check_scope.specs.declared.known.Known.TheVariants as known
 use Rattle.check_scope.specs.declared.scope.Scope.{Scope}
 use Rattle.check_scope.specs.Elaborated.{Gathers}
-use Rattle.check_scope.specs.declared.known.Origin.TheVariants.{Here}
 use Rattle.check_scope.specs.declared.meaningless.Meaningless.{Meaningless}
 use Rattle.check_scope.specs.declared.scope.OpenedRecord.{OpenedRecord}
 use Rattle.check_scope.specs.Scopes.{State, looked_up, known_outside, or_around, means_as, means_or, open_field}
 use Rattle.check_definition.specs.Marking.{marked_def}
 use Rattle.check_definition.specs.Predeclared.{console, first_scope}
-use Rattle.check_definition.specs.Importing.{numbered_modules, with_import}
+use Rattle.check_definition.specs.Importing.{numbered_modules}
 use Rattle.check_definition.specs.Declare.{with_def}
+use Rattle.check_definition.specs.Again.{Passing, again_def}
 use Rattle.check_definition.specs.Export.{reached_of, imported_modules}
 use Rattle.check_definition.specs.Compiled.{table_of, table_or, of_contents}
 use Rattle.check_block.specs.Naming.{marked_layer, marked_decl, with_marks}
@@ -43,32 +44,38 @@ use Rattle.def_typing.specs.Things.{Headless, Standing, Unknown}
 use Rattle.def_typing.specs.Parts.{Among, here, later, Named}
 use Rattle.def_typing.specs.Declarations as rules
 use Rattle.def_typing.specs.Declarations.{Declaration, OfConstant, OfType, OfVariables, OfProcedure, declared_by, declarations_of, AnyDeclares}
+use Rattle.def_typing.specs.Again.{BrokenAgain}
 use Rattle.def_typing.specs.Definitions as definitions
 use Rattle.def_typing.specs.Definitions.{Context, Placed, none_awaited}
 use Rattle.def_typing.specs.Imports as imports
 use Rattle.def_typing.specs.Imports.{all_imported, Origin, Itself, Exported, Brings, Entry}
 use Rattle.law_typing.specs.Judging.{Judges, Accounts, Reports, reports_nothing, reports_broken}
-use Rattle.law_typing.specs.Exact.{Sees, sees, no_names, standing, of_local, Knows, Repeats, of_heading, of_declaration, TakenAs, is_taken, not_taken, AreOnce}
-use Rattle.law_typing.proofs.Heading.{nil_right}
-use Rattle.law_typing.proofs.Combining.{Lawful, Tells, silent, tells}
-use Rattle.law_typing.proofs.Declaring.{any_first, headed, KnownAs, outer, ahead, reading, behind, a_member, KnowsBlock, mark_of}
-use Rattle.law_typing.proofs.Beginning.{clash}
+use Rattle.law_typing.specs.Exact.{Sees, sees, no_names, standing, of_local, Knows, Repeats, of_heading, of_declaration, TakenAs, is_taken, awaits, is_a_heading, not_taken, AreOnce}
+use Rattle.law_typing.proofs.Heading.{nil_right, append_assoc}
+use Rattle.law_typing.proofs.Combining.{Lawful, Tells, silent, tells, tells_as}
+use Rattle.law_typing.proofs.Rereading.{reread_here}
+use Rattle.law_typing.specs.Again.{ReadsAgain}
+use Rattle.law_folds.proofs.AgainSteps.{defs_report}
+use Rattle.law_typing.proofs.Declaring.{any_first, headed, KnownAs, outer, ahead, reading, behind, a_member, KnowsBlock, mark_of, knowing, repeating}
 use Rattle.law_typing.proofs.Marking.{block_begins}
 use Rattle.law_rules.specs.Importing.{origin, StandsFor, imported, from_outside, imported_all, AreImportsExact}
 use Rattle.law_rules.proofs.Behind.{first_imports}
-use Rattle.law_rules.proofs.ImportsDefining.{definition_imports}
+use Rattle.law_rules.proofs.ImportsDefining.{marks_new}
 use Rattle.law_rules.specs.Exports.{AreExported, AreModules, own_met, nothing_exported}
 use Rattle.law_rules.proofs.Modules.{modules_are}
 use Rattle.law_rules.proofs.Meeting.{others_kept, types_are}
-use Rattle.law_rules.proofs.Once.{imports_keep, imports_once}
-use Rattle.law_rules.proofs.Twices.{twice_as}
-use Rattle.law_rules.proofs.Keys.{Begins, begins_more, once_found, keys_apart}
+use Rattle.law_rules.proofs.Once.{imports_once}
+use Rattle.law_rules.proofs.Among.{among_left, among_right}
+use Rattle.law_rules.proofs.Keys.{keys, Begins, begins_more, once_found, keys_apart}
 use Rattle.law_rules.proofs.Keeping.{defs_keep}
-use Rattle.law_rules.proofs.Entries.{found_named, entry_of, exported_are}
+use Rattle.law_rules.proofs.Entries.{IsDeclared, by_declaration, by_heading, found_named, entry_of, exported_are}
 use Rattle.law_rules.proofs.Listing.{names_all, any_named_all, AllListed}
 use Rattle.law_rules.proofs.Marks.{names as names_in, defs_declare}
 use Rattle.law_rules.specs.Defining.{declared_in, all_declared, none, IsTaken, by_import, by_none, AreSound, IsTable, IsAnswered, is_table, is_refused, IsDefinitionExact, DefinitionsAreExact}
-use Rattle.law_rules.proofs.Unheaded.{Unheaded, AreUnheaded}
+use Rattle.law_rules.proofs.BodiesKeeping.{Grows, grows_then, Fits, Keeps, definitions_keep}
+use Rattle.law_rules.proofs.Turns.{enters_grow, in_turn, defs_turn}
+use Rattle.law_rules.proofs.Insides.{untaken_is, reads_again}
+use Rattle.law_rules.proofs.DefinitionsAgain.{defs_again, never_ahead}
 use Rattle.law_rules.proofs.Stepping.{context, Standpoint}
 use Rattle.law_rules.proofs.Running.{RanAll, defs_ran, home_kept}
 use Rattle.law_rules.proofs.Finding.{Finds}
@@ -154,12 +161,6 @@ origin_taken : {T : Type 0} (u : Origin) (r : Result Meaning T) → standing_fro
 origin_taken (Itself k) r = refl
 origin_taken (Exported k) r = refl
 
-unheaded_mark : (T : Type 0) (d : Declaration) → Unheaded (Some (mark_of {T = T} d))
-unheaded_mark T (OfConstant c) = tt
-unheaded_mark T (OfType d) = tt
-unheaded_mark T (OfVariables v) = tt
-unheaded_mark T (OfProcedure h) = tt
-
 -- ---- one definition
 
 module _ (g : Gathers) (j : Judges g) (lawful : Lawful g j) (found : Finds g j) (home : ℕ) (m : Module)
@@ -204,106 +205,22 @@ module _ (g : Gathers) (j : Judges g) (lawful : Lawful g j) (found : Finds g j) 
   takes_start : (n : List ℕ) → TakenAs g j (taken n) None (find_name n start.own)
   takes_start n = takes_by n (taken n) (takes n)
 
-  -- with what is marked before
-  abbrev marked : S
-  marked = fold marked_def first defs
-
-  marks_rest : marked ≡ with_own marked.own
-  marks_rest = (definition_imports g j lawful home tables defs m.imports).0
-
-  kept : AreImportsExact g j none (with_own marked.own) m.imports
-  kept = subst (λ (s : S). AreImportsExact g j none s m.imports) marks_rest
-      (definition_imports g j lawful home tables defs m.imports).1
-
+  -- with what is marked
   abbrev entered : State (Unit {0}) g.Reported
-  entered = imported_all g (with_own marked.own) m.imports
+  entered = (fold marked_def start defs, (imported_all g first m.imports).1)
+
+  marks_rest : entered.0 ≡ record start { own = entered.0.own }
+  marks_rest = marks_new defs start
 
   -- ---- what is known of names
 
   abbrev Th : List ℕ → Type 0
   Th = rules.There start.types exports names taken none_awaited false block []
 
-  abbrev ThBare : List ℕ → Type 0
-  ThBare = rules.There first.types exports outside none none_awaited false block []
-
-  marks_begin : KnowsBlock g j exports outside first none none_awaited false block [] block ThBare marked
-  marks_begin = subst (λ (s : S). KnowsBlock g j exports outside first none none_awaited false block [] block ThBare s)
-      (decls_mark defs first []) (block_begins g j exports outside first none none_awaited false block (λ n. not_taken)
-      (map decl_of defs) refl (decls_declare defs))
-
-  taken_is : {n : List ℕ} {b : Bool} → IsTaken tables (all_imported m.imports) n b → (o : Origin) (w : Meaning)
-      → There n o w → b ≡ true
-  taken_is (by_import u x i) o w h = refl
-  taken_is (by_none c) o w h = absurd (c o w h)
-
-  free_is : {n : List ℕ} {b : Bool} → IsTaken tables (all_imported m.imports) n b
-      → ((o : Origin) (w : Meaning) → There n o w → ⊥) → b ≡ false
-  free_is (by_import u x i) c = absurd (c u x i)
-  free_is (by_none d) c = refl
-
-  nothing_there : {n : List ℕ} → taken n ≡ false → Th n → ⊥
-  nothing_there t (inl u) = clash u t
-  nothing_there t (inr a) = elim a.1 [ ]
-
-  nothing_bare : {n : List ℕ} → ThBare n → ⊥
-  nothing_bare (inl u) = clash u refl
-  nothing_bare (inr a) = elim a.1 [ ]
-
-  none_waits : (n : List ℕ) (t : TypeNo) → none_awaited n ≡ Some t → ⊥
-  none_waits n t v = cc
-
-  not_imported : (n : List ℕ) → ((o : Origin) (w : Meaning) → There n o w → ⊥) → taken n ≡ false
-      → {k : Option (Known g.Reported)} → KnownAs g j exports outside first none none_awaited false block [] ThBare n k
-      → KnownAs g j exports names start taken none_awaited false block [] Th n k
-  not_imported n c t (outer h w e) = outer (λ u a. h refl a) (λ u v z. absurd (none_waits n u v))
-      (e ∙ sym (bare.other n c))
-  not_imported n c t (headed p a b w) = elim b.1 [ ]
-  not_imported n c t (ahead d u i h w) = ahead d t i h (λ th. nothing_there t th)
-  not_imported n c t (reading d u i h w q) = absurd (nothing_bare w)
-  not_imported n c t (behind k u i o s) = elim i [ ]
-  not_imported n c t (a_member u i o a e) = elim i [ ]
-
-  name_known : (n : List ℕ) → KnownAs g j exports names start taken none_awaited false block [] Th n
-      (find_name n entered.0.own)
-  name_known n = elim (kept.decided n) [
-    | inl q ↦ outer (λ t a. clash (taken_is (takes n) q.0 q.1 q.2) t) (λ u v z. absurd (none_waits n u v))
-        (kept.brought n q.0 q.1 q.2 ∙ sym (bare.brought n q.0 q.1 q.2))
-    | inr c ↦ subst (λ (k : Option (Known g.Reported)). KnownAs g j exports names start taken none_awaited false block
-        [] Th n k) (sym (kept.other n c)) (not_imported n c (free_is (takes n) c) (marks_begin.own n))
-  ]
-
   begins : KnowsBlock g j exports names start taken none_awaited false block [] block Th entered.0
-  begins = record {
-    same = record {
-      withs = ap (λ (s : S). s.withs) kept.rest;
-      outer = ap (λ (s : S). s.outer) kept.rest;
-      types = ap (λ (s : S). s.types) kept.rest;
-      tables = ap (λ (s : S). s.tables) kept.rest;
-      level = ap (λ (s : S). s.level) kept.rest;
-    };
-    within = λ n a. elim a.1 [ ];
-    in_block = λ n a. a;
-    left = λ n d k c. k;
-    includes = λ n t. t;
-    own = λ n. name_known n;
-    once = λ o. imports_once g (with_own marked.own) m.imports (marks_begin.once no_names);
-  }
-
-  entered_unheaded : AreUnheaded entered.0.own
-  entered_unheaded n = elim (kept.decided n) [
-    | inl q ↦ subst (λ (k : Option (Known g.Reported)). Unheaded k) (sym (kept.brought n q.0 q.1 q.2)) tt
-    | inr c ↦ subst (λ (k : Option (Known g.Reported)). Unheaded k) (sym (kept.other n c))
-        (mark_unheaded (marks_begin.own n))
-  ]
-    where
-      mark_unheaded : {k : Option (Known g.Reported)}
-          → KnownAs g j exports outside first none none_awaited false block [] ThBare n k → Unheaded k
-      mark_unheaded (outer h w e) = subst (λ (k : Option (Known g.Reported)). Unheaded k) (sym e) tt
-      mark_unheaded (headed p a b w) = elim b.1 [ ]
-      mark_unheaded (ahead d u i h w) = unheaded_mark g.Reported d
-      mark_unheaded (reading d u i h w q) = tt
-      mark_unheaded (behind k u i o s) = elim i [ ]
-      mark_unheaded (a_member u i o a e) = elim i [ ]
+  begins = subst (λ (s : S). KnowsBlock g j exports names start taken none_awaited false block [] block Th s)
+      (decls_mark defs start []) (block_begins g j exports names start taken none_awaited false block takes_start
+      (map decl_of defs) refl (decls_declare defs))
 
   -- ---- what is reported
 
@@ -337,7 +254,7 @@ module _ (g : Gathers) (j : Judges g) (lawful : Lawful g j) (found : Finds g j) 
 
   all_of_it : RanAll g j lawful exports start names taken block Before entered (fold (with_def g) entered defs)
   all_of_it = defs_ran g j lawful exports defs start names taken Before entered.0 entered.1 stands_first
-      (told_by kept.reported) entered_unheaded
+      (told_by bare.reported)
 
   -- a table, or what is reported
   data Tabled (Is : Table → Type 0) (B : Breach → Type 0) : Result Table g.Reported → Type 0 where
@@ -356,14 +273,8 @@ module _ (g : Gathers) (j : Judges g) (lawful : Lawful g j) (found : Finds g j) 
   answered_by h (a_refusal e a) = let x = h e refl in
       is_refused e a x.0 (elim (a.only x.0 x.1) [ inl b ↦ b | inr z ↦ absurd z ])
 
-  abbrev Broken : Breach → Type 0
-  Broken f = Before f ⊎ definitions.BrokenIn exports all_of_it.whole f
-
   abbrev modules : List (List ℕ × ℕ)
   modules = (numbered_modules tables).0
-
-  abbrev from_scope : S → State (Unit {0}) g.Reported
-  from_scope s = fold (with_def g) (fold (with_import g modules) (s, Ok tt) m.imports) defs
 
   abbrev last : Context
   last = context all_of_it.next all_of_it.next_names all_of_it.next_taken
@@ -376,6 +287,121 @@ module _ (g : Gathers) (j : Judges g) (lawful : Lawful g j) (found : Finds g j) 
   abbrev final : State (Unit {0}) g.Reported
   final = fold (with_def g) entered defs
 
+  -- ---- what is reported of expressions that are read again
+
+  abbrev next_names : Ident → Standing
+  next_names = all_of_it.next_names
+
+  nothing_left : (x : Ident) → rules.StandsFor all_of_it.next.types exports next_names all_of_it.next_taken
+      all_of_it.stands.awaited false [] [] x (next_names x)
+  nothing_left x = rules.from_outside (λ t a. elim a.1 [ ])
+
+  knows_final : Knows g j next_names exports final.0
+  knows_final = knowing g j exports next_names all_of_it.next all_of_it.next_taken all_of_it.stands.awaited false []
+      all_of_it.stands.knows all_of_it.stands.no_withs all_of_it.stands.block nothing_left
+
+  abbrev Declared_broken : Breach → Type 0
+  Declared_broken f = Before f ⊎ definitions.BrokenIn exports all_of_it.whole f
+
+  repeats_final : (f : Breach) → Repeats g j next_names final.0 f → ⊥ ⊎ Declared_broken f
+  repeats_final f q = elim (repeating g j exports next_names all_of_it.next all_of_it.next_taken
+      all_of_it.stands.awaited false [] all_of_it.stands.knows all_of_it.stands.no_withs all_of_it.stands.block
+      nothing_left f q) [ inl o ↦ inr (all_of_it.stands.repeats f o) | inr b ↦ elim b [ ] ]
+
+  level_zero : (entered.0.level == 0) ≡ true
+  level_zero = ap (λ (s : S). s.level == 0) marks_rest
+
+  keeps_entered : Keeps entered.0 final.0
+  keeps_entered = definitions_keep g defs entered level_zero
+
+  grows_start : Grows start.own final.0.own
+  grows_start = grows_then (enters_grow (defs_turn defs start)) keeps_entered.grows
+
+  none_and_some : {A : Type 0} {k : A} {o : Option A} → o ≡ None → o ≡ Some k → ⊥
+  none_and_some e q = let z = sym e ∙ q in absurd cc
+
+  abbrev Marked_as : List ℕ → Option (Known g.Reported) → Type 0
+  Marked_as n o = KnownAs g j exports names start taken none_awaited false block [] Th n o
+
+  marked_there : {n : List ℕ} {o : Option (Known g.Reported)} → Marked_as n o → taken n ≡ false → AnyDeclares block n
+      → o ≡ None → ⊥
+  marked_there (outer h w e) t a q = h t a
+  marked_there (headed p c b w) t a q = elim b.1 [ ]
+  marked_there (ahead d u i h w) t a q = absurd cc
+  marked_there (reading d u i h w z) t a q = absurd cc
+  marked_there (behind k u i o s) t a q = elim i [ ]
+  marked_there (a_member u i o d e) t a q = elim i [ ]
+
+  declared_there : (n : List ℕ) → taken n ≡ false → AnyDeclares block n → find_name n final.0.own ≡ None → ⊥
+  declared_there n t a e = by (find_name n entered.0.own) refl
+    where
+      by : (o : Option (Known g.Reported)) → find_name n entered.0.own ≡ o → ⊥
+      by None q = marked_there (begins.own n) t a q
+      by (Some k) q = none_and_some e (keeps_entered.grows.kept n k q).1
+
+  unmarked_none : {n : List ℕ} {o : Option (Known g.Reported)} → Marked_as n o → (AnyDeclares block n → ⊥)
+      → find_name n start.own ≡ None → o ≡ None
+  unmarked_none (outer h w e) c q = e ∙ q
+  unmarked_none (headed p a b w) c q = elim b.1 [ ]
+  unmarked_none (ahead d u i h w) c q = absurd (c (any_first i))
+  unmarked_none (reading d u i h w z) c q = absurd (c (any_first i))
+  unmarked_none (behind k u i o s) c q = elim i [ ]
+  unmarked_none (a_member u i o d e) c q = elim i [ ]
+
+  mark_fits : (l : ℕ) (d : Declaration) → Fits {T = g.Reported} l (mark_of d)
+  mark_fits l (OfConstant c) = tt
+  mark_fits l (OfType d) = tt
+  mark_fits l (OfVariables v) = tt
+  mark_fits l (OfProcedure h) = tt
+
+  one_mark : {k l : Known g.Reported} → ◌≡◌ {A = Option (Known g.Reported)} (Some k) (Some l) → k ≡ l
+  one_mark q = cc
+
+  marked_fits : {n : List ℕ} {o : Option (Known g.Reported)} → Marked_as n o → find_name n start.own ≡ None
+      → (l : ℕ) (k : Known g.Reported) → o ≡ Some k → Fits l k
+  marked_fits (outer h w e) q l k z = absurd (none_and_some (e ∙ q) z)
+  marked_fits (headed p a b w) q l k z = elim b.1 [ ]
+  marked_fits (ahead d u i h w) q l k z = subst (λ (k : Known g.Reported). Fits l k) (one_mark z) (mark_fits l d)
+  marked_fits (reading d u i h w y) q l k z = subst (λ (k : Known g.Reported). Fits l k) (one_mark z) tt
+  marked_fits (behind v u i o s) q l k z = elim i [ ]
+  marked_fits (a_member u i o d e) q l k z = elim i [ ]
+
+  again_known : ReadsAgain g j exports next_names final.0 taken block (length start.own)
+  again_known = reads_again g j exports next_names start final.0 taken none_awaited takes_start block
+      entered.0.level grows_start declared_there
+      (λ n c e. all_of_it.listing.others n c ∙ unmarked_none (begins.own n) c e)
+      (λ n k e t. elim (keeps_entered.entries n k e) [
+        | inl q ↦ marked_fits (begins.own n) (untaken_is g j (takes_start n) t) entered.0.level k q
+        | inr f ↦ f
+      ]) knows_final all_of_it.stands.block.same.withs
+      (λ x t a e. never_ahead x all_of_it.follow t a e)
+      (in_turn (defs_turn defs start) keeps_entered.grows)
+
+  abbrev Broken_again : Types → Breach → Type 0
+  Broken_again types = BrokenAgain types exports taken block next_names [] block
+
+  abbrev read_again : Result (Unit {0}) g.Reported
+  read_again = (fold (again_def g final.0) (final.1, length start.own) defs).0
+
+  told_final : Tells g j lawful (λ f. ⊥) (λ f. Declared_broken f ⊎ Broken_again final.0.types f) read_again
+  told_final = subst
+      (λ (p : Passing g.Reported). Tells g j lawful (λ f. ⊥) (λ f. Declared_broken f ⊎ Broken_again final.0.types f) p.0)
+      (sym (defs_again g final.0 defs (final.1, length start.own)))
+      (reread_here g j lawful exports next_names final.0 taken block (length start.own) again_known repeats_final
+      all_of_it.told)
+
+  abbrev Broken : Breach → Type 0
+  Broken f = Before f ⊎ (definitions.BrokenIn exports all_of_it.whole f ⊎ Broken_again last.types f)
+
+  told_all : Tells g j lawful (λ f. ⊥) Broken read_again
+  told_all = tells_as g j lawful (λ f. ⊥)
+      (λ f z. elim z [ inl y ↦ elim y [ inl b ↦ inl b | inr b ↦ inr (inl b) ] | inr b ↦ inr (inr b) ])
+      (λ f z. elim z [ inl b ↦ inl (inl b) | inr y ↦ elim y [ inl b ↦ inl (inr b) | inr b ↦ inr b ] ])
+      (subst (λ (t : Types). Tells g j lawful (λ f. ⊥) (λ f. Declared_broken f ⊎ Broken_again t f) read_again)
+      all_of_it.stands.block.same.types told_final)
+
+  -- ---- its names, in their order
+
   abbrev keys_declared : List (List ℕ)
   keys_declared = names_in g.Reported (names_all block)
 
@@ -383,46 +409,61 @@ module _ (g : Gathers) (j : Judges g) (lawful : Lawful g j) (found : Finds g j) 
   final_once = all_of_it.stands.block.once all_of_it.stands.once
 
   -- A name that is not declared is not exported.
-  undeclared_entry : (n : List ℕ) (k : Known g.Reported) → (AnyDeclares block n → ⊥)
-      → find_name n entered.0.own ≡ Some k → entry_of n k ≡ []
-  undeclared_entry n k c e = elim (kept.decided n) [
-    | inl q ↦ subst (λ (k : Known g.Reported). entry_of n k ≡ []) (one_known (sym (kept.brought n q.0 q.1 q.2) ∙ e))
+  imported_entry : (n : List ℕ) (k : Known g.Reported) → find_name n start.own ≡ Some k → entry_of n k ≡ []
+  imported_entry n k e = elim (bare.decided n) [
+    | inl q ↦ subst (λ (k : Known g.Reported). entry_of n k ≡ []) (one_known (sym (bare.brought n q.0 q.1 q.2) ∙ e))
         (foreign_entry q.0 (Ok q.1))
-    | inr w ↦ absurd (no_mark (marks_begin.own n) (sym (kept.other n w) ∙ e))
+    | inr w ↦ absurd (nothing (sym (bare.other n w) ∙ e))
   ]
     where
       one_known : {k l : Known g.Reported} → ◌≡◌ {A = Option (Known g.Reported)} (Some k) (Some l) → k ≡ l
       one_known q = cc
 
+      nothing : {k : Known g.Reported} → ◌≡◌ {A = Option (Known g.Reported)} None (Some k) → ⊥
+      nothing q = absurd cc
+
       foreign_entry : (o : Origin) (m : Result Meaning g.Reported) → entry_of n (known.Declared (origin o) m) ≡ []
       foreign_entry (Itself k) m = refl
       foreign_entry (Exported k) m = refl
 
-      no_mark : {o : Option (Known g.Reported)}
-          → KnownAs g j exports outside first none none_awaited false block [] ThBare n o → o ≡ Some k → ⊥
-      no_mark (outer h w e) q = let z = sym e ∙ q in absurd cc
-      no_mark (headed p a b w) q = elim b.1 [ ]
-      no_mark (ahead d u i h w) q = c (any_first i)
-      no_mark (reading d u i h w z) q = c (any_first i)
-      no_mark (behind k u i o s) q = elim i [ ]
-      no_mark (a_member u i o a e) q = elim i [ ]
+  undeclared_by : (n : List ℕ) (k : Known g.Reported) → (AnyDeclares block n → ⊥) → {o : Option (Known g.Reported)}
+      → KnownAs g j exports names start taken none_awaited false block [] Th n o → o ≡ Some k → entry_of n k ≡ []
+  undeclared_by n k c (outer h w e) q = imported_entry n k (sym e ∙ q)
+  undeclared_by n k c (headed p a b w) q = elim b.1 [ ]
+  undeclared_by n k c (ahead d u i h w) q = absurd (c (any_first i))
+  undeclared_by n k c (reading d u i h w z) q = absurd (c (any_first i))
+  undeclared_by n k c (behind l u i o s) q = elim i [ ]
+  undeclared_by n k c (a_member u i o a e) q = elim i [ ]
+
+  undeclared_entry : (n : List ℕ) (k : Known g.Reported) → (AnyDeclares block n → ⊥)
+      → find_name n entered.0.own ≡ Some k → entry_of n k ≡ []
+  undeclared_entry n k c e = undeclared_by n k c (begins.own n) e
 
   module _ (e : final.1 ≡ Ok tt) where
     abbrev listed : AllListed g exports taken all_of_it.next_taken block all_of_it.whole entered.0 final.0
     listed = (all_of_it.listing.listed e).1
 
-    marks_first : Begins keys_declared marked.own
+    abbrev keys_imported : List (List ℕ)
+    keys_imported = keys start.own
+
+    -- what imports bring is taken
+    covers_by : {b : Bool} {u : Option TypeNo} {o : Option (Known g.Reported)} → TakenAs g j b u o → is_some o ≡ true
+        → b ≡ true
+    covers_by (is_taken w) q = refl
+    covers_by (awaits p) q = refl
+    covers_by is_a_heading q = refl
+    covers_by not_taken q = absurd cc
+
+    marks_first : Begins (keys_imported ++ keys_declared) entered.0.own
     marks_first = (
       [],
-      (defs_declare g.Reported defs first (λ n. ⊥) (λ n q. clash q refl)
-          (λ f h. listed.new f (twice_as (λ n z. absurd z) (names_all block) f h))).last
-          ∙ sym (nil_right keys_declared),
+      (defs_declare g.Reported defs start (λ n. taken n ≡ true) (λ n q. covers_by (takes_start n) q) listed.new).last
+          ∙ sym (nil_right (keys_imported ++ keys_declared)),
     )
 
-    keys_first : Begins keys_declared final.0.own
-    keys_first = defs_keep g (λ es. Begins keys_declared es) (λ name k es b. begins_more keys_declared name k es b) defs
-        entered (imports_keep g (λ es. Begins keys_declared es) (λ name k es b. begins_more keys_declared name k es b)
-        (with_own marked.own) m.imports marks_first)
+    keys_first : Begins (keys_imported ++ keys_declared) final.0.own
+    keys_first = defs_keep g (λ es. Begins (keys_imported ++ keys_declared) es)
+        (λ name k es b. begins_more (keys_imported ++ keys_declared) name k es b) defs entered marks_first
 
     key_declared : {n : List ℕ} (xs : List Ident) → Named xs n → Among n (names_in g.Reported xs)
     key_declared [] h = elim h.1 [ ]
@@ -430,16 +471,27 @@ module _ (g : Gathers) (j : Judges g) (lawful : Lawful g j) (found : Finds g j) 
         subst (λ (k : List ℕ). Among n (k ∷ names_in g.Reported xs)) (sym q) here
     key_declared (x ∷ xs) (y, later i, q) = later (key_declared xs (y, i, q))
 
-    other_entry : (d : List ℕ × Known g.Reported) → Among d final.0.own → (n : List ℕ) → Among n keys_first.0 → d.0 ≡ n
+    other_entry : (d : List ℕ × Known g.Reported) → Among d final.0.own → (AnyDeclares block d.0 → ⊥)
         → entry_of d.0 d.1 ≡ []
-    other_entry d i n w q =
-        let c : AnyDeclares block d.0 → ⊥ = (λ a. keys_apart final_once d.0 keys_declared keys_first.0 keys_first.1
-        (key_declared (names_all block) (any_named_all block a))
-        (subst (λ (k : List ℕ). Among k keys_first.0) (sym q) w)) in
-        undeclared_entry d.0 d.1 c (sym (all_of_it.listing.others d.0 c) ∙ once_found final_once d i)
+    other_entry d i c = undeclared_entry d.0 d.1 c (sym (all_of_it.listing.others d.0 c) ∙ once_found final_once d i)
+
+    declared_key : {n : List ℕ} → AnyDeclares block n → Among n keys_declared
+    declared_key a = key_declared (names_all block) (any_named_all block a)
+
+    before_entry : (d : List ℕ × Known g.Reported) → Among d final.0.own → Among d.0 keys_imported
+        → entry_of d.0 d.1 ≡ []
+    before_entry d i w = other_entry d i (λ a. keys_apart final_once d.0 keys_imported (keys_declared ++ keys_first.0)
+        (keys_first.1 ∙ append_assoc keys_imported keys_declared keys_first.0) w
+        (among_left keys_first.0 (declared_key a)))
+
+    behind_entry : (d : List ℕ × Known g.Reported) → Among d final.0.own → Among d.0 keys_first.0
+        → entry_of d.0 d.1 ≡ []
+    behind_entry d i w = other_entry d i (λ a. keys_apart final_once d.0 (keys_imported ++ keys_declared) keys_first.0
+        keys_first.1 (among_right keys_imported (declared_key a)) w)
 
     exports_so : (table_of m modules final.0).exported ≡ listed.entries
-    exports_so = exported_are final_once keys_first.0 listed.found keys_first.1 other_entry
+    exports_so = exported_are final_once keys_imported keys_first.0 listed.found
+        (keys_first.1 ∙ append_assoc keys_imported keys_declared keys_first.0) before_entry behind_entry
 
     -- what is known behind all declarations
     behind_all : (n : List ℕ) {k : Option (Known g.Reported)}
@@ -459,13 +511,18 @@ module _ (g : Gathers) (j : Judges g) (lawful : Lawful g j) (found : Finds g j) 
     abbrev looked_with : Ident → Option (Known g.Reported) → Result Meaning (Meaningless g.Reported)
     looked_with x k = means_as g x.pos (or_around k (known_outside x.name all_of_it.next.outer))
 
-    looked_behind : (x : Ident) (w : Meaning) → find_name x.name final.0.own ≡ Some (known.Declared Here (Ok w))
+    declared_means : (x : Ident) {w : Meaning} {k : Option (Known g.Reported)} → IsDeclared w k
+        → looked_with x k ≡ Ok w
+    declared_means x by_declaration = refl
+    declared_means x by_heading = refl
+
+    looked_behind : (x : Ident) (w : Meaning) → IsDeclared w (find_name x.name final.0.own)
         → looked_up g all_of_it.next x ≡ Ok w
     looked_behind x w q =
         ap (λ (ws : List OpenedRecord). means_or (open_field all_of_it.next.types x.name ws)
         (looked_with x (find_name x.name all_of_it.next.own))) all_of_it.stands.no_withs
         ∙ ap (λ (k : Option (Known g.Reported)). looked_with x k)
-        (sym (behind_all x.name (all_of_it.stands.block.own x.name)) ∙ q)
+        (sym (behind_all x.name (all_of_it.stands.block.own x.name))) ∙ declared_means x q
 
     its_meanings : (x : Ident) (w : Meaning) → find_name x.name (table_of m modules final.0).exported ≡ Some w
         → last.names x ≡ standing w
@@ -474,10 +531,10 @@ module _ (g : Gathers) (j : Judges g) (lawful : Lawful g j) (found : Finds g j) 
         (subst (λ (es : List Entry). find_name x.name es ≡ Some w) exports_so q))) (all_of_it.stands.knows.of_names x))
 
     no_variables : length entered.0.variables ≡ 0
-    no_variables = ap (λ (s : S). length s.variables) kept.rest
+    no_variables = ap (λ (s : S). length s.variables) marks_rest
 
     no_procedures : length entered.0.procedures ≡ 0
-    no_procedures = ap (λ (s : S). length s.procedures) kept.rest
+    no_procedures = ap (λ (s : S). length s.procedures) marks_rest
 
     its_exports : AreExported exports 0 0 all_of_it.whole (table_of m modules final.0).exported
     its_exports = subst (λ (es : List Entry). AreExported exports 0 0 all_of_it.whole es) (sym exports_so)
@@ -487,8 +544,8 @@ module _ (g : Gathers) (j : Judges g) (lawful : Lawful g j) (found : Finds g j) 
         (subst (λ (p : ℕ). AreExported exports (length entered.0.variables) p (all_of_it.whole ++ [])
         (listed.entries ++ [])) no_procedures (listed.lists [] [] nothing_exported)))))
 
-  its_table : final.1 ≡ Ok tt → Is (table_of m modules final.0)
-  its_table e = let k = all_of_it.stands.block.same in record {
+  its_table_by : final.1 ≡ Ok tt → Is (table_of m modules final.0)
+  its_table_by e = let k = all_of_it.stands.block.same in record {
     of_number = ap (λ (t : Types). t.home) k.types ∙ home_kept all_of_it.follow;
     of_name = refl;
     of_imports = subst (λ (ts : List Table). AreModules tables (all_imported m.imports)
@@ -503,9 +560,20 @@ module _ (g : Gathers) (j : Judges g) (lawful : Lawful g j) (found : Finds g j) 
     of_meanings = its_meanings e;
   }
 
+  its_table : read_again ≡ Ok tt → Is (table_of m modules final.0)
+  its_table e = its_table_by (defs_report g final.0 defs (final.1, length start.own) e)
+
+  -- from a scope behind the imports
+  abbrev declared_from : S → State (Unit {0}) g.Reported
+  declared_from s = fold (with_def g) (fold marked_def s defs, entered.1) defs
+
+  abbrev from_scope : S → Result Table g.Reported
+  from_scope s = let d = declared_from s in
+      table_or m modules d.0 (fold (again_def g d.0) (d.1, length s.own) defs).0
+
   tabled : Tabled Is Broken (of_contents g home m tables (contents.Definition defs))
-  tabled = subst (λ (s : S). Tabled Is Broken (table_or m modules (from_scope s).0 (from_scope s).1)) (sym marks_rest)
-      (table_by modules (from_scope (with_own marked.own)).0 its_table all_of_it.told)
+  tabled = subst (λ (s : S). Tabled Is Broken (from_scope s)) (sym bare.rest)
+      (table_by modules final.0 its_table told_all)
 
   pub definition_answers : (given : List Table) → tables ≡ given ++ console ∷ [] → m.contents ≡ contents.Definition defs
       → IsDefinitionExact g j home m given tables exports names taken defs

@@ -9,8 +9,6 @@ use Rattle.typed_tree.specs.declared.types.TypeNo.{TypeNo}
 use Rattle.typed_tree.specs.declared.table.Table.{Table}
 use Rattle.typed_tree.specs.Names.{find_name}
 use Rattle.check_scope.specs.declared.known.Known.{Known}
-use Rattle.check_scope.specs.declared.known.Known.TheVariants as known
-use Rattle.check_scope.specs.declared.known.Origin.TheVariants.{Here}
 use Rattle.check_scope.specs.declared.meaningless.Meaningless.{Meaningless}
 use Rattle.check_scope.specs.declared.meaningless.Meaningless.TheVariants as meaningless
 use Rattle.check_scope.specs.declared.scope.Block.{Block}
@@ -27,12 +25,13 @@ use Rattle.def_typing.specs.Declarations as blocks
 use Rattle.def_typing.specs.Declarations.{Declaration, names_of, constants_of, Declares, AnyDeclares, IsFirst, later_on, Declared as Resolved, is_among, There}
 use Rattle.def_typing.specs.Definitions.{Context, Placed, Means, Behind, its_own, its_constant, as_before, Follows, Breaks}
 use Rattle.law_typing.specs.Judging.{Judges}
-use Rattle.law_typing.specs.Exact.{standing, Sees, sees, Exports, Knows, Repeats, of_heading, of_declaration, TakenAs, is_taken, awaits, not_taken, AreOnce}
+use Rattle.law_typing.specs.Exact.{standing, Sees, sees, Exports, Knows, Repeats, of_heading, of_declaration, TakenAs, is_taken, awaits, is_a_heading, not_taken, AreOnce}
 use Rattle.law_typing.proofs.Combining.{Decided, holds, fails_it}
 use Rattle.law_typing.proofs.Entering.{named_left, among_decided}
 use Rattle.law_typing.proofs.Enumerating.{member_known}
 use Rattle.law_typing.proofs.Declaring.{clash, any_first, one_first, mark_of, KnownAs, outer, headed, ahead, reading, behind, a_member, KnowsBlock}
 use Rattle.law_rules.proofs.Bare.{unmark, unmarked, bare, found_bare, once_bare}
+use Rattle.law_rules.proofs.Entries.{IsDeclared, by_declaration, by_heading}
 
 -- what is known where a declaration stands
 abbrev pub context : {T : Type 0} → Scope T → (Ident → Standing) → (List ℕ → Bool) → Context
@@ -84,16 +83,19 @@ module _ (g : Gathers) (j : Judges g) (exports : ℕ → Ident → Standing) whe
   settled_taken : {u : Option TypeNo} {k : Known g.Reported} → TakenAs g j true u (Some k) → is_free (Some k) ≡ false
   settled_taken (is_taken e) = refl
   settled_taken (awaits p) = refl
+  settled_taken is_a_heading = refl
 
   bare_taken : {b : Bool} {u : Option TypeNo} {k : Option (Known g.Reported)} → TakenAs g j b u k → unmark k ≡ k
   bare_taken (is_taken e) = refl
   bare_taken (awaits p) = refl
+  bare_taken is_a_heading = refl
   bare_taken not_taken = refl
 
   nothing_taken : {u : Option TypeNo} {b : Bool} {k : Option (Known g.Reported)} → TakenAs g j b u k → b ≡ false
       → k ≡ None
   nothing_taken (is_taken w) e = absurd (clash refl e)
   nothing_taken (awaits p) e = absurd (clash refl e)
+  nothing_taken is_a_heading e = absurd (clash refl e)
   nothing_taken not_taken e = refl
 
   -- ---- behind it
@@ -122,25 +124,25 @@ module _ (g : Gathers) (j : Judges g) (exports : ℕ → Ident → Standing) whe
 
     -- ---- what names mean
 
-    one_known : {k l : Known g.Reported} → ◌≡◌ {A = Option (Known g.Reported)} (Some k) (Some l) → k ≡ l
-    one_known q = cc
-
     seen_one : {at : Pos} {t : Standing} {m : Meaning} → Sees g j at t (Ok m) → t ≡ standing m
     seen_one (sees m) = refl
 
     abbrev somewhere : Pos
     somewhere = record { line = 1; col = 1 }
 
+    declared_stands : {m : Meaning} {k : Known g.Reported} {t : Standing} → IsDeclared m (Some k)
+        → Sees g j somewhere t (means_seen g somewhere k true) → t ≡ standing m
+    declared_stands by_declaration w = seen_one w
+    declared_stands by_heading w = seen_one w
+
     -- its own name means what it says
     pub owned_means : (n : List ℕ) {k : Option (Known g.Reported)} → NowKnown n k → taken n ≡ false
-        → Named (names_of d.what) n → (m : Meaning) → k ≡ Some (known.Declared Here (Ok m))
-        → Means exports place (standing m)
+        → Named (names_of d.what) n → (m : Meaning) → IsDeclared m k → Means exports place (standing m)
     owned_means n (kept c e) t o m q = absurd (c t (d.what, here, named_left (constants_of d.what) o))
     owned_means n (marked c u i h) t o m q = absurd (h (named_left (constants_of d.what) o))
     owned_means n (owned {k = k} u w z) t o m q =
         subst (λ (t : Standing). Means exports place t)
-        (seen_one (subst (λ (k : Known g.Reported). Sees g j somewhere z.stands.0 (means_seen g somewhere k true))
-        (one_known q) (z.seen z.stands.0 z.stands.1 somewhere))) z.stands.1
+        (declared_stands q (z.seen z.stands.0 z.stands.1 somewhere)) z.stands.1
     owned_means n (a_constant u w h z) t o m q = absurd (w o)
 
     -- a constant of an enumeration is known as one

@@ -41,6 +41,7 @@ use Rattle.law_typing.proofs.Recording.{NoTwice}
 use Rattle.law_typing.proofs.Declaring.{clash}
 use Rattle.law_rules.specs.Exports.{names_in_layer, names_with, variables_of, procedures_of, IsEntry, a_constant, a_type, a_variable, a_procedure}
 use Rattle.law_rules.proofs.Keys.{entered_self, entered_other}
+use Rattle.law_rules.proofs.Entries.{IsDeclared, by_declaration, by_heading}
 
 -- a name that is new in a list is not there
 pub new_of : (There : List ℕ → Type 0) (xs : List Ident) → NoTwice There xs → (x : Ident) → Among x xs → There x.name
@@ -284,13 +285,19 @@ module _ (g : Gathers) where
 
   pub record Takes (s : S) (d : Declaration) (t : S) : Type 0 where
     pub own : (x : Ident) → Among x (names_of d) → (m : Meaning)
-        × (find_name x.name t.own ≡ Some (known.Declared Here (Ok m)))
+        × IsDeclared m (find_name x.name t.own)
         × IsEntry s.types.home (length s.variables) (length s.procedures) d x m
     pub variables : length t.variables ≡ length s.variables + variables_of d
     pub procedures : length t.procedures ≡ length s.procedures + procedures_of d
 
   abbrev pub Fine : St → Declaration → St → Type 0
   Fine st d up = up.1 ≡ Ok tt → (st.1 ≡ Ok tt) × Takes st.0 d up.0
+
+  declared_here : {m : Meaning} {o : Option (Known g.Reported)} → o ≡ Some (known.Declared Here (Ok m)) → IsDeclared m o
+  declared_here {m = m} e = subst (λ (o : Option (Known g.Reported)). IsDeclared m o) (sym e) by_declaration
+
+  headed_here : {m : Meaning} {o : Option (Known g.Reported)} → o ≡ Some (known.Headed (Ok m)) → IsDeclared m o
+  headed_here {m = m} e = subst (λ (o : Option (Known g.Reported)). IsDeclared m o) (sym e) by_heading
 
   one_name : (P : Ident → Type 0) {x : Ident} → P x → (y : Ident) → Among y (x ∷ []) → P y
   one_name P h _ here = h
@@ -304,12 +311,12 @@ module _ (g : Gathers) where
   constant_by st c (Ok x) e = let b = begin_name g st.0 c.name in let f = right_fine st.1 (beside g b.1 (Ok tt)) e in (
     left_fine st.1 (beside g b.1 (Ok tt)) e,
     record {
-      own = one_name (λ y. (m : Meaning) × (find_name y.name (finish_name b.0 c.name (Ok (meaning.Constant x))).own
-          ≡ Some (known.Declared Here (Ok m)))
+      own = one_name (λ y. (m : Meaning)
+          × IsDeclared m (find_name y.name (finish_name b.0 c.name (Ok (meaning.Constant x))).own)
           × IsEntry st.0.types.home (length st.0.variables) (length st.0.procedures) (OfConstant c) y m) (
             meaning.Constant x,
-            finish_found b.0 c.name (Ok (meaning.Constant x))
-                (unless_found (is_new st.0 c.name) st.0 c.name known.Begun (left_fine b.1 (Ok tt) f)),
+            declared_here (finish_found b.0 c.name (Ok (meaning.Constant x))
+                (unless_found (is_new st.0 c.name) st.0 c.name known.Begun (left_fine b.1 (Ok tt) f))),
             a_constant,
           );
       variables = ap (λ (ts : List TypeNo). length ts)
@@ -339,17 +346,17 @@ module _ (g : Gathers) where
     type_by (Ok u) e = let f = right_fine st.1 (beside g b.1 (Ok tt)) e in (
       left_fine st.1 (beside g b.1 (Ok tt)) e,
       record {
-        own = one_name (λ y. (m : Meaning) × (find_name y.name
-            (finish_name t d.name (Ok (meaning.Type u (brings_with d.of)))).own ≡ Some (known.Declared Here (Ok m)))
+        own = one_name (λ y. (m : Meaning)
+            × IsDeclared m (find_name y.name (finish_name t d.name (Ok (meaning.Type u (brings_with d.of)))).own)
             × IsEntry st.0.types.home (length st.0.variables) (length st.0.procedures) (OfType d) y m) (
               meaning.Type u (names_with d.of),
-              finish_found t d.name (Ok (meaning.Type u (brings_with d.of)))
+              declared_here (finish_found t d.name (Ok (meaning.Type u (brings_with d.of)))
                   (ap (λ (t : S). find_name d.name.name t.own) is
                   ∙ enters_begun d.name.name enters (unless_found (is_new st.0 d.name) st.0 d.name known.Begun
                   (left_fine b.1 (Ok tt) f)))
                   ∙ ap (λ (k : ℕ). let o : Option (Known g.Reported) =
                   Some (known.Declared Here (Ok (meaning.Type u k))) in
-                  o) (names_same (out-TypeExpr d.of)),
+                  o) (names_same (out-TypeExpr d.of))),
               a_type,
             );
         variables = ap (λ (ts : List TypeNo). length ts)
@@ -387,14 +394,14 @@ module _ (g : Gathers) where
             (λ x m. ap (λ (t : S). find_name x.name t.own) is
             ∙ enters_begun x.name enters (begun_found v.names There new st f x m)) x m in (
               meaning.Variable (record { home = st.0.types.home; number = length st.0.variables + length q.0; of = u }),
-              q.3 ∙ ap (λ (k : ℕ). let o : Option (Known g.Reported) =
+              declared_here (q.3 ∙ ap (λ (k : ℕ). let o : Option (Known g.Reported) =
                   Some (known.Declared Here (Ok (meaning.Variable
                   (record { home = k; number = length t.variables + length q.0; of = u })))) in o)
                   (ap (λ (t : S). t.types.home) is ∙ ap (λ (ts : Types). ts.home) (begun_types v.names st))
                   ∙ ap (λ (ts : List TypeNo). let o : Option (Known g.Reported) =
                   Some (known.Declared Here (Ok (meaning.Variable
                   (record { home = st.0.types.home; number = length ts + length q.0; of = u })))) in o)
-                  (ap (λ (t : S). t.variables) is ∙ begun_variables v.names st),
+                  (ap (λ (t : S). t.variables) is ∙ begun_variables v.names st)),
               a_variable q.0 q.1 q.2,
             );
         variables = each_variables u v.names t
@@ -425,22 +432,22 @@ module _ (g : Gathers) where
       let u = next_type st.0 in
       let s = with_procedure_type (with_shape st.0 m) (Ok u) in
       let p = meaning.Procedure (record { home = st.0.types.home; number = length st.0.procedures; heading = u }) in
-      let d = unless (is_new s h.name) s h.name (known.Declared Here (Ok p)) in
+      let d = unless (is_new s h.name) s h.name (known.Headed (Ok p)) in
       let f = right_fine (formals_of g h) (beside g (Ok tt) d.1)
       (right_fine st.1 (beside g (formals_of g h) (beside g (Ok tt) d.1)) e) in (
         left_fine st.1 (beside g (formals_of g h) (beside g (Ok tt) d.1)) e,
         record {
-          own = one_name (λ y. (m : Meaning) × (find_name y.name d.0.own ≡ Some (known.Declared Here (Ok m)))
+          own = one_name (λ y. (m : Meaning) × IsDeclared m (find_name y.name d.0.own)
               × IsEntry st.0.types.home (length st.0.variables) (length st.0.procedures) (OfProcedure h) y m) (
                 p,
-                unless_found (is_new s h.name) s h.name (known.Declared Here (Ok p)) (right_fine (Ok tt) d.1 f),
+                headed_here (unless_found (is_new s h.name) s h.name (known.Headed (Ok p)) (right_fine (Ok tt) d.1 f)),
                 a_procedure,
               );
           variables = ap (λ (ts : List TypeNo). length ts)
-              (unless_variables (is_new s h.name) s h.name (known.Declared Here (Ok p)))
+              (unless_variables (is_new s h.name) s h.name (known.Headed (Ok p)))
               ∙ no_more (length st.0.variables);
           procedures = ap (λ (ts : List TypeNo). length ts)
-              (unless_procedures (is_new s h.name) s h.name (known.Declared Here (Ok p)))
+              (unless_procedures (is_new s h.name) s h.name (known.Headed (Ok p)))
               ∙ length-append st.0.procedures (u ∷ []);
         },
       )

@@ -38,7 +38,7 @@ use Rattle.check_const.specs.Denote.{exported_by}
 use Rattle.check_stmt_parts.specs.Control.{is_own}
 use Rattle.check_block.specs.Naming.{marked_decl, all_marked}
 use Rattle.check_block.specs.Declarations.{declared_block}
-use Rattle.check_block.specs.Inner.{split_last, pop_block}
+use Rattle.check_scope.specs.Inwards.{split_last, pop_block}
 use Rattle.check_body.specs.declared.routine.Numbered.{Numbered as NumberedProcedure}
 use Rattle.check_body.specs.declared.routine.Bodies.{Bodies as Routined}
 use Rattle.check_body.specs.Routines.{numbered_known, put_routine, routine, empty_routine}
@@ -76,6 +76,9 @@ use Rattle.law_numbers.proofs.Blocks.{block_numbered}
 use Rattle.law_numbers.proofs.Senses.{variable_stands, module_entry, nested_entry, senses_known}
 use Rattle.law_numbers.proofs.Inside.{insides_known}
 use Rattle.law_rules.proofs.Following.{Associates, block_moves}
+use Rattle.law_rules.proofs.BlocksAgain.{block_again}
+use Rattle.law_typing.specs.Again.{ReadsAgain}
+use Rattle.def_typing.specs.Again.{BrokenAgain}
 use Rattle.law_rules.specs.Blocks.{KnowsPlace, BlocksAreWhole}
 use Rattle.law_rules.proofs.BodiesKeeping.{Grows, Keeps}
 use Rattle.law_rules.proofs.Layers.{checks_written, checks_is, written, block_is, all_blocks}
@@ -381,8 +384,18 @@ module _ (g : Gathers) (j : Judges g) (lawful : Lawful g j) (associates : Associ
       else_of f (inl o) = elim (of_block.repeated names of_block.stand.1 f o) [ inl q ↦ inl (inl q) | inr c ↦ inr c ]
       else_of f (inr c) = inr c
 
-      pub declared_refused : Tells g j lawful Else Broke (declared_block g ends (start, Ok tt) first ds).1
-      declared_refused = more_tells g j lawful (λ f o. inl (inl o)) (told g j lawful of_block.reported)
+      -- what is broken in their expressions where they are read again
+      abbrev pub Again : Breach → Type 0
+      Again = BrokenAgain (types_behind start.types whole) exports p.taken block names [] block
+
+      again_known : ReadsAgain g j exports names sd p.taken block (length start.own)
+      again_known = block_again g j exports p.names start p.taken p.awaited at.takes at.no_withs ends first ds of_block
+          names of_block.stand.1
+
+      pub declared_refused : Tells g j lawful Else (λ f. Broke f ⊎ Again f)
+          (declared_block g ends (start, Ok tt) first ds).1
+      declared_refused = more_tells g j lawful (λ f o. inl (inl o))
+          (told g j lawful (of_block.reported names of_block.stand.1 again_known))
 
       -- ---- what is known by number, if nothing is reported of the declarations
 
@@ -414,7 +427,7 @@ module _ (g : Gathers) (j : Judges g) (lawful : Lawful g j) (associates : Associ
 
       never : Fine → Begins → (f : Breach) → Else f → ⊥
       never fine s f (inl r) = s.fresh f r
-      never fine s f (inr c) = never_broken g j lawful declared_refused fine f c
+      never fine s f (inr c) = never_broken g j lawful declared_refused fine f (inl c)
 
       record HeadedAt (h : Heading) (n : ℕ) : Type 0 where
         pub means : Meaning
@@ -545,8 +558,10 @@ module _ (g : Gathers) (j : Judges g) (lawful : Lawful g j) (associates : Associ
         others_split n q = others_now n (λ t a. q t
             (subst (λ (xs : List Decl). AnyDeclares (declarations_of xs) n) split a))
 
-        places_now : (n : List ℕ) → PlaceIs g j p.taken block front start.level v.scope seen n (find_name n v.scope.own)
-        places_now n = subst (λ (xs : List Decl). PlaceIs g j p.taken (declarations_of xs) front start.level v.scope
+        places_now : (n : List ℕ) → PlaceIs g j p.taken block (AnyDeclares front) start.level v.scope seen n
+            (find_name n v.scope.own)
+        places_now n = subst (λ (xs : List Decl). PlaceIs g j p.taken (declarations_of xs) (AnyDeclares front)
+            start.level v.scope
             (length (fold marked_decl start pre).own) n (find_name n v.scope.own)) (sym split)
             (place g j exports p.names start p.taken p.awaited at.takes at.no_withs pre d rest v.scope grows_now v_keeps
             others_split n)
@@ -1524,8 +1539,20 @@ module _ (g : Gathers) (j : Judges g) (lawful : Lawful g j) (associates : Associ
             Saying;
         refused = closed g j lawful (tells_as g j lawful
             (Else b inner given w.scope returns at ends around (length w.bodies.locals))
-            (λ f z. elim z [ inl y ↦ elim y [ inl a ↦ inl a | inr a ↦ inr (inl a) ] | inr a ↦ inr (inr a) ])
-            (λ f z. elim z [ inl a ↦ inl (inl a) | inr y ↦ elim y [ inl a ↦ inl (inr a) | inr a ↦ inr a ] ])
+            (λ f z. elim z [
+              | inl y ↦ elim y [
+                | inl x ↦ elim x [ inl a ↦ inl a | inr a ↦ inr (inl a) ]
+                | inr a ↦ inr (inr (inl a))
+              ]
+              | inr a ↦ inr (inr (inr a))
+            ])
+            (λ f z. elim z [
+              | inl a ↦ inl (inl (inl a))
+              | inr y ↦ elim y [
+                | inl a ↦ inl (inl (inr a))
+                | inr x ↦ elim x [ inl a ↦ inl (inr a) | inr a ↦ inr a ]
+              ]
+            ])
             (beside_tells g j lawful (Else b inner given w.scope returns at ends around (length w.bodies.locals))
             (beside_tells g j lawful (Else b inner given w.scope returns at ends around (length w.bodies.locals))
             (declared_refused b inner given w.scope returns at ends around (length w.bodies.locals))

@@ -16,6 +16,7 @@ use Rattle.check_definition.specs.Predeclared.{console, others_of, first_scope}
 use Rattle.check_definition.specs.Compiled.{definition_table}
 use Rattle.def_typing.specs.Things.{Headless, Standing, Known, Unknown}
 use Rattle.def_typing.specs.Declarations.{Declaration, OfConstant, OfType, OfVariables, OfProcedure}
+use Rattle.def_typing.specs.Again.{BrokenAgain}
 use Rattle.def_typing.specs.Definitions as definitions
 use Rattle.def_typing.specs.Definitions.{Context, Placed, AllFollow}
 use Rattle.def_typing.specs.Imports as imports
@@ -106,11 +107,14 @@ pub record IsDefinitionExact (g : Gathers) (j : Judges g) (home : ℕ) (m : Modu
   pub only : (others : List Placed) (end : Context)
       → AllFollow exports (first_context home tables names taken) (all_declared defs) others end
       → (others ≡ whole) × (end ≡ last)
-  -- Exactly the rules that are broken in imports and in declarations are reported.
+  -- Exactly the rules that are broken in imports, in declarations, and in their constant
+  -- expressions where they are read again, are reported.
   pub answered : IsAnswered g j (IsTable home m tables exports whole last)
       (λ f.
       imports.BrokenIn tables none (all_imported m.imports) f
-      ⊎ definitions.BrokenIn exports whole f)
+      ⊎ (definitions.BrokenIn exports whole f
+      ⊎ BrokenAgain last.types exports taken (all_declared defs) last.names [] (all_declared defs)
+      f))
       (definition_table g home m imported)
 
 -- Definitions are answered exactly, whatever they import.

@@ -21,6 +21,7 @@ use Rattle.check_definition.specs.Predeclared.{first_scope}
 use Rattle.check_definition.specs.Marking.{marked_def}
 use Rattle.check_definition.specs.Importing.{numbered_modules, with_import}
 use Rattle.check_block.specs.Declarations.{declared_block}
+use Rattle.def_typing.specs.Again.{BrokenAgain}
 use Rattle.def_typing.specs.Declarations as blocks
 use Rattle.def_typing.specs.Declarations.{Declared as Resolved, declarations_of, in_order}
 use Rattle.def_typing.specs.Things.{Standing}
@@ -129,15 +130,16 @@ FirstImportsAreExact g j =
     (home : ℕ) (tables : List Table) (imports : List Import)
     → AreImportsExact g j (λ n. false) (first_scope home tables) imports
 
--- The same in a definition, where the names that it declares are marked before its imports.
+-- The same in a definition, where the names that it declares are marked behind its imports: nothing
+-- but names is new there.
 abbrev pub DefinitionImportsAreExact : (g : Gathers) → Judges g → Type 0
 DefinitionImportsAreExact g j =
     (home : ℕ) (tables : List Table) (defs : List Def) (imports : List Import)
-    → (fold marked_def (first_scope {T = g.Reported} home tables) defs
-    ≡ record (first_scope home tables) {
-      own = (fold marked_def (first_scope {T = g.Reported} home tables) defs).own;
+    → AreImportsExact g j (λ n. false) (first_scope home tables) imports
+    × (fold marked_def (imported_all g (first_scope home tables) imports).0 defs
+    ≡ record (imported_all g (first_scope home tables) imports).0 {
+      own = (fold marked_def (imported_all g (first_scope home tables) imports).0 defs).own;
     })
-    × AreImportsExact g j (λ n. false) (fold marked_def (first_scope home tables) defs) imports
 
 -- a name of the module's own definition
 abbrev pub with_declared : {T : Type 0} → List (List ℕ × Known T) → rules.Entry
@@ -164,10 +166,15 @@ FollowingBlocksAreExact g j =
     → TakenAs g j (taken n) (awaited n) (find_name n (imported_all g s imports).0.own))
     → (ends : List ℕ) (first : ℕ) (ds : List Decl)
     → (whole : List Resolved) × (in_order whole ≡ declarations_of ds)
-    × Reports g j (Repeats g j names (imported_all g s imports).0)
+    × ((behind : Ident → Standing)
+    → blocks.AllStand (imported_all g s imports).0.types exports names taken awaited
+    (is_nested (imported_all g s imports).0) (declarations_of ds) whole behind
+    → Reports g j (Repeats g j names (imported_all g s imports).0)
     (λ f. BrokenIn s.tables own (all_imported imports) f
-    ⊎ blocks.BrokenIn (imported_all g s imports).0.types exports names taken awaited
-    (is_nested (imported_all g s imports).0) (declarations_of ds) whole f)
-    (declared_block g ends (imported_all g s imports) first ds).1
+    ⊎ (blocks.BrokenIn (imported_all g s imports).0.types exports names taken awaited
+    (is_nested (imported_all g s imports).0) (declarations_of ds) whole f
+    ⊎ BrokenAgain (blocks.types_behind (imported_all g s imports).0.types whole) exports taken
+    (declarations_of ds) behind [] (declarations_of ds) f))
+    (declared_block g ends (imported_all g s imports) first ds).1)
     × ((declared_block g ends (imported_all g s imports) first ds).0
     ≡ (declared_block g ends ((imported_all g s imports).0, Ok tt) first ds).0)

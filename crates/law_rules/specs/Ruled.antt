@@ -24,6 +24,7 @@ pub use Rattle.def_typing.specs.Parts.{Among, here, later}
 use Rattle.def_typing.specs.Returns.{Nothing}
 use Rattle.def_typing.specs.Imports as imports
 use Rattle.def_typing.specs.Imports.{Entry, all_imported}
+use Rattle.def_typing.specs.Again.{BrokenAgain}
 use Rattle.def_typing.specs.Definitions as definitions
 use Rattle.def_typing.specs.Definitions.{Context, Placed, AllFollow}
 use Rattle.def_typing.specs.Bodies.{Place, Reads, BrokenBlock, LacksHeading}
@@ -46,7 +47,8 @@ AreImported home imported = (t : Table) → Among t imported → CanBeImported l
 -- ---- what is answered
 
 -- A module has its table, or its typed tree, exactly if no rule is broken in it. Else the least of
--- the broken ones is reported, by place and then by number.
+-- the broken ones is reported, by place and then by number. What is reported only if nothing else
+-- is comes last.
 pub data IsAnswered {A : Type 0} (Is : A → Type 0) (Breaks : Breach → Type 0)
     : Result A Breach → Type 0 where
   is_whole : (x : A) → Is x → ((f : Breach) → Breaks f → ⊥) → IsAnswered Is Breaks (Ok x)
@@ -104,7 +106,9 @@ module _ (m : Module) (tables : List Table) where
     pub answered : IsAnswered (IsTable home m tables exports whole last)
         (λ f.
         imports.BrokenIn tables (is_exported []) (all_imported m.imports) f
-        ⊎ definitions.BrokenIn exports whole f)
+        ⊎ (definitions.BrokenIn exports whole f
+        ⊎ BrokenAgain last.types exports begin.taken (all_declared defs) last.names []
+        (all_declared defs) f))
         answer
 
   -- The same of a body, by what its definition exports, by the modules that the definition imports,

@@ -14,6 +14,9 @@
 //!   `proofs/Seeing` which of them a procedure sees, and `proofs/Owning` which are names of variables of its own.
 //! - `proofs/BodiesFormals` has formals and results, `proofs/Refusing` refusals of headings, and `proofs/Entering` all that is known
 //!   where the block of a procedure begins.
+//! - `proofs/Turns` says that the names of a block stand in its scope in the order of the text, `proofs/Insides` what is known of
+//!   each scope in which a constant expression is read again, and `proofs/BlocksAgain` that this is so behind the declarations of a
+//!   block.
 //! - `proofs/Stating` has statements, and `proofs/Whole` the induction over blocks. `proofs/Moduling` puts a module together,
 //!   `proofs/BodiesOutside` says what every module knows, `proofs/Programs` and `proofs/BodiesImplementing` what is known where they begin.
 //! - The same induction says which typed tree a block has, by the rules of `def_typed`: `proofs/Meant` says what is known by
@@ -25,8 +28,8 @@ ghost use Rattle.law_typing.specs.Judging.{all_of_them, the_least};
 ghost use Rattle.law_rules.specs.Blocks.{BlocksAreWhole};
 ghost use Rattle.law_rules.specs.Bodies.{ProgramsAreExact, ImplementationsAreExact, LonelyAreRefused, ImplementationsAreKnown};
 
-/// What is reported of a block are exactly the rules that are broken in its declarations, in the blocks of its procedures, in
-/// any depth, and in its statements.
+/// What is reported of a block are exactly the rules that are broken in its declarations, also where their constant expressions
+/// are read again, in the blocks of its procedures, in any depth, and in its statements.
 pub fn inner_block_laws()
     ensures every_rule { BlocksAreWhole every all_of_them }
     ensures least_rule { BlocksAreWhole least the_least }

@@ -1,7 +1,7 @@
 //! The checker answers definition modules exactly as the rules of the language say.
 //!
 //! `importing` has imports, and `law_typing` the declarations of a block. Those of a definition are elaborated by the same
-//! definitions, but its names are marked before its imports, and its procedures make their types in another way. These laws hold
+//! definitions, but its procedures make their types in another way. These laws hold
 //! of the elaboration in `check_definition`, of all that it gathers and of the least refusal alike.
 //!
 //! - `specs/Defining` says what is answered of a definition, `specs/Exports` what its table exports, and `specs/Importers` what
@@ -10,6 +10,7 @@
 //! - `proofs/Sections` has a declaration as the first of a block, `proofs/Ordinary` the same in a definition, and
 //!   `proofs/Procedures` a procedure. `proofs/Stepping` says what is known behind one declaration, `proofs/Running` behind all
 //!   of them, and `proofs/Starting` before the first one.
+//! - `proofs/DefinitionsAgain` reads constant expressions again behind all declarations.
 //! - `proofs/Taking` says what a declaration enters into the scope if nothing is reported, `proofs/Listing` that it is exported
 //!   in the order of the text, `proofs/Marks` and `proofs/Keeping` that names keep this order, `proofs/Constants` that the
 //!   constants of enumerations are new, and `proofs/Entries` that no other name is exported.
@@ -22,11 +23,11 @@ ghost use Rattle.law_typing.specs.Judging.{all_of_them, the_least};
 ghost use Rattle.law_rules.specs.Defining.{DefinitionsAreExact, DefinitionsAreKnown};
 ghost use Rattle.law_rules.specs.Importers.{TablesAreForeign, OwnNamesAreKnown, NamesAgree};
 
-/// A definition has a table exactly if no rule is broken in its imports and in its declarations. Else what is reported are
-/// exactly the rules that are broken there; and the least refusal is a broken rule, and no broken rule is less, by place and
-/// then by number. Its table exports each name that is declared, in the order of the text,
-/// with what the rules say that it means and with its number, and no other name. It lists the modules that the definition
-/// imports, and the types that are met through it.
+/// A definition has a table exactly if no rule is broken in its imports and in its declarations, also where their constant
+/// expressions are read again. Else what is reported are exactly the rules that are broken there; and the least refusal is a
+/// broken rule, and no broken rule is less, by place and then by number. Its table exports each name that is declared, in the
+/// order of the text, with what the rules say that it means and with its number, and no other name. It lists the modules that
+/// the definition imports, and the types that are met through it.
 pub fn definition_laws()
     ensures { DefinitionsAreExact least the_least }
 {}

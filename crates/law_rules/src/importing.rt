@@ -6,7 +6,7 @@
 //!
 //! - `specs/Importing` says what a scope knows behind imports, and what is proved of it.
 //! - `proofs/Tables` finds modules and entries by their names, `proofs/ImportsImporting` goes from one import to the next,
-//!   `proofs/Behind` says what is known behind all of them, `proofs/ImportsDefining` what is known before those of a definition,
+//!   `proofs/Behind` says what is known behind all of them, `proofs/ImportsDefining` that a definition marks its names there,
 //!   `proofs/Implementing` what is known before those of an implementation, and `proofs/Following` what is reported of the block behind imports.
 
 ghost use Rattle.check_scope.specs.Elaborated.{every, least};
@@ -27,7 +27,7 @@ pub fn first_import_laws()
     ensures least_rule { FirstImportsAreExact least the_least }
 {}
 
-/// The same in a definition: of the names that it declares it is known before its imports that they come later.
+/// The same in a definition: behind its imports the names that it declares are marked, and nothing else is new there.
 pub fn definition_import_laws()
     ensures every_rule { DefinitionImportsAreExact every all_of_them }
     ensures least_rule { DefinitionImportsAreExact least the_least }
@@ -39,8 +39,8 @@ pub fn implementation_import_laws()
     ensures least_rule { ImplementationImportsAreExact least the_least }
 {}
 
-/// What is reported of imports and of the declarations behind them are exactly the rules that are broken in both, if the
-/// declarations are as `block_laws` has them.
+/// What is reported of imports and of the declarations behind them are exactly the rules that are broken in both, also where
+/// constant expressions of the declarations are read again, if the declarations are as `block_laws` has them.
 pub fn following_block_laws()
     ensures every_rule { FollowingBlocksAreExact every all_of_them }
     ensures least_rule { FollowingBlocksAreExact least the_least }

@@ -28,9 +28,9 @@ pub use importing::{
 };
 
 /// A definition has a table exactly if no rule is broken in it, and a program or an implementation has a typed module exactly if
-/// no rule is broken in it. Else the least of the broken rules is reported, by place and then by number. The typed module is the
-/// one that the rules of `def_typed` give, and there is no other. The tables that a body imports from are those of definitions.
-/// An implementation without a definition is refused.
+/// no rule is broken in it. Else the least of the broken rules is reported, by place and then by number. What is reported only if
+/// nothing else is comes last. The typed module is the one that the rules of `def_typed` give, and there is no other. The tables
+/// that a body imports from are those of definitions. An implementation without a definition is refused.
 pub fn rule_laws()
     ensures definitions { DefinitionsAreRuled }
     ensures programs { ProgramsAreRuled }

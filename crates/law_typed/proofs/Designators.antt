@@ -49,8 +49,7 @@ use Rattle.check_value.specs.Classes.{class_at}
 use Rattle.check_value.specs.Selection.{component, record_field, field_named, typed_field, indices, array_indexed, element_of_array, element_at_index}
 use Rattle.check_value.specs.Suits.{sort_suits, value_suited, value_in}
 use Rattle.check_value.specs.Values.{designated_by, local_by}
-use Rattle.check_expr.proofs.Leading.{leading_keeps}
-use Rattle.check_expr.specs.Meanings.{Meant, Picks, meanings_of, picks, head, value_of, first_name, leading_name, name_in_module, field_of, field_at, index_at}
+use Rattle.check_expr.specs.Meanings.{Meant, Picks, meanings_of, picks, head, value_of, first_name, name_in_module, field_of, field_at, index_at}
 use Rattle.def_typing.specs.Shapes.{IsMade, shape_at}
 use Rattle.def_typing.specs.Operators.{◌!◌, Kind, operand}
 use Rattle.def_typing.specs.Parts.{Among, here, later}
@@ -170,11 +169,6 @@ module _ (g : Gathers) (j : Judges g) (lawful : Lawful g j) (names : Ident → S
   first_so name = if_then (by_equal (looked_up g s name) (λ m e. e))
       (λ m e. if_plain (if_as (λ x q. q ∙ sym (level_so (senses.of_names name) (grasps.of_names name m e)))
       (named_so g s.level name.pos m)))
-
-  leading_so : (name : Ident) (ss : List Selector)
-      → IfMeant (λ x. named_of x ≡ Called name) (leading_name g s name (map (picks g) ss))
-  leading_so name ss = leading_keeps g s name (IfMeant (λ x. named_of x ≡ Called name)) (λ e. not_meant e)
-      (map (picks g) ss) (first_so name)
 
   exported_so : (k : ℕ) (name : Ident) → IfMeant (λ x. named_of x ≡ named senses.level (senses.of_exports k name))
       (name_in_module g s k name)
@@ -438,8 +432,8 @@ module _ (g : Gathers) (j : Judges g) (lawful : Lawful g j) (names : Ident → S
   names_so d h = subst (IfMeant (IsNamed (Names s.types names exports senses d)))
       (sym (ap (λ (m : Meant g.Reported). m.means s) (head_is g d)
       ∙ fold_picks (out-Designator d).selectors
-      (leading_name g s (out-Designator d).name (map (picks g) (out-Designator d).selectors))))
-      (by_first (leading_so (out-Designator d).name (out-Designator d).selectors))
+      (first_name g s (out-Designator d).name)))
+      (by_first (first_so (out-Designator d).name))
     where
       ended : (x y : Designated) → named_of x ≡ Called (out-Designator d).name
           → AllBehind x (out-Designator d).selectors y → IsNamed (Names s.types names exports senses d) y
@@ -533,9 +527,7 @@ module _ (g : Gathers) (j : Judges g) (lawful : Lawful g j) (names : Ident → S
   head_codeless d = subst (IfMeant IsCodeless)
       (sym (ap (λ (m : Meant g.Reported). m.means s) (head_is g d)
       ∙ fold_picks (out-Designator d).selectors
-      (leading_name g s (out-Designator d).name (map (picks g) (out-Designator d).selectors))))
+      (first_name g s (out-Designator d).name)))
       (codeless_all (out-Designator d).selectors
-      (leading_keeps g s (out-Designator d).name (IfMeant IsCodeless) (λ e. not_meant e)
-      (map (picks g) (out-Designator d).selectors)
       (if_then {P = λ m. Unit {0}} (by_equal (looked_up g s (out-Designator d).name) (λ m e. tt))
-      (λ m u. if_plain (codeless_meaning (out-Designator d).name.pos m)))))
+      (λ m u. if_plain (codeless_meaning (out-Designator d).name.pos m))))

@@ -28,7 +28,7 @@ use Rattle.def_typing.specs.Parts.{Among, here, later, Named}
 use Rattle.def_typing.specs.TypeExprs.{Twice, Member}
 use Rattle.def_typing.specs.Declarations.{Declaration, OfConstant, OfType, OfVariables, OfProcedure, names_of, constants_of, Declares, AnyDeclares, Heads, IsFirst, at_first, later_on, Declared, is_among, is_there, IsThere, IsHeaded, nearest, farther, types_behind, in_front_of, There}
 use Rattle.law_typing.specs.Judging.{Judges}
-use Rattle.law_typing.specs.Exact.{TakenAs, is_taken, awaits, not_taken, AreOnce}
+use Rattle.law_typing.specs.Exact.{TakenAs, is_taken, awaits, is_a_heading, not_taken, AreOnce}
 use Rattle.law_typing.proofs.Combining.{Lawful, Decided, holds, fails_it, decided_as, Tells, silent, tells, tells_as, beside_tells, accounts_one, accounts_as}
 use Rattle.law_typing.proofs.Entering.{named_left, named_right, named_split, among_decided, entered_all, once_more}
 pub use Rattle.law_typing.proofs.Declaring.{clash}
@@ -111,6 +111,7 @@ module _ (g : Gathers) (j : Judges g) (lawful : Lawful g j) (exports : ℕ → I
         → (taken n ≡ false → AnyDeclares block n → ⊥) → TakenAs g j t w o → k ≡ o → Th n × Settled k
     taken_by true q c (is_taken s) e = (includes n (inl q), subst Settled (sym e) (refl, refl))
     taken_by true q c (awaits p) e = (includes n (inl q), subst Settled (sym e) (refl, refl))
+    taken_by true q c is_a_heading e = (includes n (inl q), subst Settled (sym e) (refl, refl))
     taken_by false q c t e = absurd (c q a)
 
     outer_taken : {k : Option (Known g.Reported)} → (taken n ≡ false → AnyDeclares block n → ⊥)
@@ -153,6 +154,9 @@ module _ (g : Gathers) (j : Judges g) (lawful : Lawful g j) (exports : ℕ → I
     place_outer true q c w v f (awaits p) e =
         subst PlaceIs (sym (ap (λ (k : Option (Known g.Reported)). name_standing k) e))
         (place_awaited p q v (λ h. w p.heading v h) f)
+    place_outer true q c w v f is_a_heading e =
+        subst PlaceIs (sym (ap (λ (k : Option (Known g.Reported)). name_standing k) e))
+        (place_taken (includes n (inl q)) (λ t z h. let y = sym v ∙ z in absurd cc))
     place_outer false q c w v f t e = absurd (c q a)
 
     pub place_is : ((d : Declaration) → IsFirst n d block → taken n ≡ false → (IsThere front n → ⊥) → Th n → ⊥)
@@ -293,6 +297,8 @@ module _ (g : Gathers) (j : Judges g) (lawful : Lawful g j) (exports : ℕ → I
     free_outer true q c (awaits p) e = decided_true now_decided (inr (inl q))
         ∙ sym (ap (λ (k : Option (Known g.Reported)). not (is_free k)) e)
     free_outer true q c (is_taken s) e = decided_true now_decided (inr (inl q))
+        ∙ sym (ap (λ (k : Option (Known g.Reported)). not (is_free k)) e)
+    free_outer true q c is_a_heading e = decided_true now_decided (inr (inl q))
         ∙ sym (ap (λ (k : Option (Known g.Reported)). not (is_free k)) e)
     free_outer false q c not_taken e = decided_false now_decided (λ z. none z)
         ∙ sym (ap (λ (k : Option (Known g.Reported)). not (is_free k)) e)

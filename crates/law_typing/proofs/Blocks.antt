@@ -28,6 +28,8 @@ use Rattle.m2_tree.specs.declared.decl.Decl.{Decl, Decl-F, out-Decl}
 use Rattle.m2_tree.specs.declared.decl.Decl.TheOpen as decl
 use Rattle.m2_tree.specs.declared.decl.Block.{Block}
 use Rattle.check_block.specs.Declarations.{finished_local, with_locals, with_variables_of, decl_layer, with_decl, Declared, declared_block, is_awaited}
+use Rattle.check_block.specs.Naming.{marked_decl, all_marked}
+use Rattle.check_definition.specs.Again.{Passing}
 use Rattle.m2_rule.specs.declared.rule.Rule.TheVariants as rule
 use Rattle.m2_tree.specs.declared.decl.Section.{Section}
 use Rattle.m2_tree.specs.declared.decl.Heading.{Heading}
@@ -63,8 +65,10 @@ use Rattle.def_typing.specs.Things.{Standing, Undeclared, Unknown}
 use Rattle.def_typing.specs.Parts.{Among, here, later, Named}
 use Rattle.def_typing.specs.Declarations as rules
 use Rattle.def_typing.specs.Declarations.{Declaration, OfConstant, OfType, OfVariables, OfProcedure, declared_by, declarations_of, names_of, constants_of, names_in, formals_in, Declares, AnyDeclares, Declared as Resolved, in_order, IsThere, IsHeaded, types_behind, procedure, is_variables, in_front_of, without, Says, Brings, Misdeclares, Differs, IsAwaited, AllAdded, Lacks, BrokenIn}
+use Rattle.def_typing.specs.Again.{BrokenAgain}
 use Rattle.law_typing.specs.Judging.{Judges, Answers, means, refuses, Reports, reports_nothing, reports_broken}
-use Rattle.law_typing.specs.Exact.{standing, is_own_variable, TakenAs, is_taken, awaits, not_taken, Knows, Repeats, is_nested, IsAsBefore, as_before, has_heading, IsBlockExact, AreOnce}
+use Rattle.law_typing.specs.Again.{ReadsAgain}
+use Rattle.law_typing.specs.Exact.{standing, is_own_variable, TakenAs, is_taken, awaits, is_a_heading, not_taken, Knows, Repeats, is_nested, IsAsBefore, as_before, has_heading, IsBlockExact, AreOnce}
 use Rattle.law_typing.proofs.Combining.{Lawful, Decided, holds, fails_it, Tells, silent, tells, tells_as, beside_tells, accounts_as, accounts_one}
 use Rattle.law_typing.proofs.Heading.{nil_right, append_assoc, heading_answers}
 use Rattle.law_typing.proofs.Agreeing.{agreement_decided}
@@ -78,6 +82,7 @@ use Rattle.law_typing.proofs.Enumerating.{MadeType, scope_with, Enters, Frees, e
 use Rattle.law_typing.proofs.TypeReading.{no_types, no_made, Read as Read_type}
 use Rattle.law_typing.proofs.Recording.{type_read}
 use Rattle.law_typing.proofs.Marking.{block_begins}
+use Rattle.law_typing.proofs.Rereading.{decls_again, reread_here}
 
 module _ (g : Gathers) (j : Judges g) (lawful : Lawful g j) (exports : ℕ → Ident → Standing)
     (outside : Ident → Standing) (start : Scope g.Reported) (taken : List ℕ → Bool) (awaited : List ℕ → Option TypeNo)
@@ -1241,19 +1246,43 @@ module _ (g : Gathers) (j : Judges g) (lawful : Lawful g j) (exports : ℕ → I
   abbrev declared : Declared g.Reported
   declared = declared_block g ends (start, Ok tt) first ds
 
+  -- what is reported before expressions are read again
+  abbrev told_first : Result (Unit {0}) g.Reported
+  told_first = (fold (with_decl g ends) ((all_marked marked_decl start ds).0, Ok tt, first) ds).1
+
   all_of_it : Ran g j lawful exports outside start taken awaited (is_nested start) block takes knows no_withs [] block
-      [] (declared.0, declared.1)
+      [] (declared.0, told_first)
   all_of_it = all_ran g j lawful exports outside start taken awaited (is_nested start) block takes knows no_withs refl
       ends ds [] first (block_begins g j exports outside start taken awaited (is_nested start) block takes ds no_withs
       refl) (silent (λ f z. elim z [ ]))
 
-  reports : {whole : List Resolved} {r : Result (Unit {0}) g.Reported}
-      → Tells g j lawful (Repeats g j outside start)
-      (BrokenIn start.types exports outside taken awaited (is_nested start) block whole) r
-      → Reports g j (Repeats g j outside start)
-      (BrokenIn start.types exports outside taken awaited (is_nested start) block whole) r
+  reports : {B : Breach → Type 0} {r : Result (Unit {0}) g.Reported} → Tells g j lawful (Repeats g j outside start) B r
+      → Reports g j (Repeats g j outside start) B r
   reports (silent n) = reports_nothing n
   reports (tells r a) = reports_broken r a
+
+  -- ---- expressions that are read again
+
+  told_again : (names : Ident → Standing)
+      → All g j exports outside start taken awaited (is_nested start) block all_of_it.0 names
+      → ReadsAgain g j exports names declared.0 taken block (length start.own)
+      → Tells g j lawful (Repeats g j outside start) (λ f. BrokenIn start.types exports outside taken awaited
+      (is_nested start) block all_of_it.0 f
+      ⊎ BrokenAgain (types_behind start.types all_of_it.0) exports taken block names [] block f) declared.1
+  told_again names all again = subst
+      (λ (types : Types). Tells g j lawful (Repeats g j outside start) (λ f. BrokenIn start.types exports outside taken
+      awaited (is_nested start) block all_of_it.0 f ⊎ BrokenAgain types exports taken block names [] block f)
+      declared.1)
+      all_of_it.2.0.same.types
+      (subst
+      (λ (p : Passing g.Reported). Tells g j lawful (Repeats g j outside start) (λ f. BrokenIn start.types exports
+      outside taken awaited (is_nested start) block all_of_it.0 f
+      ⊎ BrokenAgain declared.0.types exports taken block names [] block f) p.0)
+      (sym (decls_again g declared.0 ds (told_first, length start.own)))
+      (reread_here g j lawful exports names declared.0 taken block (length start.own) again
+      (λ f r. repeating g j exports outside start taken awaited (is_nested start) block knows no_withs
+      all_of_it.2.0 all f r)
+      all_of_it.2.1))
 
   -- ---- numbers of procedures
 
@@ -1266,6 +1295,7 @@ module _ (g : Gathers) (j : Judges g) (lawful : Lawful g j) (exports : ℕ → I
       heading_same : {q p : Procedure} → place.Awaited q ≡ place.Awaited p
           → ◌≡◌ {A = Option TypeNo} (Some q.heading) (Some p.heading)
       heading_same {q = q} {p = p} z = let same : q ≡ p = cc in ap (λ (p : Procedure). Some p.heading) same
+  awaits_heading is_a_heading e = absurd cc
   awaits_heading not_taken e = absurd cc
 
   number_known : (n : List ℕ) (p : Procedure)
@@ -1293,12 +1323,14 @@ module _ (g : Gathers) (j : Judges g) (lawful : Lawful g j) (exports : ℕ → I
       → (t : TypeNo) × (u ≡ Some t)
   taken_awaits (is_taken s) w = let z : false ≡ true = sym (ap (λ (p : Place). is_awaited p) s) ∙ w in absurd cc
   taken_awaits (awaits p) w = (p.heading, refl)
+  taken_awaits is_a_heading w = absurd cc
   taken_awaits not_taken w = absurd cc
 
   awaits_taken : {b : Bool} {u : Option TypeNo} {t : TypeNo} {o : Option (Known g.Reported)} → TakenAs g j b u o
       → u ≡ Some t → Awaits o
   awaits_taken (is_taken s) e = absurd cc
   awaits_taken (awaits p) e = refl
+  awaits_taken is_a_heading e = absurd cc
   awaits_taken not_taken e = absurd cc
 
   module _ (fs : List Resolved) (Th : List ℕ → Type 0) (n : List ℕ) where
@@ -1374,7 +1406,8 @@ module _ (g : Gathers) (j : Judges g) (lawful : Lawful g j) (exports : ℕ → I
   block_answers = record {
     whole = all_of_it.0;
     in_text = all_of_it.1;
-    reported = reports all_of_it.2.1;
+    reported_first = reports all_of_it.2.1;
+    reported = λ names all again. reports (told_again names all again);
     types = all_of_it.2.0.same.types;
     numbers = λ n p e i. number_known n p e i (all_of_it.2.0.own n);
     lack = λ o at. lack_by at all_of_it.2.0 (lacks_decided (all_of_it.2.0.once o));

@@ -300,25 +300,6 @@ module _ (g : Gathers) (j : Judges g) (l : Lawful g j) (O : Breach → Type 0) w
       refuses r (accounts_as (λ f b. inl b) (λ f x. elim x [ inl b ↦ b | inr e ↦ absurd (n e.0 e.1) ]) a)
       (λ l x. n x.0 x.1)
 
-  -- what is found in front of a rule for which no heading counts
-  pub data Leads (S : Thing → Type 0) (Breaks : Breach → Type 0) : Result Designated (Meaningless g.Reported)
-      → Type 0 where
-    leads : {d : Result Designated (Meaningless g.Reported)} → Finds S Breaks d → Leads S Breaks d
-    leads_headless : (b : Bool) (r : g.Reported) → S (Headless b) → ((y : Thing) → S y → y ≡ Headless b)
-        → ((f : Breach) → Breaks f → ⊥) → Leads S Breaks (Err (meaningless.Headless b r))
-
-  pub leading_answers : {A K : Type 0} {Is : A → K → Type 0} {S : Thing → Type 0} {N : Thing → K → Type 0}
-      {B : Breach → Type 0} {D : Thing → Breach → Type 0} {d : Result Designated (Meaningless g.Reported)}
-      {h : Designated → Result A g.Reported} (at : Pos) (broken : Rule)
-      → Leads S B d → ((a : Designated) (x : Thing) → IsThing a x → Answers g j O Is (N x) (D x) (h a))
-      → ((b : Bool) → Answers g j O Is (N (Headless b)) (D (Headless b)) (report g at broken))
-      → Answers g j O Is (λ k. (x : Thing) × S x × N x k) (λ f. B f ⊎ ((x : Thing) × S x × D x f))
-      (of_sort g at broken d ▷ h)
-  leading_answers at broken (leads a) next without = sort_answers at broken a next without
-  leading_answers {N = N} {D = D} at broken (leads_headless b r s u n) next without =
-      exact (λ l y. (Headless b, s, y)) (λ l y. subst (λ x. N x l) (u y.0 y.1) y.2) (λ f y. inr (Headless b, s, y))
-      (λ f y. elim y [ inl c ↦ absurd (n f c) | inr e ↦ subst (λ x. D x f) (u e.0 e.1) e.2 ]) (without b)
-
   -- if the heading counts
   pub heading_answers : {A K : Type 0} {Is : A → K → Type 0} {S : Thing → Type 0} {N : Thing → K → Type 0}
       {B : Breach → Type 0} {D : Thing → Breach → Type 0} {d : Result Designated (Meaningless g.Reported)}

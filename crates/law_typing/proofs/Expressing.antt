@@ -1,5 +1,5 @@
 -- The elaboration of an expression answers exactly what the rules say.
-use Rattle.std.proofs.Common.{◌≡◌, ℕ, pos, false, List, [], ◌∷◌, Option, Some, None, Result, Ok, ◌⊎◌, inl, inr, refl, sym, ap, subst, ◌∙◌}
+use Rattle.std.proofs.Common.{◌≡◌, ℕ, pos, List, [], ◌∷◌, Option, Some, None, Result, Ok, ◌⊎◌, inl, inr, refl, sym, ap, subst, ◌∙◌}
 use Rattle.std.specs.Prelude.{map}
 use Rattle.std.specs.List.{fold}
 use Rattle.m2_rule.specs.declared.rule.Rule.TheVariants as rule
@@ -29,21 +29,20 @@ use Rattle.check_value.specs.declared.computed.Designated.{Designated}
 use Rattle.check_value.specs.declared.computed.Designated.TheVariants as designated
 use Rattle.check_value.specs.Operations.{operation_between}
 use Rattle.check_value.specs.Signs.{negation, with_sign}
-use Rattle.check_expr.proofs.Leading.{leading_mapped}
-use Rattle.check_expr.specs.Meanings.{Meant, Picks, meanings_of, picks, leading_name, head, value_of, of_computed, factor, term as addend, index_at, call_in_expression, expr_layer}
+use Rattle.check_expr.specs.Meanings.{Meant, Picks, meanings_of, picks, head, value_of, of_computed, factor, term as addend, index_at, call_in_expression, expr_layer}
 use Rattle.def_typing.specs.Amounts.{Constant}
 use Rattle.def_typing.specs.Operators.{◌!◌, Kind, Scalar, Text, operand, Makes, Misused, Misapplied, MaySign, SignMakes, Negates}
-use Rattle.def_typing.specs.Things.{Thing, AValue, Headless, Standing, Known, Ahead, Undeclared, NotExported, Unknown, Misnamed, Picks as PicksName, Indexes}
+use Rattle.def_typing.specs.Things.{Thing, AValue, Standing, Known, Misnamed, Picks as PicksName, Indexes}
 use Rattle.def_typing.specs.Expressions as rules
 use Rattle.def_typing.specs.Parts as parts
 use Rattle.def_typing.specs.Parts.{first, Operand, factors, addends, Among, here, later}
-use Rattle.def_typing.specs.Expressions.{leading, IsOperand, IsPart, an_operand, an_argument, Reads, Denotes, Selected, Selects, Chain, done, then, Calls, Misselected, SelectionFails, Miscalled, ChainFails, at_once, further, Fails}
+use Rattle.def_typing.specs.Expressions.{IsOperand, IsPart, an_operand, an_argument, Reads, Denotes, Selected, Selects, Chain, done, then, Calls, Misselected, SelectionFails, Miscalled, ChainFails, at_once, further, Fails}
 use Rattle.law_typing.specs.Judging.{Judges, Answers, means}
 use Rattle.law_typing.specs.Exact.{IsConst, is_const, IsKind, kind_constant, thing_value, Knows, IsExact}
-use Rattle.law_typing.proofs.Combining.{Lawful, exact, both_answer, then_answer, Finds, finds, finds_as, plain_finds, Leads}
+use Rattle.law_typing.proofs.Combining.{Lawful, exact, both_answer, then_answer, Finds, finds, finds_as, plain_finds}
 use Rattle.law_typing.proofs.Joining.{operated_answers}
 use Rattle.law_typing.proofs.Singles.{signed_answers, negated_answers}
-use Rattle.law_typing.proofs.Selecting.{known_one, Begins, begins, name_begins, FieldFails, field_finds, NoElements, ElementOf, IndexFails, index_finds}
+use Rattle.law_typing.proofs.Selecting.{named_finds, FieldFails, field_finds, NoElements, ElementOf, IndexFails, index_finds}
 use Rattle.law_typing.proofs.Places.{opened, picks_is, head_is, head_at, at_is}
 use Rattle.law_typing.proofs.Trees.{tree, selector_trees, IsTree, tree_number, tree_character, tree_string, tree_set, tree_name, tree_call, tree_not, tree_brackets, tree_term, tree_sum, tree_relation, AreTrees, no_expression, one_expression, AreOperandTrees, no_operand, one_operand, AreSelectorTrees, no_selector, a_field, an_index, AreItemTrees, no_item, one_item, one_range}
 use Rattle.law_typing.proofs.Finding.{Elsewhere, StandsFor, HasKind, IsBroken, IsBrokenValue, IsFound, IsValued, InLayer, by_layer, value_layer, valued, operand_broken, AnyBroken}
@@ -509,7 +508,7 @@ module _ (g : Gathers) (j : Judges g) (lawful : Lawful g j) (names : Ident → S
       (λ (l : Selector-F Expr Selector Designator Item). Misselected s.types names exports x l f) h q
 
   field_one : {P : Thing → Type 0} {Q : Breach → Type 0} {d : Result Designated (Meaningless g.Reported)} (y : Selector)
-      (at : Pos) (name : Ident) → out-Selector y ≡ layer.Field at name → Leads g j lawful E P Q d
+      (at : Pos) (name : Ident) → out-Selector y ≡ layer.Field at name → Finds g j lawful E P Q d
       → Finds g j lawful E (SelectedOf P y) (OneFails P Q y) ((picks g y).picks s d)
   field_one {P = P} {Q = Q} {d = d} y at name h a =
       subst (Finds g j lawful E (SelectedOf P y) (OneFails P Q y))
@@ -556,7 +555,7 @@ module _ (g : Gathers) (j : Judges g) (lawful : Lawful g j) (names : Ident → S
   IndexOf P e p = ((w : Thing) × P w × Indexes s.types w p.0.0 p.0.1) × H e p.1
 
   index_one : {P : Thing → Type 0} {Q : Breach → Type 0} {d : Result Designated (Meaningless g.Reported)} (y : Selector)
-      (at : Pos) (e : Expr) → out-Selector y ≡ layer.Index at e → Found e → Leads g j lawful E P Q d
+      (at : Pos) (e : Expr) → out-Selector y ≡ layer.Index at e → Found e → Finds g j lawful E P Q d
       → Finds g j lawful E (SelectedOf P y) (OneFails P Q y) ((picks g y).picks s d)
   index_one {P = P} {Q = Q} {d = d} y at e h q a =
       subst (Finds g j lawful E (SelectedOf P y) (OneFails P Q y))
@@ -659,71 +658,31 @@ module _ (g : Gathers) (j : Judges g) (lawful : Lawful g j) (names : Ident → S
       out f (inr (inr (x, m, z))) = elim z [ ]
 
   selectors_found : {ss : List Selector} {P : Thing → Type 0} {Q : Breach → Type 0}
-      (d : Result Designated (Meaningless g.Reported)) → AreSelectorTrees ss → ((e : Expr) → IndexIn ss e → Found e)
-      → Begins g j lawful names exports s knows P Q ss d
-      → SelectsAll P Q ss (fold (λ x p. p.picks s x) d (map (picks g) ss))
-  selectors_found d no_selector h a = selected_none a
-  selectors_found {P = P} {Q = Q} d (a_field {s = y} {ss = ss} {at = at} {name = name} q r) h a =
-      selected_more y ss (selectors_found {ss = ss} {P = SelectedOf P y} {Q = OneFails P Q y} ((picks g y).picks s d) r
-      (λ e x. h e (x.0, x.1, later x.2, x.3))
-      (begins g j lawful names exports s knows ss (field_one y at name q a)))
-  selectors_found {P = P} {Q = Q} d (an_index {s = y} {ss = ss} {at = at} {x = e} q i r) h a =
-      selected_more y ss (selectors_found {ss = ss} {P = SelectedOf P y} {Q = OneFails P Q y} ((picks g y).picks s d) r
-      (λ e x. h e (x.0, x.1, later x.2, x.3))
-      (begins g j lawful names exports s knows ss (index_one y at e q (h e (y, at, here, q)) a)))
+      {d : Result Designated (Meaningless g.Reported)} → AreSelectorTrees ss → ((e : Expr) → IndexIn ss e → Found e)
+      → Finds g j lawful E P Q d → SelectsAll P Q ss (fold (λ x p. p.picks s x) d (map (picks g) ss))
+  selectors_found no_selector h a = selected_none a
+  selectors_found {P = P} {Q = Q} (a_field {s = y} {ss = ss} {at = at} {name = name} q r) h a =
+      selected_more y ss (selectors_found {ss = ss} {P = SelectedOf P y} {Q = OneFails P Q y} r
+      (λ e x. h e (x.0, x.1, later x.2, x.3)) (field_one y at name q a))
+  selectors_found {P = P} {Q = Q} (an_index {s = y} {ss = ss} {at = at} {x = e} q i r) h a =
+      selected_more y ss (selectors_found {ss = ss} {P = SelectedOf P y} {Q = OneFails P Q y} r
+      (λ e x. h e (x.0, x.1, later x.2, x.3)) (index_one y at e q (h e (y, at, here, q)) a))
 
   abbrev DesignatorFails : Designator → Breach → Type 0
-  DesignatorFails d f = InSelectors (λ x. leading (out-Designator d).selectors (names (out-Designator d).name)
-      ≡ Known x) (Misnamed (out-Designator d).name.pos
-      (leading (out-Designator d).selectors (names (out-Designator d).name))) (out-Designator d).selectors f
-
-  leading_known : (ss : List Selector) (x : Thing) → leading ss (Known x) ≡ Known x
-  leading_known [] x = refl
-  leading_known (y ∷ ys) x = refl
-
-  -- A procedure without a heading has no components.
-  none_behind : {y : Selector} {ys : List Selector} {x z : Thing} → x ≡ Headless false → Selecting x (y ∷ ys) z → ⊥
-  none_behind {y = y} {ys = ys} {z = z} e m =
-      elim (subst (λ (x : Thing). Selecting x (y ∷ ys) z) e m) [ rules.component q r ↦ nothing q ]
-    where
-      nothing : {l : Selector-F Expr Selector Designator Item} {w : Thing}
-          → Selects s.types names exports (Headless false) l w → ⊥
-      nothing (rules.field p) = elim p [ ]
-      nothing (rules.element i k a) = elim i [ ]
-
-  -- What components are picked of is known without them.
-  known_alone : (ss : List Selector) (st : Standing) {x z : Thing} → leading ss st ≡ Known x → Selecting x ss z
-      → st ≡ Known x
-  known_alone [] st e m = e
-  known_alone (y ∷ ys) Ahead e m = absurd (none_behind (sym (known_one e)) m)
-  known_alone (y ∷ ys) (Known w) e m = e
-  known_alone (y ∷ ys) Undeclared e m = absurd cc
-  known_alone (y ∷ ys) NotExported e m = absurd cc
-  known_alone (y ∷ ys) Unknown e m = absurd cc
+  DesignatorFails d f = InSelectors (λ x. names (out-Designator d).name ≡ Known x)
+      (Misnamed (out-Designator d).name.pos (names (out-Designator d).name)) (out-Designator d).selectors f
 
   denoted_finds : (d : Designator) → AreSelectorTrees (out-Designator d).selectors
       → ((e : Expr) → IndexIn (out-Designator d).selectors e → Found e)
       → Finds g j lawful E (Denotes s.types names exports d) (DesignatorFails d) ((head g d).means s)
   denoted_finds d i h = subst (Finds g j lawful E (Denotes s.types names exports d) (DesignatorFails d))
-      (sym (ap (λ (m : Meant g.Reported). m.means s) (head_is g d)
-      ∙ ap (λ (x : Result Designated (Meaningless g.Reported)). fold (λ x p. p.picks s x) x
-      (map (picks g) (out-Designator d).selectors))
-      (leading_mapped g s (out-Designator d).name (picks g) (out-Designator d).selectors)))
-      (finds_as g j lawful E (λ x m. rules.named
-      (known_alone (out-Designator d).selectors (names (out-Designator d).name) m.1 m.2) m.2) (λ x m. parted m)
-      (λ f b. b) (λ f b. b)
-      (selectors_found (leading_name g s (out-Designator d).name (out-Designator d).selectors) i h
-      (name_begins g j lawful names exports s knows (out-Designator d).name (out-Designator d).selectors)))
+      (sym (ap (λ (m : Meant g.Reported). m.means s) (head_is g d)))
+      (finds_as g j lawful E (λ x m. rules.named m.1 m.2) (λ x m. parted m) (λ f b. b) (λ f b. b)
+      (selectors_found i h (named_finds g j lawful names exports s knows (out-Designator d).name)))
     where
-      parted : {y : Thing} → Denotes s.types names exports d y → (x : Thing)
-          × (leading (out-Designator d).selectors (names (out-Designator d).name) ≡ Known x)
+      parted : {y : Thing} → Denotes s.types names exports d y → (x : Thing) × (names (out-Designator d).name ≡ Known x)
           × Selecting x (out-Designator d).selectors y
-      parted (rules.named {x = x} m r) = (
-        x,
-        ap (leading (out-Designator d).selectors) m
-            ∙ leading_known (out-Designator d).selectors x,
-        r,
-      )
+      parted (rules.named {x = x} m r) = (x, m, r)
 
   designator_in : {d : Designator} {args : Option (List Expr)} (f : Breach) → DesignatorFails d f
       → In (layer.Use d args) f

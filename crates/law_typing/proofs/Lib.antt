@@ -48,4 +48,5 @@ pub mod Beginning
 pub mod Sayings
 pub mod Recording
 pub mod Marking
+pub mod Rereading
 pub mod Blocks

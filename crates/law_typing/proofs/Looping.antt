@@ -285,10 +285,10 @@ module _ (g : Gathers) (j : Judges g) (lawful : Lawful g j) (names : Ident → S
   local_control name t d local.Alias same e o = variable_control name t d false e o
   local_control name t d local.Open same e o = wrong_control name e (not_own o)
 
-  ahead_only : {name : Ident} {f : Breach} → names name ≡ Ahead → BC name f → f ≡ name.pos ! rule.Undeclared
+  ahead_only : {name : Ident} {f : Breach} → names name ≡ Ahead → BC name f → f ≡ name.pos ! rule.Ahead
   ahead_only {name = name} {f = f} e (no_name m) = one (subst (λ (st : Standing). Misnamed name.pos st f) e m)
     where
-      one : {f : Breach} → Misnamed name.pos Ahead f → f ≡ name.pos ! rule.Undeclared
+      one : {f : Breach} → Misnamed name.pos Ahead f → f ≡ name.pos ! rule.Ahead
       one not_yet = refl
   ahead_only e (no_control q n) = let z = sym e ∙ q in absurd cc
 
@@ -302,8 +302,8 @@ module _ (g : Gathers) (j : Judges g) (lawful : Lawful g j) (names : Ident → S
   meaning_control name (meaning.Procedure p) e o = wrong_control name e (no_variable e (λ t q. absurd cc))
   meaning_control name (meaning.LocalProcedure p) e o = wrong_control name e (no_variable e (λ t q. absurd cc))
   meaning_control name meaning.Ahead e o =
-      declined g j lawful E name.pos rule.Undeclared (λ p m. none m)
-      (no_name (subst (λ (st : Standing). Misnamed name.pos st (name.pos ! rule.Undeclared)) (sym e) not_yet))
+      declined g j lawful E name.pos rule.Ahead (λ p m. none m)
+      (no_name (subst (λ (st : Standing). Misnamed name.pos st (name.pos ! rule.Ahead)) (sym e) not_yet))
       (λ f z. ahead_only e z)
     where
       none : {t : TypeNo} {r : Range} → C name t r → ⊥

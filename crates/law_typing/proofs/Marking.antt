@@ -29,7 +29,7 @@ use Rattle.def_typing.specs.Parts.{Among, here, later, Named}
 use Rattle.def_typing.specs.TypeExprs.{constants_listed, all_listed, constants_in, constants_in_field}
 use Rattle.def_typing.specs.Declarations.{Declaration, OfConstant, OfType, OfVariables, OfProcedure, names_of, constants_of, declared_by, declarations_of, Declares, AnyDeclares, IsFirst, at_first, later_on, There}
 use Rattle.law_typing.specs.Judging.{Judges}
-use Rattle.law_typing.specs.Exact.{TakenAs, is_taken, awaits, not_taken, AreOnce}
+use Rattle.law_typing.specs.Exact.{TakenAs, is_taken, awaits, is_a_heading, not_taken, AreOnce}
 use Rattle.law_typing.proofs.Trees.{type_tree, IsTypeTree, tree_simple, tree_array, tree_record, tree_procedure, AreFieldTrees, no_field_tree, one_field_tree}
 use Rattle.law_typing.proofs.Combining.{Decided, holds, fails_it}
 use Rattle.law_typing.proofs.Entering.{Compared, are_one, are_two, compared, among_decided, entered_all, once_more}
@@ -202,6 +202,8 @@ module _ (g : Gathers) (j : Judges g) (exports : ℕ → Ident → Standing) (ou
     taken_marks {s = s} m true q u (is_taken p) e =
         subst (λ (k : Option K). Marking Next (unless_marked x.name l s k)) (sym e) (unchanged m (λ w c. clash u w))
     taken_marks {s = s} m true q u (awaits p) e =
+        subst (λ (k : Option K). Marking Next (unless_marked x.name l s k)) (sym e) (unchanged m (λ w c. clash u w))
+    taken_marks {s = s} m true q u is_a_heading e =
         subst (λ (k : Option K). Marking Next (unless_marked x.name l s k)) (sym e) (unchanged m (λ w c. clash u w))
     taken_marks m false q u t e = absurd (clash u q)
 

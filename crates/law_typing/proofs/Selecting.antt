@@ -1,10 +1,9 @@
 -- Names and components answer exactly.
-use Rattle.std.proofs.Common.{◌≡◌, ℕ, false, List, [], ◌∷◌, Option, Some, None, Result, Ok, ◌⊎◌, inl, inr, refl, sym, ap, subst, ◌∙◌}
+use Rattle.std.proofs.Common.{◌≡◌, ℕ, List, Option, Some, None, Result, Ok, ◌⊎◌, inl, inr, refl, sym, ap, subst, ◌∙◌}
 use Rattle.std.specs.Prelude.{slice_get}
 use Rattle.m2_rule.specs.declared.rule.Rule.TheVariants as rule
 use Rattle.m2_tree.specs.declared.pos.Pos.{Pos}
 use Rattle.m2_tree.specs.declared.name.Ident.{Ident}
-use Rattle.m2_tree.specs.declared.expr.Selector.{Selector}
 use Rattle.typed_tree.specs.declared.types.TypeNo.{TypeNo}
 use Rattle.typed_tree.specs.declared.computed.Component.TheVariants as part
 use Rattle.typed_tree.specs.declared.computed.Place.{Place}
@@ -33,15 +32,14 @@ use Rattle.check_value.specs.declared.select.Subscripted.{Subscripted}
 use Rattle.check_value.specs.declared.select.Subscripted.TheVariants as indexes
 use Rattle.check_value.specs.Selection.{numbered_field, field_named, record_field, component, array_indexed, indices, index_type, element_of_array, with_index}
 use Rattle.check_value.specs.Values.{designated_by, local_by}
-use Rattle.check_expr.specs.Meanings.{first_name, leading_meaning, leading_name, field_of, field_at, index_at}
+use Rattle.check_expr.specs.Meanings.{first_name, field_of, field_at, index_at}
 use Rattle.def_typing.specs.Shapes.{shape_at, IsMade}
 use Rattle.def_typing.specs.Operators.{◌!◌, Kind, operand}
 use Rattle.def_typing.specs.Things.{Thing, AValue, AVariable, AnOpenArray, AType, AProcedure, ANested, AStandard, AModule, Headless, Standing, Known, Ahead, Undeclared, NotExported, Unknown, Misnamed, undeclared, not_yet, not_exported, IsAssignable, Misassigned, Picks, of_module, of_record, Indexes, of_array, of_open}
 use Rattle.def_typing.specs.Things as things
-use Rattle.def_typing.specs.Expressions.{leading}
 use Rattle.law_typing.specs.Judging.{Judges, Answers, means}
 use Rattle.law_typing.specs.Exact.{IsKind, kind_constant, IsThing, thing_value, thing_variable, thing_open, thing_type, thing_procedure, thing_nested, thing_standard, thing_module, of_local, standing, Sees, sees, sees_nothing, sees_headless, sees_unknown, Exports, has_exported, has_nothing, Knows, Repeats, of_heading, of_declaration}
-use Rattle.law_typing.proofs.Combining.{Lawful, declined, exact, both_answer, then_answer, then_checked, Finds, finds_headless, finds_nothing, plain_finds, Leads, leads, leads_headless, leading_answers, accounts_one, accounts_as}
+use Rattle.law_typing.proofs.Combining.{Lawful, declined, exact, both_answer, then_answer, then_checked, Finds, finds_headless, finds_nothing, plain_finds, sort_answers, accounts_one, accounts_as}
 use Rattle.law_typing.proofs.Naming.{FieldIs, field_there, field_nowhere, field_is}
 use Rattle.law_typing.proofs.Placing.{value_suits}
 use Rattle.law_typing.proofs.Shaping.{array_of, array_is, fields_of, fields_is, one_made}
@@ -71,7 +69,7 @@ module _ (g : Gathers) (j : Judges g) (lawful : Lawful g j) (O : Breach → Type
   only_undeclared : (f : Breach) → Misnamed at Undeclared f → f ≡ at ! rule.Undeclared
   only_undeclared _ undeclared = refl
 
-  only_ahead : (f : Breach) → Misnamed at Ahead f → f ≡ at ! rule.Undeclared
+  only_ahead : (f : Breach) → Misnamed at Ahead f → f ≡ at ! rule.Ahead
   only_ahead _ not_yet = refl
 
   only_not_exported : (f : Breach) → Misnamed at NotExported f → f ≡ at ! rule.NotExported
@@ -85,7 +83,7 @@ module _ (g : Gathers) (j : Judges g) (lawful : Lawful g j) (O : Breach → Type
   designated_answers (meaning.Field f) = names_it (thing_variable f.of _)
   designated_answers (meaning.Procedure p) = names_it (thing_procedure p)
   designated_answers (meaning.LocalProcedure p) = names_it (thing_nested _)
-  designated_answers meaning.Ahead = declined g j lawful O at rule.Undeclared (λ x e. absurd cc) not_yet only_ahead
+  designated_answers meaning.Ahead = declined g j lawful O at rule.Ahead (λ x e. absurd cc) not_yet only_ahead
   designated_answers (meaning.Standard f) = names_it (thing_standard f)
   designated_answers (meaning.Module k) = names_it (thing_module k)
 
@@ -118,64 +116,6 @@ module _ (g : Gathers) (j : Judges g) (lawful : Lawful g j) (names : Ident → S
 
   pub named_finds : (name : Ident) → FindsIt (names name) name.pos (first_name g s name)
   named_finds name = seen_finds name (names name) (looked_up g s name) refl refl (knows.of_names name)
-
-  -- A name in front of these components.
-  abbrev pub Begins : (Thing → Type 0) → (Breach → Type 0) → List Selector → Result Designated (Meaningless g.Reported)
-      → Type 0
-  Begins S B [] d = Finds g j lawful R S B d
-  Begins S B (y ∷ ys) d = Leads g j lawful R S B d
-
-  pub begins : {S : Thing → Type 0} {B : Breach → Type 0} {d : Result Designated (Meaningless g.Reported)}
-      (ys : List Selector) → Finds g j lawful R S B d → Begins S B ys d
-  begins [] a = a
-  begins (y ∷ ys) a = leads a
-
-  module _ (name : Ident) (y : Selector) (ys : List Selector) where
-    abbrev LeadsIt : Standing → Result Designated (Meaningless g.Reported) → Type 0
-    LeadsIt st d = Leads g j lawful R (λ x. leading (y ∷ ys) st ≡ Known x) (Misnamed name.pos (leading (y ∷ ys) st)) d
-
-    local_leads : (v : LocalVariable) (k : LocalKind) → LeadsIt (of_local v.of k) (Ok (local_by s.level v k))
-    local_leads v local.Variable = leads (plain_finds g j lawful R
-        (local_answers g j lawful R s.level name.pos v local.Variable))
-    local_leads v local.Value = leads (plain_finds g j lawful R
-        (local_answers g j lawful R s.level name.pos v local.Value))
-    local_leads v local.Alias = leads (plain_finds g j lawful R
-        (local_answers g j lawful R s.level name.pos v local.Alias))
-    local_leads v local.Open = leads (plain_finds g j lawful R
-        (local_answers g j lawful R s.level name.pos v local.Open))
-
-    meaning_leads : (m : Meaning) → LeadsIt (standing m) (leading_meaning g s.level name.pos m)
-    meaning_leads (meaning.Constant v) = leads
-        (plain_finds g j lawful R (designated_answers g j lawful R s.level name.pos (meaning.Constant v)))
-    meaning_leads (meaning.Type t n) = leads
-        (plain_finds g j lawful R (designated_answers g j lawful R s.level name.pos (meaning.Type t n)))
-    meaning_leads (meaning.Variable v) = leads
-        (plain_finds g j lawful R (designated_answers g j lawful R s.level name.pos (meaning.Variable v)))
-    meaning_leads (meaning.Local v) = local_leads v v.kind
-    meaning_leads (meaning.Field f) = leads
-        (plain_finds g j lawful R (designated_answers g j lawful R s.level name.pos (meaning.Field f)))
-    meaning_leads (meaning.Procedure p) = leads
-        (plain_finds g j lawful R (designated_answers g j lawful R s.level name.pos (meaning.Procedure p)))
-    meaning_leads (meaning.LocalProcedure p) =
-        leads (plain_finds g j lawful R (designated_answers g j lawful R s.level name.pos (meaning.LocalProcedure p)))
-    meaning_leads meaning.Ahead = leads_headless false _ refl (λ x e. sym (known_one e)) (λ f m. elim m [ ])
-    meaning_leads (meaning.Standard f) = leads
-        (plain_finds g j lawful R (designated_answers g j lawful R s.level name.pos (meaning.Standard f)))
-    meaning_leads (meaning.Module k) = leads
-        (plain_finds g j lawful R (designated_answers g j lawful R s.level name.pos (meaning.Module k)))
-
-    seen_leads : (st : Standing) (r : Result Meaning (Meaningless g.Reported)) → names name ≡ st
-        → looked_up g s name ≡ r → Sees g j name.pos st r → LeadsIt st (r ▷ leading_meaning g s.level name.pos)
-    seen_leads _ _ e q (sees m) = meaning_leads m
-    seen_leads _ _ e q sees_nothing = leads (seen_finds name _ _ e q sees_nothing)
-    seen_leads _ _ e q (sees_headless b r) = leads (seen_finds name _ _ e q (sees_headless b r))
-    seen_leads _ _ e q (sees_unknown r) = leads (seen_finds name _ _ e q (sees_unknown r))
-
-  pub name_begins : (name : Ident) (ys : List Selector)
-      → Begins (λ x. leading ys (names name) ≡ Known x) (Misnamed name.pos (leading ys (names name))) ys
-      (leading_name g s name ys)
-  name_begins name [] = named_finds name
-  name_begins name (y ∷ ys) = seen_leads name y ys (names name) (looked_up g s name) refl refl (knows.of_names name)
 
   -- ---- fields
 
@@ -270,11 +210,11 @@ module _ (g : Gathers) (j : Judges g) (lawful : Lawful g j) (names : Ident → S
         (knows.of_modules k name))
 
     pub field_finds : {S : Thing → Type 0} {B : Breach → Type 0} {d : Result Designated (Meaningless g.Reported)}
-        → Leads g j lawful R S B d
+        → Finds g j lawful R S B d
         → Finds g j lawful R (λ y. (x : Thing) × S x × Picks s.types exports name x (Known y))
         (λ f. B f ⊎ ((x : Thing) × S x × FieldFails x f)) (field_at g s at name d)
     field_finds h = plain_finds g j lawful R
-        (leading_answers g j lawful R at rule.WrongType h field_answers (λ b. no_field (λ st p. elim p [ ])))
+        (sort_answers g j lawful R at rule.WrongType h field_answers (λ b. no_field (λ st p. elim p [ ])))
 
   -- ---- elements
 
@@ -368,7 +308,7 @@ module _ (g : Gathers) (j : Judges g) (lawful : Lawful g j) (names : Ident → S
 
     pub index_finds : {S : Thing → Type 0} {B : Breach → Type 0} {M : Kind → Type 0} {C : Breach → Type 0}
         {d : Result Designated (Meaningless g.Reported)} {x : Result Computed g.Reported} (spot : Pos)
-        → Leads g j lawful R S B d → Answers g j R IsKind M C x
+        → Finds g j lawful R S B d → Answers g j R IsKind M C x
         → Finds g j lawful R (λ y. (p : (TypeNo × TypeNo) × Kind)
         × (((z : Thing) × S z × Indexes s.types z p.0.0 p.0.1) × M p.1) × ElementOf p y)
         (λ f. ((B f ⊎ ((z : Thing) × S z × NoElements z f)) ⊎ C f)
@@ -376,6 +316,6 @@ module _ (g : Gathers) (j : Judges g) (lawful : Lawful g j) (names : Ident → S
         × IndexFails spot p f)) (index_at g s.types at d spot x)
     index_finds spot h a = plain_finds g j lawful R
         (then_answer g j lawful R {N = λ p y. ElementOf p y} {D = λ p f. IndexFails spot p f}
-        (both_answer g j lawful R (leading_answers g j lawful R {N = λ z p. Indexes s.types z p.0 p.1} {D = NoElements}
+        (both_answer g j lawful R (sort_answers g j lawful R {N = λ z p. Indexes s.types z p.0 p.1} {D = NoElements}
         at rule.WrongType h indices_answers (λ b. no_elements (λ i t q. elim q [ ]))) a)
         (λ p k i. index_answers spot p.0 k.0 p.1 k.1 i.0 i.1))

@@ -1,5 +1,6 @@
 -- What is elaborated, and what it stands for.
-use Rattle.std.specs.Prelude.{◌≡◌, ◌⊎◌, ◌&&◌, ◌==◌, Bool, true, false, not, ℕ, ℤ, List, [], Option, Some, None, Result, Ok, Err, map}
+use Rattle.std.specs.Prelude.{◌≡◌, ◌⊎◌, ◌&&◌, ◌==◌, Bool, true, false, not, ℕ, List, [], length, Option, Some, None, Result, Ok, Err, map}
+use Rattle.std.specs.List.{fold}
 use Rattle.std.specs.Option.{option_map}
 use Rattle.m2_rule.specs.declared.rule.Rule.TheVariants as rule
 use Rattle.m2_tree.specs.declared.pos.Pos.{Pos}
@@ -19,7 +20,7 @@ use Rattle.typed_tree.specs.declared.meaning.Meaning.TheVariants as meaning
 use Rattle.typed_tree.specs.declared.meaning.Procedure.{Procedure as ModuleProcedure}
 use Rattle.typed_tree.specs.declared.meaning.Standard.{Standard}
 use Rattle.m2_rule.specs.declared.breach.Breach.{Breach}
-use Rattle.check_scope.specs.declared.meaningless.Meaningless.TheVariants as meaningless
+use Rattle.check_scope.specs.declared.meaningless.Meaningless.{Meaningless}
 use Rattle.check_scope.specs.declared.known.Known.{Known as KnownName}
 use Rattle.check_scope.specs.declared.known.Known.TheVariants.{Declared, Headed}
 use Rattle.check_scope.specs.declared.known.Origin.{Origin}
@@ -61,19 +62,22 @@ use Rattle.typed_tree.specs.declared.shape.Signature.{Signature}
 use Rattle.check_type_expr.specs.Headings.{heading_of}
 use Rattle.def_typing.specs.Headings.{procedure_made, IsHeading, BrokenHeading}
 use Rattle.typed_tree.specs.Names.{find_name}
-use Rattle.check_block.specs.Declarations.{declared_block, reported_of_lack}
+use Rattle.check_block.specs.Naming.{marked_decl, all_marked}
+use Rattle.check_block.specs.Declarations.{with_decl, declared_block, reported_of_lack}
 use Rattle.check_block.specs.Headings.{standing_from}
 use Rattle.check_block.specs.declared.heading.Standing.TheVariants as heading
 use Rattle.def_typing.specs.Declarations.{AnyDeclares, Declared as Resolved, declarations_of, in_order, IsHeaded, types_behind, AllStand, IsOwn, AllAdded, Lacks, BrokenIn}
+use Rattle.def_typing.specs.Again.{BrokenAgain}
 use Rattle.check_stmt.specs.Statements.{stmt}
 use Rattle.def_typing.specs.Statements.{Spot, Obeys, Broken}
 use Rattle.check_expr.specs.Meanings.{meanings_of, head, part, value_of}
 use Rattle.def_typing.specs.Amounts.{Value}
 use Rattle.def_typing.specs.Operators.{Kind, Scalar, Set, Routine, Procedure, Whole, Untaken}
-use Rattle.def_typing.specs.Things.{Thing, AValue, AVariable, AnOpenArray, AType, AProcedure, ANested, AStandard, AModule, Headless, Standing, Known, Unknown}
+use Rattle.def_typing.specs.Things.{Thing, AValue, AVariable, AnOpenArray, AType, AProcedure, ANested, AStandard, AModule, Standing}
 use Rattle.def_typing.specs.Expressions.{Has, BrokenAsValue, BrokenAsConstant}
-pub use Rattle.law_typing.specs.Known.{kind_of, of_local, standing, Sees, sees, sees_nothing, sees_headless, sees_unknown, Exports, has_exported, has_nothing, Knows, AreOnce, no_names, one_name}
+pub use Rattle.law_typing.specs.Known.{kind_of, of_local, standing, Sees, sees, sees_nothing, sees_headless, sees_unknown, Repeats, of_heading, of_declaration, Exports, has_exported, has_nothing, Knows, AreOnce, no_names, one_name}
 use Rattle.law_typing.specs.Judging.{Judges, Answers, Reports}
+use Rattle.law_typing.specs.Again.{ReadsAgain}
 
 -- ---- what is elaborated
 
@@ -111,15 +115,6 @@ is_own_variable s (meaning.Local v) = is_own v.kind && (v.level == s.level)
 is_own_variable s other = false
 
 module _ (g : Gathers) (j : Judges g) where
-  -- what the use of a name repeats of its declaration
-  pub data Repeats (names : Ident → Standing) (s : Scope g.Reported) (f : Breach) : Type 0 where
-    of_heading : {name : Ident} {nested : Bool} {r : g.Reported}
-        → names name ≡ Known (Headless nested)
-        → looked_up g s name ≡ Err (meaningless.Headless nested r) → j.Among r f
-        → Repeats names s f
-    of_declaration : {name : Ident} {r : g.Reported} → names name ≡ Unknown
-        → looked_up g s name ≡ Err (meaningless.Broken r) → j.Among r f → Repeats names s f
-
   -- whether a name is taken before a block begins, and the type of the procedure of the definition
   -- that awaits its heading
   pub data TakenAs : Bool → Option TypeNo → Option (KnownName g.Reported) → Type 0 where
@@ -127,6 +122,9 @@ module _ (g : Gathers) (j : Judges g) where
         → TakenAs true None (Some (Declared o m))
     awaits : (p : ModuleProcedure)
         → TakenAs true (Some p.heading) (Some (Declared Here (Ok (meaning.Procedure p))))
+    -- a procedure in a definition, for the declarations behind it
+    is_a_heading : {m : Result Meaning (Meaningless g.Reported)}
+        → TakenAs true None (Some (Headed m))
     not_taken : TakenAs false None None
 
   -- what is known of the result of the body that a statement stands in
@@ -141,7 +139,7 @@ module _ (g : Gathers) (j : Judges g) where
 
   abbrev pub RepeatsResult : (names : Ident → Standing) → Scope g.Reported
       → Option (Result TypeNo g.Reported) → Breach → Type 0
-  RepeatsResult names s result f = Repeats names s f ⊎ InResult f result
+  RepeatsResult names s result f = Repeats g j names s f ⊎ InResult f result
 
   abbrev pub KnowsOwn : (Ident → Bool) → Scope g.Reported → Type 0
   KnowsOwn own s =
@@ -151,7 +149,7 @@ module _ (g : Gathers) (j : Judges g) where
   abbrev pub IsExact : (names : Ident → Standing) → (exports : ℕ → Ident → Standing)
       → Scope g.Reported → Expr → Type 0
   IsExact names exports s e =
-      Answers g j (Repeats names s) IsKind (Has s.types names exports e)
+      Answers g j (Repeats g j names s) IsKind (Has s.types names exports e)
       (BrokenAsValue s.types names exports e) (value_of g s (meanings_of g e))
 
 -- ---- declarations
@@ -191,9 +189,21 @@ pub record IsBlockExact (g : Gathers) (j : Judges g) (exports : ℕ → Ident �
   -- the declarations, each with the types that it makes
   pub whole : List Resolved
   pub in_text : in_order whole ≡ declarations_of ds
-  -- Exactly the broken rules are reported.
-  pub reported : Reports g j (Repeats g j outside s)
+  -- Exactly the broken rules are reported of the declarations,
+  pub reported_first : Reports g j (Repeats g j outside s)
       (BrokenIn s.types exports outside taken awaited (is_nested s) (declarations_of ds) whole)
+      (fold (with_decl g ends) ((all_marked marked_decl s ds).0, Ok tt, first) ds).1
+  -- and of their constant expressions too, which are read again behind the headings.
+  pub reported : (names : Ident → Standing)
+      → AllStand s.types exports outside taken awaited (is_nested s) (declarations_of ds) whole
+      names
+      → ReadsAgain g j exports names (declared_block g ends (s, Ok tt) first ds).0 taken
+      (declarations_of ds) (length s.own)
+      → Reports g j (Repeats g j outside s)
+      (λ f. BrokenIn s.types exports outside taken awaited (is_nested s) (declarations_of ds) whole
+      f
+      ⊎ BrokenAgain (types_behind s.types whole) exports taken (declarations_of ds) names []
+      (declarations_of ds) f)
       (declared_block g ends (s, Ok tt) first ds).1
   pub types : (declared_block g ends (s, Ok tt) first ds).0.types ≡ types_behind s.types whole
   -- Each declaration adds the types and constants that the rules say.

@@ -1,5 +1,6 @@
 -- What a scope knows of names, and what tables have.
 use Rattle.std.specs.Prelude.{Bool, ◌≡◌, ℕ, List, [], ◌∷◌, Option, Some, None, Result, Ok, Err, slice_get}
+use Rattle.m2_rule.specs.declared.breach.Breach.{Breach}
 use Rattle.m2_rule.specs.declared.rule.Rule.TheVariants as rule
 use Rattle.m2_tree.specs.declared.pos.Pos.{Pos}
 use Rattle.m2_tree.specs.declared.name.Ident.{Ident}
@@ -55,6 +56,15 @@ module _ (g : Gathers) (j : Judges g) where
     sees_headless : (nested : Bool) (r : g.Reported)
         → Sees at (Known (Headless nested)) (Err (meaningless.Headless nested r))
     sees_unknown : (r : g.Reported) → Sees at Unknown (Err (meaningless.Broken r))
+
+  -- what the use of a name repeats of its declaration
+  pub data Repeats (names : Ident → Standing) (s : Scope g.Reported) (f : Breach) : Type 0 where
+    of_heading : {name : Ident} {nested : Bool} {r : g.Reported}
+        → names name ≡ Known (Headless nested)
+        → looked_up g s name ≡ Err (meaningless.Headless nested r) → j.Among r f
+        → Repeats names s f
+    of_declaration : {name : Ident} {r : g.Reported} → names name ≡ Unknown
+        → looked_up g s name ≡ Err (meaningless.Broken r) → j.Among r f → Repeats names s f
 
   -- what a module exports by a name
   pub data Exports : Standing → Option Meaning → Type 0 where

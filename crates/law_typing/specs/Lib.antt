@@ -1,3 +1,4 @@
 pub mod Judging
 pub mod Known
+pub mod Again
 pub mod Exact

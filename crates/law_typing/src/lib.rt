@@ -24,7 +24,8 @@
 //!   types as they are written but records, and `proofs/Recording` records and all types. `proofs/Declaring` says what a scope
 //!   knows of the names of a block, and `proofs/Marking`, `proofs/Beginning` and `proofs/Sayings` that it does before the
 //!   declarations, inside them and behind each. `proofs/Blocks` goes from one to the next, and `proofs/Lacking` finds
-//!   procedures that lack a heading.
+//!   procedures that lack a heading. `specs/Again` says what has to be known of scopes in which constant expressions of
+//!   declarations are read again behind the headings, and `proofs/Rereading` what is reported of them.
 #![tactic(auto)]
 
 ghost use Rattle.check_scope.specs.Elaborated.{every, least};
@@ -117,7 +118,8 @@ pub fn subrange_laws()
     ensures least_rule { SubrangesAreExact least the_least }
 {}
 
-/// What is reported of the declarations of a block are exactly the rules that are broken in them, and what is known of names
+/// What is reported of the declarations of a block are exactly the rules that are broken in them, and in their constant
+/// expressions as they are read again behind the headings, if all is known there that has to be; and what is known of names
 /// behind them is what the rules say: constants, types, variables, and headings of procedures. If the module's own definition
 /// awaits a heading, it has to agree with the definition's, and the procedure is the definition's, with its number. It is
 /// reported exactly if a procedure of the definition lacks a heading.

@@ -1,6 +1,6 @@
 -- Results that are as a fact says, and types that are kept.
 use Rattle.std.proofs.Common.{◌≡◌, ℕ, Bool, true, false, Option, Some, None, Result, Ok, Err, refl, ap, ◌∙◌}
-use Rattle.m2_rule.specs.RuleNumber.{number_of}
+use Rattle.m2_rule.specs.Breaches.{breach}
 use Rattle.m2_rule.specs.declared.rule.Rule.{Rule}
 use Rattle.m2_rule.specs.declared.rule.Rule.TheVariants as rule
 use Rattle.m2_tree.specs.declared.pos.Pos.{Pos}
@@ -35,6 +35,18 @@ pub holds_weaker : {A T : Type 0} {P Q : A → Type 0} {r : Result A T} → ((x 
 holds_weaker k (fine x p) = fine x (k x p)
 holds_weaker k (broken e) = broken e
 
+module _ {P T : Type 0} where
+  later_of : (x : Unit {0}) {before : Result (Unit {0}) T} → before ≡ Ok tt → Holds (λ x. P) before
+      → Holds {T = T} (λ x. P) (Ok x)
+  later_of x q (fine y p) = fine x p
+  later_of x q (broken e) = absurd cc
+
+  -- what holds if nothing was reported before holds if nothing is reported in the end
+  pub holds_later : (before end : Result (Unit {0}) T) → (end ≡ Ok tt → before ≡ Ok tt) → Holds (λ x. P) before
+      → Holds (λ x. P) end
+  holds_later before (Ok x) k h = later_of x (k refl) h
+  holds_later before (Err e) k h = broken e
+
 module _ (g : Gathers) where
   pub reported_holds : {A : Type 0} {P : A → Type 0} (at : Pos) (n : Rule) → Holds P (report g {A = A} at n)
   reported_holds at n = broken _
@@ -66,7 +78,7 @@ module _ (g : Gathers) where
 
   pub reported_beside_holds : {A : Type 0} {P : A → Type 0} (at : Pos) (n : Rule) (rest : Result (Unit {0}) g.Reported)
       → Holds P (reported_beside g {A = A} at n rest)
-  reported_beside_holds at n rest = refused_holds (g.one (record { pos = at; number = number_of n })) rest
+  reported_beside_holds at n rest = refused_holds (g.one (breach at n)) rest
 
   pub ahead_holds : {A B : Type 0} {P : A → Type 0} {Q : B → Type 0} {r : Result A g.Reported}
       (rest : Result (Unit {0}) g.Reported) {f : A → Result B g.Reported} → Holds P r → ((x : A) → P x → Holds Q (f x))

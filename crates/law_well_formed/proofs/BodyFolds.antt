@@ -1,4 +1,4 @@
--- Declarations and blocks in the three walks over a block: a fact of each layer is a fact of all trees.
+-- Declarations and blocks in the four walks over a block: a fact of each layer is a fact of all trees.
 use Rattle.std.proofs.Common.{◌≡◌, ℕ, List, [], ◌∷◌, ◌++◌, length, Result, refl, sym, ap, subst, ◌∙◌, append_assoc}
 use Rattle.std.proofs.lemmas.List.{append-nil}
 use Rattle.std.specs.Prelude.{map}
@@ -10,11 +10,12 @@ use Rattle.check_scope.specs.Elaborated.{Gathers}
 use Rattle.check_scope.specs.Scopes.{State}
 use Rattle.check_scope.specs.declared.scope.Scope.{Scope}
 use Rattle.check_block.specs.Naming.{marked_layer, marked_decl, with_marks}
-use Rattle.check_block.specs.Declarations.{Course, Declared, decl_layer, with_decl, all_declared, declared_block}
+use Rattle.check_definition.specs.Again.{Passing}
+use Rattle.check_block.specs.Declarations.{Course, Declared, decl_layer, with_decl, again_layer, again_decl, all_declared, declared_block}
 use Rattle.check_block.specs.Nesting.{append_names, within_decl, within}
 use Rattle.check_block.specs.Nesting as nesting
 use Rattle.check_body.specs.Elaborating.{Elaborates}
-use Rattle.check_body.specs.Bodies.{ChecksBlock, Steps, marked_by, declared_by, steps_layer, block_layer, steps, checks_block}
+use Rattle.check_body.specs.Bodies.{ChecksBlock, Steps, marked_by, declared_by, again_by, steps_layer, block_layer, steps, checks_block}
 
 module _ (g : Gathers) (elaborates : Elaborates g.Reported) (ends : List ℕ) where
   abbrev pub steps_of : Decl → Steps g.Reported
@@ -105,6 +106,13 @@ module _ (g : Gathers) (elaborates : Elaborates g.Reported) (ends : List ℕ) wh
   layer_declares c (layer.Variables vs) = refl
   layer_declares c (layer.Procedure h b) = refl
 
+  layer_again : (s : Scope g.Reported) (p : Passing g.Reported) (x : Decl-F Decl Block)
+      → again_layer g s p (opened x) ≡ again_layer g s p x
+  layer_again s p (layer.Constants cs) = refl
+  layer_again s p (layer.Types ts) = refl
+  layer_again s p (layer.Variables vs) = refl
+  layer_again s p (layer.Procedure h b) = refl
+
   step_marks : (s : Scope g.Reported) (d : Decl) → marked_by s (steps_of d) ≡ marked_decl s d
   step_marks s d =
       ap (λ (x : Steps g.Reported). x.marks s) (decl_at d (out-Decl d) refl) ∙ layer_marks s (out-Decl d)
@@ -112,6 +120,11 @@ module _ (g : Gathers) (elaborates : Elaborates g.Reported) (ends : List ℕ) wh
   step_declares : (c : Course g.Reported) (d : Decl) → declared_by c (steps_of d) ≡ with_decl g ends c d
   step_declares c d =
       ap (λ (x : Steps g.Reported). x.declares c) (decl_at d (out-Decl d) refl) ∙ layer_declares c (out-Decl d)
+
+  step_again : (s : Scope g.Reported) (p : Passing g.Reported) (d : Decl)
+      → again_by s p (steps_of d) ≡ again_decl g s p d
+  step_again s p d =
+      ap (λ (x : Steps g.Reported). x.again s p) (decl_at d (out-Decl d) refl) ∙ layer_again s p (out-Decl d)
 
   all_marks : (ds : List Decl) (st : Scope g.Reported × List ℕ)
       → fold (with_marks marked_by) st (map steps_of ds) ≡ fold (with_marks marked_decl) st ds
@@ -128,16 +141,29 @@ module _ (g : Gathers) (elaborates : Elaborates g.Reported) (ends : List ℕ) wh
       ap (λ (k : Course g.Reported). fold declared_by k (map steps_of ds)) (step_declares c d)
       ∙ all_declares ds (with_decl g ends c d)
 
-  abbrev behind : Result (Unit {0}) g.Reported → ℕ → List (Steps g.Reported) → Scope g.Reported × List ℕ
+  all_again : (s : Scope g.Reported) (ds : List Decl) (p : Passing g.Reported)
+      → fold (again_by s) p (map steps_of ds) ≡ fold (again_decl g s) p ds
+  all_again s [] p = refl
+  all_again s (d ∷ ds) p =
+      ap (λ (q : Passing g.Reported). fold (again_by s) q (map steps_of ds)) (step_again s p d)
+      ∙ all_again s ds (again_decl g s p d)
+
+  abbrev again_behind : List (Steps g.Reported) → ℕ → List ℕ → Course g.Reported → Declared g.Reported
+  again_behind xs names seen c = (c.0, (fold (again_by c.0) (c.1, names) xs).0, seen)
+
+  abbrev behind : Result (Unit {0}) g.Reported → ℕ → List (Steps g.Reported) → ℕ → Scope g.Reported × List ℕ
       → Declared g.Reported
-  behind so first xs m = let c = fold declared_by (m.0, so, first) xs in (c.0, c.1, m.1)
+  behind so first xs names m = again_behind xs names m.1 (fold declared_by (m.0, so, first) xs)
 
   pub declared_same : (ds : List Decl) (st : State (Unit {0}) g.Reported) (first : ℕ)
-      → all_declared marked_by declared_by st first (map steps_of ds) ≡ declared_block g ends st first ds
+      → all_declared marked_by declared_by again_by st first (map steps_of ds) ≡ declared_block g ends st first ds
   declared_same ds st first =
       let m : Scope g.Reported × List ℕ = fold (with_marks marked_decl) (st.0, []) ds in
-      ap (behind st.1 first (map steps_of ds)) (all_marks ds (st.0, []))
-      ∙ ap (λ (c : Course g.Reported). (c.0, c.1, m.1)) (all_declares ds (m.0, st.1, first))
+      let c : Course g.Reported = fold (with_decl g ends) (m.0, st.1, first) ds in
+      let names : ℕ = length st.0.own in
+      ap (behind st.1 first (map steps_of ds) names) (all_marks ds (st.0, []))
+      ∙ ap (again_behind (map steps_of ds) names m.1) (all_declares ds (m.0, st.1, first))
+      ∙ ap (λ (p : Passing g.Reported). (c.0, p.0, m.1)) (all_again c.0 ds (c.1, names))
 
 -- ---- the procedures in them
 

@@ -25,7 +25,7 @@ use Rattle.check_scope.specs.declared.scope.Block.{Block}
 use Rattle.check_scope.specs.declared.scope.Scope.{Scope}
 use Rattle.check_type_expr.specs.Headings.{result_of}
 use Rattle.def_scheme.specs.Exprs.{is_there, result_made, has_result}
-use Rattle.check_block.specs.Inner.{inwards, split_last, pop_block}
+use Rattle.check_scope.specs.Inwards.{inwards, split_last, pop_block}
 use Rattle.check_body.specs.declared.routine.Bodies.{Bodies}
 use Rattle.check_body.specs.declared.routine.Numbered.{Numbered}
 use Rattle.check_body.specs.Routines.{numbered_known, empty_routine, put_routine, routine}

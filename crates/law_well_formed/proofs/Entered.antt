@@ -19,7 +19,8 @@ use Rattle.check_scope.specs.declared.known.Known.TheVariants.{Later, Ahead, Beg
 use Rattle.check_scope.specs.declared.known.Origin.TheVariants.{Here}
 use Rattle.check_scope.specs.declared.scope.Scope.{Scope}
 use Rattle.check_type_expr.specs.Headings.{formal_of}
-use Rattle.check_block.specs.Inner.{formal_kind, formal_meaning, unless_found, Formals, with_formal, with_section, formals_in, inwards, entered_procedure}
+use Rattle.check_scope.specs.Inwards.{inwards}
+use Rattle.check_block.specs.Inner.{formal_kind, formal_meaning, unless_found, Formals, with_formal, with_section, formals_in, entered_procedure}
 use Rattle.law_well_formed.specs.Formed.{fine, broken}
 use Rattle.law_well_formed.proofs.Basics.{holds_weaker}
 use Rattle.law_well_formed.proofs.Names.{get_more, get_last}

@@ -64,11 +64,11 @@ module _ (g : Gathers) (home : ℕ) (m : Module) where
   declared_leads : (modules : List (List ℕ × ℕ)) (s : Scope g.Reported) (defs : List Def)
       → Leads s (declared_in g m modules s defs).0
   declared_leads modules s defs =
-      let t = fold marked_def s defs in
+      let i : State (Unit {0}) g.Reported = fold (with_import g modules) (s, Ok tt) m.imports in
       fold_leads (λ (st : State (Unit {0}) g.Reported). st.0) (with_def g) (def_leads g) defs
-      (fold (with_import g modules) (t, Ok tt) m.imports)
-      ⨾ (import_leads g modules m.imports (t, Ok tt) ⨾ fold_leads (λ (s : Scope g.Reported). s) marked_def
-      (def_marks g.Reported) defs s)
+      (fold marked_def i.0 defs, i.1)
+      ⨾ (fold_leads (λ (s : Scope g.Reported). s) marked_def (def_marks g.Reported) defs i.0
+      ⨾ import_leads g modules m.imports (s, Ok tt))
 
   definition_exports : (tables : List Table) (defs : List Def)
       → IfOk (of_definition g home m tables defs) (λ t. AreExports home t.exported)

@@ -20,17 +20,18 @@ use Rattle.check_scope.specs.declared.known.Known.{Known}
 use Rattle.check_scope.specs.declared.known.Known.TheVariants.{Headed}
 use Rattle.check_scope.specs.declared.scope.Block.{Block as Around}
 use Rattle.check_scope.specs.declared.scope.Scope.{Scope}
+use Rattle.check_definition.specs.Again.{Passing}
 use Rattle.check_block.specs.Naming.{with_marks}
 use Rattle.check_block.specs.Nesting as nesting
 use Rattle.check_block.specs.Nesting.{append_names, within_decl, within}
 use Rattle.check_block.specs.Declarations.{Course}
 use Rattle.check_body.specs.declared.procedure.Walk.{Walk}
 use Rattle.check_body.specs.Elaborating.{Elaborates}
-use Rattle.check_body.specs.Bodies.{ChecksBlock, Steps, checked_by, marked_by, declared_by, with_body, steps_layer, block_layer, steps, checks_block}
+use Rattle.check_body.specs.Bodies.{ChecksBlock, Steps, checked_by, marked_by, declared_by, again_by, with_body, steps_layer, block_layer, steps, checks_block}
 use Rattle.law_well_formed.proofs.BodyFolds.{OfDecl, OfBlock, bare, bare_block, opened, opened_block, all_decls, all_blocks, counted, count_at, count_at_block, total, total_is}
 use Rattle.law_well_formed.specs.FormedBodies.{AreNumbered, FormsStatements, Keeps, Adds, Begins}
 use Rattle.law_well_formed.proofs.Places.{is_within}
-use Rattle.law_well_formed.proofs.Parts.{IsStep, constants_step, types_step, variables_step, procedure_step, AreSteps, no_steps, more_steps, numbered_first, numbered_rest, numbered_inner, nothing_at, no_home, nothing_open, all_marks, all_lead, HeadsIn, heads_in}
+use Rattle.law_well_formed.proofs.Parts.{IsStep, constants_step, types_step, variables_step, procedure_step, AreSteps, no_steps, more_steps, numbered_first, numbered_rest, numbered_inner, nothing_at, no_home, nothing_open, all_marks, all_again, all_lead, HeadsIn, heads_in}
 use Rattle.law_well_formed.proofs.Checks.{keeps_then, leads_keeps, nested_count}
 use Rattle.law_well_formed.proofs.BodiesBlocks.{Order, at_least, less, nat_order, step_own, step_keeps, Here, HeadAt, HeadsAt, from, checked_reported, all_add}
 use Rattle.law_well_formed.proofs.Induction.{blocks_formed}
@@ -187,8 +188,11 @@ module _ (g : Gathers) (elaborates : Elaborates g.Reported) (forms : FormsStatem
     abbrev course : Course g.Reported
     course = fold declared_by (marks.0, w.so_far, length w.bodies.locals) xs
 
+    abbrev passing : Passing g.Reported
+    passing = fold (again_by course.0) (course.1, length w.scope.own) xs
+
     abbrev start : Walk g.Reported
-    start = record { scope = course.0; so_far = course.1; bodies = w.bodies }
+    start = record { scope = course.0; so_far = passing.0; bodies = w.bodies }
 
     abbrev end : Walk g.Reported
     end = from g elaborates ends around marks.1 (start, 0) xs
@@ -205,7 +209,8 @@ module _ (g : Gathers) (elaborates : Elaborates g.Reported) (forms : FormsStatem
     block_nests : Begins ends w ls → IsDeep w → end.so_far ≡ Ok tt → AddsNests around w end
     block_nests begins d ok n r a e =
         let lead = all_marks g elaborates ends other nothing_open ps (w.scope, []) in
-        let reported = checked_reported g elaborates ends around marks.1 ps (start, 0) ok in
+        let reported = all_again g elaborates ends ps course.0 (course.1, length w.scope.own)
+        (checked_reported g elaborates ends around marks.1 ps (start, 0) ok) in
         let heads : HeadsIn g elaborates ends course.0.own course.0.types marks.0.level (length w.bodies.locals) ps =
         heads_in g elaborates ends course.0.own course.0.types marks.0.level ps
         (marks.0, w.so_far, length w.bodies.locals) course.0 refl refl refl refl

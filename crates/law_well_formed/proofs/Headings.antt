@@ -40,7 +40,7 @@ use Rattle.check_block.specs.declared.heading.Standing.TheVariants.{Free, Awaite
 use Rattle.check_block.specs.Agreeing.{signature_in, signature_of, agree}
 use Rattle.check_block.specs.Headings.{name_standing, nested_meaning, set_heading, module_procedure, nothing_made, headed_as}
 use Rattle.check_block.specs.Declarations.{Course, with_procedure, decl_layer, with_decl}
-use Rattle.check_block.specs.Inner.{inwards}
+use Rattle.check_scope.specs.Inwards.{inwards}
 use Rattle.law_well_formed.proofs.Names.{get_last, found_self}
 use Rattle.law_well_formed.proofs.ScopesDeclarations.{beside_right, decl_reported, head_reported}
 use Rattle.law_well_formed.specs.FormedNumbers.{with_one, with_names, with_formals_of, all_formals}

@@ -15,11 +15,12 @@ use Rattle.check_scope.specs.Scopes.{State}
 use Rattle.check_scope.specs.declared.scope.Scope.{Scope}
 use Rattle.check_definition.specs.Importing.{with_import}
 use Rattle.check_block.specs.Naming.{marked_decl, with_marks, all_marked}
-use Rattle.check_block.specs.Declarations.{Course, decl_layer, with_decl, all_declared, declared_module}
+use Rattle.check_definition.specs.Again.{Passing}
+use Rattle.check_block.specs.Declarations.{Course, decl_layer, with_decl, again_decl, all_declared, declared_module}
 use Rattle.check_body.specs.declared.procedure.Walk.{Walk}
 use Rattle.check_body.specs.Elaborating.{Elaborates}
 use Rattle.check_body.specs.Inside.{which_of, begun_procedure}
-use Rattle.check_body.specs.Bodies.{begun_from, Checks, ChecksBlock, Steps, marked_by, declared_by, checked_by, with_body, with_bodies, procedure_checked, checks_layer, steps_layer, block_layer, steps, checks_block, checks_decl}
+use Rattle.check_body.specs.Bodies.{begun_from, Checks, ChecksBlock, Steps, marked_by, declared_by, again_by, checked_by, with_body, with_bodies, procedure_checked, checks_layer, steps_layer, block_layer, steps, checks_block, checks_decl}
 use Rattle.check_body.specs.Checked.{begun_module, walk_body}
 use Rattle.law_folds.proofs.MarkSteps.{decl_layer_marks}
 use Rattle.law_folds.proofs.BlockSteps.{KeepsBlocks}
@@ -47,9 +48,10 @@ module _ (g : Gathers) where
   layer_keeps = all_blocks.layer_keeps g blocks
 
 module _ {T X : Type 0} (marks : Scope T → X → Scope T) (declares : Course T → X → Course T)
+    (again : Scope T → Passing T → X → Passing T)
     (k : (s : Scope T) (x : X) → Keeps s (marks s x)) (j : (c : Course T) (x : X) → Keeps c.0 (declares c x).0) where
   pub declared_keep : (st : State (Unit {0}) T) (first : ℕ) (xs : List X)
-      → Keeps st.0 (all_declared marks declares st first xs).0
+      → Keeps st.0 (all_declared marks declares again st first xs).0
   declared_keep st first xs =
       let m = all_marked marks st.0 xs in
       fold_keeps (λ (c : Course T). c.0) declares j xs (m.0, st.1, first)
@@ -59,7 +61,7 @@ pub module_keeps : (g : Gathers) (modules : List (List ℕ × ℕ)) (ends : List
     (ds : List Decl) → Keeps s (declared_module g modules ends s m ds).0
 module_keeps g modules ends s m ds =
     let st = fold (with_import g modules) (s, Ok tt) m.imports in
-    declared_keep marked_decl (with_decl g ends) (λ s d. decl_layer_marks marks (out-Decl d) s)
+    declared_keep marked_decl (with_decl g ends) (again_decl g) (λ s d. decl_layer_marks marks (out-Decl d) s)
     (λ c d. layer_keeps g ends c (out-Decl d)) st 0 ds ∙ import_keeps g modules m.imports (s, Ok tt)
 
 -- ---- bodies
@@ -113,7 +115,7 @@ module _ (g : Gathers) (elaborates : Elaborates g.Reported) (ends : List ℕ) wh
   block_keeps : (xs : List (Steps g.Reported)) (body : Option (List Stmt)) → AllKeep xs
       → KeepingBlock (block_layer g elaborates ends (record { decls = xs; body = body }))
   block_keeps xs body all around returns w =
-      let d = all_declared marked_by declared_by (w.scope, w.so_far) (length w.bodies.locals) xs in
+      let d = all_declared marked_by declared_by again_by (w.scope, w.so_far) (length w.bodies.locals) xs in
       let m = all_marked marked_by w.scope xs in
       checks_all around d.2 xs all (begun_from d w.bodies, 0)
       ∙ (declares_all xs all (m.0, w.so_far, length w.bodies.locals) ∙ marks_all xs all (w.scope, []))

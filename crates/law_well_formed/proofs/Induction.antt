@@ -16,6 +16,7 @@ use Rattle.check_scope.specs.declared.scope.Block.{Block as Around}
 use Rattle.check_scope.specs.declared.scope.Scope.{Scope}
 use Rattle.check_const.specs.Denote.{exported_meaning}
 use Rattle.def_scheme.specs.Exprs.{is_there}
+use Rattle.check_definition.specs.Again.{Passing}
 use Rattle.check_block.specs.Naming.{with_marks}
 use Rattle.check_block.specs.Nesting as nesting
 use Rattle.check_block.specs.Nesting.{append_names, within_decl, within}
@@ -27,12 +28,12 @@ use Rattle.law_well_formed.specs.FormedScopes.{AreFormedNames, AreFormedBlocks, 
 use Rattle.law_well_formed.proofs.Statements.{statements_formed}
 use Rattle.check_body.specs.declared.procedure.Walk.{Walk}
 use Rattle.check_body.specs.Elaborating.{Elaborates, statements_of}
-use Rattle.check_body.specs.Bodies.{ChecksBlock, Steps, marked_by, declared_by, steps_layer, block_layer, steps, checks_block}
+use Rattle.check_body.specs.Bodies.{ChecksBlock, Steps, marked_by, declared_by, again_by, steps_layer, block_layer, steps, checks_block}
 use Rattle.check_body.specs.Checks.{elaborate_body}
 use Rattle.law_well_formed.specs.FormedBodies.{FormsStatements, Keeps, Adds, Suits, AddsFormed, Begins, FormedBlock}
 use Rattle.law_well_formed.proofs.Places.{is_within}
 use Rattle.law_well_formed.proofs.Scopes.{scope_formed}
-use Rattle.law_well_formed.proofs.Parts.{IsStep, constants_step, types_step, variables_step, procedure_step, AreSteps, no_steps, more_steps, nothing_at, no_home, nothing_open, all_marks, all_reported, all_lead, HeadsIn, heads_in, RoutinesIn, routines_in, all_formed}
+use Rattle.law_well_formed.proofs.Parts.{IsStep, constants_step, types_step, variables_step, procedure_step, AreSteps, no_steps, more_steps, nothing_at, no_home, nothing_open, all_marks, all_again, all_reported, all_lead, HeadsIn, heads_in, RoutinesIn, routines_in, all_formed}
 use Rattle.law_well_formed.proofs.Checks.{keeps_then, leads_keeps}
 use Rattle.law_well_formed.proofs.BodiesBlocks.{from, Here, all_own, all_keep, checked_reported, all_count, all_add, all_routines, suits_rest, all_formed_in}
 
@@ -63,8 +64,11 @@ module _ (g : Gathers) (elaborates : Elaborates g.Reported) (forms : FormsStatem
     abbrev course : Course g.Reported
     course = fold declared_by (marks.0, w.so_far, length w.bodies.locals) xs
 
+    abbrev passing : Passing g.Reported
+    passing = fold (again_by course.0) (course.1, length w.scope.own) xs
+
     abbrev start : Walk g.Reported
-    start = record { scope = course.0; so_far = course.1; bodies = w.bodies }
+    start = record { scope = course.0; so_far = passing.0; bodies = w.bodies }
 
     abbrev end : Walk g.Reported
     end = from g elaborates ends around marks.1 (start, 0) xs
@@ -88,7 +92,8 @@ module _ (g : Gathers) (elaborates : Elaborates g.Reported) (forms : FormsStatem
 
     block_reported : end.so_far ≡ Ok tt → w.so_far ≡ Ok tt
     block_reported e = all_reported g elaborates ends ps (marks.0, w.so_far, length w.bodies.locals)
-        (checked_reported g elaborates ends around marks.1 ps (start, 0) e)
+        (all_again g elaborates ends ps course.0 (course.1, length w.scope.own)
+        (checked_reported g elaborates ends around marks.1 ps (start, 0) e))
 
     block_count : (w.scope.level == 0) ≡ false → 0 < length w.scope.outer
         → length end.bodies.locals ≡ length w.bodies.locals + length ls
@@ -98,7 +103,8 @@ module _ (g : Gathers) (elaborates : Elaborates g.Reported) (forms : FormsStatem
 
     module _ (begins : Begins ends w ls) (ok : end.so_far ≡ Ok tt) where
       start_ok : course.1 ≡ Ok tt
-      start_ok = checked_reported g elaborates ends around marks.1 ps (start, 0) ok
+      start_ok = all_again g elaborates ends ps course.0 (course.1, length w.scope.own)
+          (checked_reported g elaborates ends around marks.1 ps (start, 0) ok)
 
       marks_level : marks.0.level ≡ w.scope.level
       marks_level = (marks_lead other nothing_open).level

@@ -28,10 +28,10 @@ use Rattle.check_block.specs.Declarations.{Declared, all_declared, declared_bloc
 use Rattle.check_body.specs.Own.{implementation_scope}
 use Rattle.check_body.specs.declared.procedure.Walk.{Walk}
 use Rattle.check_body.specs.Elaborating.{Elaborates}
-use Rattle.check_block.specs.declared.inner.Outside.{Outside}
-use Rattle.check_block.specs.Inner.{left_procedure}
+use Rattle.check_scope.specs.declared.inner.Outside.{Outside}
+use Rattle.check_scope.specs.Inwards.{left_procedure}
 use Rattle.check_body.specs.Inside.{which_of, begun_procedure, reported_in}
-use Rattle.check_body.specs.Bodies.{Checked, ChecksBlock, Steps, marked_by, declared_by, checked_by, with_body, begun_from, procedure_checked, steps_layer, block_layer, steps, checks_block, checks_decl}
+use Rattle.check_body.specs.Bodies.{Checked, ChecksBlock, Steps, marked_by, declared_by, again_by, checked_by, with_body, begun_from, procedure_checked, steps_layer, block_layer, steps, checks_block, checks_decl}
 use Rattle.check_body.specs.Checked.{walk_body, of_body, of_implementation, of_contents, body_module}
 use Rattle.law_well_formed.proofs.BodyFolds.{OfDecl, OfBlock, bare, bare_block, opened, opened_block, declared_same, all_decls as all_steps_by}
 use Rattle.law_well_formed.specs.Formed.{Holds, fine, broken}
@@ -235,17 +235,18 @@ module _ (g : Gathers) (elaborates : Elaborates g.Reported) (ends : List ℕ) wh
       → BlockFormed (block_layer g elaborates ends (record { decls = map steps_of (decls_of xs); body = body }))
   block_formed xs body e base around returns w p =
       let first : ℕ = length w.bodies.locals in
-      let is : all_declared marked_by declared_by (w.scope, w.so_far) first (map steps_of (decls_of xs))
+      let is : all_declared marked_by declared_by again_by (w.scope, w.so_far) first (map steps_of (decls_of xs))
       ≡ declared_block g ends (w.scope, w.so_far) first (decls_of xs) =
       declared_same g elaborates ends (decls_of xs) (w.scope, w.so_far) first in
       let start : WalkFormed base (begun_from
-      (all_declared marked_by declared_by (w.scope, w.so_far) first (map steps_of (decls_of xs))) w.bodies)
+      (all_declared marked_by declared_by again_by (w.scope, w.so_far) first (map steps_of (decls_of xs))) w.bodies)
       = subst (λ (d : Declared g.Reported). WalkFormed base (begun_from d w.bodies)) (sym is)
       (declared_formed base (decls_of xs) e (w.scope, w.so_far) first p) in
       bodies_formed base (λ (x : Steps g.Reported). checked_by x around)
-      (all_declared marked_by declared_by (w.scope, w.so_far) first (map steps_of (decls_of xs))).2
+      (all_declared marked_by declared_by again_by (w.scope, w.so_far) first (map steps_of (decls_of xs))).2
       (map steps_of (decls_of xs)) (all_steps xs e around) (
-        begun_from (all_declared marked_by declared_by (w.scope, w.so_far) first (map steps_of (decls_of xs))) w.bodies,
+        begun_from
+            (all_declared marked_by declared_by again_by (w.scope, w.so_far) first (map steps_of (decls_of xs))) w.bodies,
         0,
       ) start
 

@@ -53,11 +53,10 @@ use Rattle.check_value.specs.declared.callee.Called.TheVariants as called
 use Rattle.check_value.specs.declared.standard.Form.{Form}
 use Rattle.check_value.specs.declared.standard.Form.TheVariants as form
 use Rattle.check_value.specs.declared.standard.Unary.{Unary}
-use Rattle.check_expr.proofs.Leading.{leading_keeps}
-use Rattle.check_expr.specs.Meanings.{Meant, Picks, of_computed, signed_first, first_name, leading_name, field_of, formals_of, passed_for, argument_by, call_given, as_constant, value_of, breaches_in_all, with_actual, actuals, routine_called, unary, bound, conversion, high, by_form, callee_value, call_in_expression, factor, term, relation, expr_layer, selector_layer, designator_layer, item_layer, meanings_of, picks, head, item}
+use Rattle.check_expr.specs.Meanings.{Meant, Picks, of_computed, signed_first, first_name, field_of, formals_of, passed_for, argument_by, call_given, as_constant, value_of, breaches_in_all, with_actual, actuals, routine_called, unary, bound, conversion, high, by_form, callee_value, call_in_expression, factor, term, relation, expr_layer, selector_layer, designator_layer, item_layer, meanings_of, picks, head, item}
 use Rattle.def_scheme.specs.Exprs.{is_there}
 use Rattle.law_modules.specs.WellFormed.{FunctionCall, AreArguments, no_arguments, FieldOf}
-use Rattle.law_well_formed.specs.Formed.{Holds, fine, broken, FormedMeaning, FormedValue, FormedDesignated, IsFormed}
+use Rattle.law_well_formed.specs.Formed.{Holds, fine, FormedMeaning, FormedValue, FormedDesignated, IsFormed}
 use Rattle.law_well_formed.proofs.Basics.{then_holds, reported_holds, both_holds, refused_holds, reported_beside_holds, ahead_holds, sort_holds, of_heading_holds, of_value_holds, sort_of_value_holds, plain_holds, any_holds, heading_kept}
 use Rattle.law_well_formed.proofs.Operators.{behind_formed, rooted_formed, signed_formed, negated_formed, combined_formed, field_formed, indexed_formed}
 use Rattle.law_well_formed.proofs.Calls.{given_formed, taken_formed, actual_formed, arguments_more, FormedCallee, FormedCalled, callee_formed, call_formed, unary_formed, bound_formed, conversion_formed, high_formed}
@@ -118,15 +117,12 @@ module _ (g : Gathers) (m : TypedModule) (opens : ℕ → Bool) (w : ℕ) (s : S
         (rooted_formed m w (root.With f.with) p) (FieldOf f.whole f.number))
     by_meaning level at (meaning.Procedure f) p = fine (designated.Procedure f) p
     by_meaning level at (meaning.LocalProcedure f) p = fine _ p
-    by_meaning level at meaning.Ahead p = reported_holds g at rule.Undeclared
+    by_meaning level at meaning.Ahead p = reported_holds g at rule.Ahead
     by_meaning level at (meaning.Standard f) p = fine (designated.Standard f) tt
     by_meaning level at (meaning.Module k) p = fine (designated.Module k) p
 
     named_formed : (name : Ident) → Designated_ (first_name g s name)
     named_formed name = then_holds (h.names name) (λ x p. plain_holds (by_meaning s.level name.pos x p))
-
-    leading_formed : (name : Ident) (ps : List (Picks g.Reported)) → Designated_ (leading_name g s name ps)
-    leading_formed name ps = leading_keeps g s name (λ d. Designated_ d) (λ e. broken e) ps (named_formed name)
 
     field_of_formed : (at : Pos) (name : Ident) (d : Designated) → FormedDesignated m opens w d
         → Designated_ (field_of g s at name d)
@@ -406,8 +402,7 @@ module _ (g : Gathers) (m : TypedModule) (opens : ℕ → Bool) (w : ℕ) (s : S
 
     designator_formed : (y : Designator-F SE SS SD SI) → FM (designator_layer g (opened_designator (bare_designator y)))
     designator_formed y = picks_formed (map (picks g) (map (λ (e : SS). e.0) y.selectors))
-        (leading_name g s y.name (map (picks g) (map (λ (e : SS). e.0) y.selectors)))
-        (leading_formed y.name (map (picks g) (map (λ (e : SS). e.0) y.selectors))) (all_picks y.selectors)
+        (first_name g s y.name) (named_formed y.name) (all_picks y.selectors)
 
     -- ---- the induction
 

@@ -13,10 +13,11 @@ use Rattle.check_scope.specs.declared.scope.Scope.{Scope}
 use Rattle.check_block.specs.Naming.{marked_layer, marked_decl, with_marks, all_marked}
 use Rattle.check_block.specs.Nesting as nesting
 use Rattle.check_block.specs.Nesting.{within_decl, within, ends_from, with_procedure_ends, with_decl_ends}
-use Rattle.check_block.specs.Declarations.{Course, Declared, decl_layer, with_decl, all_declared, declared_block}
+use Rattle.check_definition.specs.Again.{Passing}
+use Rattle.check_block.specs.Declarations.{Course, Declared, decl_layer, with_decl, again_layer, again_decl, all_declared, declared_block}
 use Rattle.check_body.specs.declared.procedure.Walk.{Walk}
 use Rattle.check_body.specs.Elaborating.{Elaborates}
-use Rattle.check_body.specs.Bodies.{ChecksBlock, Steps, marked_by, declared_by, checked_by, with_body, with_bodies, steps_layer, block_layer, steps, checks_block, checks_decl, bodies_checked}
+use Rattle.check_body.specs.Bodies.{ChecksBlock, Steps, marked_by, declared_by, again_by, checked_by, with_body, with_bodies, steps_layer, block_layer, steps, checks_block, checks_decl, bodies_checked}
 use Rattle.law_well_formed.specs.FormedBodies.{AreNumbered, FormsStatements}
 use Rattle.law_well_formed.proofs.Places.{before_end, behind_end, is_within}
 use Rattle.law_well_formed.proofs.Parts.{IsStep, constants_step, types_step, variables_step, procedure_step, AreSteps, no_steps, more_steps}
@@ -111,6 +112,17 @@ module _ (g : Gathers) (elaborates : Elaborates g.Reported) (forms : FormsStatem
   declares_is : (c : Course g.Reported) (d : Decl) → (steps_of d).declares c ≡ with_decl g ends c d
   declares_is c d = ap (λ (x : Steps g.Reported). x.declares c) (at d) ∙ declared_mapped c (out-Decl d)
 
+  again_mapped : (s : Scope g.Reported) (p : Passing g.Reported) (x : Decl-F Decl Block)
+      → again_layer g s p (opened x) ≡ again_layer g s p x
+  again_mapped s p (layer.Constants cs) = refl
+  again_mapped s p (layer.Types ts) = refl
+  again_mapped s p (layer.Variables vs) = refl
+  again_mapped s p (layer.Procedure h b) = refl
+
+  again_is : (s : Scope g.Reported) (p : Passing g.Reported) (d : Decl)
+      → (steps_of d).again s p ≡ again_decl g s p d
+  again_is s p d = ap (λ (x : Steps g.Reported). x.again s p) (at d) ∙ again_mapped s p (out-Decl d)
+
   all_marks : (s : Scope g.Reported) (ds : List Decl)
       → all_marked marked_by s (map (steps g elaborates ends) ds) ≡ all_marked marked_decl s ds
   all_marks s ds = fold_agrees (with_marks marked_by) (with_marks marked_decl) (steps g elaborates ends)
@@ -120,17 +132,22 @@ module _ (g : Gathers) (elaborates : Elaborates g.Reported) (forms : FormsStatem
       → fold declared_by c (map (steps g elaborates ends) ds) ≡ fold (with_decl g ends) c ds
   all_declares c ds = fold_agrees declared_by (with_decl g ends) (steps g elaborates ends) declares_is c ds
 
-  abbrev behind : List ℕ → Course g.Reported → Declared g.Reported
-  behind seen c = (c.0, c.1, seen)
+  abbrev behind : List Decl → ℕ → List ℕ → Course g.Reported → Declared g.Reported
+  behind ds names seen c =
+      (c.0, (fold (again_by c.0) (c.1, names) (map (steps g elaborates ends) ds)).0, seen)
 
   pub declared_is : (st : State (Unit {0}) g.Reported) (first : ℕ) (ds : List Decl)
-      → declared_block g ends st first ds ≡ all_declared marked_by declared_by st first
+      → declared_block g ends st first ds ≡ all_declared marked_by declared_by again_by st first
       (map (steps g elaborates ends) ds)
   declared_is st first ds =
-      sym (ap (λ (m : Scope g.Reported × List ℕ). behind m.1
+      let m : Scope g.Reported × List ℕ = all_marked marked_decl st.0 ds in
+      let c : Course g.Reported = fold (with_decl g ends) (m.0, st.1, first) ds in
+      let names : ℕ = length st.0.own in
+      sym (ap (λ (m : Scope g.Reported × List ℕ). behind ds names m.1
       (fold declared_by (m.0, st.1, first) (map (steps g elaborates ends) ds))) (all_marks st.0 ds)
-      ∙ ap (behind (all_marked marked_decl st.0 ds).1)
-      (all_declares ((all_marked marked_decl st.0 ds).0, st.1, first) ds))
+      ∙ ap (behind ds names m.1) (all_declares (m.0, st.1, first) ds)
+      ∙ ap (λ (p : Passing g.Reported). (c.0, p.0, m.1))
+      (fold_agrees (again_by c.0) (again_decl g c.0) (steps g elaborates ends) (again_is c.0) (c.1, names) ds))
 
   pub bodies_are : (around : Option Which) (seen : List ℕ) (w : Walk g.Reported) (ds : List Decl)
       → bodies_checked g elaborates ends around seen w ds

@@ -182,11 +182,11 @@ module _ (g : Gathers) (m : Module) where
   declared_keeps : (modules : List (List ℕ × ℕ)) (s : Scope g.Reported) (defs : List Def)
       → Keeps s (declared_in g m modules s defs).0
   declared_keeps modules s defs =
-      let t = fold marked_def s defs in
+      let i : State (Unit {0}) g.Reported = fold (with_import g modules) (s, Ok tt) m.imports in
       fold_keeps (λ (st : State (Unit {0}) g.Reported). st.0) (with_def g) (def_keeps g) defs
-      (fold (with_import g modules) (t, Ok tt) m.imports)
-      ∙ (import_keeps g modules m.imports (t, Ok tt)
-      ∙ fold_keeps (λ (s : Scope g.Reported). s) marked_def (def_marks g.Reported) defs s)
+      (fold marked_def i.0 defs, i.1)
+      ∙ (fold_keeps (λ (s : Scope g.Reported). s) marked_def (def_marks g.Reported) defs i.0
+      ∙ import_keeps g modules m.imports (s, Ok tt))
 
   definition_named : (home : ℕ) (tables : List Table) (defs : List Def)
       → IfOk (of_definition g home m tables defs) (NamesImports m home)

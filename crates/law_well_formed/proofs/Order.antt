@@ -178,7 +178,7 @@ module _ {T : Type 0} where
   other_value true v k o h p = h
   other_value false v k o h p = p
 
-  other_rest : (c : Bool) (v : Known T) (o o' : Option (Known T))
+  pub other_rest : (c : Bool) (v : Known T) (o o' : Option (Known T))
       → (holds_of is_taken o ≡ true → holds_of is_taken o' ≡ true) → holds_of is_taken (cond c (Some v) o) ≡ true
       → holds_of is_taken (cond c (Some v) o') ≡ true
   other_rest true v o o' f p = p

@@ -18,6 +18,7 @@ use Rattle.typed_tree.specs.declared.table.Table.{Table}
 use Rattle.typed_tree.specs.declared.known_types.Types.{Types}
 use Rattle.law_folds.proofs.Orders.{fact}
 use Rattle.law_folds.proofs.ImportSteps.{Among, KeepsExports, imports_bring}
+use Rattle.law_folds.proofs.AgainSteps.{defs_report, decls_report}
 use Rattle.law_folds.proofs.MarkSteps.{KeepsMarks, defs_marks, decls_marks}
 use Rattle.law_well_formed.specs.Ordered.{is_known, AreKnown}
 use Rattle.typed_tree.specs.Names.{find_name, enter_name}
@@ -35,10 +36,11 @@ use Rattle.check_definition.specs.Declare.{with_def}
 use Rattle.check_definition.specs.Compiled.{declared_in}
 use Rattle.check_block.specs.Naming.{marked_decl, all_marked}
 use Rattle.check_block.specs.Declarations.{Course, with_decl, declared_block, declared_module}
-use Rattle.check_block.specs.declared.inner.Outside.{Outside}
-use Rattle.check_block.specs.Inner.{inwards, formal_meaning, with_formal_type, Formals, with_formal, with_section, entered_procedure, split_last, pop_block, left_procedure}
+use Rattle.check_scope.specs.declared.inner.Outside.{Outside}
+use Rattle.check_scope.specs.Inwards.{inwards, split_last, pop_block, left_procedure}
+use Rattle.check_block.specs.Inner.{formal_meaning, with_formal_type, Formals, with_formal, with_section, entered_procedure}
 use Rattle.law_well_formed.specs.Formed.{Holds, fine, broken}
-use Rattle.law_well_formed.proofs.Basics.{then_holds, holds_weaker}
+use Rattle.law_well_formed.proofs.Basics.{then_holds, holds_weaker, holds_later}
 use Rattle.law_well_formed.proofs.RangesMade.{beside_then, const_holds}
 use Rattle.law_well_formed.specs.FormedOrder.{MeaningOrdered, KnownOrdered, NamesOrdered, BlocksOrdered, ExportsOrdered, TablesOrdered, ScopeOrdered, StateOrdered}
 use Rattle.law_well_formed.proofs.OrderTypes.{known_more}
@@ -95,8 +97,10 @@ module _ (base : Types) where
     pub block_ordered : (ends : List ℕ) (st : State (Unit {0}) g.Reported) (first : ℕ) (ds : List Decl)
         → StateOrdered base st → StateOrdered base (let d = declared_block g ends st first ds in (d.0, d.1))
     block_ordered ends st first ds p =
-        decls_ordered ends ds ((all_marked marked_decl st.0 ds).0, st.1, first)
-        (holds_weaker (λ x h. decls_marks marks ds (st.0, []) h) p)
+        let m : Scope g.Reported = (all_marked marked_decl st.0 ds).0 in
+        let c : Course g.Reported = fold (with_decl g ends) (m, st.1, first) ds in
+        holds_later c.1 _ (decls_report g c.0 ds (c.1, length st.0.own))
+        (decls_ordered ends ds (m, st.1, first) (holds_weaker (λ x h. decls_marks marks ds (st.0, []) h) p))
 
     pub module_ordered : (modules : List (List ℕ × ℕ)) (ends : List ℕ) (s : Scope g.Reported) (m : Module)
         (ds : List Decl) → ScopeOrdered base s
@@ -113,8 +117,11 @@ module _ (base : Types) where
     pub definition_ordered : (m : Module) (modules : List (List ℕ × ℕ)) (s : Scope g.Reported) (ds : List Def)
         → ScopeOrdered base s → StateOrdered base (declared_in g m modules s ds)
     definition_ordered m modules s ds h =
-        defs_ordered ds (fold (with_import g modules) (fold marked_def s ds, Ok tt) m.imports)
-        (imports_ordered modules m.imports (fold marked_def s ds, Ok tt) (defs_marks marks ds s h))
+        let i : State (Unit {0}) g.Reported = fold (with_import g modules) (s, Ok tt) m.imports in
+        let d : State (Unit {0}) g.Reported = fold (with_def g) (fold marked_def i.0 ds, i.1) ds in
+        holds_later d.1 _ (defs_report g d.0 ds (d.1, length i.0.own))
+        (defs_ordered ds (fold marked_def i.0 ds, i.1)
+        (holds_weaker (λ x k. defs_marks marks ds i.0 k) (imports_ordered modules m.imports (s, Ok tt) h)))
 
   -- ---- into a procedure, and back
 

@@ -180,8 +180,8 @@ module _ (base : Types) where
         beside_then g d.1 (nothing_holds (heading_in st.0 h k)) (λ q.
         let r : TypeIn t.1 (with_procedure_type t.0 t.1) = procedure_type_in t.0 t.1 q in
         const_holds (unless_ordered g base (with_procedure_type t.0 t.1) h.name
-        (Declared Here (procedure_meaning t.0.types.home (length t.0.procedures) t.1)) r.0
-        (then_holds r.1 (λ u z. fine _ z))) d.1)))
+        (Headed (heading_means false (procedure_meaning t.0.types.home (length t.0.procedures) t.1))) r.0
+        (heading_means_holds false (then_holds r.1 (λ u z. fine _ z)))) d.1)))
 
     new_by : (b : Bool) (s : Scope g.Reported) (name : List ℕ) (n : ℕ) (t : Result TypeNo g.Reported) → TypeIn t s
         → ScopeOrdered base (cond b (module_procedure s name t)

@@ -1,5 +1,5 @@
 -- Declarations lead from scopes whose own names are the module's own to such scopes.
-use Rattle.std.proofs.Common.{◌≡◌, ℕ, List, length, Result, Ok, Err, refl, sym, subst, ◌∙◌}
+use Rattle.std.proofs.Common.{◌≡◌, ℕ, false, List, length, Result, Ok, Err, refl, sym, subst, ◌∙◌}
 use Rattle.std.specs.Prelude.{IfOk}
 use Rattle.std.specs.List.{fold, AllByRecursion}
 use Rattle.m2_tree.specs.declared.decl.Import.{Import}
@@ -10,7 +10,7 @@ use Rattle.typed_tree.specs.declared.meaning.Value.{Value}
 use Rattle.typed_tree.specs.declared.shape.Made.{Made}
 use Rattle.typed_tree.specs.declared.types.TypeNo.{TypeNo}
 use Rattle.check_scope.specs.Elaborated.{Gathers}
-use Rattle.check_scope.specs.Scopes.{State, with_known}
+use Rattle.check_scope.specs.Scopes.{State, with_known, heading_means}
 use Rattle.check_scope.specs.declared.known.Origin.{Origin}
 use Rattle.check_scope.specs.declared.known.Origin.TheVariants.{Module, Export}
 use Rattle.check_scope.specs.declared.known.Known.{Known}
@@ -109,7 +109,7 @@ module _ {T : Type 0} where
   variable_own s n (Err e) = tt
 
   procedure_own : (s : Scope T) (n : ℕ) (t : Result TypeNo T)
-      → IfOk (procedure_meaning s.types.home n t) (IsExport (with_procedure_type s t).types.home)
+      → IfOk (heading_means false (procedure_meaning s.types.home n t)) (IsExport (with_procedure_type s t).types.home)
   procedure_own s n (Ok t) = refl
   procedure_own s n (Err e) = tt
 

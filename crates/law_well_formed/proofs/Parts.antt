@@ -20,15 +20,17 @@ use Rattle.check_scope.specs.Elaborated.{Gathers}
 use Rattle.check_scope.specs.declared.known.Known.{Known}
 use Rattle.check_scope.specs.declared.known.Known.TheVariants.{Later, Ahead, Begun, Headed, Declared}
 use Rattle.check_scope.specs.declared.scope.Scope.{Scope}
+use Rattle.check_definition.specs.Again.{Passing}
 use Rattle.check_block.specs.Nesting.{number_behind}
 use Rattle.check_block.specs.Naming.{with_marks}
 use Rattle.check_block.specs.Declarations.{Course}
 use Rattle.law_modules.specs.WellFormed.{IsRoutine}
+use Rattle.law_folds.proofs.AgainSteps.{again_reports}
 use Rattle.law_well_formed.specs.FormedScopes.{holds_of, is_awaiting, FormedOwn, Leads}
 use Rattle.law_well_formed.proofs.ScopesGrowth.{leads_refl, leads_then}
 use Rattle.law_well_formed.proofs.ScopesDeclarations.{ResultIs, decl_leads, layer_marks, decl_reported, head_reported, nested_head}
 use Rattle.check_body.specs.Elaborating.{Elaborates}
-use Rattle.check_body.specs.Bodies.{ChecksBlock, Steps, marked_by, declared_by, steps_layer}
+use Rattle.check_body.specs.Bodies.{ChecksBlock, Steps, marked_by, declared_by, again_by, steps_layer}
 use Rattle.law_well_formed.specs.FormedBodies.{AreNumbered, FormedBlock}
 use Rattle.law_well_formed.proofs.Places.{before_end, behind_end, is_within}
 
@@ -130,6 +132,23 @@ module _ (g : Gathers) (elaborates : Elaborates g.Reported) (ends : List ℕ) wh
       → (c : Course g.Reported) → (fold declared_by c xs).1 ≡ Ok tt → c.1 ≡ Ok tt
   all_reported no_steps c e = e
   all_reported (more_steps x xs ks ls p ps) c e = step_reported p c (all_reported ps (declared_by c x) e)
+
+  step_again : {x : Steps g.Reported} {ks : List ℕ} → IsStep g elaborates ends x ks → (s : Scope g.Reported)
+      (p : Passing g.Reported) → (again_by s p x).0 ≡ Ok tt → p.0 ≡ Ok tt
+  step_again (constants_step cs) s =
+      again_reports g {A = Steps g.Reported} {B = ChecksBlock g.Reported} s (layer.Constants cs)
+  step_again (types_step ts) s =
+      again_reports g {A = Steps g.Reported} {B = ChecksBlock g.Reported} s (layer.Types ts)
+  step_again (variables_step vs) s =
+      again_reports g {A = Steps g.Reported} {B = ChecksBlock g.Reported} s (layer.Variables vs)
+  step_again (procedure_step h block ks f) s =
+      again_reports g {A = Steps g.Reported} {B = ChecksBlock g.Reported} s (layer.Procedure h block)
+
+  -- nothing is reported where constant expressions are read again, so nothing was before
+  pub all_again : {xs : List (Steps g.Reported)} {ls : List ℕ} → AreSteps g elaborates ends xs ls
+      → (s : Scope g.Reported) (p : Passing g.Reported) → (fold (again_by s) p xs).0 ≡ Ok tt → p.0 ≡ Ok tt
+  all_again no_steps s p e = e
+  all_again (more_steps x xs ks ls q ps) s p e = step_again q s p (all_again ps s (again_by s p x) e)
 
   -- what does not depend on the module
   module _ (m : TypedModule) (opens : ℕ → Bool) where

@@ -30,13 +30,15 @@ use Rattle.check_definition.specs.Declare.{with_def}
 use Rattle.check_definition.specs.Compiled.{declared_in}
 use Rattle.check_block.specs.Naming.{marked_decl, all_marked}
 use Rattle.check_block.specs.Declarations.{Course, with_decl, declared_block, declared_module}
-use Rattle.check_block.specs.declared.inner.Outside.{Outside}
-use Rattle.check_block.specs.Inner.{inwards, formal_kind, formal_meaning, Formals, with_formal, with_section, entered_procedure, split_last, pop_block, left_procedure}
+use Rattle.check_scope.specs.declared.inner.Outside.{Outside}
+use Rattle.check_scope.specs.Inwards.{inwards, split_last, pop_block, left_procedure}
+use Rattle.check_block.specs.Inner.{formal_kind, formal_meaning, Formals, with_formal, with_section, entered_procedure}
 use Rattle.law_folds.proofs.Orders.{fact}
 use Rattle.law_folds.proofs.ImportSteps.{Among, KeepsExports, imports_bring}
+use Rattle.law_folds.proofs.AgainSteps.{defs_report, decls_report}
 use Rattle.law_folds.proofs.MarkSteps.{KeepsMarks, defs_marks, decls_marks}
 use Rattle.law_well_formed.specs.Formed.{fine}
-use Rattle.law_well_formed.proofs.Basics.{holds_weaker}
+use Rattle.law_well_formed.proofs.Basics.{holds_weaker, holds_later}
 use Rattle.law_well_formed.specs.FormedRanges.{fits_def, fits_decl, MeaningRanged, KnownRanged, NamesRanged, BlocksRanged, ExportsRanged, TablesRanged, ScopeRanged, StateRanged}
 use Rattle.law_well_formed.proofs.RangesTypes.{both_left, both_right}
 use Rattle.law_well_formed.proofs.RangesMade.{beside_then, const_holds, names_more, known_ranged}
@@ -93,8 +95,10 @@ module _ (g : Gathers) where
       → list_all fits_decl ds ≡ true → StateRanged st
       → StateRanged (let d = declared_block g ends st first ds in (d.0, d.1))
   block_ranged ends st first ds e p =
-      decls_ranged ends ds ((all_marked marked_decl st.0 ds).0, st.1, first) e
-      (holds_weaker (λ x h. decls_marks marks ds (st.0, []) h) p)
+      let m : Scope g.Reported = (all_marked marked_decl st.0 ds).0 in
+      let c : Course g.Reported = fold (with_decl g ends) (m, st.1, first) ds in
+      holds_later c.1 _ (decls_report g c.0 ds (c.1, length st.0.own))
+      (decls_ranged ends ds (m, st.1, first) e (holds_weaker (λ x h. decls_marks marks ds (st.0, []) h) p))
 
   pub module_ranged : (modules : List (List ℕ × ℕ)) (ends : List ℕ) (s : Scope g.Reported) (m : Module) (ds : List Decl)
       → list_all fits_decl ds ≡ true → ScopeRanged s
@@ -112,8 +116,11 @@ module _ (g : Gathers) where
   pub definition_ranged : (m : Module) (modules : List (List ℕ × ℕ)) (s : Scope g.Reported) (ds : List Def)
       → list_all fits_def ds ≡ true → ScopeRanged s → StateRanged (declared_in g m modules s ds)
   definition_ranged m modules s ds e h =
-      defs_ranged ds (fold (with_import g modules) (fold marked_def s ds, Ok tt) m.imports) e
-      (imports_ranged modules m.imports (fold marked_def s ds, Ok tt) (defs_marks marks ds s h))
+      let i : State (Unit {0}) g.Reported = fold (with_import g modules) (s, Ok tt) m.imports in
+      let d : State (Unit {0}) g.Reported = fold (with_def g) (fold marked_def i.0 ds, i.1) ds in
+      holds_later d.1 _ (defs_report g d.0 ds (d.1, length i.0.own))
+      (defs_ranged ds (fold marked_def i.0 ds, i.1) e
+      (holds_weaker (λ x k. defs_marks marks ds i.0 k) (imports_ranged modules m.imports (s, Ok tt) h)))
 
 -- ---- into a procedure, and back
 

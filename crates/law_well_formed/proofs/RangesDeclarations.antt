@@ -18,8 +18,7 @@ use Rattle.typed_tree.specs.declared.meaning.Value.{Value}
 use Rattle.typed_tree.specs.Names.{find_name}
 use Rattle.check_scope.specs.Elaborated.{Gathers, beside, ◌▷◌}
 use Rattle.check_scope.specs.Scopes.{State, begin_name}
-use Rattle.check_scope.specs.declared.known.Known.TheVariants.{Begun, Headed, Declared}
-use Rattle.check_scope.specs.declared.known.Origin.TheVariants.{Here}
+use Rattle.check_scope.specs.declared.known.Known.TheVariants.{Begun, Headed}
 use Rattle.check_scope.specs.declared.scope.Scope.{Scope}
 use Rattle.check_scope.specs.Scopes.{heading_means}
 use Rattle.check_const.specs.Parts.{constant}
@@ -114,10 +113,10 @@ module _ (g : Gathers) where
       beside_then g d.1 (nothing_holds (made_ranged st.0 (heading_ranged g st.0 k h))) (λ q.
       const_holds
       (unless_ranged g (with_procedure_type t.0 t.1) h.name
-      (Declared Here (procedure_meaning t.0.types.home (length t.0.procedures) t.1))
+      (Headed (heading_means false (procedure_meaning t.0.types.home (length t.0.procedures) t.1)))
       (procedure_type_ranged t.0 t.1 q)
-      (meant_holds (λ u. meaning.Procedure (record
-      { home = t.0.types.home; number = length t.0.procedures; heading = u })) (λ u. tt) t.1))
+      (heading_means_holds false (meant_holds (λ u. meaning.Procedure (record
+      { home = t.0.types.home; number = length t.0.procedures; heading = u })) (λ u. tt) t.1)))
       d.1)))
 
   new_by : (b : Bool) (s : Scope g.Reported) (name : List ℕ) (n : ℕ) (t : Result TypeNo g.Reported) → ScopeRanged s

@@ -28,7 +28,7 @@ use Rattle.check_scope.specs.declared.scope.Scope.{Scope}
 use Rattle.check_const.specs.Denote.{exported_meaning}
 use Rattle.check_type_expr.specs.Named.{type_meant, in_module, of_module, named_type}
 use Rattle.check_block.specs.Declarations.{Course, with_decl}
-use Rattle.check_block.specs.Inner.{inwards}
+use Rattle.check_scope.specs.Inwards.{inwards}
 use Rattle.check_block.specs.Naming.{marked_decl}
 use Rattle.law_well_formed.specs.FormedHeadings.{marked_by, declared_by, all, course_begin, scope_before, end, names_before, IsBehind, NamesStay}
 use Rattle.law_well_formed.proofs.Basics.{plain_ok}

@@ -237,7 +237,7 @@ module _ (g : Gathers) (m : TypedModule) (opens : ℕ → Bool) (w : ℕ) (s : S
     control_by_formed at (meaning.Field f) p = reported_holds g at rule.WrongControl
     control_by_formed at (meaning.Procedure f) p = reported_holds g at rule.WrongControl
     control_by_formed at (meaning.LocalProcedure f) p = reported_holds g at rule.WrongControl
-    control_by_formed at meaning.Ahead p = reported_holds g at rule.Undeclared
+    control_by_formed at meaning.Ahead p = reported_holds g at rule.Ahead
     control_by_formed at (meaning.Standard f) p = reported_holds g at rule.WrongControl
     control_by_formed at (meaning.Module k) p = reported_holds g at rule.WrongControl
 

@@ -2,7 +2,7 @@
 use Rattle.std.proofs.Common.{◌≡◌, ℕ, suc, ◌+◌, Bool, true, false, cond, List, [], ◌∷◌, ◌++◌, length, Option, Some, None, Result, Ok, Err, refl, sym, ap, subst, ◌∙◌, append_assoc, arith}
 use Rattle.std.specs.Prelude.{IfOk}
 use Rattle.std.specs.List.{fold}
-use Rattle.std.proofs.lemmas.List.{length-append}
+use Rattle.std.proofs.lemmas.List.{length-append, append-nil}
 use Rattle.m2_rule.specs.declared.rule.Rule.TheVariants as rule
 use Rattle.m2_tree.specs.declared.decl.Contents.{Contents}
 use Rattle.m2_tree.specs.declared.decl.Contents.TheVariants as contents
@@ -12,10 +12,12 @@ use Rattle.m2_tree.specs.declared.decl.Heading.{Heading}
 use Rattle.m2_tree.specs.declared.decl.Module.{Module}
 use Rattle.typed_tree.specs.declared.table.Table.{Table}
 use Rattle.typed_tree.specs.declared.types.TypeNo.{TypeNo}
-use Rattle.typed_tree.specs.Names.{find_name}
+use Rattle.typed_tree.specs.declared.meaning.Meaning.TheVariants as meaning
+use Rattle.m2_tree.specs.Names.{same_name}
+use Rattle.typed_tree.specs.Names.{find_name, enter_name}
 use Rattle.check_scope.specs.Elaborated.{Gathers, report, beside}
-use Rattle.check_scope.specs.Scopes.{State, is_free, with_known}
-use Rattle.check_scope.specs.declared.known.Origin.TheVariants.{Here}
+use Rattle.check_scope.specs.Scopes.{State, is_free, with_known, heading_means}
+use Rattle.check_scope.specs.declared.known.Origin.TheVariants.{Module as FromModule, Export}
 use Rattle.check_scope.specs.declared.known.Known.{Known}
 use Rattle.check_scope.specs.declared.known.Known.TheVariants.{Later, Ahead, Begun, Headed, Declared}
 use Rattle.check_scope.specs.declared.scope.Scope.{Scope}
@@ -28,8 +30,12 @@ use Rattle.check_definition.specs.Importing.{numbered_modules, with_import}
 use Rattle.check_definition.specs.Marking.{marked_def}
 use Rattle.check_definition.specs.Predeclared.{console, first_scope}
 use Rattle.check_body.specs.Own.{exported_headings}
+use Rattle.law_folds.proofs.Orders.{fact}
+use Rattle.law_folds.proofs.MarkSteps.{KeepsMarks, defs_marks}
+use Rattle.law_folds.proofs.ImportSteps.{KeepsImports, imports_keep}
+use Rattle.law_folds.proofs.AgainSteps.{definition_reported}
 use Rattle.law_well_formed.specs.FormedTables.{AreNumberedBy}
-use Rattle.law_well_formed.proofs.Order.{has, keys, keys_entered, Distinct, distinct_entered, holds_of, taken_entered, now_taken, is_taken, Order, order_none, AllTaken, next_entered}
+use Rattle.law_well_formed.proofs.Order.{has, keys, keys_entered, Distinct, distinct_entered, holds_of, TakenIn, other_rest, taken_entered, now_taken, is_taken, number_of, NoneDone, none_entered, Order, order_none, AllTaken, next_entered}
 use Rattle.law_well_formed.proofs.Numbers.{exports_numbered}
 use Rattle.law_well_formed.proofs.TablesSteps.{mark_more, Goes, fold_goes, made_goes, constant_goes, type_decl_goes, variables_go, import_goes}
 use Rattle.law_well_formed.proofs.Takes.{beside_left, beside_right, marked_keys, all_marked, Covers, defs_keep, constants_all, types_all, variables_all, defs_reported}
@@ -42,7 +48,48 @@ free_untaken (Some Begun) e = absurd cc
 free_untaken (Some (Headed r)) e = absurd cc
 free_untaken (Some (Declared o r)) e = absurd cc
 
+-- ---- marks and imports
+
+module _ {T : Type 0} where
+  taken_beside : (y name : List ℕ) (k : Known T) (es : List (List ℕ × Known T)) → find_name name es ≡ None
+      → TakenIn es y → TakenIn (enter_name name k es) y
+  taken_beside y name k [] n h = absurd cc
+  taken_beside y name k (e ∷ es) n h = by (same_name name e.0) n (taken_beside y name k es) where
+    by : (b : Bool) → cond b (Some e.1) (find_name name es) ≡ None
+        → (find_name name es ≡ None → TakenIn es y → TakenIn (enter_name name k es) y)
+        → TakenIn (cond b ((e.0, k) ∷ es) (e ∷ enter_name name k es)) y
+    by true q f = absurd cc
+    by false q f = other_rest (same_name y e.0) e.1 (find_name y es) (find_name y (enter_name name k es)) (f q) h
+
+  taking : KeepsMarks {T = T} (λ s t. (y : List ℕ) → TakenIn s.own y → TakenIn t.own y)
+  taking = record {
+    order = record { same = λ s y h. h; next = λ a b c p q y h. q y (p y h) };
+    later = λ s name e y h. taken_beside y name Later s.own e h;
+    ahead = λ s name e y h. taken_beside y name Ahead s.own e h;
+  }
+
+  -- all names are taken, and none means a procedure that is declared here
+  abbrev IsImported : Scope T → Type 0
+  IsImported s = AllTaken (keys s.own) s.own × NoneDone s.own
+
+  import_taken : (s : Scope T) (name : List ℕ) (k : Known T) → number_of k ≡ None → is_taken k ≡ true → IsImported s
+      → IsImported (with_known name k s)
+  import_taken s name k n t h =
+      let own : List (List ℕ × Known T) = enter_name name k s.own in (
+        subst (λ (ks : List (List ℕ)). AllTaken ks own) (sym (keys_entered name k s.own))
+            (all_marked own name (keys s.own) (λ y z. taken_entered y name k s.own t (h.0 y z))
+            (now_taken name k s.own t)),
+        none_entered name k s.own n h.1,
+      )
+
 module _ (g : Gathers) where
+  imported : KeepsImports g (λ s t. IsImported s → IsImported t)
+  imported = record {
+    order = fact IsImported;
+    modules = λ s name n e h. import_taken s name (Declared (FromModule n) (Ok (meaning.Module n))) refl refl h;
+    exports = λ s name n m e h. import_taken s name (Declared (Export n) (Ok m)) refl refl h;
+  }
+
   -- where declarations begin: what was marked by those before is taken, and what is marked later stands behind it
   pub record Begins (s s0 : Scope g.Reported) (rest : List Def) : Type 0 where
     pub all : AllTaken (keys s0.own) s.own
@@ -81,11 +128,13 @@ module _ (g : Gathers) where
 
   next_known : (s s0 : Scope g.Reported) (h : Heading) (rest : List Def) (x : TypeNo)
       → is_free (find_name h.name.name s.own) ≡ true → Begins s s0 (def.Procedure h ∷ rest)
-      → Begins (with_known h.name.name (Declared Here (procedure_meaning s.types.home (length s.procedures) (Ok x)))
+      → Begins (with_known h.name.name
+      (Headed (heading_means false (procedure_meaning s.types.home (length s.procedures) (Ok x))))
       (with_procedure_type s (Ok x))) (marked_def s0 (def.Procedure h)) rest
   next_known s s0 h rest x f b =
       let name : List ℕ = h.name.name in
-      let k : Known g.Reported = Declared Here (procedure_meaning s.types.home (length s.procedures) (Ok x)) in
+      let k : Known g.Reported =
+      Headed (heading_means false (procedure_meaning s.types.home (length s.procedures) (Ok x))) in
       let s1 : Scope g.Reported = marked_def s0 (def.Procedure h) in
       let pre : List (List ℕ) = keys s0.own in
       let new : has name pre ≡ false = new_name pre name s b.all f in
@@ -137,7 +186,8 @@ module _ (g : Gathers) where
       let f : is_free (find_name h.name.name s.own) ≡ true =
       free_if (is_free (find_name h.name.name s.own)) (with_procedure_type s (Ok x)) _ h q in
       next_by (is_free (find_name h.name.name s.own)) s s0 h rest x
-      (Declared Here (procedure_meaning s.types.home (length s.procedures) (Ok x))) (next_known s s0 h rest x f b) q
+      (Headed (heading_means false (procedure_meaning s.types.home (length s.procedures) (Ok x))))
+      (next_known s s0 h rest x f b) q
 
   procedure_begins : (st : State (Unit {0}) g.Reported) (s0 : Scope g.Reported) (h : Heading) (rest : List Def)
       → (with_procedure g st h).1 ≡ Ok tt → Begins st.0 s0 (def.Procedure h ∷ rest)
@@ -181,22 +231,24 @@ module _ (g : Gathers) where
     none_taken : (own : List (List ℕ × Known g.Reported)) → AllTaken [] own
     none_taken own y h = absurd cc
 
+    abbrev begun : List (List ℕ × ℕ) → List Table → State (Unit {0}) g.Reported
+    begun modules tables = fold (with_import g modules) (first_scope home tables, Ok tt) m.imports
+
     first_begins : (modules : List (List ℕ × ℕ)) (tables : List Table) (defs : List Def)
-        → Begins (fold (with_import g modules) (fold marked_def (first_scope home tables) defs, Ok tt) m.imports).0
-        (first_scope home tables) defs
+        → Begins (fold marked_def (begun modules tables).0 defs) (begun modules tables).0 defs
     first_begins modules tables defs =
         let s : Scope g.Reported = first_scope home tables in
-        let k = defs_keep g.Reported defs s in
-        let i = import_goes g modules m.imports (fold marked_def s defs, Ok tt) in
+        let i : Scope g.Reported = (begun modules tables).0 in
+        let b = import_goes g modules m.imports (s, Ok tt) in
+        let t : IsImported i = imports_keep g imported modules m.imports (s, Ok tt) (none_taken [], tt) in
+        let k = defs_keep g.Reported defs i in
         record {
-          all = none_taken _;
-          more = i.more;
-          keys_are = i.keys_are;
-          distinct = i.distinct (k.distinct tt);
-          order = subst (λ (ps : List TypeNo). Order 0 (length ps)
-              (fold (with_import g modules) (fold marked_def s defs, Ok tt) m.imports).0.own)
-              (sym (i.procedures ∙ k.procedures))
-              (i.order 0 (order_none 0 0 (fold marked_def s defs).own (k.none tt) refl));
+          all = λ y h. defs_marks taking defs i y (t.0 y h);
+          more = [];
+          keys_are = sym (append-nil (keys (fold marked_def i defs).own));
+          distinct = k.distinct (b.distinct tt);
+          order = subst (λ (ps : List TypeNo). Order 0 (length ps) (fold marked_def i defs).own)
+              (sym (k.procedures ∙ b.procedures)) (order_none 0 0 (fold marked_def i defs).own (k.none t.1) refl);
         }
 
     numbered_or : (modules : List (List ℕ × ℕ)) (s : Scope g.Reported) (r : Result (Unit {0}) g.Reported)
@@ -212,7 +264,8 @@ module _ (g : Gathers) where
         let s : Scope g.Reported = first_scope home tables in
         let st = declared_in g m modules s defs in
         numbered_or modules st.0 st.1 (λ e.
-        let b = all_end defs (fold (with_import g modules) (fold marked_def s defs, Ok tt) m.imports) s e
+        let i : State (Unit {0}) g.Reported = begun modules tables in
+        let b = all_end defs (fold marked_def i.0 defs, i.1) i.0 (definition_reported g m modules s defs e)
         (first_begins modules tables defs) in
         exports_numbered st.0.own (length st.0.procedures) b.distinct b.order)
 

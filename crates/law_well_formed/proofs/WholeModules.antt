@@ -26,6 +26,7 @@ use Rattle.check_scope.specs.declared.scope.Scope.{Scope}
 use Rattle.check_const.specs.Denote.{exported_meaning}
 use Rattle.check_definition.specs.Predeclared.{predeclared_block, console, first_scope}
 use Rattle.check_definition.specs.Importing.{numbered_modules, with_import}
+use Rattle.check_definition.specs.Again.{Passing}
 use Rattle.check_block.specs.Nesting.{procedure_ends}
 use Rattle.check_block.specs.Naming.{with_marks}
 use Rattle.check_block.specs.Declarations.{Course, Declared, reported_of_lack}
@@ -35,7 +36,7 @@ use Rattle.check_body.specs.Own.{own_names, exported_headings, implementation_sc
 use Rattle.check_body.specs.Routines.{empty_routine, no_bodies, typed_module}
 use Rattle.check_body.specs.declared.procedure.Walk.{Walk}
 use Rattle.check_body.specs.Elaborating.{Elaborates, statements_of}
-use Rattle.check_body.specs.Bodies.{Checked, Steps, steps, marked_by, declared_by, with_statements, bodies_checked}
+use Rattle.check_body.specs.Bodies.{Checked, Steps, steps, marked_by, declared_by, again_by, with_statements, bodies_checked}
 use Rattle.check_body.specs.Checked.{module_or, walk_body, of_body, of_implementation, of_contents}
 use Rattle.check_body.specs.Checks.{elaborate_body, body_module}
 use Rattle.law_modules.specs.WellFormed.{IsRoutine, AreStmts, no_stmts, IsBody, IsWellFormed}
@@ -50,7 +51,7 @@ use Rattle.law_well_formed.proofs.NamedTables.{import_keeps}
 use Rattle.law_well_formed.specs.FormedBodies.{FormsStatements, Keeps, Suits}
 use Rattle.law_well_formed.proofs.Scopes.{scope_formed}
 use Rattle.law_well_formed.proofs.Places.{is_within}
-use Rattle.law_well_formed.proofs.Parts.{AreSteps, nothing_at, no_home, nothing_open, all_marks, all_lead}
+use Rattle.law_well_formed.proofs.Parts.{AreSteps, nothing_at, no_home, nothing_open, all_marks, all_again, all_lead}
 use Rattle.law_well_formed.proofs.Checks.{holds_at}
 use Rattle.law_well_formed.proofs.BodiesBlocks.{from, all_own, all_keep, checked_reported}
 use Rattle.law_well_formed.proofs.Induction.{elaborated_formed, body_formed}
@@ -123,10 +124,13 @@ module _ (g : Gathers) (elaborates : Elaborates g.Reported) (forms : FormsStatem
   abbrev course : Course g.Reported
   course = fold declared_by (marks.0, imported.1, 0) xs
 
+  abbrev passing : Passing g.Reported
+  passing = fold (again_by course.0) (course.1, length imported.0.own) xs
+
   abbrev start : Walk g.Reported
   start = record {
     scope = course.0;
-    so_far = beside g course.1 (reported_of_lack g m.name.pos course.0);
+    so_far = beside g passing.0 (reported_of_lack g m.name.pos course.0);
     bodies =
         no_bodies course.0.procedures;
   }
@@ -192,8 +196,9 @@ module _ (g : Gathers) (elaborates : Elaborates g.Reported) (forms : FormsStatem
         (k.0, ap (λ (hs : List TypeNo). slice_get hs p.number) starts.procedures ∙ k.1)
 
     course_ok : course.1 ≡ Ok tt
-    course_ok = beside_left g course.1 (reported_of_lack g m.name.pos course.0)
-        (checked_reported g elaborates ends None marks.1 ps (start, 0) ok)
+    course_ok = all_again g elaborates ends ps course.0 (course.1, length imported.0.own)
+        (beside_left g passing.0 (reported_of_lack g m.name.pos course.0)
+        (checked_reported g elaborates ends None marks.1 ps (start, 0) ok))
 
     heads : ModuleHeadsIn g elaborates ends course.0.own course.0.types course.0.procedures ps
     heads = heads_in g elaborates ends course.0.own course.0.types course.0.procedures ps (marks.0, imported.1, 0)

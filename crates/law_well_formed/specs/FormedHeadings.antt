@@ -21,7 +21,7 @@ use Rattle.check_scope.specs.declared.scope.Scope.{Scope}
 use Rattle.check_type_expr.specs.Headings.{result_of}
 use Rattle.check_type_expr.specs.Named.{named_type}
 use Rattle.check_block.specs.Declarations.{Course, with_decl}
-use Rattle.check_block.specs.Inner.{inwards}
+use Rattle.check_scope.specs.Inwards.{inwards}
 use Rattle.check_block.specs.Naming.{marked_decl}
 use Rattle.law_well_formed.specs.FormedNumbers.{all_formals}
 

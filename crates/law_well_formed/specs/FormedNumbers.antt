@@ -18,7 +18,8 @@ use Rattle.check_scope.specs.declared.known.Known.TheVariants.{Later, Ahead, Beg
 use Rattle.check_scope.specs.declared.scope.Scope.{Scope}
 use Rattle.check_type_expr.specs.Headings.{formal_of}
 use Rattle.check_block.specs.Declarations.{Course, with_decl}
-use Rattle.check_block.specs.Inner.{formal_kind, inwards, entered_procedure}
+use Rattle.check_scope.specs.Inwards.{inwards}
+use Rattle.check_block.specs.Inner.{formal_kind, entered_procedure}
 use Rattle.law_well_formed.specs.Formed.{Holds}
 
 -- what a block has under numbers: the types of its variables, and the headings of the module's

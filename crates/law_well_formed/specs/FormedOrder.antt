@@ -29,8 +29,9 @@ use Rattle.check_definition.specs.Compiled.{declared_in}
 use Rattle.check_definition.specs.Export.{exports}
 use Rattle.check_definition.specs.Predeclared.{others_of, first_scope}
 use Rattle.check_block.specs.Declarations.{Course, with_decl, declared_block, declared_module}
-use Rattle.check_block.specs.declared.inner.Outside.{Outside}
-use Rattle.check_block.specs.Inner.{entered_procedure, left_procedure}
+use Rattle.check_scope.specs.declared.inner.Outside.{Outside}
+use Rattle.check_scope.specs.Inwards.{left_procedure}
+use Rattle.check_block.specs.Inner.{entered_procedure}
 use Rattle.law_well_formed.specs.Formed.{Holds}
 use Rattle.law_well_formed.specs.Ordered.{is_known, AreKnown, OthersOrdered, BeginsWith, AreOrdered}
 

@@ -49,8 +49,9 @@ use Rattle.check_definition.specs.Export.{exports, reached_of}
 use Rattle.check_definition.specs.Predeclared.{others_of, first_scope}
 use Rattle.check_scope.specs.Scopes.{State}
 use Rattle.check_block.specs.Declarations.{Course, with_decl, declared_block, declared_module}
-use Rattle.check_block.specs.declared.inner.Outside.{Outside}
-use Rattle.check_block.specs.Inner.{entered_procedure, left_procedure}
+use Rattle.check_scope.specs.declared.inner.Outside.{Outside}
+use Rattle.check_scope.specs.Inwards.{left_procedure}
+use Rattle.check_block.specs.Inner.{entered_procedure}
 use Rattle.law_well_formed.specs.Formed.{Holds}
 use Rattle.law_modules.specs.Ranges.{AreRangedFrom, OthersRanged, AreRanged}
 

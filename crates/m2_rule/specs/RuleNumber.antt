@@ -1,7 +1,7 @@
 -- The numbers by which broken rules are reported.
-use Rattle.std.specs.Prelude.{ℕ}
+use Rattle.std.specs.Prelude.{ℕ, Bool, true, false}
 use Rattle.m2_rule.specs.declared.rule.Rule.{Rule}
-use Rattle.m2_rule.specs.declared.rule.Rule.TheVariants.{MissingModule, SecondFile, Cycle, ProgramCount, LonelyModule, FileCount, Undeclared, DeclaredTwice, NotExported, NoType, NoConstant, EmptyRange, NoIndex, ConstantCount, LargeType, WrongType, NotAssignable, ArgumentCount, WrongArgument, NoVariable, LonelyExit, WrongReturn, WrongControl, ZeroStep, WrongLabel, OtherHeading, MissingProcedure, OutOfRange, NoProcedureValue, LargeStorage, LargeProgram}
+use Rattle.m2_rule.specs.declared.rule.Rule.TheVariants.{MissingModule, SecondFile, Cycle, ProgramCount, LonelyModule, FileCount, Undeclared, Ahead, DeclaredTwice, NotExported, NoType, NoConstant, EmptyRange, NoIndex, ConstantCount, LargeType, WrongType, NotAssignable, ArgumentCount, WrongArgument, NoVariable, LonelyExit, WrongReturn, WrongControl, ZeroStep, WrongLabel, OtherHeading, MissingProcedure, OutOfRange, NoProcedureValue, LargeStorage, LargeProgram}
 
 abbrev pub number_of : Rule → ℕ
 number_of MissingModule = 20
@@ -11,6 +11,7 @@ number_of ProgramCount = 23
 number_of LonelyModule = 24
 number_of FileCount = 25
 number_of Undeclared = 30
+number_of Ahead = 30
 number_of DeclaredTwice = 31
 number_of NotExported = 32
 number_of NoType = 33
@@ -35,3 +36,8 @@ number_of OutOfRange = 52
 number_of NoProcedureValue = 53
 number_of LargeStorage = 60
 number_of LargeProgram = 61
+
+-- It is reported only if nothing else is.
+abbrev pub is_last : Rule → Bool
+is_last Ahead = true
+is_last other = false

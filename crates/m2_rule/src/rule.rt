@@ -1,7 +1,7 @@
 //! Rules and their numbers.
 
 ghost use Rattle.std.specs.Prelude.{◌≡◌};
-ghost use Rattle.m2_rule.specs.RuleNumber.{number_of};
+ghost use Rattle.m2_rule.specs.RuleNumber.{number_of, is_last};
 
 /// A rule of imports, of declarations and types, or of storage.
 #[derive(Clone, Copy, Debug, PartialEq, Eq)]
@@ -20,6 +20,8 @@ pub enum Rule {
     FileCount,
     /// 30: a name that is not declared, or not yet.
     Undeclared,
+    /// 30: a procedure in front of its heading, where the heading is asked for. It is reported only if nothing else is.
+    Ahead,
     /// 31: a name that is declared twice in one scope.
     DeclaredTwice,
     /// 32: a name that the module does not export.
@@ -83,6 +85,7 @@ impl Rule {
             Rule::LonelyModule => 24,
             Rule::FileCount => 25,
             Rule::Undeclared => 30,
+            Rule::Ahead => 30,
             Rule::DeclaredTwice => 31,
             Rule::NotExported => 32,
             Rule::NoType => 33,
@@ -108,5 +111,12 @@ impl Rule {
             Rule::LargeStorage => 60,
             Rule::LargeProgram => 61,
         }
+    }
+
+    /// Whether it is reported only if nothing else is.
+    pub fn is_last(self) -> bool
+        ensures { result ≡ is_last self }
+    {
+        matches!(self, Rule::Ahead)
     }
 }
