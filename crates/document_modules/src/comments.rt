@@ -89,13 +89,13 @@ impl Block {
     }
 
     /// Writes what is gathered.
-    fn write(&self, sheet: &mut Sheet) -> Result<(), AllocError> {
+    fn write(&self, sheet: &mut Sheet) {
         match self.kind {
-            Line::Empty => Ok(()),
+            Line::Empty => {}
             Line::Prose => {
-                sheet.begin_paragraph()?;
-                sheet.put_prose(&self.words, true)?;
-                sheet.end_paragraph()
+                sheet.begin_paragraph();
+                sheet.put_prose(&self.words, true);
+                sheet.end_paragraph();
             }
             Line::Verbatim => sheet.put_lines("", &self.words),
         }
@@ -118,12 +118,13 @@ pub fn write_comment(alloc: Global, sheet: &mut Sheet, comment: &[u8]) -> Result
     for (number, line) in words.split(|byte| *byte == LINE_FEED).enumerate() {
         let kind = line_kind(number, line, least);
         if !block.goes_on(kind) {
-            block.write(sheet)?;
+            block.write(sheet);
             block = block_of(alloc, kind);
         }
         block.add(kind, line, least)?;
     }
-    block.write(sheet)
+    block.write(sheet);
+    Ok(())
 }
 
 /// The first paragraph of a comment, as one line.

@@ -166,7 +166,8 @@ impl<'a, 'b> Library<'a, 'b> {
             return Ok(());
         };
         let file = file_of(self.alloc, self.kind, of.name)?;
-        sheet.put_link(of.name.as_bytes(), file.as_bytes())
+        sheet.put_link(of.name.as_bytes(), file.as_bytes());
+        Ok(())
     }
 
     /// Writes which modules use the entry of this number, if any do.
@@ -178,16 +179,17 @@ impl<'a, 'b> Library<'a, 'b> {
         if users.is_empty() {
             return Ok(());
         }
-        sheet.begin_paragraph()?;
+        sheet.begin_paragraph();
         for (at, user) in users.iter().enumerate() {
             sheet.put_plain(if at == 0 {
                 b"Used by: ".as_slice()
             } else {
                 b", ".as_slice()
-            })?;
+            });
             self.put_module(sheet, *user)?;
         }
-        sheet.end_paragraph()
+        sheet.end_paragraph();
+        Ok(())
     }
 
     /// Writes a name of another module, which leads to its place if the library has it.
@@ -205,6 +207,7 @@ impl<'a, 'b> Library<'a, 'b> {
             Some(entry) => sheet.put_link(&words, &self.place_of(entry)?),
             None => sheet.put_plain(&words),
         }
+        Ok(())
     }
 
     /// Writes which names of other modules stand in a declaration, if any do.
@@ -217,16 +220,17 @@ impl<'a, 'b> Library<'a, 'b> {
         if references.is_empty() {
             return Ok(());
         }
-        sheet.begin_paragraph()?;
+        sheet.begin_paragraph();
         for (at, reference) in references.iter().enumerate() {
             sheet.put_plain(if at == 0 {
                 b"Uses: ".as_slice()
             } else {
                 b", ".as_slice()
-            })?;
+            });
             self.put_reference(sheet, of, *reference)?;
         }
-        sheet.end_paragraph()
+        sheet.end_paragraph();
+        Ok(())
     }
 
     /// Writes the comments among these pieces.
@@ -270,7 +274,7 @@ impl<'a, 'b> Library<'a, 'b> {
     ) -> Result<(), AllocError> {
         for name in names {
             if let Some((_, entry)) = self.entry_of(of, *name)? {
-                sheet.put_heading(of.bytes_of(*name), &self.anchor_of(entry)?)?;
+                sheet.put_heading(of.bytes_of(*name), &self.anchor_of(entry)?);
             }
         }
         Ok(())
@@ -301,7 +305,7 @@ impl<'a, 'b> Library<'a, 'b> {
     ) -> Result<(), AllocError> {
         let names = own_names(self.alloc, &of.pieces, unit)?;
         self.put_headings(sheet, of, &names)?;
-        sheet.put_lines("modula2", &declaration(self.alloc, of, unit)?)?;
+        sheet.put_lines("modula2", &declaration(self.alloc, of, unit)?);
         self.put_comments(sheet, of, unit.front, unit.begin)?;
         self.put_comments(sheet, of, unit.end, unit.behind)?;
         let references = references_in(self.alloc, of, imports, unit)?;
@@ -316,7 +320,7 @@ impl<'a, 'b> Library<'a, 'b> {
         let mut is_behind_export = false;
         for unit in &of.units {
             if is_behind_export && has_comment(of, from, unit.front) {
-                sheet.put_rule()?;
+                sheet.put_rule();
             }
             self.put_comments(sheet, of, from, unit.front)?;
             if unit.sort.is_export() {
@@ -351,7 +355,8 @@ impl<'a, 'b> Library<'a, 'b> {
         if is_first {
             return Ok(());
         }
-        sheet.end_paragraph()
+        sheet.end_paragraph();
+        Ok(())
     }
 
     /// Writes a name that a module declares.
@@ -366,30 +371,31 @@ impl<'a, 'b> Library<'a, 'b> {
             return Ok(());
         };
         if is_first {
-            sheet.begin_paragraph()?;
-            sheet.put_plain(b"Exports: ")?;
+            sheet.begin_paragraph();
+            sheet.put_plain(b"Exports: ");
         } else {
-            sheet.put_plain(b", ")?;
+            sheet.put_plain(b", ");
         }
         let mut place = Vec::from_slice(self.alloc, b"#")?;
         place.extend_from_slice(&self.anchor_of(entry)?)?;
-        sheet.put_link(of.bytes_of(name), &place)
+        sheet.put_link(of.bytes_of(name), &place);
+        Ok(())
     }
 
     /// The page of a module.
     fn module_page(&self, of: &Outline<'_>) -> Result<Page, AllocError> {
         let name = of.name;
         let title = format!(in self.alloc; "Module {name}")?;
-        let mut sheet = Sheet::new(self.alloc, self.kind, title.as_bytes())?;
+        let mut sheet = Sheet::new(self.alloc, self.kind, title.as_bytes());
         self.put_head(&mut sheet, of)?;
         self.put_contents(&mut sheet, of)?;
         let itself = self.entries.number_of(self.alloc, of.name.as_bytes(), b"")?;
         self.put_users(&mut sheet, itself)?;
         self.put_exports(&mut sheet, of)?;
         let index = index_file(self.alloc, self.kind)?;
-        sheet.begin_paragraph()?;
-        sheet.put_link(b"All modules", index.as_bytes())?;
-        sheet.end_paragraph()?;
+        sheet.begin_paragraph();
+        sheet.put_link(b"All modules", index.as_bytes());
+        sheet.end_paragraph();
         Ok(Page {
             file: file_of(self.alloc, self.kind, of.name)?,
             text: sheet.finish(self.alloc)?,
@@ -414,18 +420,19 @@ impl<'a, 'b> Library<'a, 'b> {
 
     /// Writes the list of the modules.
     fn put_modules(&self, sheet: &mut Sheet) -> Result<(), AllocError> {
-        sheet.begin_list()?;
+        sheet.begin_list();
         for (number, of) in self.outlines.iter().enumerate() {
             let sentence = self.sentence_of(of)?;
-            sheet.begin_item()?;
+            sheet.begin_item();
             self.put_module(sheet, number)?;
             if !sentence.is_empty() {
-                sheet.put_plain(b": ")?;
-                sheet.put_prose(&sentence, false)?;
+                sheet.put_plain(b": ");
+                sheet.put_prose(&sentence, false);
             }
-            sheet.end_item()?;
+            sheet.end_item();
         }
-        sheet.end_list()
+        sheet.end_list();
+        Ok(())
     }
 
     /// The names that are exported, in the order of the alphabet.
@@ -458,24 +465,25 @@ impl<'a, 'b> Library<'a, 'b> {
 
     /// Writes the list of the exports.
     fn put_rows(&self, sheet: &mut Sheet) -> Result<(), AllocError> {
-        sheet.begin_list()?;
+        sheet.begin_list();
         for row in &self.rows()? {
             if let Some(entry) = self.entries.at(row.number) {
-                sheet.begin_item()?;
-                sheet.put_link(&row.name, &self.place_of(entry)?)?;
-                sheet.put_plain(b" of ")?;
+                sheet.begin_item();
+                sheet.put_link(&row.name, &self.place_of(entry)?);
+                sheet.put_plain(b" of ");
                 self.put_module(sheet, entry.module)?;
-                sheet.end_item()?;
+                sheet.end_item();
             }
         }
-        sheet.end_list()
+        sheet.end_list();
+        Ok(())
     }
 
     /// The page of the index.
     fn index_page(&self) -> Result<Page, AllocError> {
-        let mut sheet = Sheet::new(self.alloc, self.kind, b"Modules")?;
+        let mut sheet = Sheet::new(self.alloc, self.kind, b"Modules");
         self.put_modules(&mut sheet)?;
-        sheet.put_bare_heading("Exports")?;
+        sheet.put_bare_heading("Exports");
         self.put_rows(&mut sheet)?;
         Ok(Page {
             file: index_file(self.alloc, self.kind)?,

@@ -1,7 +1,6 @@
 -- The text of each instruction, and of code that is put row by row.
-use Rattle.std.proofs.Common.{◌≡◌, ℕ, suc, ◌≤◌, List, [], ◌∷◌, ◌++◌, Option, Some, None, Result, OnOk, length, codes, map, refl, sym, ap, subst, ◌∙◌, append_assoc, arith}
+use Rattle.std.proofs.Common.{◌≡◌, ℕ, suc, ◌≤◌, List, [], ◌∷◌, ◌++◌, Option, Some, None, length, codes, map, refl, sym, ap, subst, ◌∙◌, arith}
 use Rattle.std.specs.List.{flat_map}
-use Rattle.std.proofs.lemmas.List.{append-nil}
 use Rattle.wasm_tree.specs.declared.kinds.ValueType.{ValueType}
 use Rattle.wasm_tree.specs.declared.code.Op.{Op}
 use Rattle.wasm_tree.specs.declared.code.Op.TheVariants as op
@@ -14,8 +13,10 @@ use Rattle.wasm_tree.specs.declared.instr.Instr.TheVariants.{Unreachable, Block,
 use Rattle.wasm_tree.specs.declared.instr.Instr.TheVariants.{outs-Unreachable, outs-Block, outs-Loop, outs-If, outs-Br, outs-BrIf, outs-BrTable, outs-Return, outs-Call, outs-CallIndirect, outs-Drop, outs-LocalGet, outs-LocalSet, outs-LocalTee, outs-GlobalGet, outs-Load, outs-Store, outs-I32Const, outs-I64Const, outs-Numeric}
 use Rattle.wasm_tree.specs.Code.{tree, head, behind, label_of}
 use Rattle.wasm_tree.proofs.Flat.{tree_front, tree_none, behind_le}
-use Rattle.show_code.specs.Pages.{deeper, row}
+use Rattle.show_code.specs.declared.page.Page.{Page}
+use Rattle.show_code.specs.Pages.{Puts, deeper, row}
 use Rattle.show_code.specs.Instructions.{callee_text, code_text, instr_text, label_text, load_word, numbered_row, numeric_text, opened_text, store_word, targets_text, text_step, texts_at}
+use Rattle.show_code.proofs.Joined.{Leads, goes_on, is_done}
 
 at : (level : ℕ) (i : Instr) (x : Instr-F Instr) → out-Instr i ≡ x
     → instr_text i level ≡ text_step (map-Instr Instr (ℕ → List ℕ) instr_text x) level
@@ -107,13 +108,12 @@ text-Store level w = at level (Store w) (layer.Store w) (outs-Store w)
 pub text-Numeric : (level : ℕ) (n : numeric.Numeric) → instr_text (Numeric n) level ≡ numeric_text level n
 text-Numeric level n = at level (Numeric n) (layer.Numeric n) (outs-Numeric n)
 
-pub put-GlobalGet : {T E : Type 0} (r : Result T E) (old new : List ℕ) (o : Op) (rest : List Op) (level n x : ℕ)
-    → o ≡ op.GlobalGet x → n ≡ x
-    → OnOk r (new ≡ old ++ numbered_row level (codes "global.get ") n)
-    → OnOk r (new ≡ old ++ instr_text (head tree o rest) level)
-put-GlobalGet r old new o rest level n x e f h =
-    subst (λ (i : Op). OnOk r (new ≡ old ++ instr_text (head tree i rest) level)) (sym e)
-    (subst (λ (t : List ℕ). OnOk r (new ≡ old ++ t))
+pub put-GlobalGet : (old new : Page) (o : Op) (rest : List Op) (level n x : ℕ) → o ≡ op.GlobalGet x → n ≡ x
+    → Puts old new (numbered_row level (codes "global.get ") n)
+    → Puts old new (instr_text (head tree o rest) level)
+put-GlobalGet old new o rest level n x e f h =
+    subst (λ (i : Op). Puts old new (instr_text (head tree i rest) level)) (sym e)
+    (subst (λ (t : List ℕ). Puts old new t)
     (ap (λ (k : ℕ). numbered_row level (codes "global.get ") k) f ∙ sym (text-GlobalGet level x)) h)
 
 -- ---- a table of labels
@@ -128,20 +128,20 @@ abbrev coded : (level : ℕ) → List Op → List ℕ
 coded level ops = code_text level (tree ops)
 
 -- one more instruction was put, and what is left stands behind it
-pub one_put : (level : ℕ) (out new all : List ℕ) (o : Op) (left rest behind_it : List Op)
-    → new ≡ out ++ instr_text (head tree o rest) level → left ≡ o ∷ rest → behind_it ≡ behind o rest
-    → out ++ coded level left ≡ all → new ++ coded level behind_it ≡ all
-one_put level out new all o left rest behind_it e f g so_far =
-    ap (λ (w : List ℕ). w ++ coded level behind_it) e
-    ∙ append_assoc out (instr_text (head tree o rest) level) (coded level behind_it)
-    ∙ ap (λ (ops : List Op). out ++ (instr_text (head tree o rest) level ++ coded level ops)) g
-    ∙ sym (ap (λ (is : List Instr). out ++ code_text level is) (ap tree f ∙ tree_front o rest))
-    ∙ so_far
+pub one_put : (level : ℕ) (old so_far new : Page) (all : List ℕ) (o : Op) (left rest behind_it : List Op)
+    → Puts so_far new (instr_text (head tree o rest) level) → left ≡ o ∷ rest → behind_it ≡ behind o rest
+    → Leads old so_far (coded level left) all → Leads old new (coded level behind_it) all
+one_put level old so_far new all o left rest behind_it h f g leads =
+    goes_on old so_far new (instr_text (head tree o rest) level) (coded level left) (coded level behind_it) all
+    (ap (λ (is : List Instr). code_text level is) (ap tree f ∙ tree_front o rest)
+    ∙ sym (ap (λ (ops : List Op). instr_text (head tree o rest) level ++ coded level ops) g)) h leads
 
 -- nothing is left
-pub all_put : (level : ℕ) (out all : List ℕ) (left : List Op) → left ≡ [] → out ++ coded level left ≡ all → out ≡ all
-all_put level out all left f so_far =
-    sym (append-nil out) ∙ sym (ap (λ (is : List Instr). out ++ code_text level is) (ap tree f ∙ tree_none)) ∙ so_far
+pub all_put : (level : ℕ) (old so_far : Page) (all : List ℕ) (left : List Op) → left ≡ []
+    → Leads old so_far (coded level left) all → Puts old so_far all
+all_put level old so_far all left f leads =
+    is_done old so_far (coded level left) all
+    (ap (λ (is : List Instr). code_text level is) (ap tree f ∙ tree_none)) leads
 
 pub no_longer : (n : ℕ) (o : Op) (left rest behind_it : List Op) → left ≡ o ∷ rest → behind_it ≡ behind o rest
     → length left ≤ n → length behind_it ≤ n

@@ -1,6 +1,17 @@
 -- What pages are made of.
-use Rattle.std.specs.Prelude.{ℕ, ◌+◌, ◌*◌, List, ◌++◌, min, replicate, codes, decimal}
+use Rattle.std.specs.Prelude.{ℕ, ◌≡◌, ◌+◌, ◌*◌, List, ◌++◌, IsOk, min, replicate, codes, decimal}
 use Rattle.m2_tree.specs.declared.pos.Pos.{Pos}
+use Rattle.show_code.specs.declared.page.Page.{Page}
+
+-- These words are put at the end of a page. Where memory did not run out, it had not before, and
+-- all of them stand there.
+abbrev pub Puts : (old new : Page) → (words : List ℕ) → Type 0
+Puts old new words =
+    IsOk new.written → IsOk old.written × (new.text.items ≡ old.text.items ++ words)
+
+-- A page has this text, unless memory ran out.
+abbrev pub Has : Page → (text : List ℕ) → Type 0
+Has page text = IsOk page.written → page.text.items ≡ text
 
 -- a place: its line and its column
 abbrev pub place_text : Pos → List ℕ

@@ -1,11 +1,11 @@
 //! Strings in the text format.
 
-ghost use Rattle.std.specs.Prelude.{◌≡◌, ◌++◌, ◌<◌, OnOk};
+ghost use Rattle.std.specs.Prelude.{◌≡◌, ◌<◌};
 ghost use Rattle.std.specs.List.{flat_map};
+ghost use Rattle.show_code.specs.Pages.{Puts};
 ghost use Rattle.show_code.specs.Modules.{byte_text, hex_digit, is_plain, string_text};
 
 use crate::page::Page;
-use std::alloc::AllocError;
 
 /// The sign of a digit below 16.
 fn hex_digit(digit: u8) -> u8
@@ -24,31 +24,30 @@ fn is_plain(byte: u8) -> bool
 
 /// Puts a byte of a string.
 #[tactic(auto, unfolding(crate::specs::Modules::byte_text))]
-fn put_byte(page: &mut Page, byte: u8) -> Result<(), AllocError>
-    ensures { OnOk result (page.new ≡ page.old ++ byte_text byte) }
+fn put_byte(page: &mut Page, byte: u8)
+    ensures { Puts page.old page.new (byte_text byte) }
 {
     if is_plain(byte) {
-        page.put(&[byte])
+        page.put(&[byte]);
     } else {
-        page.put(&[b'\\', hex_digit(byte / 16), hex_digit(byte % 16)])
+        page.put(&[b'\\', hex_digit(byte / 16), hex_digit(byte % 16)]);
     }
 }
 
 /// Puts the bytes of a string.
-fn put_bytes(page: &mut Page, bytes: &[u8]) -> Result<(), AllocError>
-    ensures { OnOk result (page.new ≡ page.old ++ flat_map byte_text bytes.now) }
+fn put_bytes(page: &mut Page, bytes: &[u8])
+    ensures { Puts page.old page.new (flat_map byte_text bytes.now) }
 {
     for byte in bytes {
-        put_byte(page, *byte)?;
+        put_byte(page, *byte);
     }
-    Ok(())
 }
 
 /// Puts a blank, and a string between quotes.
-pub fn put_string(page: &mut Page, bytes: &[u8]) -> Result<(), AllocError>
-    ensures { OnOk result (page.new ≡ page.old ++ string_text bytes.now) }
+pub fn put_string(page: &mut Page, bytes: &[u8])
+    ensures { Puts page.old page.new (string_text bytes.now) }
 {
-    page.put(b" \"")?;
-    put_bytes(page, bytes)?;
-    page.put(b"\"")
+    page.put(b" \"");
+    put_bytes(page, bytes);
+    page.put(b"\"");
 }

@@ -2,7 +2,7 @@
 
 use crate::nodes::{Node, Part};
 use std::alloc::{AllocError, Global};
-use std::fmt::Write;
+use write_text::Text;
 
 /// Whether a module is among those that a definition imports.
 fn is_among(definition: &Option<Part<'_>>, name: &str) -> bool {
@@ -15,20 +15,31 @@ fn is_among(definition: &Option<Part<'_>>, name: &str) -> bool {
     }
 }
 
+/// Puts a line: words between quotes, and a style.
+fn put_line(page: &mut Text, words: &[&str], style: &str) {
+    page.put("  \"");
+    page.put_all(words);
+    page.put_all(&["\"", style, ";\n"]);
+}
+
+/// Puts the line of an import.
+fn put_import(page: &mut Text, node: &Node<'_>, import: &str, style: &str) {
+    put_line(page, &[node.name.as_str(), "\" -> \"", import], style);
+}
+
 /// Puts the lines of what a definition imports.
-fn push_definition(page: &mut String, node: &Node<'_>) -> Result<(), AllocError> {
+fn put_definition(page: &mut Text, node: &Node<'_>) {
     if let Some(part) = &node.definition {
         for import in &part.imports {
-            write!(*page, "  \"{}\" -> \"{import}\";\n", node.name)?;
+            put_import(page, node, import.as_str(), "");
         }
     }
-    Ok(())
 }
 
 /// Puts the lines of what a body imports beyond its definition.
-fn push_body(page: &mut String, node: &Node<'_>) -> Result<(), AllocError> {
+fn put_body(page: &mut Text, node: &Node<'_>) {
     let Some(part) = &node.body else {
-        return Ok(());
+        return;
     };
     let style = if node.is_program {
         ""
@@ -37,18 +48,17 @@ fn push_body(page: &mut String, node: &Node<'_>) -> Result<(), AllocError> {
     };
     for import in &part.imports {
         if !is_among(&node.definition, import.as_str()) {
-            write!(*page, "  \"{}\" -> \"{import}\"{style};\n", node.name)?;
+            put_import(page, node, import.as_str(), style);
         }
     }
-    Ok(())
 }
 
 /// Puts the module itself, and what it imports.
-fn push_node(page: &mut String, node: &Node<'_>) -> Result<(), AllocError> {
+fn put_node(page: &mut Text, node: &Node<'_>) {
     let style = if node.is_program { " [style=bold]" } else { "" };
-    write!(*page, "  \"{}\"{style};\n", node.name)?;
-    push_definition(page, node)?;
-    push_body(page, node)
+    put_line(page, &[node.name.as_str()], style);
+    put_definition(page, node);
+    put_body(page, node);
 }
 
 /// The imports of a program in the language of graphviz. A line leads from each module to those that it imports: a dashed one if
@@ -59,13 +69,14 @@ pub fn picture(
     nodes: &[Node<'_>],
     lacking: &[String],
 ) -> Result<String, AllocError> {
-    let mut page = String::from_str(alloc, "digraph imports {\n  node [shape=box];\n")?;
+    let mut page = Text::new(alloc);
+    page.put("digraph imports {\n  node [shape=box];\n");
     for node in nodes {
-        push_node(&mut page, node)?;
+        put_node(&mut page, node);
     }
     for name in lacking {
-        write!(page, "  \"{name}\" [style=dotted];\n")?;
+        put_line(&mut page, &[name.as_str()], " [style=dotted]");
     }
-    page.push_str("}\n")?;
-    Ok(page)
+    page.put("}\n");
+    page.finish()
 }

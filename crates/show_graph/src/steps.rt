@@ -1,9 +1,8 @@
 //! The steps of a build.
 
 use crate::nodes::{Node, Part};
-use crate::words::{Reader, push_name, push_word};
-use std::alloc::{AllocError, Global};
-use std::fmt::Write;
+use crate::words::{Reader, put_name, put_word};
+use write_text::Text;
 
 /// What the steps of a build are called with.
 #[derive(Clone, Copy)]
@@ -27,64 +26,48 @@ impl Steps<'_> {
         }
     }
 
-    /// The name of a file of a module in the folder of the modules.
-    pub fn made(&self, alloc: Global, module: &str, ending: &str) -> Result<String, AllocError> {
-        let out = self.out;
-        format!(in alloc; "{out}/{module}{ending}")
-    }
-
     /// Puts the name of a file of a module in the folder of the modules.
-    pub fn push_made(
-        &self,
-        alloc: Global,
-        page: &mut String,
-        reader: Reader,
-        module: &str,
-        ending: &str,
-    ) -> Result<(), AllocError> {
-        let name = self.made(alloc, module, ending)?;
-        push_name(page, reader, name.as_str())
+    pub fn put_made(&self, page: &mut Text, reader: Reader, module: &str, ending: &str) {
+        for part in [self.out, "/", module, ending] {
+            put_name(page, reader, part);
+        }
     }
 
     /// Puts the words behind `m2 compile` that all modules share.
-    pub fn push_shared(&self, page: &mut String) -> Result<(), AllocError> {
-        page.push_str(" compile --out")?;
-        push_word(page, self.out)?;
+    pub fn put_shared(&self, page: &mut Text) {
+        page.put(" compile --out");
+        put_word(page, &[self.out]);
         for library in self.libraries {
-            page.push_str(" --lib")?;
-            push_word(page, library.as_str())?;
+            page.put(" --lib");
+            put_word(page, &[library.as_str()]);
         }
-        Ok(())
     }
 
     /// Puts the words of one module: the file that says what it depends on, and the folder of the program if its own is another.
-    pub fn push_own(
-        &self,
-        alloc: Global,
-        page: &mut String,
-        node: &Node<'_>,
-        body: &Part<'_>,
-    ) -> Result<(), AllocError> {
-        page.push_str(" --deps")?;
-        push_word(page, self.made(alloc, node.name.as_str(), ".d")?.as_str())?;
-        if self.is_beside(body.file) {
-            return Ok(());
+    pub fn put_own(&self, page: &mut Text, node: &Node<'_>, body: &Part<'_>) {
+        page.put(" --deps");
+        put_word(page, &[self.out, "/", node.name.as_str(), ".d"]);
+        if !self.is_beside(body.file) {
+            page.put(" --from");
+            put_word(page, &[self.named_folder()]);
         }
-        page.push_str(" --from")?;
-        push_word(
-            page,
-            if self.folder.is_empty() {
-                "."
-            } else {
-                self.folder
-            },
-        )
+    }
+
+    /// The folder of the program as a word that is not empty.
+    fn named_folder(&self) -> &str {
+        if self.folder.is_empty() {
+            "."
+        } else {
+            self.folder
+        }
     }
 
     /// Puts the words behind `m2` that link a program.
-    pub fn push_link(&self, page: &mut String, program: &str) -> Result<(), AllocError> {
-        page.push_str(" link --out")?;
-        push_word(page, self.out)?;
-        write!(*page, " --memory {} {program}", self.pages)
+    pub fn put_link(&self, page: &mut Text, program: &str) {
+        page.put(" link --out");
+        put_word(page, &[self.out]);
+        page.put(" --memory ");
+        page.put_number(u64::from(self.pages));
+        page.put_all(&[" ", program]);
     }
 }

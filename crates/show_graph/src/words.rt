@@ -1,6 +1,6 @@
 //! Words of other programs: of a shell, of make and of ninja.
 
-use std::alloc::AllocError;
+use write_text::Text;
 
 /// Who reads a name.
 #[derive(Clone, Copy, PartialEq, Eq)]
@@ -16,83 +16,90 @@ fn is_plain(c: char) -> bool {
     c.is_ascii_alphanumeric() || matches!(c, '_' | '.' | '/' | '+' | ',' | ':' | '@' | '-')
 }
 
+/// Whether a shell takes a word of these parts as it is.
+fn are_plain(parts: &[&str]) -> bool {
+    let mut is_empty = true;
+    for part in parts {
+        if !part.chars().all(is_plain) {
+            return false;
+        }
+        is_empty = is_empty && part.is_empty();
+    }
+    !is_empty
+}
+
 /// Puts a character into a word of a shell that stands between quotes, in a line of make or ninja.
-fn push_quoted(page: &mut String, c: char) -> Result<(), AllocError> {
+fn put_quoted(page: &mut Text, c: char) {
     match c {
-        '\'' => page.push_str("'\\''"),
-        '$' => page.push_str("$$"),
-        other => page.push(other),
+        '\'' => page.put("'\\''"),
+        '$' => page.put("$$"),
+        other => page.put_char(other),
     }
 }
 
-/// Puts a word of a shell into a line of make or ninja, between quotes if need be, with a blank in front.
-pub fn push_word(page: &mut String, word: &str) -> Result<(), AllocError> {
-    page.push(' ')?;
-    if !word.is_empty() && word.chars().all(is_plain) {
-        return page.push_str(word);
+/// Puts a word of a shell into a line of make or ninja, between quotes if need be, with a blank in front. It has these parts.
+pub fn put_word(page: &mut Text, parts: &[&str]) {
+    page.put(" ");
+    if are_plain(parts) {
+        page.put_all(parts);
+        return;
     }
-    page.push('\'')?;
-    for c in word.chars() {
-        push_quoted(page, c)?;
+    page.put("'");
+    for part in parts {
+        for c in part.chars() {
+            put_quoted(page, c);
+        }
     }
-    page.push('\'')
+    page.put("'");
 }
 
 /// Puts backslashes: those in front of a blank are doubled in make's form.
-fn push_backslashes(page: &mut String, count: usize) -> Result<(), AllocError> {
+fn put_backslashes(page: &mut Text, count: usize) {
     for _ in 0..count {
-        page.push('\\')?;
+        page.put("\\");
     }
-    Ok(())
 }
 
 /// Puts a character of the name of a file as make reads it, behind so many backslashes.
-fn push_for_make(
-    page: &mut String,
-    c: char,
-    backslashes: usize,
-    is_included: bool,
-) -> Result<(), AllocError> {
+fn put_for_make(page: &mut Text, c: char, backslashes: usize, is_included: bool) {
     match c {
-        ' ' | '\t' => push_backslashes(page, backslashes.saturating_add(1))?,
-        '#' => page.push('\\')?,
-        ':' if !is_included => page.push('\\')?,
-        '$' => page.push('$')?,
+        ' ' | '\t' => put_backslashes(page, backslashes.saturating_add(1)),
+        '#' => page.put("\\"),
+        ':' if !is_included => page.put("\\"),
+        '$' => page.put("$"),
         _ => {}
     }
-    page.push(c)
+    page.put_char(c);
 }
 
 /// Puts the name of a file as make reads it, in a rule or behind the word `include`.
-fn push_make_name(page: &mut String, name: &str, is_included: bool) -> Result<(), AllocError> {
+fn put_make_name(page: &mut Text, name: &str, is_included: bool) {
     let mut backslashes: usize = 0;
     for c in name.chars() {
-        push_for_make(page, c, backslashes, is_included)?;
+        put_for_make(page, c, backslashes, is_included);
         backslashes = if c == '\\' {
             backslashes.saturating_add(1)
         } else {
             0
         };
     }
-    Ok(())
 }
 
 /// Puts the name of a file as ninja reads it.
-fn push_ninja_name(page: &mut String, name: &str) -> Result<(), AllocError> {
+fn put_ninja_name(page: &mut Text, name: &str) {
     for c in name.chars() {
         if matches!(c, ' ' | '$' | ':') {
-            page.push('$')?;
+            page.put("$");
         }
-        page.push(c)?;
+        page.put_char(c);
     }
-    Ok(())
 }
 
 /// Puts the name of a file as this program reads it.
-pub fn push_name(page: &mut String, reader: Reader, name: &str) -> Result<(), AllocError> {
+pub fn put_name(page: &mut Text, reader: Reader, name: &str) {
     match reader {
-        Reader::Make => push_make_name(page, name, false),
-        Reader::Include => push_make_name(page, name, true),
-        Reader::Ninja => push_ninja_name(page, name),
+        Reader::Make => put_make_name(page, name, false),
+        Reader::Include => put_make_name(page, name, true),
+        Reader::Ninja => put_ninja_name(page, name),
     }
 }

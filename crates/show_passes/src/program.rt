@@ -119,8 +119,8 @@ pub fn trees_of(alloc: Global, files: &[File<'_>]) -> Result<Trees, AllocError> 
 fn code_of(alloc: Global, titles: &[Vec<u8>], bytes: &[u8]) -> Result<Vec<u8>, WFault> {
     let tree = read_module(alloc, bytes)?;
     let mut page = Page::new(alloc);
-    put_module(&mut page, titles, &tree)?;
-    Ok(page.into_bytes())
+    put_module(&mut page, titles, &tree);
+    Ok(page.finish()?)
 }
 
 /// The code of a module with its statements beside it, if it is the marked code but for its marks.
@@ -139,15 +139,15 @@ fn explain_code(
 }
 
 /// Puts a comment with the name of a module's file, and then its code.
-fn put_named(page: &mut Page, name: &[u8], code: &[u8]) -> Result<(), AllocError> {
-    page.put_all(&[b";; ", name, b".wasm\n", code])
+fn put_named(page: &mut Page, name: &[u8], code: &[u8]) {
+    page.put_all(&[b";; ", name, b".wasm\n", code]);
 }
 
 /// Puts the module link, whose only function calls the bodies.
 fn put_link(alloc: Global, page: &mut Page, link: &[u8]) -> Result<(), WFault> {
     let mut titles = Titles::new(alloc);
     titles.add_word("calls the bodies of all modules")?;
-    put_named(page, b"link", &code_of(alloc, &titles.titles, link)?)?;
+    put_named(page, b"link", &code_of(alloc, &titles.titles, link)?);
     Ok(())
 }
 
@@ -161,7 +161,7 @@ fn put_one(
 ) -> Result<(), WFault> {
     let name = module.0.as_bytes();
     let Some(body) = trees.body(name) else {
-        put_named(page, name, &code_of(alloc, &[], &module.1)?)?;
+        put_named(page, name, &code_of(alloc, &[], &module.1)?);
         return Ok(());
     };
     let titles = trees.titles(alloc, body, name)?;
@@ -170,7 +170,7 @@ fn put_one(
         Some(marked) => explain_code(alloc, &titles, &body.statements, code, &marked.1)?,
         None => code,
     };
-    put_named(page, name, &code)?;
+    put_named(page, name, &code);
     Ok(())
 }
 
@@ -194,5 +194,5 @@ pub fn show_program(
     for (number, module) in modules.iter().enumerate() {
         put_one(alloc, &mut page, &trees, module, marked.get(number))?;
     }
-    Ok(page.into_bytes())
+    Ok(page.finish()?)
 }

@@ -43,9 +43,9 @@ impl Titles {
     /// A function that is told by a word, a name and its place.
     fn add_named(&mut self, word: &str, name: &[u8], pos: Pos) -> Result<(), AllocError> {
         let mut page = Page::new(self.alloc);
-        page.put_all(&[word.as_bytes(), b" ", name, b" "])?;
-        page.put_place(pos)?;
-        self.titles.push(page.into_bytes())?;
+        page.put_all(&[word.as_bytes(), b" ", name, b" "]);
+        page.put_place(pos);
+        self.titles.push(page.finish()?)?;
         self.places.push(pos)?;
         Ok(())
     }

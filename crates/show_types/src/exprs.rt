@@ -2,7 +2,6 @@
 
 use crate::rows::{constant_row, declared_row, numbered_row, slot_row, typed_row};
 use show_code::Page;
-use std::alloc::AllocError;
 use tree_parts::Items;
 use typed_tree::{
     Argument, Arithmetic, BITSET, BOOLEAN, CARDINAL, CHAR, Call, Comparison, Component, INTEGER,
@@ -51,12 +50,7 @@ fn inclusion_word(relation: Inclusion) -> &'static str {
 }
 
 /// A variable, or a formal, by what its name stands for.
-fn show_root(
-    page: &mut Page,
-    module: &TypedModule,
-    level: usize,
-    root: Root,
-) -> Result<(), AllocError> {
+fn show_root(page: &mut Page, module: &TypedModule, level: usize, root: Root) {
     match root {
         Root::Global(v) => declared_row(page, module, level, b"variable", v.home, v.number, v.of),
         Root::Local(slot) => slot_row(page, level, b"local", slot),
@@ -67,55 +61,44 @@ fn show_root(
 }
 
 /// The word of an operator on one value, with the type of its result.
-fn show_word(
-    page: &mut Page,
-    module: &TypedModule,
-    level: usize,
-    word: &str,
-    t: TypeNo,
-) -> Result<(), AllocError> {
-    typed_row(page, module, level, &[word.as_bytes()], t)
+fn show_word(page: &mut Page, module: &TypedModule, level: usize, word: &str, t: TypeNo) {
+    typed_row(page, module, level, &[word.as_bytes()], t);
 }
 
 /// A typed expression: its operator with the type of its result, and its operands below.
 #[cycle(expression)]
-pub fn show_value(
-    page: &mut Page,
-    module: &TypedModule,
-    level: usize,
-    e: &TypedExpr,
-) -> Result<(), AllocError> {
+pub fn show_value(page: &mut Page, module: &TypedModule, level: usize, e: &TypedExpr) {
     let inner = level.saturating_add(1);
     match e {
         TypedExpr::Constant(t, number) => constant_row(page, module, level, *number, *t),
         TypedExpr::Load(t, place) => {
-            show_word(page, module, level, "value", *t)?;
-            show_place(page, module, inner, place)
+            show_word(page, module, level, "value", *t);
+            show_place(page, module, inner, place);
         }
         TypedExpr::Procedure(f) => {
             let word = b"procedure";
-            declared_row(page, module, level, word, f.home, f.number, f.heading)
+            declared_row(page, module, level, word, f.home, f.number, f.heading);
         }
         TypedExpr::Plus(t, e) => show_operand(page, module, level, "+", *t, e.get()),
         TypedExpr::Negate(e) => show_operand(page, module, level, "-", INTEGER, e.get()),
         TypedExpr::Chain(first, links) => {
-            show_value(page, module, level, first.get())?;
-            show_links(page, module, level, links.as_slice())
+            show_value(page, module, level, first.get());
+            show_links(page, module, level, links.as_slice());
         }
         TypedExpr::Compare(relation, first, second) => {
             let word = comparison_word(*relation);
-            show_operand(page, module, level, word, BOOLEAN, first.get())?;
-            show_value(page, module, inner, second.get())
+            show_operand(page, module, level, word, BOOLEAN, first.get());
+            show_value(page, module, inner, second.get());
         }
         TypedExpr::Not(e) => show_operand(page, module, level, "NOT", BOOLEAN, e.get()),
         TypedExpr::Include(relation, first, second) => {
             let word = inclusion_word(*relation);
-            show_operand(page, module, level, word, BOOLEAN, first.get())?;
-            show_value(page, module, inner, second.get())
+            show_operand(page, module, level, word, BOOLEAN, first.get());
+            show_value(page, module, inner, second.get());
         }
         TypedExpr::In(element, set) => {
-            show_operand(page, module, level, "IN", BOOLEAN, element.get())?;
-            show_value(page, module, inner, set.get())
+            show_operand(page, module, level, "IN", BOOLEAN, element.get());
+            show_value(page, module, inner, set.get());
         }
         TypedExpr::Abs(_, _)
         | TypedExpr::Cap(_)
@@ -124,12 +107,12 @@ pub fn show_value(
         | TypedExpr::Ord(_)
         | TypedExpr::Val(_, _) => show_function(page, module, level, e),
         TypedExpr::High(slot) => {
-            show_word(page, module, level, "HIGH", CARDINAL)?;
-            slot_row(page, inner, b"open array", *slot)
+            show_word(page, module, level, "HIGH", CARDINAL);
+            slot_row(page, inner, b"open array", *slot);
         }
         TypedExpr::Call(t, call) => {
-            show_word(page, module, level, "result", *t)?;
-            show_call(page, module, inner, call.get())
+            show_word(page, module, level, "result", *t);
+            show_call(page, module, inner, call.get());
         }
     }
 }
@@ -143,19 +126,14 @@ pub fn show_operand(
     word: &str,
     t: TypeNo,
     e: &TypedExpr,
-) -> Result<(), AllocError> {
-    show_word(page, module, level, word, t)?;
-    show_value(page, module, level.saturating_add(1), e)
+) {
+    show_word(page, module, level, word, t);
+    show_value(page, module, level.saturating_add(1), e);
 }
 
 /// A standard function with its argument.
 #[cycle(expression)]
-fn show_function(
-    page: &mut Page,
-    module: &TypedModule,
-    level: usize,
-    e: &TypedExpr,
-) -> Result<(), AllocError> {
+fn show_function(page: &mut Page, module: &TypedModule, level: usize, e: &TypedExpr) {
     match e {
         TypedExpr::Abs(t, e) => show_operand(page, module, level, "ABS", *t, e.get()),
         TypedExpr::Cap(e) => show_operand(page, module, level, "CAP", CHAR, e.get()),
@@ -163,32 +141,21 @@ fn show_function(
         TypedExpr::Odd(e) => show_operand(page, module, level, "ODD", BOOLEAN, e.get()),
         TypedExpr::Ord(e) => show_operand(page, module, level, "ORD", CARDINAL, e.get()),
         TypedExpr::Val(t, e) => show_operand(page, module, level, "VAL", *t, e.get()),
-        _ => Ok(()),
+        _ => {}
     }
 }
 
 /// Operators behind a first operand, each with its second operand below.
 #[cycle(expression)]
-fn show_links(
-    page: &mut Page,
-    module: &TypedModule,
-    level: usize,
-    links: &[Link],
-) -> Result<(), AllocError> {
+fn show_links(page: &mut Page, module: &TypedModule, level: usize, links: &[Link]) {
     for link in links {
-        show_link(page, module, level, link)?;
+        show_link(page, module, level, link);
     }
-    Ok(())
 }
 
 /// An operator with the type of its result, and its second operand below.
 #[cycle(expression)]
-fn show_link(
-    page: &mut Page,
-    module: &TypedModule,
-    level: usize,
-    link: &Link,
-) -> Result<(), AllocError> {
+fn show_link(page: &mut Page, module: &TypedModule, level: usize, link: &Link) {
     match link {
         Link::Arithmetic(operator, t, e) => show_operand(
             page,
@@ -213,31 +180,20 @@ fn show_link(
 
 /// A variable, and below it the components that lead to a part of it.
 #[cycle(expression)]
-pub fn show_place(
-    page: &mut Page,
-    module: &TypedModule,
-    level: usize,
-    place: &Place,
-) -> Result<(), AllocError> {
-    show_root(page, module, level, place.root)?;
+pub fn show_place(page: &mut Page, module: &TypedModule, level: usize, place: &Place) {
+    show_root(page, module, level, place.root);
     for component in place.components.as_slice() {
-        show_component(page, module, level.saturating_add(1), component)?;
+        show_component(page, module, level.saturating_add(1), component);
     }
-    Ok(())
 }
 
 /// A field or an index, with the type that it is picked from.
 #[cycle(expression)]
-fn show_component(
-    page: &mut Page,
-    module: &TypedModule,
-    level: usize,
-    component: &Component,
-) -> Result<(), AllocError> {
+fn show_component(page: &mut Page, module: &TypedModule, level: usize, component: &Component) {
     match component {
         Component::Field(t, number) => {
-            numbered_row(page, level, b"field", *number)?;
-            show_word(page, module, level.saturating_add(1), "of", *t)
+            numbered_row(page, level, b"field", *number);
+            show_word(page, module, level.saturating_add(1), "of", *t);
         }
         Component::Element(t, index) => show_operand(page, module, level, "element of", *t, index),
         Component::OpenElement(_, t, index) => show_operand(
@@ -248,31 +204,26 @@ fn show_component(
 
 /// A call: what is called, and its arguments below.
 #[cycle(expression)]
-pub fn show_call(
-    page: &mut Page,
-    module: &TypedModule,
-    level: usize,
-    call: &Call,
-) -> Result<(), AllocError> {
+pub fn show_call(page: &mut Page, module: &TypedModule, level: usize, call: &Call) {
     let inner = level.saturating_add(1);
     let arguments = match call {
         Call::Module(f, arguments) => {
             let word = b"call of procedure";
-            declared_row(page, module, level, word, f.home, f.number, f.heading)?;
+            declared_row(page, module, level, word, f.home, f.number, f.heading);
             arguments
         }
         Call::Nested(f, arguments) => {
-            numbered_row(page, level, b"call of local procedure", f.number)?;
-            show_word(page, module, inner, "heading", f.heading)?;
+            numbered_row(page, level, b"call of local procedure", f.number);
+            show_word(page, module, inner, "heading", f.heading);
             arguments
         }
         Call::Variable(t, place, arguments) => {
-            show_word(page, module, level, "call of the value of", *t)?;
-            show_place(page, module, inner, place)?;
+            show_word(page, module, level, "call of the value of", *t);
+            show_place(page, module, inner, place);
             arguments
         }
     };
-    show_arguments(page, module, inner, arguments)
+    show_arguments(page, module, inner, arguments);
 }
 
 /// Arguments, one behind another.
@@ -282,35 +233,29 @@ fn show_arguments(
     module: &TypedModule,
     level: usize,
     arguments: &Items<Argument>,
-) -> Result<(), AllocError> {
+) {
     for argument in arguments.as_slice() {
-        show_argument(page, module, level, argument)?;
+        show_argument(page, module, level, argument);
     }
-    Ok(())
 }
 
 /// What is given for a formal.
 #[cycle(expression)]
-fn show_argument(
-    page: &mut Page,
-    module: &TypedModule,
-    level: usize,
-    argument: &Argument,
-) -> Result<(), AllocError> {
+fn show_argument(page: &mut Page, module: &TypedModule, level: usize, argument: &Argument) {
     let inner = level.saturating_add(1);
     match argument {
         Argument::Value(t, e) => show_operand(page, module, level, "argument", *t, e),
         Argument::Place(place) => {
-            page.row(level, &[b"argument"])?;
-            show_place(page, module, inner, place)
+            page.row(level, &[b"argument"]);
+            show_place(page, module, inner, place);
         }
         Argument::Array(t, place) => {
-            show_word(page, module, level, "open argument", *t)?;
-            show_place(page, module, inner, place)
+            show_word(page, module, level, "open argument", *t);
+            show_place(page, module, inner, place);
         }
         Argument::Open(slot) => slot_row(page, level, b"open argument", *slot),
         Argument::Text(text) => {
-            page.row(level, &[b"string argument '", text.get().as_bytes(), b"'"])
+            page.row(level, &[b"string argument '", text.get().as_bytes(), b"'"]);
         }
     }
 }

@@ -71,13 +71,13 @@ fn show_nodes<R: Print + Eprint + AllocGlobal>(
 ) -> Result<u8> {
     let alloc = rt.alloc();
     let page = match drawn {
-        Drawn::Picture => picture(alloc, nodes, &program.lacking)?,
+        Drawn::Picture => picture(alloc, nodes, &program.lacking)?.into_bytes(),
         Drawn::Data => data(alloc, nodes, &program.lacking)?,
         Drawn::Ninja | Drawn::Make => {
             return show_steps(rt, setting, program, nodes, drawn, out);
         }
     };
-    Ok(write_page(rt, page.as_bytes()))
+    Ok(write_page(rt, &page))
 }
 
 /// Shows what the modules of the program of this file import, or the steps that build it into the folder `out`. Texts that have no

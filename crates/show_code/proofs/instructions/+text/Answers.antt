@@ -44,8 +44,8 @@ put_op-returns-in-LocalTee t c = grind (arith, common_steps, text-LocalTee)
 
 pub put_op-returns-in-GlobalGet : goal.put_op-returns-in-GlobalGet
 put_op-returns-in-GlobalGet t c =
-    put-GlobalGet c.put_numbered-in-GlobalGet.result c.args.page.now c.put_numbered-in-GlobalGet.new.page c.args.op
-    c.args.rest.now c.args.level c.from-in-GlobalGet.result c.in-GlobalGet.global c.in-GlobalGet.is (search rules)
+    put-GlobalGet c.args.page.now c.put_numbered-in-GlobalGet.new.page c.args.op c.args.rest.now c.args.level
+    c.from-in-GlobalGet.result c.in-GlobalGet.global c.in-GlobalGet.is (search rules)
     c.put_numbered-in-GlobalGet.ensures
 
 pub put_op-returns-in-Load : goal.put_op-returns-in-Load
@@ -71,13 +71,13 @@ put_op-returns-in-IfElse t c = grind (arith, common_steps, text-If-Some)
 
 pub put_ops-loop-op-preserved : goal.put_ops-loop-op-preserved
 put_ops-loop-op-preserved t c = (
-  one_put c.args.level c.loop-op.page c.put_op.new.page _ c.in-Some.op c.loop-op.left.now c.in-Some.rest.now
-      c.behind-left.result.now
-      c.in_ok-put_op.ensures c.in-Some.ensures c.behind-left.ensures c.loop-op.invariant.0,
+  one_put c.args.level c.args.page.now c.loop-op.page c.put_op.new.page _ c.in-Some.op c.loop-op.left.now
+      c.in-Some.rest.now c.behind-left.result.now c.put_op.ensures c.in-Some.ensures c.behind-left.ensures
+      c.loop-op.invariant.0,
   no_longer (length c.args.ops.now) c.in-Some.op c.loop-op.left.now c.in-Some.rest.now c.behind-left.result.now
       c.in-Some.ensures c.behind-left.ensures c.loop-op.invariant.1,
 )
 
 pub put_ops-returns : goal.put_ops-returns
-put_ops-returns t c = all_put c.args.level c.loop-op.page _ c.loop-op.left.now c.in_default.ensures
+put_ops-returns t c = all_put c.args.level c.args.page.now c.loop-op.page _ c.loop-op.left.now c.in_default.ensures
     c.loop-op.invariant.0

@@ -1,6 +1,7 @@
-use Rattle.std.proofs.Common.{◌≡◌, ◌+◌, ◌*◌, ◌≤◌, ◌++◌, length}
+use Rattle.std.proofs.Common.{◌+◌, ◌*◌, ◌≤◌, length}
 use Rattle.wasm_tree.specs.Code.{tree}
 use Rattle.show_code.specs.Instructions.{code_text}
+use Rattle.show_code.proofs.Joined.{Leads}
 use Rattle.show_code.proofs.instructions.+text.Given as goal
 
 abbrev pub decreases-put_ops : goal.decreases-put_ops
@@ -23,5 +24,5 @@ decreases-put_ops-loop-op l = length l.left
 
 abbrev pub invariant-put_ops-loop-op : goal.invariant-put_ops-loop-op
 invariant-put_ops-loop-op l =
-    (l.page ++ code_text l.level (tree l.left) ≡ l.fn.page ++ code_text l.level (tree l.ops))
+    Leads l.fn.page l.page (code_text l.level (tree l.left)) (code_text l.level (tree l.ops))
     × (length l.left ≤ length l.ops)

@@ -6,11 +6,11 @@ use Rattle.show_code.proofs.module.put_import_parts.Goals as goal
 pub returns : goal.returns
 unfolding import_parts
 returns c =
-    before c.put-2.result c.args.page.now c.put.new.self c.put-2.new.self (codes "  (import")
+    before c.args.page.now c.put.new.self c.put-2.new.self (codes "  (import")
     (string_text c.args.module_name.now ++ (string_text c.args.name.now ++ (kind_text c.args.kind ++ codes ")\n")))
-    c.in_ok-put.ensures (before c.put-2.result c.put.new.self c.put_string.new.page c.put-2.new.self
+    c.put.ensures (before c.put.new.self c.put_string.new.page c.put-2.new.self
     (string_text c.args.module_name.now) (string_text c.args.name.now ++ (kind_text c.args.kind ++ codes ")\n"))
-    c.in_ok-put_string.ensures (before c.put-2.result c.put_string.new.page c.put_string-2.new.page c.put-2.new.self
-    (string_text c.args.name.now) (kind_text c.args.kind ++ codes ")\n") c.in_ok-put_string-2.ensures
-    (before c.put-2.result c.put_string-2.new.page c.put_kind.new.page c.put-2.new.self (kind_text c.args.kind)
-    (codes ")\n") c.in_ok-put_kind.ensures (c.put-2.ensures))))
+    c.put_string.ensures (before c.put_string.new.page c.put_string-2.new.page c.put-2.new.self
+    (string_text c.args.name.now) (kind_text c.args.kind ++ codes ")\n") c.put_string-2.ensures
+    (before c.put_string-2.new.page c.put_kind.new.page c.put-2.new.self (kind_text c.args.kind)
+    (codes ")\n") c.put_kind.ensures (c.put-2.ensures))))

@@ -7,11 +7,11 @@ use Rattle.show_code.proofs.module.put_offset.Goals as goal
 pub returns : goal.returns
 unfolding offset_text
 returns c =
-    before c.put-4.result c.args.page.now c.put.new.self c.put-4.new.self (codes "  (")
+    before c.args.page.now c.put.new.self c.put-4.new.self (codes "  (")
     (c.args.word.now ++ (codes " (offset\n" ++ (code_text 2 c.args.offset.now ++ codes "    )")))
-    c.in_ok-put.ensures (before c.put-4.result c.put.new.self c.put-2.new.self c.put-4.new.self (c.args.word.now)
-    (codes " (offset\n" ++ (code_text 2 c.args.offset.now ++ codes "    )")) c.in_ok-put-2.ensures
-    (before c.put-4.result c.put-2.new.self c.put-3.new.self c.put-4.new.self (codes " (offset\n")
-    (code_text 2 c.args.offset.now ++ codes "    )") c.in_ok-put-3.ensures
-    (before c.put-4.result c.put-3.new.self c.put_code.new.page c.put-4.new.self (code_text 2 c.args.offset.now)
-    (codes "    )") c.in_ok-put_code.ensures (c.put-4.ensures))))
+    c.put.ensures (before c.put.new.self c.put-2.new.self c.put-4.new.self (c.args.word.now)
+    (codes " (offset\n" ++ (code_text 2 c.args.offset.now ++ codes "    )")) c.put-2.ensures
+    (before c.put-2.new.self c.put-3.new.self c.put-4.new.self (codes " (offset\n")
+    (code_text 2 c.args.offset.now ++ codes "    )") c.put-3.ensures
+    (before c.put-3.new.self c.put_code.new.page c.put-4.new.self (code_text 2 c.args.offset.now)
+    (codes "    )") c.put_code.ensures (c.put-4.ensures))))

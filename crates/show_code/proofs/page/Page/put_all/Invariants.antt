@@ -1,6 +1,7 @@
-use Rattle.std.proofs.Common.{◌≡◌, ◌++◌, take}
+use Rattle.std.proofs.Common.{take}
 use Rattle.std.specs.List.{flat_map}
+use Rattle.show_code.specs.Pages.{Puts}
 use Rattle.show_code.proofs.page.Page.put_all.Given as goal
 
 abbrev pub invariant-loop-part : goal.invariant-loop-part
-invariant-loop-part l = l.self ≡ l.fn.self ++ flat_map (λ p. p.now) (take l.part-index l.parts)
+invariant-loop-part l = Puts l.fn.self l.self (flat_map (λ p. p.now) (take l.part-index l.parts))

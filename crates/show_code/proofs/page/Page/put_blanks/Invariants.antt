@@ -1,5 +1,6 @@
-use Rattle.std.proofs.Common.{◌≡◌, ◌++◌, replicate}
+use Rattle.std.proofs.Common.{replicate}
+use Rattle.show_code.specs.Pages.{Puts}
 use Rattle.show_code.proofs.page.Page.put_blanks.Given as goal
 
 abbrev pub invariant-loop : goal.invariant-loop
-invariant-loop l = l.self ≡ l.fn.self ++ replicate l.counter 32
+invariant-loop l = Puts l.fn.self l.self (replicate l.counter 32)
