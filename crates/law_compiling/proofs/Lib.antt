@@ -1,0 +1,15 @@
+mod Words
+mod Telling
+mod Places
+mod Importing
+mod Sources
+mod Parts
+mod Building
+mod Whole
+mod Fitting
+mod Refusing
+mod Named
+mod Filling
+mod Needing
+mod Having
+mod Succeeding
