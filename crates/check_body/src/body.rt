@@ -171,8 +171,8 @@ fn check_implementation<S: Statements>(
 /// Checks a program module or an implementation module, from the tables of the definitions that it imports and, for an
 /// implementation, from the table of its own definition. It answers the module if no rule is broken, and else the least
 /// rule that is, by place and then by number: of its imports, of its declarations, of the statements of its procedures
-/// and of its own. A module of another kind, and an implementation without the table, is 24 at its name. The only error
-/// is that memory ran out.
+/// and of its own. A procedure in front of its heading is reported only if nothing else is. A module of another kind, and
+/// an implementation without the table, is 24 at its name. The only error is that memory ran out.
 pub fn check_with<S: Statements>(
     alloc: Global,
     statements: &S,

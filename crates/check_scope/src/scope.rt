@@ -4,7 +4,7 @@ ghost use Rattle.std.specs.Prelude.{◌≡◌, Ok, IfOk, OnOk, Option};
 ghost use Rattle.std.specs.List.{fold};
 ghost use Rattle.std.specs.Option.{option_copied};
 ghost use Rattle.check_scope.specs.Elaborated.{least, plain};
-ghost use Rattle.check_scope.specs.Scopes.{sight_of_entry, seen_at, in_block, nearer, or_outside, known_outside, sight_of, fields_made, fields_at, field_at, field_in, open_field, heading_means, means_seen, means_as, looked_up, is_free, with_known, declare_name, begin_name, head_name, is_begun, finish_name, is_one_origin, is_again, import_name, mark_name};
+ghost use Rattle.check_scope.specs.Scopes.{sight_of_entry, seen_at, in_block, nearer, or_outside, known_outside, sight_of, fields_made, fields_at, field_at, field_in, open_field, heading_means, means_seen, means_as, looked_up, is_free, with_known, unless_declared, declare_name, begin_name, head_name, is_begun, finish_name, is_one_origin, is_again, import_name, mark_name};
 
 use crate::elaborated::{Elaborated, report};
 use crate::known::{Known, Origin};
@@ -272,6 +272,23 @@ fn with_known(
     scope.own.enter(alloc, name, known)
 }
 
+/// Adds a name of the block with what is known of it, unless it is declared.
+fn add_known(
+    alloc: Global,
+    scope: &mut Scope<Breach>,
+    name: &Ident,
+    known: Known<Breach>,
+) -> Result<Elaborated<()>, AllocError>
+    ensures { IfOk result (λ j. (scope.new, j) ≡ unless_declared least scope.old name.now known) }
+{
+    let bytes = name.name.as_bytes();
+    if !is_free(scope.own.find(bytes)) {
+        return Ok(report(name.pos, Rule::DeclaredTwice));
+    }
+    with_known(alloc, scope, bytes, known)?;
+    Ok(Ok(()))
+}
+
 /// Declares a name, unless it is declared.
 pub fn declare(
     alloc: Global,
@@ -281,16 +298,7 @@ pub fn declare(
 ) -> Result<Elaborated<()>, AllocError>
     ensures { IfOk result (λ j. (scope.new, j) ≡ declare_name least scope.old name.now means) }
 {
-    if !is_free(scope.own.find(name.name.as_bytes())) {
-        return Ok(report(name.pos, Rule::DeclaredTwice));
-    }
-    with_known(
-        alloc,
-        scope,
-        name.name.as_bytes(),
-        Known::Declared(Origin::Here, means),
-    )?;
-    Ok(Ok(()))
+    add_known(alloc, scope, name, Known::Declared(Origin::Here, means))
 }
 
 /// Begins the declaration of a name, unless it is declared.
@@ -301,11 +309,7 @@ pub fn begin(
 ) -> Result<Elaborated<()>, AllocError>
     ensures { IfOk result (λ j. (scope.new, j) ≡ begin_name least scope.old name.now) }
 {
-    if !is_free(scope.own.find(name.name.as_bytes())) {
-        return Ok(report(name.pos, Rule::DeclaredTwice));
-    }
-    with_known(alloc, scope, name.name.as_bytes(), Known::Begun)?;
-    Ok(Ok(()))
+    add_known(alloc, scope, name, Known::Begun)
 }
 
 /// Declares a procedure by the meaning of its heading, unless its name is declared.
@@ -317,11 +321,7 @@ pub fn head(
 ) -> Result<Elaborated<()>, AllocError>
     ensures { IfOk result (λ j. (scope.new, j) ≡ head_name least scope.old name.now means) }
 {
-    if !is_free(scope.own.find(name.name.as_bytes())) {
-        return Ok(report(name.pos, Rule::DeclaredTwice));
-    }
-    with_known(alloc, scope, name.name.as_bytes(), Known::Headed(means))?;
-    Ok(Ok(()))
+    add_known(alloc, scope, name, Known::Headed(means))
 }
 
 fn is_begun(known: Option<&Known<Breach>>) -> bool

@@ -37,7 +37,7 @@ pub fn inner_block_laws()
 
 /// A program has a typed module exactly if no rule is broken in its imports and in its block, with all that stands in it. Else
 /// what is reported are exactly the rules that are broken there; and the least refusal is a broken rule, and no broken rule is
-/// less, by place and then by number.
+/// less: one that is reported only if nothing else is comes last, and else the place decides, and then the number.
 pub fn program_laws()
     ensures { ProgramsAreExact least the_least }
 {}

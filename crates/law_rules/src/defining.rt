@@ -25,9 +25,9 @@ ghost use Rattle.law_rules.specs.Importers.{TablesAreForeign, OwnNamesAreKnown, 
 
 /// A definition has a table exactly if no rule is broken in its imports and in its declarations, also where their constant
 /// expressions are read again. Else what is reported are exactly the rules that are broken there; and the least refusal is a
-/// broken rule, and no broken rule is less, by place and then by number. Its table exports each name that is declared, in the
-/// order of the text, with what the rules say that it means and with its number, and no other name. It lists the modules that
-/// the definition imports, and the types that are met through it.
+/// broken rule, and no broken rule is less, as in a program. Its table exports each name that is declared, in the order of the
+/// text, with what the rules say that it means and with its number, and no other name. It lists the modules that the definition
+/// imports, and the types that are met through it.
 pub fn definition_laws()
     ensures { DefinitionsAreExact least the_least }
 {}
