@@ -31,7 +31,9 @@ use Rattle.check_scope.specs.declared.meaningless.Meaningless.TheVariants.{Headl
 use Rattle.check_scope.specs.Elaborated.{Gathers, least, report, reported_beside, both, beside, ahead, of_sort, of_heading, of_value, of_sort_of_value, plain, ◌▷◌}
 use Rattle.check_scope.specs.declared.scope.Scope.{Scope}
 use Rattle.check_scope.specs.Scopes.{looked_up}
+use Rattle.check_const.specs.declared.operator.BinaryOp.{BinaryOp}
 use Rattle.check_const.specs.declared.operator.BinaryOp.TheVariants as op
+use Rattle.check_const.specs.Operate.{constant_operation}
 use Rattle.check_const.specs.Operators.{mul_op, add_op}
 use Rattle.check_const.specs.declared.denoted.Denoted.{Denoted}
 use Rattle.check_const.specs.Denote.{exported_meaning}
@@ -259,15 +261,19 @@ module _ (g : Gathers) where
 
   -- ---- operators
 
+  -- a value and the operand that follows, by the operator at p
+  abbrev pub operation_with : Scope g.Reported → Pos → Result Computed g.Reported → BinaryOp → Pos
+      → Meant g.Reported → Result Computed g.Reported
+  operation_with s at left o p x =
+      operation_between g s.types o p at left x.fixed.at (value_of s x)
+
   abbrev pub factor : Scope g.Reported → Pos → Result Computed g.Reported
       → Operator MulOp × Meant g.Reported → Result Computed g.Reported
-  factor s at left x =
-      operation_between g s.types (mul_op x.0.op) x.0.pos at left x.1.fixed.at (value_of s x.1)
+  factor s at left x = operation_with s at left (mul_op x.0.op) x.0.pos x.1
 
   abbrev pub term : Scope g.Reported → Pos → Result Computed g.Reported
       → Operator AddOp × Meant g.Reported → Result Computed g.Reported
-  term s at left x =
-      operation_between g s.types (add_op x.0.op) x.0.pos at left x.1.fixed.at (value_of s x.1)
+  term s at left x = operation_with s at left (add_op x.0.op) x.0.pos x.1
 
   abbrev pub relation : Scope g.Reported → Meant g.Reported → Operator RelOp → Meant g.Reported
       → Result Computed g.Reported
@@ -388,13 +394,19 @@ part g e = (meanings_of g e).fixed
 
 -- ---- the same, step by step
 
+-- a constant and the operand that follows, by the operator at p
+abbrev pub constant_operation_with : Scope (least).Reported → Pos → Result Value (least).Reported
+    → BinaryOp → Pos → Expr → Result Value (least).Reported
+constant_operation_with s at v o p e =
+    constant_operation least o p at v (part least e).at (constant least s (part least e))
+
 abbrev pub constant_factor_in : Scope (least).Reported → Pos → Result Value (least).Reported
     → Operator MulOp × Expr → Result Value (least).Reported
-constant_factor_in s at v x = constants.factor least s at v (x.0, part least x.1)
+constant_factor_in s at v x = constant_operation_with s at v (mul_op x.0.op) x.0.pos x.1
 
 abbrev pub constant_term_in : Scope (least).Reported → Pos → Result Value (least).Reported
     → Operator AddOp × Expr → Result Value (least).Reported
-constant_term_in s at v x = constants.term least s at v (x.0, part least x.1)
+constant_term_in s at v x = constant_operation_with s at v (add_op x.0.op) x.0.pos x.1
 
 abbrev pub constant_pick_in : Scope (least).Reported → Result Denoted (least).Reported → Selector
     → Result Denoted (least).Reported

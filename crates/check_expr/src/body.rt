@@ -11,7 +11,7 @@ ghost use Rattle.check_const.specs.Calls as calls;
 ghost use Rattle.check_const.specs.Parts.{value_at};
 ghost use Rattle.check_const.specs.Parts as constants;
 ghost use Rattle.check_value.specs.Functions.{form_of, unary_at, bound_at, high_of};
-ghost use Rattle.check_expr.specs.Meanings.{part, meanings_of, picks, head, item, as_constant, of_computed, value_standing, value_of, scalar_named, actual_in, look_in, breaches_in_all, wrong_count, routine_called, by_form, call_in_expression, factor_in, term_in, pick_in, constant_factor_in, constant_term_in, item_in};
+ghost use Rattle.check_expr.specs.Meanings.{part, meanings_of, picks, head, item, as_constant, of_computed, value_standing, value_of, scalar_named, actual_in, look_in, breaches_in_all, wrong_count, routine_called, by_form, call_in_expression, operation_with, factor_in, term_in, pick_in, constant_operation_with, constant_factor_in, constant_term_in, item_in};
 
 use crate::fixed::denotation;
 use crate::pieces::{
@@ -20,7 +20,7 @@ use crate::pieces::{
     unary_of,
 };
 use check_const::{
-    Denoted, Sort, add_op, bound as bound_by, constant_by,
+    BinaryOp, Denoted, Sort, add_op, bound as bound_by, constant_by,
     constant_operation as combined_constants, conversion_call, element_of, joined_bits, mul_op,
     named_type, negation as negated_constant, number_value, of_value, set_of, set_type, sign_place,
     signed_first as constant_signed, single_of, sort_of, span_of, text_of, type_argument,
@@ -263,19 +263,8 @@ fn factors(
 {
     let mut value = left;
     for (operator, factor) in rest {
-        let right = value_of(alloc, scope, factor)?;
         let op = mul_op(operator.op);
-        let other_at = place_of(factor);
-        value = operation_between(
-            alloc,
-            &scope.types,
-            op,
-            operator.pos,
-            at,
-            value,
-            other_at,
-            right,
-        )?;
+        value = operation_with(alloc, scope, at, value, op, operator.pos, factor)?;
     }
     Ok(value)
 }
@@ -293,21 +282,29 @@ fn terms(
 {
     let mut value = left;
     for (operator, term) in rest {
-        let right = value_of(alloc, scope, term)?;
         let op = add_op(operator.op);
-        let other_at = place_of(term);
-        value = operation_between(
-            alloc,
-            &scope.types,
-            op,
-            operator.pos,
-            at,
-            value,
-            other_at,
-            right,
-        )?;
+        value = operation_with(alloc, scope, at, value, op, operator.pos, term)?;
     }
     Ok(value)
+}
+
+/// What an operator at its place makes of a value and of the operand that follows.
+#[cycle(body)]
+fn operation_with(
+    alloc: Global,
+    scope: &Scope<Breach>,
+    at: Pos,
+    left: Elaborated<Computed>,
+    op: BinaryOp,
+    op_at: Pos,
+    operand: &Expr,
+) -> Result<Elaborated<Computed>, AllocError>
+    ensures { IfOk result (λ v.
+        v ≡ operation_with least scope.now at left op op_at (meanings_of least operand.now)) }
+{
+    let right = value_of(alloc, scope, operand)?;
+    let types = &scope.types;
+    operation_between(alloc, types, op, op_at, at, left, place_of(operand), right)
 }
 
 /// A call in an expression.
@@ -767,9 +764,8 @@ fn constant_factors(
 {
     let mut value = left;
     for (operator, factor) in rest {
-        let right = constant_of(alloc, scope, factor)?;
         let op = mul_op(operator.op);
-        value = combined_constants(op, operator.pos, at, value, place_of(factor), right);
+        value = constant_operation_with(alloc, scope, at, value, op, operator.pos, factor)?;
     }
     Ok(value)
 }
@@ -787,11 +783,28 @@ fn constant_terms(
 {
     let mut value = left;
     for (operator, term) in rest {
-        let right = constant_of(alloc, scope, term)?;
         let op = add_op(operator.op);
-        value = combined_constants(op, operator.pos, at, value, place_of(term), right);
+        value = constant_operation_with(alloc, scope, at, value, op, operator.pos, term)?;
     }
     Ok(value)
+}
+
+/// What an operator at its place makes of a constant and of the operand that follows.
+#[cycle(body)]
+fn constant_operation_with(
+    alloc: Global,
+    scope: &Scope<Breach>,
+    at: Pos,
+    left: Elaborated<Value>,
+    op: BinaryOp,
+    op_at: Pos,
+    operand: &Expr,
+) -> Result<Elaborated<Value>, AllocError>
+    ensures { IfOk result (λ v.
+        v ≡ constant_operation_with scope.now at left op op_at operand.now) }
+{
+    let right = constant_of(alloc, scope, operand)?;
+    Ok(combined_constants(op, op_at, at, left, place_of(operand), right))
 }
 
 /// The elements in braces.
