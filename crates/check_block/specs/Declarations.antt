@@ -10,15 +10,12 @@ use Rattle.m2_tree.specs.declared.decl.Decl.{Decl, Decl-F, out-Decl}
 use Rattle.m2_tree.specs.declared.decl.Decl.TheOpen as layer
 use Rattle.m2_tree.specs.declared.decl.Module.{Module}
 use Rattle.typed_tree.specs.declared.types.TypeNo.{TypeNo}
-use Rattle.typed_tree.specs.declared.meaning.LocalKind.TheVariants as kind
-use Rattle.typed_tree.specs.declared.meaning.Meaning.{Meaning}
-use Rattle.typed_tree.specs.declared.meaning.Meaning.TheVariants as meaning
 use Rattle.check_scope.specs.declared.known.Known.{Known}
 use Rattle.check_scope.specs.declared.scope.Scope.{Scope}
-use Rattle.check_scope.specs.Scopes.{State, finish_name}
-use Rattle.check_scope.specs.Elaborated.{Gathers, reported_where, beside, ◌▷◌}
-use Rattle.check_type_expr.specs.Made.{nothing_of, type_of}
-use Rattle.check_definition.specs.Declare.{with_constant, with_type, begun_name, with_variable_type, with_variables}
+use Rattle.check_scope.specs.Scopes.{State}
+use Rattle.check_scope.specs.Elaborated.{Gathers, reported_where, beside}
+use Rattle.check_definition.specs.declared.declare.Owner.TheVariants as owner
+use Rattle.check_definition.specs.Declare.{with_constant, with_type, finished_owned, with_owned}
 use Rattle.check_definition.specs.Again.{Passing, passed, again_constant, again_declared, again_variables}
 use Rattle.check_definition.specs.Importing.{with_import}
 use Rattle.check_block.specs.declared.heading.Standing.{Standing}
@@ -27,27 +24,20 @@ use Rattle.check_block.specs.Nesting.{number_behind}
 use Rattle.check_block.specs.Naming.{marked_decl, all_marked}
 use Rattle.check_block.specs.Headings.{standing_known, with_heading}
 
--- ---- variables of a procedure, numbered behind its formals
-
-abbrev pub local_meaning : {T : Type 0} → (level number : ℕ) → Result TypeNo T → Result Meaning T
-local_meaning level n t =
-    t ▷ λ x. Ok (meaning.Local (record { level = level; number = n; kind = kind.Variable; of = x }))
+-- ---- variables of a procedure
 
 abbrev pub finished_local : {T : Type 0} → Result TypeNo T → Scope T → Ident → Scope T
-finished_local t s name =
-    finish_name (with_variable_type s t) name (local_meaning s.level (length s.variables) t)
+finished_local t s name = finished_owned owner.Procedure t s name
 
 abbrev pub with_locals : (g : Gathers) → State (Unit {0}) g.Reported → Variables
     → State (Unit {0}) g.Reported
-with_locals g st v =
-    let b = fold (begun_name g) st v.names in
-    let t = type_of g v.of b.0 in
-    (fold (finished_local t.1) t.0 v.names, beside g b.1 (nothing_of t.1))
+with_locals g st v = with_owned g owner.Procedure st v
 
 abbrev pub with_variables_of : (g : Gathers) → State (Unit {0}) g.Reported → List Variables
     → State (Unit {0}) g.Reported
 with_variables_of g st vs =
-    cond (st.0.level == 0) (fold (with_variables g) st vs) (fold (with_locals g) st vs)
+    cond (st.0.level == 0) (fold (with_owned g owner.Module) st vs)
+    (fold (with_owned g owner.Procedure) st vs)
 
 -- ---- declarations, in order
 

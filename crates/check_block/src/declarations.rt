@@ -6,89 +6,20 @@ ghost use Rattle.std.specs.Option.{option_map};
 ghost use Rattle.check_scope.specs.Elaborated.{least};
 ghost use Rattle.check_definition.specs.Steps.{if_some};
 ghost use Rattle.check_definition.specs.Declare.{with_constant, with_type};
-ghost use Rattle.check_block.specs.Declarations.{finished_local, with_locals, with_procedure, with_decl, again_decl, declared_block, or_awaited, lacks, declared_module};
+ghost use Rattle.check_block.specs.Declarations.{with_procedure, with_decl, again_decl, declared_block, or_awaited, lacks, declared_module};
 
 use crate::heading::{Standing, standing_known, with_heading};
 use crate::naming::mark_decls;
 use check_definition::{
-    again_constants, again_types, again_variables, begin_all, declare_constants, declare_types,
-    declare_variables, import_all, pass, with_variable_type,
+    Owner, again_constants, again_types, again_variables, declare_constants, declare_types,
+    declare_variables, import_all, pass,
 };
-use check_scope::{Elaborated, Known, Scope, beside, finish, report};
-use check_type_expr::{nothing_of, type_of};
+use check_scope::{Elaborated, Known, Scope, beside, report};
 use m2_rule::{Breach, Rule};
-use m2_tree::{Decl, Heading, Ident, Module, Variables};
+use m2_tree::{Decl, Heading, Module};
 use std::alloc::{AllocError, Global};
 use tree_parts::Items;
-use typed_tree::{Dictionary, LocalKind, LocalVariable, Meaning, TypeNo};
-
-// ---- variables of procedures
-
-fn finish_local(
-    alloc: Global,
-    scope: &mut Scope<Breach>,
-    t: Elaborated<TypeNo>,
-    name: &Ident,
-) -> Result<(), AllocError>
-    ensures { OnOk result (scope.new ≡ finished_local t scope.old name.now) }
-{
-    let means = match t {
-        Err(breach) => Err(breach),
-        Ok(of) => Ok(Meaning::Local(LocalVariable {
-            level: scope.level,
-            number: scope.variables.len(),
-            kind: LocalKind::Variable,
-            of,
-        })),
-    };
-    with_variable_type(scope, t)?;
-    finish(alloc, scope, name, means)
-}
-
-fn finish_locals(
-    alloc: Global,
-    scope: &mut Scope<Breach>,
-    t: Elaborated<TypeNo>,
-    names: &[Ident],
-) -> Result<(), AllocError>
-    ensures { OnOk result (scope.new ≡ fold (finished_local t) scope.old names.now) }
-{
-    for name in names {
-        finish_local(alloc, scope, t, name)?;
-    }
-    Ok(())
-}
-
-fn with_locals(
-    alloc: Global,
-    scope: &mut Scope<Breach>,
-    before: Elaborated<()>,
-    variables: &Variables,
-) -> Result<Elaborated<()>, AllocError>
-    ensures { IfOk result (λ j.
-        (scope.new, j) ≡ with_locals least (scope.old, before) variables.now) }
-{
-    let elaborated = begin_all(alloc, scope, before, variables.names.as_slice())?;
-    let t = type_of(alloc, scope, &variables.of)?;
-    finish_locals(alloc, scope, t, variables.names.as_slice())?;
-    Ok(beside(elaborated, nothing_of(t)))
-}
-
-fn declare_locals(
-    alloc: Global,
-    scope: &mut Scope<Breach>,
-    before: Elaborated<()>,
-    list: &[Variables],
-) -> Result<Elaborated<()>, AllocError>
-    ensures { IfOk result (λ j.
-        (scope.new, j) ≡ fold (with_locals least) (scope.old, before) list.now) }
-{
-    let mut elaborated = before;
-    for variables in list {
-        elaborated = with_locals(alloc, scope, elaborated, variables)?;
-    }
-    Ok(elaborated)
-}
+use typed_tree::Dictionary;
 
 // ---- declarations, in order
 
@@ -129,9 +60,9 @@ fn with_decl(
         Decl::Types(list) => declare_types(alloc, scope, before, list.as_slice()),
         Decl::Variables(list) => {
             if scope.level == 0 {
-                return declare_variables(alloc, scope, before, list.as_slice());
+                return declare_variables(alloc, scope, Owner::Module, before, list.as_slice());
             }
-            declare_locals(alloc, scope, before, list.as_slice())
+            declare_variables(alloc, scope, Owner::Procedure, before, list.as_slice())
         }
         Decl::Procedure(heading, _) => with_procedure(alloc, scope, ends, next, before, heading),
     }

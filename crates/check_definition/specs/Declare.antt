@@ -15,6 +15,7 @@ use Rattle.m2_tree.specs.declared.decl.TypeExpr.TheOpen as layer
 use Rattle.m2_tree.specs.declared.decl.Field.{Field}
 use Rattle.typed_tree.specs.declared.types.TypeNo.{TypeNo}
 use Rattle.typed_tree.specs.declared.meaning.Value.{Value}
+use Rattle.typed_tree.specs.declared.meaning.LocalKind.TheVariants as kind
 use Rattle.typed_tree.specs.declared.meaning.Meaning.{Meaning}
 use Rattle.typed_tree.specs.declared.meaning.Meaning.TheVariants as meaning
 use Rattle.check_scope.specs.declared.scope.Scope.{Scope}
@@ -24,6 +25,8 @@ use Rattle.check_const.specs.Parts.{constant}
 use Rattle.check_expr.specs.Meanings.{part}
 use Rattle.check_type_expr.specs.Headings.{heading_of, names_of}
 use Rattle.check_type_expr.specs.Made.{nothing_of, type_of, with_made}
+use Rattle.check_definition.specs.declared.declare.Owner.{Owner}
+use Rattle.check_definition.specs.declared.declare.Owner.TheVariants as owner
 
 -- ---- constants
 
@@ -79,20 +82,37 @@ abbrev pub variable_meaning : {T : Type 0} → ℕ → ℕ → Result TypeNo T �
 variable_meaning home n t =
     t ▷ λ x. Ok (meaning.Variable (record { home = home; number = n; of = x }))
 
+-- a variable of a procedure is numbered behind its formals
+abbrev pub local_meaning : {T : Type 0} → (level number : ℕ) → Result TypeNo T → Result Meaning T
+local_meaning level n t =
+    t ▷ λ x. Ok (meaning.Local (record { level = level; number = n; kind = kind.Variable; of = x }))
+
+abbrev pub owned_meaning : {T : Type 0} → Owner → Scope T → Result TypeNo T → Result Meaning T
+owned_meaning owner.Module s t = variable_meaning s.types.home (length s.variables) t
+owned_meaning owner.Procedure s t = local_meaning s.level (length s.variables) t
+
 abbrev pub with_variable_type : {T : Type 0} → Scope T → Result TypeNo T → Scope T
 with_variable_type s (Ok t) = record s { variables = s.variables ++ t ∷ [] }
 with_variable_type s (Err e) = s
 
+abbrev pub finished_owned : {T : Type 0} → Owner → Result TypeNo T → Scope T → Ident → Scope T
+finished_owned whose t s name =
+    finish_name (with_variable_type s t) name (owned_meaning whose s t)
+
+abbrev pub with_owned : (g : Gathers) → Owner → State (Unit {0}) g.Reported → Variables
+    → State (Unit {0}) g.Reported
+with_owned g whose st v =
+    let b = fold (begun_name g) st v.names in
+    let t = type_of g v.of b.0 in
+    (fold (finished_owned whose t.1) t.0 v.names, beside g b.1 (nothing_of t.1))
+
+-- those of a module
 abbrev pub finished_variable : {T : Type 0} → Result TypeNo T → Scope T → Ident → Scope T
-finished_variable t s name =
-    finish_name (with_variable_type s t) name (variable_meaning s.types.home (length s.variables) t)
+finished_variable t s name = finished_owned owner.Module t s name
 
 abbrev pub with_variables : (g : Gathers) → State (Unit {0}) g.Reported → Variables
     → State (Unit {0}) g.Reported
-with_variables g st v =
-    let b = fold (begun_name g) st v.names in
-    let t = type_of g v.of b.0 in
-    (fold (finished_variable t.1) t.0 v.names, beside g b.1 (nothing_of t.1))
+with_variables g st v = with_owned g owner.Module st v
 
 -- ---- procedures
 

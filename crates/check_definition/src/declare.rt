@@ -3,7 +3,7 @@
 ghost use Rattle.std.specs.Prelude.{◌≡◌, Ok, IfOk, OnOk};
 ghost use Rattle.std.specs.List.{fold};
 ghost use Rattle.check_scope.specs.Elaborated.{least};
-ghost use Rattle.check_definition.specs.Declare.{with_constant, brings_with, with_type, begun_name, with_variable_type, finished_variable, with_variables, procedure_meaning, with_procedure_type, declared_procedure, with_procedure, with_def};
+ghost use Rattle.check_definition.specs.Declare.{with_constant, brings_with, with_type, begun_name, owned_meaning, with_variable_type, finished_owned, with_owned, procedure_meaning, with_procedure_type, declared_procedure, with_procedure, with_def};
 
 use check_expr::constant_of;
 use check_scope::{Elaborated, Scope, begin, beside, finish, head, heading_means};
@@ -11,7 +11,7 @@ use check_type_expr::{heading_of, names_of, nothing_of, type_of, with_made};
 use m2_rule::Breach;
 use m2_tree::{Constant, Def, Heading, Ident, Simple, TypeDecl, TypeExpr, Variables};
 use std::alloc::{AllocError, Global};
-use typed_tree::{Meaning, Procedure, TypeNo, Variable};
+use typed_tree::{LocalKind, LocalVariable, Meaning, Procedure, TypeNo, Variable};
 
 // ---- constants
 
@@ -102,8 +102,15 @@ pub fn declare_types(
 
 // ---- variables
 
+/// What declares variables.
+#[derive(Clone, Copy)]
+pub enum Owner {
+    Module,
+    Procedure,
+}
+
 /// Begins the declarations of names.
-pub fn begin_all(
+fn begin_all(
     alloc: Global,
     scope: &mut Scope<Breach>,
     before: Elaborated<()>,
@@ -120,11 +127,30 @@ pub fn begin_all(
     Ok(elaborated)
 }
 
+fn owned_meaning(scope: &Scope<Breach>, owner: Owner, t: Elaborated<TypeNo>) -> Elaborated<Meaning>
+    ensures { result ≡ owned_meaning owner scope.now t }
+{
+    let number = scope.variables.len();
+    match t {
+        Err(breach) => Err(breach),
+        Ok(of) => Ok(match owner {
+            Owner::Module => Meaning::Variable(Variable {
+                home: scope.types.home,
+                number,
+                of,
+            }),
+            Owner::Procedure => Meaning::Local(LocalVariable {
+                level: scope.level,
+                number,
+                kind: LocalKind::Variable,
+                of,
+            }),
+        }),
+    }
+}
+
 /// Numbers one more variable of this type.
-pub fn with_variable_type(
-    scope: &mut Scope<Breach>,
-    t: Elaborated<TypeNo>,
-) -> Result<(), AllocError>
+fn with_variable_type(scope: &mut Scope<Breach>, t: Elaborated<TypeNo>) -> Result<(), AllocError>
     ensures { OnOk result (scope.new ≡ with_variable_type scope.old t) }
 {
     match t {
@@ -139,19 +165,13 @@ pub fn with_variable_type(
 fn finish_variable(
     alloc: Global,
     scope: &mut Scope<Breach>,
+    owner: Owner,
     t: Elaborated<TypeNo>,
     name: &Ident,
 ) -> Result<(), AllocError>
-    ensures { OnOk result (scope.new ≡ finished_variable t scope.old name.now) }
+    ensures { OnOk result (scope.new ≡ finished_owned owner t scope.old name.now) }
 {
-    let means = match t {
-        Err(breach) => Err(breach),
-        Ok(of) => Ok(Meaning::Variable(Variable {
-            home: scope.types.home,
-            number: scope.variables.len(),
-            of,
-        })),
-    };
+    let means = owned_meaning(scope, owner, t);
     with_variable_type(scope, t)?;
     finish(alloc, scope, name, means)
 }
@@ -159,13 +179,14 @@ fn finish_variable(
 fn finish_all(
     alloc: Global,
     scope: &mut Scope<Breach>,
+    owner: Owner,
     t: Elaborated<TypeNo>,
     names: &[Ident],
 ) -> Result<(), AllocError>
-    ensures { OnOk result (scope.new ≡ fold (finished_variable t) scope.old names.now) }
+    ensures { OnOk result (scope.new ≡ fold (finished_owned owner t) scope.old names.now) }
 {
     for name in names {
-        finish_variable(alloc, scope, t, name)?;
+        finish_variable(alloc, scope, owner, t, name)?;
     }
     Ok(())
 }
@@ -173,31 +194,33 @@ fn finish_all(
 fn with_variables(
     alloc: Global,
     scope: &mut Scope<Breach>,
+    owner: Owner,
     before: Elaborated<()>,
     variables: &Variables,
 ) -> Result<Elaborated<()>, AllocError>
     ensures { IfOk result (λ j.
-        (scope.new, j) ≡ with_variables least (scope.old, before) variables.now) }
+        (scope.new, j) ≡ with_owned least owner (scope.old, before) variables.now) }
 {
     let elaborated = begin_all(alloc, scope, before, variables.names.as_slice())?;
     let t = type_of(alloc, scope, &variables.of)?;
-    finish_all(alloc, scope, t, variables.names.as_slice())?;
+    finish_all(alloc, scope, owner, t, variables.names.as_slice())?;
     Ok(beside(elaborated, nothing_of(t)))
 }
 
-/// Declares variables of a module.
+/// Declares variables of a module or of a procedure.
 pub fn declare_variables(
     alloc: Global,
     scope: &mut Scope<Breach>,
+    owner: Owner,
     before: Elaborated<()>,
     list: &[Variables],
 ) -> Result<Elaborated<()>, AllocError>
     ensures { IfOk result (λ j.
-        (scope.new, j) ≡ fold (with_variables least) (scope.old, before) list.now) }
+        (scope.new, j) ≡ fold (with_owned least owner) (scope.old, before) list.now) }
 {
     let mut elaborated = before;
     for variables in list {
-        elaborated = with_variables(alloc, scope, elaborated, variables)?;
+        elaborated = with_variables(alloc, scope, owner, elaborated, variables)?;
     }
     Ok(elaborated)
 }
@@ -280,7 +303,9 @@ pub fn declare_all(
         elaborated = match def {
             Def::Constants(list) => declare_constants(alloc, scope, elaborated, list.as_slice())?,
             Def::Types(list) => declare_types(alloc, scope, elaborated, list.as_slice())?,
-            Def::Variables(list) => declare_variables(alloc, scope, elaborated, list.as_slice())?,
+            Def::Variables(list) => {
+                declare_variables(alloc, scope, Owner::Module, elaborated, list.as_slice())?
+            }
             Def::Procedure(heading) => with_procedure(alloc, scope, elaborated, heading)?,
         };
     }

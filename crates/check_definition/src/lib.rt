@@ -11,8 +11,8 @@ mod predeclared;
 
 pub use again::{again_constants, again_types, again_variables, pass};
 pub use declare::{
-    begin_all, declare_constants, declare_types, declare_variables, procedure_meaning,
-    with_procedure_type, with_variable_type,
+    Owner, declare_constants, declare_types, declare_variables, procedure_meaning,
+    with_procedure_type,
 };
 pub use definition::{compile_definition, with_console};
 pub use export::with_import_of;

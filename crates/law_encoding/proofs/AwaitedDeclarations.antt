@@ -25,13 +25,13 @@ use Rattle.check_const.specs.Parts.{constant}
 use Rattle.check_expr.specs.Meanings.{part}
 use Rattle.check_type_expr.specs.Headings.{heading_of}
 use Rattle.check_type_expr.specs.Made.{type_of, next_type, with_shape}
-use Rattle.check_definition.specs.Declare.{constant_meaning, with_constant, brings_with, type_meaning, with_type, begun_name, variable_meaning, with_variable_type, finished_variable, with_variables}
+use Rattle.check_definition.specs.Declare.{constant_meaning, with_constant, brings_with, type_meaning, with_type, begun_name, variable_meaning, local_meaning, with_variable_type, finished_variable, with_variables}
 use Rattle.check_definition.specs.Marking.{marked_later, marked_constant, marked_type, marked_variables}
 use Rattle.check_block.specs.declared.heading.Standing.{Standing}
 use Rattle.check_block.specs.declared.heading.Standing.TheVariants.{Free, Awaited, Taken}
 use Rattle.check_block.specs.Headings.{name_standing, nested_meaning, set_heading, module_procedure, with_new, headed_as, with_heading}
 use Rattle.check_block.specs.Naming.{marked_layer, marked_decl, with_marks}
-use Rattle.check_block.specs.Declarations.{local_meaning, finished_local, with_locals, Course, decl_layer, with_decl}
+use Rattle.check_block.specs.Declarations.{finished_local, with_locals, Course, decl_layer, with_decl}
 use Rattle.law_encoding.specs.Sizes.{sum_of}
 use Rattle.law_encoding.proofs.Sums.{sum_append}
 use Rattle.law_encoding.proofs.Awaited.{Names, standing_weight, awaiting, awaiting_of, HeadFits, Fills, Stays, stays_refl, stays_then, fills_then, known_fills, begun_stays, finished_stays, marked_stays}

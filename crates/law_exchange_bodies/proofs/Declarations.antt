@@ -15,7 +15,7 @@ use Rattle.check_scope.specs.declared.scope.Scope.{Scope}
 use Rattle.check_scope.specs.Elaborated.{Gathers, beside, reported_where}
 use Rattle.check_scope.specs.Scopes.{State}
 use Rattle.check_type_expr.specs.Made.{nothing_of, type_of}
-use Rattle.check_definition.specs.Declare.{with_constant, with_type, begun_name, finished_variable, with_variables}
+use Rattle.check_definition.specs.Declare.{with_constant, with_type, begun_name, finished_variable, with_variables, local_meaning}
 use Rattle.check_definition.specs.Again.{Passing}
 use Rattle.check_definition.specs.Importing.{with_import}
 use Rattle.check_block.specs.declared.heading.Standing.{Standing}
@@ -23,7 +23,7 @@ use Rattle.check_block.specs.declared.heading.Standing.TheVariants.{Free, Awaite
 use Rattle.check_block.specs.Headings.{standing_known}
 use Rattle.check_block.specs.Nesting.{number_behind}
 use Rattle.check_block.specs.Naming.{marked_decl, all_marked}
-use Rattle.check_block.specs.Declarations.{local_meaning, finished_local, with_locals, with_variables_of, Course, going_on, with_procedure, decl_layer, with_decl, again_layer, again_decl, Declared, all_declared, declared_block, is_awaited, or_awaited, lacks, reported_of_lack, declared_module}
+use Rattle.check_block.specs.Declarations.{finished_local, with_locals, with_variables_of, Course, going_on, with_procedure, decl_layer, with_decl, again_layer, again_decl, Declared, all_declared, declared_block, is_awaited, or_awaited, lacks, reported_of_lack, declared_module}
 use Rattle.def_exchange.specs.Moved.{Exchange, moved_meaning, moved_type}
 use Rattle.law_exchange_types.specs.Pieces.{map_ok, moved_pair, same}
 use Rattle.law_exchange_types.specs.Scopes.{moved_known, moved_names, moved_scope, moved_state, moved_state_of}

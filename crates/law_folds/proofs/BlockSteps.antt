@@ -19,12 +19,12 @@ use Rattle.check_scope.specs.declared.known.Origin.TheVariants.{Here, Module, Ex
 use Rattle.check_scope.specs.declared.scope.Scope.{Scope}
 use Rattle.check_type_expr.specs.Headings.{heading_of}
 use Rattle.check_type_expr.specs.Made.{with_made}
-use Rattle.check_definition.specs.Declare.{variable_meaning, with_variable_type, with_variables, procedure_meaning, with_procedure_type}
+use Rattle.check_definition.specs.Declare.{variable_meaning, local_meaning, with_variable_type, with_variables, procedure_meaning, with_procedure_type}
 use Rattle.check_block.specs.declared.heading.Standing.{Standing}
 use Rattle.check_block.specs.declared.heading.Standing.TheVariants.{Free, Awaited, Taken}
 use Rattle.check_block.specs.Headings.{standing_of, name_standing, nested_meaning, set_heading, module_procedure, headed_as, with_heading}
 use Rattle.check_block.specs.Naming.{marked_decl, all_marked}
-use Rattle.check_block.specs.Declarations.{local_meaning, with_locals, Course, decl_layer, with_decl, declared_block}
+use Rattle.check_block.specs.Declarations.{with_locals, Course, decl_layer, with_decl, declared_block}
 use Rattle.law_folds.proofs.Orders.{IsOrder, steps}
 use Rattle.law_folds.proofs.MarkSteps.{KeepsMarks, decls_marks}
 use Rattle.law_folds.proofs.NameSteps.{KeepsNames, Varies, AtLevel, constants_keep, types_keep, variables_keep, locals_keep, varied_level, level_names}

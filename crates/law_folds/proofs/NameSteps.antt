@@ -16,8 +16,8 @@ use Rattle.check_scope.specs.declared.scope.Scope.{Scope}
 use Rattle.check_const.specs.Parts.{constant}
 use Rattle.check_expr.specs.Meanings.{part}
 use Rattle.check_type_expr.specs.Made.{type_of}
-use Rattle.check_definition.specs.Declare.{constant_meaning, with_constant, type_meaning, brings_with, with_type, begun_name, variable_meaning, with_variable_type, finished_variable, with_variables}
-use Rattle.check_block.specs.Declarations.{local_meaning, finished_local, with_locals, with_variables_of}
+use Rattle.check_definition.specs.Declare.{constant_meaning, with_constant, type_meaning, brings_with, with_type, begun_name, variable_meaning, local_meaning, with_variable_type, finished_variable, with_variables}
+use Rattle.check_block.specs.Declarations.{finished_local, with_locals, with_variables_of}
 use Rattle.law_folds.proofs.Orders.{IsOrder, either_scope, steps}
 use Rattle.law_folds.proofs.TypeSteps.{unless_keeps, KeepsTypes, by_shapes}
 
