@@ -43,11 +43,11 @@ use Rattle.check_type_expr.specs.Fields.{no_fields}
 use Rattle.check_type_expr.specs.Headings.{procedure_made, with_section, result_of, heading_of}
 use Rattle.check_type_expr.specs.Made.{next_type, with_shape, enumeration_constant, enumeration_scalar, too_many, enumerate_name, simple_type, simple_place, array_of, index_type, record_of, Makes, MakesFields, then_fields, type_layer, field_layer, type_of, field_list}
 use Rattle.check_definition.specs.Marking.{marked_def}
-use Rattle.check_definition.specs.Declare.{variable_meaning, with_variable_type, procedure_meaning, with_procedure_type, with_def}
+use Rattle.check_definition.specs.Declare.{variable_meaning, local_meaning, with_variable_type, procedure_meaning, with_procedure_type, with_def}
 use Rattle.check_definition.specs.Importing.{exports_of, with_import}
 use Rattle.check_definition.specs.Compiled.{declared_in}
 use Rattle.check_block.specs.Headings.{nested_meaning}
-use Rattle.check_block.specs.Declarations.{local_meaning, declared_block, declared_module, Course, with_decl}
+use Rattle.check_block.specs.Declarations.{declared_block, declared_module, Course, with_decl}
 use Rattle.law_folds.proofs.Orders.{IsOrder, steps}
 use Rattle.law_folds.proofs.TypeFolds.{Typed, Fielded, bare, all_trees, types_opened, types_at, fields_at}
 use Rattle.law_folds.proofs.MarkSteps.{KeepsMarks, defs_marks}

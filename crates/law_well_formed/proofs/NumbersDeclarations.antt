@@ -19,11 +19,11 @@ use Rattle.check_scope.specs.declared.known.Origin.TheVariants.{Here, Module, Ex
 use Rattle.check_scope.specs.declared.scope.Scope.{Scope}
 use Rattle.check_scope.specs.declared.meaningless.Meaningless.TheVariants.{Headless}
 use Rattle.check_type_expr.specs.Made.{enumeration_constant}
-use Rattle.check_definition.specs.Declare.{variable_meaning, with_variable_type, with_procedure_type}
+use Rattle.check_definition.specs.Declare.{variable_meaning, local_meaning, with_variable_type, with_procedure_type}
 use Rattle.check_block.specs.declared.heading.Standing.TheVariants.{Awaited}
 use Rattle.check_block.specs.Headings.{standing_of, standing_elaborated, name_standing, module_procedure}
 use Rattle.check_block.specs.Naming.{marked_layer}
-use Rattle.check_block.specs.Declarations.{local_meaning, Course, decl_layer}
+use Rattle.check_block.specs.Declarations.{Course, decl_layer}
 use Rattle.law_folds.proofs.TypeSteps.{by_shapes}
 use Rattle.law_folds.proofs.Orders.{IsOrder}
 use Rattle.law_folds.proofs.MarkSteps.{decl_layer_marks}

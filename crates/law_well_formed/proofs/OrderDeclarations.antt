@@ -29,11 +29,11 @@ use Rattle.check_const.specs.Parts.{constant}
 use Rattle.check_expr.specs.Meanings.{part}
 use Rattle.check_type_expr.specs.Headings.{heading_of, names_of}
 use Rattle.check_type_expr.specs.Made.{nothing_of, type_of, with_made}
-use Rattle.check_definition.specs.Declare.{nothing_reported, constant_meaning, with_constant, brings_with, type_meaning, with_type, begun_name, variable_meaning, with_variable_type, finished_variable, with_variables, procedure_meaning, with_procedure_type, declared_procedure, with_procedure, with_def}
+use Rattle.check_definition.specs.Declare.{nothing_reported, constant_meaning, with_constant, brings_with, type_meaning, with_type, begun_name, variable_meaning, local_meaning, with_variable_type, finished_variable, with_variables, procedure_meaning, with_procedure_type, declared_procedure, with_procedure, with_def}
 use Rattle.check_block.specs.declared.heading.Standing.{Standing}
 use Rattle.check_block.specs.declared.heading.Standing.TheVariants.{Free, Awaited, Taken}
 use Rattle.check_block.specs.Headings.{standing_of, standing_elaborated, standing_from, name_standing, nested_meaning, module_procedure, set_heading, headed_as, with_heading}
-use Rattle.check_block.specs.Declarations.{Course, local_meaning, finished_local, with_locals, decl_layer}
+use Rattle.check_block.specs.Declarations.{Course, finished_local, with_locals, decl_layer}
 use Rattle.law_well_formed.specs.Formed.{Holds, fine, broken}
 use Rattle.law_well_formed.proofs.Basics.{then_holds, holds_weaker, any_holds, heading_means_holds}
 use Rattle.law_well_formed.proofs.RangesMade.{beside_then, const_holds}

@@ -1,5 +1,0 @@
-use Rattle.law_simulation.proofs.Mains.{main_does}
-use Rattle.law_simulation.proofs.body_laws.Goals as goal
-
-pub returns : goal.returns
-returns c = main_does

@@ -1,5 +1,0 @@
-use Rattle.law_simulation.proofs.Routines.{routine_does}
-use Rattle.law_simulation.proofs.procedure_laws.Goals as goal
-
-pub returns : goal.returns
-returns c = record { routines = routine_does }
