@@ -1,5 +1,5 @@
 -- What is appended for each variant of an expression, from what is appended for its parts.
-use Rattle.std.proofs.Common.{◌≡◌, ℕ, ℤ, pos, Bool, true, false, List, [], ◌∷◌, ◌++◌, map, length, ◌-◌, Some, refl, ap, ◌∙◌}
+use Rattle.std.proofs.Common.{◌≡◌, ℕ, ℤ, pos, Bool, true, false, List, [], ◌∷◌, ◌++◌, map, length, ◌-◌, Some, refl, sym, ap, ◌∙◌}
 use Rattle.std.specs.Prelude.{if◌then◌else◌}
 use Rattle.std.specs.List.{fold}
 use Rattle.wasm_tree.specs.declared.kinds.ValueType.TheVariants.{I64}
@@ -16,7 +16,7 @@ use Rattle.typed_tree.specs.declared.computed.Comparison.{Comparison}
 use Rattle.typed_tree.specs.declared.computed.SetOperator.{SetOperator}
 use Rattle.typed_tree.specs.declared.computed.Inclusion.{Inclusion}
 use Rattle.typed_tree.specs.declared.computed.Inclusion.TheVariants as inclusion
-use Rattle.typed_tree.specs.declared.computed.TypedExpr.{TypedExpr, TypedExpr-F, out-TypedExpr, map-TypedExpr, fold_out-TypedExpr}
+use Rattle.typed_tree.specs.declared.computed.TypedExpr.{TypedExpr, TypedExpr-F, out-TypedExpr, roll-TypedExpr, roll-out-TypedExpr, map-TypedExpr, fold_out-TypedExpr}
 use Rattle.typed_tree.specs.declared.computed.TypedExpr.TheVariants as ev
 use Rattle.typed_tree.specs.declared.computed.Component.{Component, Component-F, out-Component, map-Component, fold_out-Component}
 use Rattle.typed_tree.specs.declared.computed.Component.TheVariants as kv
@@ -616,14 +616,22 @@ unfolding value_constant
 constant_Constant t n s = ap (λ (p : Part). p.constant)
     (at_expr (numbering_of s.home) (ev.Constant t n) (layer.Constant t n) (ev.outs-Constant t n))
 
+-- a layer that is no constant
+layer_else : (n : Numbered) (x : TypedExpr-F Argument Call Component Link TypedExpr Place)
+    → ((t : TypeNo) (k : ℤ) → x ≡ layer.Constant t k → ⊥) → (expr_layer (opened_expr n x)).constant ≡ false
+layer_else n (layer.Constant t k) h = absurd (h t k refl)
+layer_else n _ h = refl
+
+pub constant_else : (e : TypedExpr) (s : Setting) → ((t : TypeNo) (k : ℤ) → e ≡ ev.Constant t k → ⊥)
+    → value_constant s e ≡ false
+unfolding value_constant
+constant_else e s h = ap (λ (p : Part). p.constant) (at_expr (numbering_of s.home) e (out-TypedExpr e) refl)
+    ∙ layer_else (numbering_of s.home) (out-TypedExpr e)
+    (λ t k q. h t k (sym (roll-out-TypedExpr e) ∙ ap roll-TypedExpr q ∙ ev.rolls-Constant t k))
+
 pub type_Load : (t : TypeNo) (x : Place) (s : Setting) → value_type s (ev.Load t x) ≡ t
 unfolding value_type linked_type
 type_Load t x s = ap (λ (p : Part). p.of)
-    (at_expr (numbering_of s.home) (ev.Load t x) (layer.Load t x) (ev.outs-Load t x))
-
-pub constant_Load : (t : TypeNo) (x : Place) (s : Setting) → value_constant s (ev.Load t x) ≡ false
-unfolding value_constant
-constant_Load t x s = ap (λ (p : Part). p.constant)
     (at_expr (numbering_of s.home) (ev.Load t x) (layer.Load t x) (ev.outs-Load t x))
 
 pub type_Procedure : (f : Procedure) (s : Setting) → value_type s (ev.Procedure f) ≡ f.heading
@@ -631,29 +639,14 @@ unfolding value_type linked_type
 type_Procedure f s = ap (λ (p : Part). p.of)
     (at_expr (numbering_of s.home) (ev.Procedure f) (layer.Procedure f) (ev.outs-Procedure f))
 
-pub constant_Procedure : (f : Procedure) (s : Setting) → value_constant s (ev.Procedure f) ≡ false
-unfolding value_constant
-constant_Procedure f s = ap (λ (p : Part). p.constant)
-    (at_expr (numbering_of s.home) (ev.Procedure f) (layer.Procedure f) (ev.outs-Procedure f))
-
 pub type_Plus : (t : TypeNo) (e : TypedExpr) (s : Setting) → value_type s (ev.Plus t e) ≡ t
 unfolding value_type linked_type
 type_Plus t e s = ap (λ (p : Part). p.of)
     (at_expr (numbering_of s.home) (ev.Plus t e) (layer.Plus t e) (ev.outs-Plus t e))
 
-pub constant_Plus : (t : TypeNo) (e : TypedExpr) (s : Setting) → value_constant s (ev.Plus t e) ≡ false
-unfolding value_constant
-constant_Plus t e s = ap (λ (p : Part). p.constant)
-    (at_expr (numbering_of s.home) (ev.Plus t e) (layer.Plus t e) (ev.outs-Plus t e))
-
 pub type_Negate : (e : TypedExpr) (s : Setting) → value_type s (ev.Negate e) ≡ integer
 unfolding value_type linked_type
 type_Negate e s = ap (λ (p : Part). p.of)
-    (at_expr (numbering_of s.home) (ev.Negate e) (layer.Negate e) (ev.outs-Negate e))
-
-pub constant_Negate : (e : TypedExpr) (s : Setting) → value_constant s (ev.Negate e) ≡ false
-unfolding value_constant
-constant_Negate e s = ap (λ (p : Part). p.constant)
     (at_expr (numbering_of s.home) (ev.Negate e) (layer.Negate e) (ev.outs-Negate e))
 
 pub type_Chain : (e : TypedExpr) (ls : List Link) (s : Setting)
@@ -663,120 +656,55 @@ type_Chain e ls s = ap (λ (p : Part). p.of)
     (at_expr (numbering_of s.home) (ev.Chain e ls) (layer.Chain e ls) (ev.outs-Chain e ls))
     ∙ chain_is (expr_part (numbering_of s.home) e).of ls s
 
-pub constant_Chain : (e : TypedExpr) (ls : List Link) (s : Setting) → value_constant s (ev.Chain e ls) ≡ false
-unfolding value_constant
-constant_Chain e ls s = ap (λ (p : Part). p.constant)
-    (at_expr (numbering_of s.home) (ev.Chain e ls) (layer.Chain e ls) (ev.outs-Chain e ls))
-
 pub type_Compare : (o : Comparison) (a b : TypedExpr) (s : Setting) → value_type s (ev.Compare o a b) ≡ boolean
 unfolding value_type linked_type
 type_Compare o a b s = ap (λ (p : Part). p.of)
-    (at_expr (numbering_of s.home) (ev.Compare o a b) (layer.Compare o a b) (ev.outs-Compare o a b))
-
-pub constant_Compare : (o : Comparison) (a b : TypedExpr) (s : Setting) → value_constant s (ev.Compare o a b) ≡ false
-unfolding value_constant
-constant_Compare o a b s = ap (λ (p : Part). p.constant)
     (at_expr (numbering_of s.home) (ev.Compare o a b) (layer.Compare o a b) (ev.outs-Compare o a b))
 
 pub type_Not : (e : TypedExpr) (s : Setting) → value_type s (ev.Not e) ≡ boolean
 unfolding value_type linked_type
 type_Not e s = ap (λ (p : Part). p.of) (at_expr (numbering_of s.home) (ev.Not e) (layer.Not e) (ev.outs-Not e))
 
-pub constant_Not : (e : TypedExpr) (s : Setting) → value_constant s (ev.Not e) ≡ false
-unfolding value_constant
-constant_Not e s = ap (λ (p : Part). p.constant)
-    (at_expr (numbering_of s.home) (ev.Not e) (layer.Not e) (ev.outs-Not e))
-
 pub type_Include : (o : Inclusion) (a b : TypedExpr) (s : Setting) → value_type s (ev.Include o a b) ≡ boolean
 unfolding value_type linked_type
 type_Include o a b s = ap (λ (p : Part). p.of)
-    (at_expr (numbering_of s.home) (ev.Include o a b) (layer.Include o a b) (ev.outs-Include o a b))
-
-pub constant_Include : (o : Inclusion) (a b : TypedExpr) (s : Setting) → value_constant s (ev.Include o a b) ≡ false
-unfolding value_constant
-constant_Include o a b s = ap (λ (p : Part). p.constant)
     (at_expr (numbering_of s.home) (ev.Include o a b) (layer.Include o a b) (ev.outs-Include o a b))
 
 pub type_In : (a b : TypedExpr) (s : Setting) → value_type s (ev.In a b) ≡ boolean
 unfolding value_type linked_type
 type_In a b s = ap (λ (p : Part). p.of) (at_expr (numbering_of s.home) (ev.In a b) (layer.In a b) (ev.outs-In a b))
 
-pub constant_In : (a b : TypedExpr) (s : Setting) → value_constant s (ev.In a b) ≡ false
-unfolding value_constant
-constant_In a b s = ap (λ (p : Part). p.constant)
-    (at_expr (numbering_of s.home) (ev.In a b) (layer.In a b) (ev.outs-In a b))
-
 pub type_Abs : (t : TypeNo) (e : TypedExpr) (s : Setting) → value_type s (ev.Abs t e) ≡ t
 unfolding value_type linked_type
 type_Abs t e s = ap (λ (p : Part). p.of) (at_expr (numbering_of s.home) (ev.Abs t e) (layer.Abs t e) (ev.outs-Abs t e))
-
-pub constant_Abs : (t : TypeNo) (e : TypedExpr) (s : Setting) → value_constant s (ev.Abs t e) ≡ false
-unfolding value_constant
-constant_Abs t e s = ap (λ (p : Part). p.constant)
-    (at_expr (numbering_of s.home) (ev.Abs t e) (layer.Abs t e) (ev.outs-Abs t e))
 
 pub type_Cap : (e : TypedExpr) (s : Setting) → value_type s (ev.Cap e) ≡ char
 unfolding value_type linked_type
 type_Cap e s = ap (λ (p : Part). p.of) (at_expr (numbering_of s.home) (ev.Cap e) (layer.Cap e) (ev.outs-Cap e))
 
-pub constant_Cap : (e : TypedExpr) (s : Setting) → value_constant s (ev.Cap e) ≡ false
-unfolding value_constant
-constant_Cap e s = ap (λ (p : Part). p.constant)
-    (at_expr (numbering_of s.home) (ev.Cap e) (layer.Cap e) (ev.outs-Cap e))
-
 pub type_Chr : (e : TypedExpr) (s : Setting) → value_type s (ev.Chr e) ≡ char
 unfolding value_type linked_type
 type_Chr e s = ap (λ (p : Part). p.of) (at_expr (numbering_of s.home) (ev.Chr e) (layer.Chr e) (ev.outs-Chr e))
-
-pub constant_Chr : (e : TypedExpr) (s : Setting) → value_constant s (ev.Chr e) ≡ false
-unfolding value_constant
-constant_Chr e s = ap (λ (p : Part). p.constant)
-    (at_expr (numbering_of s.home) (ev.Chr e) (layer.Chr e) (ev.outs-Chr e))
 
 pub type_Odd : (e : TypedExpr) (s : Setting) → value_type s (ev.Odd e) ≡ boolean
 unfolding value_type linked_type
 type_Odd e s = ap (λ (p : Part). p.of) (at_expr (numbering_of s.home) (ev.Odd e) (layer.Odd e) (ev.outs-Odd e))
 
-pub constant_Odd : (e : TypedExpr) (s : Setting) → value_constant s (ev.Odd e) ≡ false
-unfolding value_constant
-constant_Odd e s = ap (λ (p : Part). p.constant)
-    (at_expr (numbering_of s.home) (ev.Odd e) (layer.Odd e) (ev.outs-Odd e))
-
 pub type_Ord : (e : TypedExpr) (s : Setting) → value_type s (ev.Ord e) ≡ cardinal
 unfolding value_type linked_type
 type_Ord e s = ap (λ (p : Part). p.of) (at_expr (numbering_of s.home) (ev.Ord e) (layer.Ord e) (ev.outs-Ord e))
-
-pub constant_Ord : (e : TypedExpr) (s : Setting) → value_constant s (ev.Ord e) ≡ false
-unfolding value_constant
-constant_Ord e s = ap (λ (p : Part). p.constant)
-    (at_expr (numbering_of s.home) (ev.Ord e) (layer.Ord e) (ev.outs-Ord e))
 
 pub type_Val : (t : TypeNo) (e : TypedExpr) (s : Setting) → value_type s (ev.Val t e) ≡ t
 unfolding value_type linked_type
 type_Val t e s = ap (λ (p : Part). p.of) (at_expr (numbering_of s.home) (ev.Val t e) (layer.Val t e) (ev.outs-Val t e))
 
-pub constant_Val : (t : TypeNo) (e : TypedExpr) (s : Setting) → value_constant s (ev.Val t e) ≡ false
-unfolding value_constant
-constant_Val t e s = ap (λ (p : Part). p.constant)
-    (at_expr (numbering_of s.home) (ev.Val t e) (layer.Val t e) (ev.outs-Val t e))
-
 pub type_High : (x : Slot) (s : Setting) → value_type s (ev.High x) ≡ cardinal
 unfolding value_type linked_type
 type_High x s = ap (λ (p : Part). p.of) (at_expr (numbering_of s.home) (ev.High x) (layer.High x) (ev.outs-High x))
 
-pub constant_High : (x : Slot) (s : Setting) → value_constant s (ev.High x) ≡ false
-unfolding value_constant
-constant_High x s = ap (λ (p : Part). p.constant)
-    (at_expr (numbering_of s.home) (ev.High x) (layer.High x) (ev.outs-High x))
-
 pub type_Call : (t : TypeNo) (c : Call) (s : Setting) → value_type s (ev.Call t c) ≡ t
 unfolding value_type linked_type
 type_Call t c s = ap (λ (p : Part). p.of)
-    (at_expr (numbering_of s.home) (ev.Call t c) (layer.Call t c) (ev.outs-Call t c))
-
-pub constant_Call : (t : TypeNo) (c : Call) (s : Setting) → value_constant s (ev.Call t c) ≡ false
-unfolding value_constant
-constant_Call t c s = ap (λ (p : Part). p.constant)
     (at_expr (numbering_of s.home) (ev.Call t c) (layer.Call t c) (ev.outs-Call t c))
 
 pub linked_Arithmetic : (o : Arithmetic) (t : TypeNo) (b : TypedExpr) (s : Setting)
@@ -801,40 +729,24 @@ linked_Combine o b s = ap (λ (p : Linked). p.of)
 pub ruleset types = (
   type_Constant,
   constant_Constant,
+  constant_else,
   type_Load,
-  constant_Load,
   type_Procedure,
-  constant_Procedure,
   type_Plus,
-  constant_Plus,
   type_Negate,
-  constant_Negate,
   type_Chain,
-  constant_Chain,
   type_Compare,
-  constant_Compare,
   type_Not,
-  constant_Not,
   type_Include,
-  constant_Include,
   type_In,
-  constant_In,
   type_Abs,
-  constant_Abs,
   type_Cap,
-  constant_Cap,
   type_Chr,
-  constant_Chr,
   type_Odd,
-  constant_Odd,
   type_Ord,
-  constant_Ord,
   type_Val,
-  constant_Val,
   type_High,
-  constant_High,
   type_Call,
-  constant_Call,
   linked_Arithmetic,
   linked_And,
   linked_Or,

@@ -60,24 +60,22 @@ fn type_of(e: &TypedExpr) -> TypeNo
     ensures { (s : Scheme) → result ≡ value_type s e.now }
 {
     match e {
-        TypedExpr::Constant(t, _) => *t,
-        TypedExpr::Load(t, _) => *t,
+        TypedExpr::Constant(t, _)
+        | TypedExpr::Load(t, _)
+        | TypedExpr::Plus(t, _)
+        | TypedExpr::Abs(t, _)
+        | TypedExpr::Val(t, _)
+        | TypedExpr::Call(t, _) => *t,
         TypedExpr::Procedure(f) => f.heading,
-        TypedExpr::Plus(t, _) => *t,
         TypedExpr::Negate(_) => INTEGER,
         TypedExpr::Chain(first, links) => { chain_type(type_of(first.get()), links.as_slice()) }
-        TypedExpr::Compare(_, _, _) => BOOLEAN,
-        TypedExpr::Not(_) => BOOLEAN,
-        TypedExpr::Include(_, _, _) => BOOLEAN,
-        TypedExpr::In(_, _) => BOOLEAN,
-        TypedExpr::Abs(t, _) => *t,
-        TypedExpr::Cap(_) => CHAR,
-        TypedExpr::Chr(_) => CHAR,
-        TypedExpr::Odd(_) => BOOLEAN,
-        TypedExpr::Ord(_) => CARDINAL,
-        TypedExpr::Val(t, _) => *t,
-        TypedExpr::High(_) => CARDINAL,
-        TypedExpr::Call(t, _) => *t,
+        TypedExpr::Compare(_, _, _)
+        | TypedExpr::Not(_)
+        | TypedExpr::Include(_, _, _)
+        | TypedExpr::In(_, _)
+        | TypedExpr::Odd(_) => BOOLEAN,
+        TypedExpr::Cap(_) | TypedExpr::Chr(_) => CHAR,
+        TypedExpr::Ord(_) | TypedExpr::High(_) => CARDINAL,
     }
 }
 
@@ -86,26 +84,7 @@ fn type_of(e: &TypedExpr) -> TypeNo
 fn is_constant(e: &TypedExpr) -> bool
     ensures { (s : Scheme) → result ≡ value_constant s e.now }
 {
-    match e {
-        TypedExpr::Constant(_, _) => true,
-        TypedExpr::Load(_, _) => false,
-        TypedExpr::Procedure(_) => false,
-        TypedExpr::Plus(_, _) => false,
-        TypedExpr::Negate(_) => false,
-        TypedExpr::Chain(_, _) => false,
-        TypedExpr::Compare(_, _, _) => false,
-        TypedExpr::Not(_) => false,
-        TypedExpr::Include(_, _, _) => false,
-        TypedExpr::In(_, _) => false,
-        TypedExpr::Abs(_, _) => false,
-        TypedExpr::Cap(_) => false,
-        TypedExpr::Chr(_) => false,
-        TypedExpr::Odd(_) => false,
-        TypedExpr::Ord(_) => false,
-        TypedExpr::Val(_, _) => false,
-        TypedExpr::High(_) => false,
-        TypedExpr::Call(_, _) => false,
-    }
+    matches!(e, TypedExpr::Constant(_, _))
 }
 
 /// Checks the value of an expression as one of a type.

@@ -130,11 +130,7 @@ pub fn index_of(types: &Types, t: TypeNo) -> Option<Scalar>
         None => None,
         Some(made) => match &made.shape {
             Shape::Array(index, _) => scalar_of(types, *index),
-            Shape::Scalar(_)
-            | Shape::Set
-            | Shape::Record(_)
-            | Shape::Procedure(_)
-            | Shape::Open(_) => None,
+            _ => None,
         },
     }
 }

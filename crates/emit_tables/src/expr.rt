@@ -133,35 +133,25 @@ pub fn push_expr(characters: &mut Characters, e: &TypedExpr) -> Result<(), Alloc
     ensures { OnOk result (characters.new ≡ characters.old ++ all_characters (texts_of e.now)) }
 {
     match e {
-        TypedExpr::Constant(_, _) => Ok(()),
+        TypedExpr::Constant(_, _) | TypedExpr::Procedure(_) | TypedExpr::High(_) => Ok(()),
         TypedExpr::Load(_, place) => push_place(characters, place),
-        TypedExpr::Procedure(_) => Ok(()),
-        TypedExpr::Plus(_, a) => push_expr(characters, a.get()),
-        TypedExpr::Negate(a) => push_expr(characters, a.get()),
+        TypedExpr::Plus(_, a)
+        | TypedExpr::Negate(a)
+        | TypedExpr::Not(a)
+        | TypedExpr::Abs(_, a)
+        | TypedExpr::Cap(a)
+        | TypedExpr::Chr(a)
+        | TypedExpr::Odd(a)
+        | TypedExpr::Ord(a)
+        | TypedExpr::Val(_, a) => push_expr(characters, a.get()),
         TypedExpr::Chain(first, links) => {
             push_expr(characters, first.get())?;
             push_links(characters, links.as_slice())
         }
-        TypedExpr::Compare(_, a, b) => {
+        TypedExpr::Compare(_, a, b) | TypedExpr::Include(_, a, b) | TypedExpr::In(a, b) => {
             push_expr(characters, a.get())?;
             push_expr(characters, b.get())
         }
-        TypedExpr::Not(a) => push_expr(characters, a.get()),
-        TypedExpr::Include(_, a, b) => {
-            push_expr(characters, a.get())?;
-            push_expr(characters, b.get())
-        }
-        TypedExpr::In(a, b) => {
-            push_expr(characters, a.get())?;
-            push_expr(characters, b.get())
-        }
-        TypedExpr::Abs(_, a) => push_expr(characters, a.get()),
-        TypedExpr::Cap(a) => push_expr(characters, a.get()),
-        TypedExpr::Chr(a) => push_expr(characters, a.get()),
-        TypedExpr::Odd(a) => push_expr(characters, a.get()),
-        TypedExpr::Ord(a) => push_expr(characters, a.get()),
-        TypedExpr::Val(_, a) => push_expr(characters, a.get()),
-        TypedExpr::High(_) => Ok(()),
         TypedExpr::Call(_, call) => push_call(characters, call.get()),
     }
 }

@@ -166,35 +166,25 @@ pub fn expr_marks(
         OnOk result (marks.new.items ≡ with_all ss marks.old.items) }
 {
     match e {
-        TypedExpr::Constant(_, _) => Ok(()),
+        TypedExpr::Constant(_, _) | TypedExpr::Procedure(_) | TypedExpr::High(_) => Ok(()),
         TypedExpr::Load(_, place) => place_marks(module_body, marks, place),
-        TypedExpr::Procedure(_) => Ok(()),
-        TypedExpr::Plus(_, a) => expr_marks(module_body, marks, a.get()),
-        TypedExpr::Negate(a) => expr_marks(module_body, marks, a.get()),
+        TypedExpr::Plus(_, a)
+        | TypedExpr::Negate(a)
+        | TypedExpr::Not(a)
+        | TypedExpr::Abs(_, a)
+        | TypedExpr::Cap(a)
+        | TypedExpr::Chr(a)
+        | TypedExpr::Odd(a)
+        | TypedExpr::Ord(a)
+        | TypedExpr::Val(_, a) => expr_marks(module_body, marks, a.get()),
         TypedExpr::Chain(first, links) => {
             expr_marks(module_body, marks, first.get())?;
             links_marks(module_body, marks, links.as_slice())
         }
-        TypedExpr::Compare(_, a, b) => {
+        TypedExpr::Compare(_, a, b) | TypedExpr::Include(_, a, b) | TypedExpr::In(a, b) => {
             expr_marks(module_body, marks, a.get())?;
             expr_marks(module_body, marks, b.get())
         }
-        TypedExpr::Include(_, a, b) => {
-            expr_marks(module_body, marks, a.get())?;
-            expr_marks(module_body, marks, b.get())
-        }
-        TypedExpr::In(a, b) => {
-            expr_marks(module_body, marks, a.get())?;
-            expr_marks(module_body, marks, b.get())
-        }
-        TypedExpr::Not(a) => expr_marks(module_body, marks, a.get()),
-        TypedExpr::Abs(_, a) => expr_marks(module_body, marks, a.get()),
-        TypedExpr::Cap(a) => expr_marks(module_body, marks, a.get()),
-        TypedExpr::Chr(a) => expr_marks(module_body, marks, a.get()),
-        TypedExpr::Odd(a) => expr_marks(module_body, marks, a.get()),
-        TypedExpr::Ord(a) => expr_marks(module_body, marks, a.get()),
-        TypedExpr::Val(_, a) => expr_marks(module_body, marks, a.get()),
-        TypedExpr::High(_) => Ok(()),
         TypedExpr::Call(_, call) => call_marks(module_body, marks, call.get()),
     }
 }

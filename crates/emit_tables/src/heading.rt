@@ -27,11 +27,7 @@ pub fn arguments_in(types: &Types, heading: TypeNo) -> usize
                 let formals = signature.formals.as_slice();
                 formals.len() + formals.iter().filter(|f| f.is_open).count()
             }
-            Shape::Scalar(_)
-            | Shape::Set
-            | Shape::Array(_, _)
-            | Shape::Record(_)
-            | Shape::Open(_) => 0,
+            _ => 0,
         },
     }
 }
@@ -44,11 +40,7 @@ pub fn has_result(types: &Types, heading: TypeNo) -> bool
         None => false,
         Some(made) => match &made.shape {
             Shape::Procedure(signature) => signature.result.is_some(),
-            Shape::Scalar(_)
-            | Shape::Set
-            | Shape::Array(_, _)
-            | Shape::Record(_)
-            | Shape::Open(_) => false,
+            _ => false,
         },
     }
 }

@@ -128,26 +128,24 @@ pub fn expr_count(e: &TypedExpr) -> u32
     ensures { result ≡ character_count (texts_of e.now) }
 {
     match e {
-        TypedExpr::Constant(_, _) => 0,
+        TypedExpr::Constant(_, _) | TypedExpr::Procedure(_) | TypedExpr::High(_) => 0,
         TypedExpr::Load(_, place) => place_count(place),
-        TypedExpr::Procedure(_) => 0,
-        TypedExpr::Plus(_, a) => expr_count(a.get()),
-        TypedExpr::Negate(a) => expr_count(a.get()),
+        TypedExpr::Plus(_, a)
+        | TypedExpr::Negate(a)
+        | TypedExpr::Not(a)
+        | TypedExpr::Abs(_, a)
+        | TypedExpr::Cap(a)
+        | TypedExpr::Chr(a)
+        | TypedExpr::Odd(a)
+        | TypedExpr::Ord(a)
+        | TypedExpr::Val(_, a) => expr_count(a.get()),
         TypedExpr::Chain(first, links) => sum(
             expr_count(first.get()),
             links_count(links.as_slice()),
         ),
-        TypedExpr::Compare(_, a, b) => sum(expr_count(a.get()), expr_count(b.get())),
-        TypedExpr::Not(a) => expr_count(a.get()),
-        TypedExpr::Include(_, a, b) => sum(expr_count(a.get()), expr_count(b.get())),
-        TypedExpr::In(a, b) => sum(expr_count(a.get()), expr_count(b.get())),
-        TypedExpr::Abs(_, a) => expr_count(a.get()),
-        TypedExpr::Cap(a) => expr_count(a.get()),
-        TypedExpr::Chr(a) => expr_count(a.get()),
-        TypedExpr::Odd(a) => expr_count(a.get()),
-        TypedExpr::Ord(a) => expr_count(a.get()),
-        TypedExpr::Val(_, a) => expr_count(a.get()),
-        TypedExpr::High(_) => 0,
+        TypedExpr::Compare(_, a, b) | TypedExpr::Include(_, a, b) | TypedExpr::In(a, b) => {
+            sum(expr_count(a.get()), expr_count(b.get()))
+        }
         TypedExpr::Call(_, call) => call_count(call.get()),
     }
 }
