@@ -50,26 +50,26 @@ fn op_fits(op: Op, rest: &[Op], levels: u16) -> bool
     ensures { result ≡ instr_fits (head tree op rest.now) levels }
 {
     match op {
-        Op::Block(_, count) => fits_inside(split_ops(rest, count).0, levels),
-        Op::Loop(_, count) => fits_inside(split_ops(rest, count).0, levels),
-        Op::If(_, count) => fits_inside(split_ops(rest, count).0, levels),
+        Op::Block(_, count) | Op::Loop(_, count) | Op::If(_, count) => {
+            fits_inside(split_ops(rest, count).0, levels)
+        }
         Op::IfElse(_, count, second) => {
             let (ops, more) = split_ops(rest, count);
             fits_inside(ops, levels) && fits_inside(split_ops(more, second).0, levels)
         }
         Op::BrTable(count, last) => are_labels(split_ops(rest, count).0) && is_index(last),
-        Op::Br(index) => is_index(index),
-        Op::BrIf(index) => is_index(index),
-        Op::Call(index) => is_index(index),
-        Op::CallIndirect(index) => is_index(index),
-        Op::LocalGet(index) => is_index(index),
-        Op::LocalSet(index) => is_index(index),
-        Op::LocalTee(index) => is_index(index),
-        Op::GlobalGet(index) => is_index(index),
-        Op::Unreachable | Op::Return | Op::Drop | Op::Load(_) | Op::Store(_) => true,
+        Op::Br(index)
+        | Op::BrIf(index)
+        | Op::Call(index)
+        | Op::CallIndirect(index)
+        | Op::LocalGet(index)
+        | Op::LocalSet(index)
+        | Op::LocalTee(index)
+        | Op::GlobalGet(index) => is_index(index),
         Op::I32Const(number) => is_index(number),
         Op::I64Const(number) => is_constant(number),
-        Op::Numeric(_) => true,
+        Op::Unreachable | Op::Return | Op::Drop | Op::Load(_) | Op::Store(_) | Op::Numeric(_) =>
+            true,
     }
 }
 

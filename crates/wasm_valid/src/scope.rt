@@ -56,35 +56,17 @@ fn global_import(import: &Import) -> Option<ValueType>
     }
 }
 
-fn imported_functions(alloc: Global, tree: &WModule) -> Result<Vec<u32>, AllocError>
-    ensures { IfOk result (λ v. v.items ≡ filter_map function_import tree.now.imports) }
-{
-    let imports = tree.imports.as_slice();
-    imports
-        .iter()
-        .filter_map(|i| function_import(i))
-        .collect(alloc)
-}
-
 pub fn functions_of(alloc: Global, tree: &WModule) -> Result<Vec<u32>, AllocError>
     ensures { IfOk result (λ v.
         v.items ≡ filter_map function_import tree.now.imports
         ++ map (λ f. f.type_index) tree.now.functions) }
 {
-    let mut functions = imported_functions(alloc, tree)?;
-    for function in tree.functions.as_slice() {
-        functions.push(function.type_index)?;
-    }
-    Ok(functions)
-}
-
-fn imported_tables(alloc: Global, tree: &WModule) -> Result<Vec<Limits>, AllocError>
-    ensures { IfOk result (λ v. v.items ≡ filter_map table_import tree.now.imports) }
-{
     let imports = tree.imports.as_slice();
+    let own = tree.functions.as_slice();
     imports
         .iter()
-        .filter_map(|i| table_import(i))
+        .filter_map(function_import)
+        .chain(own.iter().map(|f| f.type_index))
         .collect(alloc)
 }
 
@@ -93,20 +75,12 @@ fn tables_of(alloc: Global, tree: &WModule) -> Result<Vec<Limits>, AllocError>
         v.items
         ≡ filter_map table_import tree.now.imports ++ map (λ t. t.limits) tree.now.tables) }
 {
-    let mut tables = imported_tables(alloc, tree)?;
-    for table in tree.tables.as_slice() {
-        tables.push(table.limits)?;
-    }
-    Ok(tables)
-}
-
-fn imported_memories(alloc: Global, tree: &WModule) -> Result<Vec<Limits>, AllocError>
-    ensures { IfOk result (λ v. v.items ≡ filter_map memory_import tree.now.imports) }
-{
     let imports = tree.imports.as_slice();
+    let own = tree.tables.as_slice();
     imports
         .iter()
-        .filter_map(|i| memory_import(i))
+        .filter_map(table_import)
+        .chain(own.iter().map(|t| t.limits))
         .collect(alloc)
 }
 
@@ -116,21 +90,20 @@ fn memories_of(alloc: Global, tree: &WModule) -> Result<Vec<Limits>, AllocError>
         ≡ filter_map memory_import tree.now.imports
         ++ map (λ t. t.limits) tree.now.memories) }
 {
-    let mut memories = imported_memories(alloc, tree)?;
-    for memory in tree.memories.as_slice() {
-        memories.push(memory.limits)?;
-    }
-    Ok(memories)
+    let imports = tree.imports.as_slice();
+    let own = tree.memories.as_slice();
+    imports
+        .iter()
+        .filter_map(memory_import)
+        .chain(own.iter().map(|m| m.limits))
+        .collect(alloc)
 }
 
 fn imported_globals(alloc: Global, tree: &WModule) -> Result<Vec<ValueType>, AllocError>
     ensures { IfOk result (λ v. v.items ≡ filter_map global_import tree.now.imports) }
 {
     let imports = tree.imports.as_slice();
-    imports
-        .iter()
-        .filter_map(|i| global_import(i))
-        .collect(alloc)
+    imports.iter().filter_map(global_import).collect(alloc)
 }
 
 fn globals_of(alloc: Global, tree: &WModule) -> Result<Vec<ValueType>, AllocError>
@@ -138,11 +111,13 @@ fn globals_of(alloc: Global, tree: &WModule) -> Result<Vec<ValueType>, AllocErro
         v.items ≡ filter_map global_import tree.now.imports
         ++ map (λ g. g.value_type) tree.now.globals) }
 {
-    let mut globals = imported_globals(alloc, tree)?;
-    for global in tree.globals.as_slice() {
-        globals.push(global.value_type)?;
-    }
-    Ok(globals)
+    let imports = tree.imports.as_slice();
+    let own = tree.globals.as_slice();
+    imports
+        .iter()
+        .filter_map(global_import)
+        .chain(own.iter().map(|g| g.value_type))
+        .collect(alloc)
 }
 
 /// All that the module's indices stand for.

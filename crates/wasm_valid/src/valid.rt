@@ -2,7 +2,7 @@
 
 ghost use Rattle.std.specs.Prelude.{◌≢◌, Err, List, ℕ, not, cond, true, ◌≡◌, ◌<◌, ◌^◌, ◌↔◌, ◌⊎◌, All, IsTrue, OnOk, IfOk, MatchResult, map, length};
 ghost use Rattle.wasm_tree.specs.Limits.{max_memory};
-ghost use Rattle.wasm_tree.specs.Validity.{context, AreLimits, IsFuncType, IsImport, IsFunction, IsGlobal, IsExport, IsElement, IsData, AreDistinct, AreKinds, AreBodies, IsValid};
+ghost use Rattle.wasm_tree.specs.Validity.{Context, context, AreLimits, IsFuncType, IsImport, IsFunction, IsGlobal, IsExport, IsElement, IsData, AreDistinct, AreKinds, AreBodies, IsValid};
 ghost use Rattle.wasm_valid.specs.CodeScope.{scope_of};
 ghost use Rattle.std.specs.Str.{bytes_eq};
 ghost use Rattle.wasm_valid.specs.Named.{holds};
@@ -63,12 +63,6 @@ fn check_function(
     }
 }
 
-fn check_global(alloc: Global, scope: Scope<'_>, global: &Constant) -> Result<(), WFault>
-    ensures { Decides result (IsGlobal (scope_of scope.entry) global.now) }
-{
-    check_constant(alloc, scope, global.value.ops(), global.value_type)
-}
-
 fn is_export(scope: Scope<'_>, export: &Export) -> bool
     ensures { IsTrue result ↔ IsExport (scope_of scope.entry) export.now }
 {
@@ -88,25 +82,54 @@ fn are_functions(scope: Scope<'_>, functions: &[u32]) -> bool
         .all(|f| (*f as usize) < scope.functions.len())
 }
 
-fn check_element(alloc: Global, scope: Scope<'_>, element: &Element) -> Result<(), WFault>
-    ensures { Decides result (IsElement (scope_of scope.entry) element.now) }
-{
-    if scope.tables.len() <= element.table as usize {
-        return Err(WFault::Invalid);
-    }
-    if !are_functions(scope, element.functions.as_slice()) {
-        return Err(WFault::Invalid);
-    }
-    check_constant(alloc, scope, element.offset.ops(), ValueType::I32)
+/// What stands in a module and is valid or not by itself.
+trait Part {
+    ghost IsPart: { Context → Self → Type 0 };
+
+    fn check(&self, alloc: Global, scope: Scope<'_>) -> Result<(), WFault>
+        ensures { Decides result (IsPart (scope_of scope.entry) self.now) };
 }
 
-fn check_data(alloc: Global, scope: Scope<'_>, data: &Data) -> Result<(), WFault>
-    ensures { Decides result (IsData (scope_of scope.entry) «data».now) }
-{
-    if scope.memories.len() <= data.memory as usize {
-        return Err(WFault::Invalid);
+impl Part for Constant {
+    ghost IsPart = { IsGlobal };
+
+    fn check(&self, alloc: Global, scope: Scope<'_>) -> Result<(), WFault> {
+        check_constant(alloc, scope, self.value.ops(), self.value_type)
     }
-    check_constant(alloc, scope, data.offset.ops(), ValueType::I32)
+}
+
+impl Part for Element {
+    ghost IsPart = { IsElement };
+
+    fn check(&self, alloc: Global, scope: Scope<'_>) -> Result<(), WFault> {
+        if scope.tables.len() <= self.table as usize {
+            return Err(WFault::Invalid);
+        }
+        if !are_functions(scope, self.functions.as_slice()) {
+            return Err(WFault::Invalid);
+        }
+        check_constant(alloc, scope, self.offset.ops(), ValueType::I32)
+    }
+}
+
+impl Part for Data {
+    ghost IsPart = { IsData };
+
+    fn check(&self, alloc: Global, scope: Scope<'_>) -> Result<(), WFault> {
+        if scope.memories.len() <= self.memory as usize {
+            return Err(WFault::Invalid);
+        }
+        check_constant(alloc, scope, self.offset.ops(), ValueType::I32)
+    }
+}
+
+fn check_parts<T: Part>(alloc: Global, scope: Scope<'_>, parts: &[T]) -> Result<(), WFault>
+    ensures { Decides result (All (T.IsPart (scope_of scope.entry)) parts.now) }
+{
+    for part in parts {
+        part.check(alloc, scope)?;
+    }
+    Ok(())
 }
 
 fn check_functions(alloc: Global, scope: Scope<'_>, functions: &[Function]) -> Result<(), WFault>
@@ -117,33 +140,6 @@ fn check_functions(alloc: Global, scope: Scope<'_>, functions: &[Function]) -> R
     let mut ends = Vec::new(alloc);
     for function in functions {
         check_function(alloc, &mut spares, &mut ends, scope, function)?;
-    }
-    Ok(())
-}
-
-fn check_globals(alloc: Global, scope: Scope<'_>, globals: &[Constant]) -> Result<(), WFault>
-    ensures { Decides result (All (IsGlobal (scope_of scope.entry)) globals.now) }
-{
-    for global in globals {
-        check_global(alloc, scope, global)?;
-    }
-    Ok(())
-}
-
-fn check_elements(alloc: Global, scope: Scope<'_>, elements: &[Element]) -> Result<(), WFault>
-    ensures { Decides result (All (IsElement (scope_of scope.entry)) elements.now) }
-{
-    for element in elements {
-        check_element(alloc, scope, element)?;
-    }
-    Ok(())
-}
-
-fn check_segments(alloc: Global, scope: Scope<'_>, segments: &[Data]) -> Result<(), WFault>
-    ensures { Decides result (All (IsData (scope_of scope.entry)) segments.now) }
-{
-    for segment in segments {
-        check_data(alloc, scope, segment)?;
     }
     Ok(())
 }
@@ -230,8 +226,8 @@ fn check_bodies(alloc: Global, scope: Scope<'_>, tree: &WModule) -> Result<(), W
     ensures { Decides result (AreBodies (scope_of scope.entry) tree.now) }
 {
     check_functions(alloc, scope, tree.functions.as_slice())?;
-    check_elements(alloc, scope, tree.elements.as_slice())?;
-    check_segments(alloc, scope, tree.data.as_slice())?;
+    check_parts(alloc, scope, tree.elements.as_slice())?;
+    check_parts(alloc, scope, tree.data.as_slice())?;
     Ok(())
 }
 
@@ -259,7 +255,7 @@ fn check_whole(alloc: Global, tree: &WModule) -> Result<(), WFault>
     check_single(alloc, scope, tree)?;
     check_kinds(scope, tree)?;
     check_bodies(alloc, scope, tree)?;
-    check_globals(alloc, initial_scope(tree, &names), tree.globals.as_slice())?;
+    check_parts(alloc, initial_scope(tree, &names), tree.globals.as_slice())?;
     Ok(())
 }
 

@@ -5,13 +5,7 @@ use Rattle.wasm_code.proofs.Written.{no_longer}
 use Rattle.wasm_code.proofs.fits.+fits.Goals as goal
 
 pub op_fits-returns-in-Block : goal.op_fits-returns-in-Block
-op_fits-returns-in-Block t c = grind (arith, common_steps, inside-Block)
-
-pub op_fits-returns-in-Loop : goal.op_fits-returns-in-Loop
-op_fits-returns-in-Loop t c = grind (arith, common_steps, inside-Loop)
-
-pub op_fits-returns-in-If : goal.op_fits-returns-in-If
-op_fits-returns-in-If t c = grind (arith, common_steps, inside-If-None)
+op_fits-returns-in-Block t c = grind (arith, common_steps, inside-Block, inside-Loop, inside-If-None)
 
 pub op_fits-returns-then-fits_inside : goal.op_fits-returns-then-fits_inside
 op_fits-returns-then-fits_inside t c = grind (arith, common_steps, inside-If-Some)
@@ -26,28 +20,18 @@ pub op_fits-returns-else-are_labels : goal.op_fits-returns-else-are_labels
 op_fits-returns-else-are_labels t c = grind (arith, common_steps, fits-BrTable)
 
 pub op_fits-returns-in-Br : goal.op_fits-returns-in-Br
-op_fits-returns-in-Br t c = grind (arith, common_steps, fits-Br)
-
-pub op_fits-returns-in-BrIf : goal.op_fits-returns-in-BrIf
-op_fits-returns-in-BrIf t c = grind (arith, common_steps, fits-BrIf)
-
-pub op_fits-returns-in-Call : goal.op_fits-returns-in-Call
-op_fits-returns-in-Call t c = grind (arith, common_steps, fits-Call)
-
-pub op_fits-returns-in-CallIndirect : goal.op_fits-returns-in-CallIndirect
-op_fits-returns-in-CallIndirect t c = grind (arith, common_steps, fits-CallIndirect)
-
-pub op_fits-returns-in-LocalGet : goal.op_fits-returns-in-LocalGet
-op_fits-returns-in-LocalGet t c = grind (arith, common_steps, fits-LocalGet)
-
-pub op_fits-returns-in-LocalSet : goal.op_fits-returns-in-LocalSet
-op_fits-returns-in-LocalSet t c = grind (arith, common_steps, fits-LocalSet)
-
-pub op_fits-returns-in-LocalTee : goal.op_fits-returns-in-LocalTee
-op_fits-returns-in-LocalTee t c = grind (arith, common_steps, fits-LocalTee)
-
-pub op_fits-returns-in-GlobalGet : goal.op_fits-returns-in-GlobalGet
-op_fits-returns-in-GlobalGet t c = grind (arith, common_steps, fits-GlobalGet)
+op_fits-returns-in-Br t c = grind (
+  arith,
+  common_steps,
+  fits-Br,
+  fits-BrIf,
+  fits-Call,
+  fits-CallIndirect,
+  fits-LocalGet,
+  fits-LocalSet,
+  fits-LocalTee,
+  fits-GlobalGet,
+)
 
 pub op_fits-returns-in-I32Const : goal.op_fits-returns-in-I32Const
 op_fits-returns-in-I32Const t c = grind (arith, common_steps, fits-I32Const)
@@ -55,12 +39,9 @@ op_fits-returns-in-I32Const t c = grind (arith, common_steps, fits-I32Const)
 pub op_fits-returns-in-I64Const : goal.op_fits-returns-in-I64Const
 op_fits-returns-in-I64Const t c = grind (arith, common_steps, fits-I64Const)
 
-pub op_fits-returns-in-Numeric : goal.op_fits-returns-in-Numeric
-op_fits-returns-in-Numeric t c = grind (arith, common_steps, fits-Numeric)
-
 pub op_fits-returns-in-Unreachable : goal.op_fits-returns-in-Unreachable
 op_fits-returns-in-Unreachable t c = grind
-    (arith, common_steps, fits-Unreachable, fits-Return, fits-Drop, fits-Load, fits-Store)
+    (arith, common_steps, fits-Unreachable, fits-Return, fits-Drop, fits-Load, fits-Store, fits-Numeric)
 
 pub ops_fit-returns-then-not-op_fits : goal.ops_fit-returns-then-not-op_fits
 ops_fit-returns-then-not-op_fits t c =

@@ -1,8 +1,0 @@
-use Rattle.wasm_tree.specs.Code.{tree}
-use Rattle.wasm_valid.specs.CodeScope.{scope_of}
-use Rattle.wasm_valid.proofs.Whole.{data_decides}
-use Rattle.wasm_valid.proofs.valid.check_data.Goals as goal
-
-pub returns : goal.returns
-returns c = data_decides c.check_constant.result (scope_of c.args.scope) c.args.data.now (tree c.ops.result.now)
-    c.ops.ensures c.if-scope-data.false c.check_constant.ensures
