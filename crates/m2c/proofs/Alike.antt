@@ -1,5 +1,6 @@
 -- A build of the same files has one outcome.
-use Rattle.std.proofs.Common.{◌≡◌, inl, inr, ℕ, ◌*◌, ◌<◌, List, [], ◌∷◌, map, Result, Ok, refl, sym, ap, subst, ◌∙◌, arith}
+use Rattle.std.proofs.Common.{◌≡◌, inl, inr, ℕ, ◌*◌, ◌<◌, List, [], ◌∷◌, map, Result, Ok, Err, refl, sym, ap, subst, ◌∙◌, arith}
+use Rattle.std.specs.Prelude.{IfOk}
 use Rattle.std.specs.Global.{Vec}
 use Rattle.std.proofs.lemmas.Option.{same_Some}
 use Rattle.m2_rule.specs.RuleNumber.{number_of}
@@ -18,6 +19,7 @@ use Rattle.typed_tree.specs.declared.typed_module.TypedModule.{TypedModule}
 use Rattle.def_meaning.specs.Environment.{Modules}
 use Rattle.def_scheme.specs.Modules.{typed_link}
 use Rattle.build_jobs.specs.declared.file.SourceFile.{SourceFile}
+use Rattle.m2c.specs.declared.files.BuildFault.{BuildFault}
 use Rattle.m2c.specs.declared.files.Outcome.{Outcome}
 use Rattle.m2c.specs.declared.files.Outcome.TheVariants as outcome
 use Rattle.build_jobs.specs.Jobs.{needed_of}
@@ -187,3 +189,9 @@ one_built files pages (outcome.Built link built) (outcome.Refused qs) a b =
     never_both files pages qs link.items (map name_bytes built.items) b a
 one_built files pages (outcome.Built link built) (outcome.Built other others) a b =
     both_built files pages link.items other.items (map name_bytes built.items) (map name_bytes others.items) a b
+
+-- what a build answers is the only outcome of its files
+pub only_built : (files : List SourceFile) (pages : ℕ) (r : Result Outcome BuildFault) → IfOk r (IsBuilt files pages)
+    → IfOk r (λ o. (other : Outcome) → IsBuilt files pages other → AreAlike o other)
+only_built files pages (Ok o) built = λ other also. one_built files pages o other built also
+only_built files pages (Err fault) built = tt

@@ -64,6 +64,37 @@ impl From<AllocError> for BuildFault {
     }
 }
 
+/// Compiles files, and does with the trees of the texts as it is told.
+fn build_with<R: Threads + Sync, G: Gate>(
+    rt: &R,
+    alloc: Global,
+    files: &[SourceFile],
+    options: Options,
+    gate: &G,
+    trees: Trees,
+) -> Result<Outcome, BuildFault>
+    ensures workers { IsErrOf result BuildFault.Workers
+        ↔ ((options.workers < 1) ⊎ (max_workers < options.workers)) }
+    ensures pages { (1 ≤ options.workers) × (options.workers ≤ max_workers)
+        → IsErrOf result BuildFault.Pages ↔ ((options.pages < 1) ⊎ (max_pages < options.pages)) }
+    ensures built { IfOk result (IsBuilt files.now options.pages) }
+{
+    if options.workers < 1 || options.workers > MAX_WORKERS {
+        return Err(BuildFault::Workers);
+    }
+    if options.pages < 1 || options.pages > MAX_PAGES {
+        return Err(BuildFault::Pages);
+    }
+    let runner = Runner {
+        rt,
+        alloc,
+        workers: options.workers,
+        gate,
+    };
+    let outcome = outcome_of(&runner, files, options.pages, trees)?;
+    Ok(outcome)
+}
+
 /// Compiles files. What is refused is reported in order of the files' names by their bytes, files of equal names as they
 /// are given:
 ///
@@ -103,18 +134,24 @@ pub fn build<R: Threads + Sync, G: Gate>(
     ensures one { IfOk result
         (λ o. (other : Outcome) → IsBuilt files.now options.pages other → AreAlike o other) }
 {
-    if options.workers < 1 || options.workers > MAX_WORKERS {
-        return Err(BuildFault::Workers);
-    }
-    if options.pages < 1 || options.pages > MAX_PAGES {
-        return Err(BuildFault::Pages);
-    }
-    let runner = Runner {
-        rt,
-        alloc,
-        workers: options.workers,
-        gate,
-    };
-    let outcome = outcome_of(&runner, files, options.pages, Trees::Dropped)?;
-    Ok(outcome)
+    build_with(rt, alloc, files, options, gate, Trees::Dropped)
+}
+
+/// Compiles files as `build` does, for a program that builds once and ends: the trees of the texts are not dropped, and their
+/// memory goes with the program.
+pub fn build_once<R: Threads + Sync, G: Gate>(
+    rt: &R,
+    alloc: Global,
+    files: &[SourceFile],
+    options: Options,
+    gate: &G,
+) -> Result<Outcome, BuildFault>
+    ensures workers { IsErrOf result BuildFault.Workers
+        ↔ ((options.workers < 1) ⊎ (max_workers < options.workers)) }
+    ensures pages { (1 ≤ options.workers) × (options.workers ≤ max_workers)
+        → IsErrOf result BuildFault.Pages ↔ ((options.pages < 1) ⊎ (max_pages < options.pages)) }
+    // An outcome that the files have is their only one (`outcome_laws`).
+    ensures built { IfOk result (IsBuilt files.now options.pages) }
+{
+    build_with(rt, alloc, files, options, gate, Trees::Left)
 }

@@ -7,7 +7,7 @@ use command_words::{Exit, FAILED};
 use explain_types::type_words;
 use find_files::{Program, find_program};
 use m2_tree::Refusal;
-use m2c::{Open, Options, Outcome, SourceFile, build};
+use m2c::{BuildFault, Open, Options, Outcome, SourceFile, build};
 use run_program::ProgramFault;
 use std::rt::Files;
 use std::thread::Threads;
@@ -117,12 +117,14 @@ pub enum Made {
     Refused(Program, Vec<Refusal>),
 }
 
-/// Builds a program, of which nothing is reported but what failed: the status.
-pub fn make<R>(rt: &R, setting: &Setting, path: &str, program: Program) -> Result<Made, Exit>
-where
-    R: Eprint + AllocGlobal + Threads + Sync,
-{
-    match build(rt, rt.alloc(), &program.files, setting.options, &Open) {
+/// What comes of the program of this file by its build. Nothing is reported but what failed: the status.
+pub fn take_outcome<R: Eprint>(
+    rt: &R,
+    path: &str,
+    program: Program,
+    built: Result<Outcome, BuildFault>,
+) -> Result<Made, Exit> {
+    match built {
         Ok(Outcome::Refused(refusals)) => Ok(Made::Refused(program, refusals)),
         Ok(Outcome::Built { link, modules }) => Ok(Made::Built(Modules {
             files: program.into_files(),
@@ -159,7 +161,8 @@ pub fn build_found<R>(
 where
     R: Files + Print + Eprint + AllocGlobal + Threads + Sync,
 {
-    accept(rt, setting, make(rt, setting, path, program)?)
+    let built = build(rt, rt.alloc(), &program.files, setting.options, &Open);
+    accept(rt, setting, take_outcome(rt, path, program, built)?)
 }
 
 /// Finds and builds the program of this file. What is refused, and what failed, is reported: the status.

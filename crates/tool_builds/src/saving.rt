@@ -1,6 +1,6 @@
 //! `m2 build`: the modules of a program, written into a folder.
 
-use crate::building::{Made, Modules, accept, build_program, make};
+use crate::building::{Made, Modules, accept, build_program, take_outcome};
 use crate::giving::give_input;
 use crate::mapping::{made_maps, write_maps};
 use crate::renewing::{find_with, holds_kept, kept_for, kept_path, renewed, write_kept_file};
@@ -10,7 +10,7 @@ use command_words::{Exit, FAILED};
 use find_files::{Program, text_of_program};
 use kept_modules::{Kept, keep, short_sum};
 use m2_rule::Rule;
-use m2c::{SaveFault, SourceFile, save};
+use m2c::{Open, SaveFault, SourceFile, build_once, save};
 use renew_modules::{Renewal, sums_of};
 use std::alloc::AllocError;
 use std::fs;
@@ -350,7 +350,8 @@ fn build_whole<R>(rt: &R, setting: &Setting, path: &str, program: Program) -> Re
 where
     R: Files + Print + Eprint + AllocGlobal + Threads + Sync,
 {
-    let made = make(rt, setting, path, program)?;
+    let built = build_once(rt, rt.alloc(), &program.files, setting.options, &Open);
+    let made = take_outcome(rt, path, program, built)?;
     if lacks_tree(&made) {
         drop(made);
         return build_program(rt, setting, path);
