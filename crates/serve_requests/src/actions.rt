@@ -6,11 +6,10 @@ use m2_rule::Rule;
 use m2_tree::Refusal;
 use serde_json::Value;
 use serve_offers::{Edit, implementation_text, put_edit, put_new_file};
-use serve_sessions::{
-    Folder, Program, length_at, path_in, programs_with, range_of, refusals_of, spare_of,
-};
-use serve_texts::{Shift, Text, uri_of};
+use serve_sessions::{Folder, length_at, programs_with, range_of, refusals_of, spare_of};
+use serve_texts::{Position, Shift, Text, uri_of};
 use std::alloc::{AllocError, Global};
+use std::slice;
 use std::thread::Threads;
 use try_mends::{BuildFault, Found, SourceFile, find_mend};
 use write_json::Json;
@@ -55,59 +54,60 @@ fn span_of(alloc: Global, text: &Text, refusal: &Refusal) -> Result<Span, AllocE
     })
 }
 
-/// What is refused of files at bytes of the file of this path.
-fn refused_at(
+/// Bytes of a file at which mends are wanted.
+#[derive(Clone, Copy)]
+struct Target<'a> {
+    path: &'a str,
+    text: &'a Text,
+    span: Span,
+}
+
+/// The first of these refusals that is one of the wanted bytes.
+fn refused_at<'a>(
     alloc: Global,
-    refusals: Vec<Refusal>,
-    path: &str,
-    text: &Text,
-    wanted: Span,
-) -> Result<Option<Refusal>, AllocError> {
+    refusals: &'a [Refusal],
+    target: Target<'_>,
+) -> Result<Option<&'a Refusal>, AllocError> {
     for refusal in refusals {
-        if refusal.file.as_str() == path && span_of(alloc, text, &refusal)?.meets(wanted) {
+        if refusal.file.as_str() == target.path
+            && span_of(alloc, target.text, refusal)?.meets(target.span)
+        {
             return Ok(Some(refusal));
         }
     }
     Ok(None)
 }
 
-/// The mend of a refusal, if one is known.
-fn mend_of<R: AllocGlobal + Threads + Sync>(
-    rt: &R,
-    files: &[SourceFile],
-    library: &[SourceFile],
-    refusal: &Refusal,
-    pages: u32,
-) -> Result<Option<Found>, AllocError> {
-    match find_mend(rt, files, library, refusal, pages) {
-        Ok(found) => Ok(found),
-        Err(fault) => match fault {
-            BuildFault::NoMemory => Err(AllocError),
-            BuildFault::Workers | BuildFault::Pages => Ok(None),
-        },
-    }
-}
-
-/// A file of this name with these bytes.
-fn file_with(alloc: Global, name: &str, bytes: &[u8]) -> Result<SourceFile, AllocError> {
-    let name = String::from_str(alloc, name)?;
-    let bytes = Vec::from_slice(alloc, bytes)?;
+/// A copy of a file.
+fn copy_of(alloc: Global, file: &SourceFile) -> Result<SourceFile, AllocError> {
+    let name = String::from_str(alloc, file.name.as_str())?;
+    let bytes = Vec::from_slice(alloc, &file.bytes)?;
     Ok(SourceFile { name, bytes })
 }
 
-/// Files with one more.
-fn with_file(
+/// Copies of files, and of one more.
+fn copies_with(
     alloc: Global,
     files: &[SourceFile],
-    name: &str,
-    bytes: &[u8],
+    more: &SourceFile,
 ) -> Result<Vec<SourceFile>, AllocError> {
     let mut all = Vec::new(alloc);
-    for file in files {
-        all.push(file_with(alloc, file.name.as_str(), &file.bytes)?)?;
+    for file in files.iter().chain(slice::from_ref(more).iter()) {
+        all.push(copy_of(alloc, file)?)?;
     }
-    all.push(file_with(alloc, name, bytes)?)?;
     Ok(all)
+}
+
+/// The file of the implementation of a definition, which has each procedure with an empty body. None for a file that is no definition.
+fn partner_of(alloc: Global, path: &str, text: &Text) -> Result<Option<SourceFile>, AllocError> {
+    let Some(front) = path.strip_suffix(DEFINITION) else {
+        return Ok(None);
+    };
+    let Some(bytes) = implementation_text(alloc, text)? else {
+        return Ok(None);
+    };
+    let name = format!(in alloc; "{front}{IMPLEMENTATION}")?;
+    Ok(Some(SourceFile { name, bytes }))
 }
 
 /// Begins an action, behind which the change that it makes is written.
@@ -124,17 +124,13 @@ fn end_action(title: &str, json: &mut Json) {
     json.end_object();
 }
 
-/// Writes the action that makes a file of this name with this text.
-fn put_file_action(
-    alloc: Global,
-    name: &str,
-    text: &[u8],
-    json: &mut Json,
-) -> Result<(), AllocError> {
+/// Writes the action that makes a file.
+fn put_file_action(alloc: Global, file: &SourceFile, json: &mut Json) -> Result<(), AllocError> {
+    let name = file.name.as_str();
     let uri = uri_of(alloc, name)?;
     let title = format!(in alloc; "Write {name} with all procedures")?;
     begin_action(json);
-    put_new_file(uri.as_str(), text, json);
+    put_new_file(uri.as_str(), &file.bytes, json);
     end_action(title.as_str(), json);
     Ok(())
 }
@@ -157,33 +153,34 @@ impl Server {
     fn put_mend_action(
         &self,
         alloc: Global,
-        path: &str,
-        text: &Text,
+        target: Target<'_>,
         found: &Found,
         json: &mut Json,
     ) -> Result<(), AllocError> {
-        let uri = self.uri_of_path(alloc, path)?;
+        let uri = self.uri_of_path(alloc, target.path)?;
         let edit = Edit {
             begin: found.mend.begin,
             end: found.mend.end,
             new: &found.mend.text,
         };
         begin_action(json);
-        self.put_change(uri.as_str(), text, edit, json);
+        self.put_change(uri.as_str(), target.text, edit, json);
         end_action(found.mend.words.as_str(), json);
         Ok(())
     }
 
-    /// Whether something is refused of one of these two files.
+    /// Whether something is refused of a file or of another one, if the other is added to the program.
     fn is_either_refused<R: AllocGlobal + Threads + Sync>(
         &self,
         rt: &R,
         files: &[SourceFile],
         path: &str,
-        other: &str,
+        other: &SourceFile,
     ) -> Result<bool, AllocError> {
-        let refusals = refusals_of(rt, &self.setting, files)?;
-        let is_of_both = |it: &Refusal| it.file.as_str() == path || it.file.as_str() == other;
+        let tried = copies_with(rt.alloc(), files, other)?;
+        let refusals = refusals_of(rt, &self.setting, &tried)?;
+        let name = other.name.as_str();
+        let is_of_both = |it: &Refusal| it.file.as_str() == path || it.file.as_str() == name;
         Ok(refusals.iter().any(is_of_both))
     }
 
@@ -191,22 +188,56 @@ impl Server {
     fn put_partner<R: AllocGlobal + Threads + Sync>(
         &self,
         rt: &R,
-        path: &str,
-        text: &Text,
         files: &[SourceFile],
+        target: Target<'_>,
         json: &mut Json,
     ) -> Result<bool, AllocError> {
-        let alloc = rt.alloc();
-        let made = implementation_text(alloc, text)?;
-        let (Some(front), Some(made)) = (path.strip_suffix(DEFINITION), made) else {
+        let Some(partner) = partner_of(rt.alloc(), target.path, target.text)? else {
             return Ok(false);
         };
-        let name = format!(in alloc; "{front}{IMPLEMENTATION}")?;
-        let tried = with_file(alloc, files, name.as_str(), &made)?;
-        if self.is_either_refused(rt, &tried, path, name.as_str())? {
+        if self.is_either_refused(rt, files, target.path, &partner)? {
             return Ok(false);
         }
-        put_file_action(alloc, name.as_str(), &made, json)?;
+        put_file_action(rt.alloc(), &partner, json)?;
+        Ok(true)
+    }
+
+    /// The mend of what is refused of a file, if one is known.
+    fn mend_for<R: AllocGlobal + Threads + Sync, F: Folder>(
+        &self,
+        rt: &R,
+        folder: &F,
+        files: &[SourceFile],
+        path: &str,
+        refusal: &Refusal,
+    ) -> Result<Option<Found>, AllocError> {
+        let spare = spare_of(rt.alloc(), &self.texts, folder, &self.setting, path, files)?;
+        match find_mend(rt, files, &spare, refusal, self.setting.pages) {
+            Ok(found) => Ok(found),
+            Err(fault) => match fault {
+                BuildFault::NoMemory => Err(AllocError),
+                BuildFault::Workers | BuildFault::Pages => Ok(None),
+            },
+        }
+    }
+
+    /// Writes the action that mends what is refused. Whether there is one.
+    fn put_mend<R: AllocGlobal + Threads + Sync, F: Folder>(
+        &self,
+        rt: &R,
+        folder: &F,
+        files: &[SourceFile],
+        target: Target<'_>,
+        refusal: &Refusal,
+        json: &mut Json,
+    ) -> Result<bool, AllocError> {
+        if refusal.number == Rule::LonelyModule.number() && self.makes_files {
+            return self.put_partner(rt, files, target, json);
+        }
+        let Some(found) = self.mend_for(rt, folder, files, target.path, refusal)? else {
+            return Ok(false);
+        };
+        self.put_mend_action(rt.alloc(), target, &found, json)?;
         Ok(true)
     }
 
@@ -215,27 +246,15 @@ impl Server {
         &self,
         rt: &R,
         folder: &F,
-        path: &str,
-        program: &Program,
-        wanted: Span,
+        files: &[SourceFile],
+        target: Target<'_>,
         json: &mut Json,
     ) -> Result<bool, AllocError> {
-        let alloc = rt.alloc();
-        let files = program.files.as_slice();
-        let text = self.text_of(alloc, folder, path)?;
         let refusals = refusals_of(rt, &self.setting, files)?;
-        let Some(refusal) = refused_at(alloc, refusals, path, &text, wanted)? else {
-            return Ok(false);
-        };
-        if refusal.number == Rule::LonelyModule.number() && self.makes_files {
-            return self.put_partner(rt, path, &text, files, json);
+        match refused_at(rt.alloc(), &refusals, target)? {
+            Some(refusal) => self.put_mend(rt, folder, files, target, refusal, json),
+            None => Ok(false),
         }
-        let spare = spare_of(alloc, &self.texts, folder, &self.setting, path, files)?;
-        let Some(found) = mend_of(rt, files, &spare, &refusal, self.setting.pages)? else {
-            return Ok(false);
-        };
-        self.put_mend_action(alloc, path, &text, &found, json)?;
-        Ok(true)
     }
 
     /// Writes the action that mends what is refused at bytes of a file: that of the first program for which there is one.
@@ -243,63 +262,75 @@ impl Server {
         &self,
         rt: &R,
         folder: &F,
-        path: &str,
-        wanted: Span,
+        target: Target<'_>,
         json: &mut Json,
     ) -> Result<(), AllocError> {
-        for program in &programs_with(rt.alloc(), &self.texts, folder, &self.setting, path)? {
-            if self.put_action(rt, folder, path, program, wanted, json)? {
+        let (texts, setting) = (&self.texts, &self.setting);
+        for program in &programs_with(rt.alloc(), texts, folder, setting, target.path)? {
+            if self.put_action(rt, folder, &program.files, target, json)? {
                 return Ok(());
             }
         }
         Ok(())
     }
 
-    /// The actions that mend what is refused at bytes of a file.
+    /// Writes the actions that mend what is refused between two places of a file.
+    fn put_actions<R: AllocGlobal + Threads + Sync, F: Folder>(
+        &self,
+        rt: &R,
+        folder: &F,
+        path: &str,
+        range: (Position, Position),
+        json: &mut Json,
+    ) -> Result<(), AllocError> {
+        let text = self.text_of(rt.alloc(), folder, path)?;
+        let span = Span {
+            begin: text.offset_of(range.0, self.encoding),
+            end: text.offset_of(range.1, self.encoding),
+        };
+        let target = Target {
+            path,
+            text: &text,
+            span,
+        };
+        self.put_first_action(rt, folder, target, json)
+    }
+
+    /// Writes the list of the actions that mend what is refused at bytes of a file.
     pub(crate) fn code_actions<R: AllocGlobal + Threads + Sync, F: Folder>(
         &self,
         rt: &R,
         folder: &F,
+        path: &str,
         params: &Value,
+        json: &mut Json,
     ) -> Result<Reply, AllocError> {
-        let alloc = rt.alloc();
-        let range = params.get("range").and_then(range_of);
-        let (Some(path), Some((begin, end))) = (path_in(alloc, params)?, range) else {
-            return Reply::no_params(alloc);
+        let Some(range) = params.get("range").and_then(range_of) else {
+            return Ok(Reply::no_params());
         };
-        let path = path.as_str();
-        let mut json = Json::new(alloc);
         json.begin_list();
         if is_wanted(params) {
-            let text = self.text_of(alloc, folder, path)?;
-            let wanted = Span {
-                begin: text.offset_of(begin, self.encoding),
-                end: text.offset_of(end, self.encoding),
-            };
-            self.put_first_action(rt, folder, path, wanted, &mut json)?;
+            self.put_actions(rt, folder, path, range, json)?;
         }
         json.end_list();
-        Reply::written(json)
+        Ok(Reply::Written)
     }
 
-    /// The edit that gives a text its layout: none if it has it, null if it breaks a rule of tokens or of the grammar.
+    /// Writes the edit that gives a text its layout: none if it has it, null if it breaks a rule of tokens or of the grammar.
     pub(crate) fn formatting<F: Folder>(
         &self,
         alloc: Global,
         folder: &F,
-        params: &Value,
+        path: &str,
+        json: &mut Json,
     ) -> Result<Reply, AllocError> {
-        let Some(path) = path_in(alloc, params)? else {
-            return Reply::no_params(alloc);
-        };
-        let text = self.text_of(alloc, folder, path.as_str())?;
-        let mut json = Json::new(alloc);
+        let text = self.text_of(alloc, folder, path)?;
         match format(alloc, text.bytes()) {
-            Ok(new) => self.put_layout(&text, &new, &mut json),
+            Ok(new) => self.put_layout(&text, &new, json),
             Err(FormatFault::NoMemory) => return Err(AllocError),
             Err(FormatFault::Refused(_pos, _number)) => json.null(),
         }
-        Reply::written(json)
+        Ok(Reply::Written)
     }
 
     /// Writes the edit that makes one text of another: none if they are the same.

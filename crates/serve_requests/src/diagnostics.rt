@@ -25,13 +25,19 @@ fn is_among(paths: &[String], path: &str) -> bool {
     paths.iter().any(|it| it.as_str() == path)
 }
 
+/// Adds a path, if it is not there yet.
+fn add_path(alloc: Global, path: &str, paths: &mut Vec<String>) -> Result<(), AllocError> {
+    if !is_among(paths, path) {
+        paths.push(String::from_str(alloc, path)?)?;
+    }
+    Ok(())
+}
+
 /// The files of which something is refused, each once.
 fn paths_of(alloc: Global, shown: &[Shown]) -> Result<Vec<String>, AllocError> {
     let mut paths = Vec::new(alloc);
     for one in shown {
-        if !is_among(&paths, one.path.as_str()) {
-            paths.push(String::from_str(alloc, one.path.as_str())?)?;
-        }
+        add_path(alloc, one.path.as_str(), &mut paths)?;
     }
     Ok(paths)
 }
@@ -46,11 +52,24 @@ impl Server {
         let alloc = rt.alloc();
         let shown = all_shown(rt, &self.texts, folder, &self.setting)?;
         let paths = paths_of(alloc, &shown)?;
-        let mut bodies = Vec::new(alloc);
-        for path in self.told_paths(alloc, &paths)? {
-            bodies.push(self.notice_of(alloc, folder, path.as_str(), &shown)?)?;
-        }
+        let bodies = self.notices(alloc, folder, &paths, &shown)?;
         self.shown = paths;
+        Ok(bodies)
+    }
+
+    /// The messages about files with these paths, and about the others of which something is said.
+    fn notices<F: Folder>(
+        &self,
+        alloc: Global,
+        folder: &F,
+        paths: &[String],
+        shown: &[Shown],
+    ) -> Result<Vec<Vec<u8>>, AllocError> {
+        let told = self.told_paths(alloc, paths)?;
+        let mut bodies = Vec::new(alloc);
+        for path in &told {
+            bodies.push(self.notice_of(alloc, folder, path.as_str(), shown)?)?;
+        }
         Ok(bodies)
     }
 
@@ -58,9 +77,7 @@ impl Server {
     fn told_paths(&self, alloc: Global, paths: &[String]) -> Result<Vec<String>, AllocError> {
         let mut told = self.texts.paths(alloc)?;
         for path in paths.iter().chain(self.shown.iter()) {
-            if !is_among(&told, path.as_str()) {
-                told.push(String::from_str(alloc, path.as_str())?)?;
-            }
+            add_path(alloc, path.as_str(), &mut told)?;
         }
         Ok(told)
     }
@@ -72,10 +89,11 @@ impl Server {
         folder: &F,
         path: &str,
     ) -> Result<Text, AllocError> {
-        match read_text(alloc, &self.texts, folder, path)? {
-            Some(bytes) => Text::of(alloc, bytes),
-            None => Text::of(alloc, Vec::new(alloc)),
-        }
+        let bytes = match read_text(alloc, &self.texts, folder, path)? {
+            Some(bytes) => bytes,
+            None => Vec::new(alloc),
+        };
+        Text::of(alloc, bytes)
     }
 
     /// The name of a file for the editor.
@@ -95,20 +113,26 @@ impl Server {
         shown: &[Shown],
     ) -> Result<Vec<u8>, AllocError> {
         let text = self.text_of(alloc, folder, path)?;
-        let uri = self.uri_of_path(alloc, path)?;
         let mut json = Json::new(alloc);
+        self.put_notice(alloc, path, &text, shown, &mut json);
+        notice_body(alloc, Method::PublishDiagnostics.name(), &json.finish()?)
+    }
+
+    /// Writes the object with all that is refused of a file.
+    fn put_notice(&self, alloc: Global, path: &str, text: &Text, shown: &[Shown], json: &mut Json) {
         json.begin_object();
         json.name("diagnostics");
         json.begin_list();
-        for one in shown.iter().filter(|it| it.path.as_str() == path) {
-            self.put_diagnostic(alloc, &text, one, &mut json);
+        for one in shown {
+            if one.path.as_str() == path {
+                self.put_diagnostic(alloc, text, one, json);
+            }
         }
         json.end_list();
-        json.words_member("uri", uri.as_str());
-        self.put_version(path, &mut json);
+        json.name("uri");
+        json.words_made(self.uri_of_path(alloc, path));
+        self.put_version(path, json);
         json.end_object();
-        let params = json.finish()?;
-        notice_body(alloc, Method::PublishDiagnostics.name(), &params)
     }
 
     /// Writes the member that says the version of an open text.

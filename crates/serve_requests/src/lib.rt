@@ -11,7 +11,6 @@
 mod actions;
 mod diagnostics;
 mod names;
-mod renaming;
 mod server;
 mod starting;
 mod waiting;

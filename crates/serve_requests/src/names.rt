@@ -8,8 +8,9 @@ use serve_offers::{
     hover, implementation, prepare_rename, references, semantic_tokens, signature_help,
     type_definition, workspace_symbols,
 };
+use serve_renames::{Renaming, is_name};
 use serve_sessions::{
-    Folder, Program, Spot, folder_of, path_in, position_of, programs_around, programs_with,
+    Folder, Program, Spot, View, folder_of, path_in, position_of, programs_around, programs_with,
     roots_of, spare_of, text_at, view_for, view_of,
 };
 use serve_texts::Position;
@@ -30,23 +31,6 @@ fn reach_of(method: Method, has_tree: bool) -> Reach {
     }
 }
 
-/// Whether a request is about a place, and is answered by the names of programs alone.
-fn is_of_place(method: Method) -> bool {
-    matches!(
-        method,
-        Method::Hover
-            | Method::Definition
-            | Method::Declaration
-            | Method::Implementation
-            | Method::TypeDefinition
-            | Method::References
-            | Method::DocumentHighlight
-            | Method::PrepareRename
-            | Method::SignatureHelp
-            | Method::Completion
-    )
-}
-
 /// Whether a request is answered by what the name at a place stands for, whatever other procedures have inside.
 fn is_of_name(method: Method) -> bool {
     matches!(
@@ -59,12 +43,54 @@ fn is_of_name(method: Method) -> bool {
     )
 }
 
+/// Whether a request is about a place, and is answered by the names of programs alone.
+fn is_of_place(method: Method) -> bool {
+    is_of_name(method)
+        || matches!(
+            method,
+            Method::References
+                | Method::DocumentHighlight
+                | Method::PrepareRename
+                | Method::SignatureHelp
+                | Method::Completion
+        )
+}
+
 /// Whether a request is about a whole text, and is answered by the names of programs alone.
 fn is_of_text(method: Method) -> bool {
     matches!(
         method,
         Method::DocumentSymbol | Method::SemanticTokens | Method::FoldingRange
     )
+}
+
+/// Whether a request is about a file.
+fn is_of_file(method: Method) -> bool {
+    matches!(
+        method,
+        Method::Rename | Method::CodeAction | Method::Formatting
+    ) || is_of_place(method)
+        || is_of_text(method)
+}
+
+/// Writes what is answered about a whole text.
+fn put_text_answer(ask: &Ask<'_>, method: Method, json: &mut Json) -> Result<(), AllocError> {
+    match method {
+        Method::DocumentSymbol => document_symbols(ask, json),
+        Method::SemanticTokens => semantic_tokens(ask, json),
+        _ => folding_ranges(ask, json),
+    }
+}
+
+/// Writes where the name at a place leads, and null for any other request.
+fn put_place(ask: &Ask<'_>, method: Method, json: &mut Json) {
+    match method {
+        Method::Definition | Method::Declaration => definition(ask, json),
+        Method::Implementation => implementation(ask, json),
+        Method::TypeDefinition => type_definition(ask, json),
+        Method::PrepareRename => prepare_rename(ask, json),
+        _ => json.null(),
+    }
 }
 
 /// Writes what is answered about a place or a text.
@@ -75,20 +101,16 @@ fn put_answer(
     json: &mut Json,
 ) -> Result<(), AllocError> {
     match method {
-        Method::Hover => hover(ask, json)?,
-        Method::Definition | Method::Declaration => definition(ask, json),
-        Method::Implementation => implementation(ask, json),
-        Method::TypeDefinition => type_definition(ask, json),
-        Method::References => references(ask, references_in(params), json)?,
-        Method::DocumentHighlight => highlights(ask, json)?,
-        Method::PrepareRename => prepare_rename(ask, json),
-        Method::SignatureHelp => signature_help(ask, json)?,
-        Method::DocumentSymbol => document_symbols(ask, json)?,
-        Method::SemanticTokens => semantic_tokens(ask, json)?,
-        Method::FoldingRange => folding_ranges(ask, json)?,
-        _ => json.null(),
+        Method::Hover => hover(ask, json),
+        Method::References => references(ask, references_in(params), json),
+        Method::DocumentHighlight => highlights(ask, json),
+        Method::SignatureHelp => signature_help(ask, json),
+        _ if is_of_text(method) => put_text_answer(ask, method, json),
+        _ => {
+            put_place(ask, method, json);
+            Ok(())
+        }
     }
-    Ok(())
 }
 
 /// Which places of a name are wanted.
@@ -114,32 +136,72 @@ fn add_modules(
     Ok(())
 }
 
+/// Adds the names of the modules whose definitions stand in the folder of this path.
+fn add_listed<F: Folder>(
+    alloc: Global,
+    folder: &F,
+    path: &str,
+    modules: &mut Vec<String>,
+) -> Result<(), AllocError> {
+    add_modules(alloc, &folder.list(alloc, path)?, modules)
+}
+
+/// Adds the names of the modules of a library.
+fn add_library<F: Folder>(
+    alloc: Global,
+    folder: &F,
+    library: &str,
+    modules: &mut Vec<String>,
+) -> Result<(), AllocError> {
+    let mut front = String::from_str(alloc, library)?;
+    if !front.ends_with('/') {
+        front.push('/')?;
+    }
+    add_listed(alloc, folder, front.as_str(), modules)
+}
+
 impl Server {
-    /// What is answered to a request, but for those of a session.
+    /// Writes what is answered to a request, but for those of a session.
     pub(crate) fn request<R: AllocGlobal + Threads + Sync, F: Folder>(
         &mut self,
         rt: &R,
         folder: &F,
         call: &Call,
+        json: &mut Json,
     ) -> Result<Reply, AllocError> {
-        let alloc = rt.alloc();
         match call.method {
-            Method::WorkspaceSymbol => self.workspace_symbols(alloc, folder, &call.params),
-            Method::Rename => self.rename(rt, folder, &call.params),
-            Method::CodeAction => self.code_actions(rt, folder, &call.params),
-            Method::Formatting => self.formatting(alloc, folder, &call.params),
-            method if is_of_place(method) || is_of_text(method) => {
-                self.text_request(alloc, folder, call)
+            Method::WorkspaceSymbol => {
+                self.workspace_symbols(rt.alloc(), folder, &call.params, json)
             }
-            _ => Reply::failed(
-                alloc,
+            method if is_of_file(method) => self.file_request(rt, folder, call, json),
+            _ => Ok(Reply::Failed(
                 ErrorCode::MethodNotFound,
                 "the server does not know this request",
-            ),
+            )),
         }
     }
 
-    /// The programs of a file, and the files that they may import besides.
+    /// Writes what is answered about a file.
+    fn file_request<R: AllocGlobal + Threads + Sync, F: Folder>(
+        &mut self,
+        rt: &R,
+        folder: &F,
+        call: &Call,
+        json: &mut Json,
+    ) -> Result<Reply, AllocError> {
+        let Some(path) = path_in(rt.alloc(), &call.params)? else {
+            return Ok(Reply::no_params());
+        };
+        let path = path.as_str();
+        match call.method {
+            Method::Rename => self.rename(rt, folder, path, &call.params, json),
+            Method::CodeAction => self.code_actions(rt, folder, path, &call.params, json),
+            Method::Formatting => self.formatting(rt.alloc(), folder, path, json),
+            _ => self.text_request(rt.alloc(), folder, path, call, json),
+        }
+    }
+
+    /// The programs of a file.
     fn programs_of<F: Folder>(
         &self,
         alloc: Global,
@@ -154,51 +216,33 @@ impl Server {
         }
     }
 
-    /// The programs of a file, and behind them the files that they may import besides, if these are wanted. How many programs it has.
-    fn programs_and_spare<F: Folder>(
+    /// Adds the files that the programs of a file may import besides their own, as a program of which nothing is built, if they are
+    /// wanted.
+    fn add_spare<F: Folder>(
         &self,
         alloc: Global,
         folder: &F,
         path: &str,
         reach: Reach,
-    ) -> Result<(Vec<Program>, usize), AllocError> {
-        let mut programs = self.programs_of(alloc, folder, path, reach)?;
-        let count = programs.len();
-        if reach != Reach::Program {
-            let spare = self.spare_program(alloc, folder, path, programs.as_slice())?;
-            programs.push(spare)?;
+        programs: &mut Vec<Program>,
+    ) -> Result<(), AllocError> {
+        if reach == Reach::Program {
+            return Ok(());
         }
-        Ok((programs, count))
+        if let Some(program) = programs.first() {
+            let own = program.files.as_slice();
+            let files = spare_of(alloc, &self.texts, folder, &self.setting, path, own)?;
+            programs.push(Program {
+                files,
+                is_made: false,
+            })?;
+        }
+        Ok(())
     }
 
     /// Whether the text of this path has a tree, as far as it is open.
     fn has_tree(&self, path: &str) -> bool {
         self.texts.get(path).is_none_or(|open| open.sound.is_none())
-    }
-
-    /// The files that programs may import besides their own, as a program of which nothing is built.
-    fn spare_program<F: Folder>(
-        &self,
-        alloc: Global,
-        folder: &F,
-        path: &str,
-        programs: &[Program],
-    ) -> Result<Program, AllocError> {
-        let files = match programs.first() {
-            Some(program) => spare_of(
-                alloc,
-                &self.texts,
-                folder,
-                &self.setting,
-                path,
-                &program.files,
-            )?,
-            None => Vec::new(alloc),
-        };
-        Ok(Program {
-            files,
-            is_made: false,
-        })
     }
 
     /// Whether the names of the programs of a file are known, as far as is asked for.
@@ -212,6 +256,46 @@ impl Server {
         }
     }
 
+    /// What the names of these programs stand for. The tree of the text that changed last is let go.
+    fn view_at(
+        &mut self,
+        alloc: Global,
+        programs: &[Program],
+        path: &str,
+        focus: Option<Position>,
+    ) -> Result<View, AllocError> {
+        let encoding = self.encoding;
+        let spot = focus.map(|position| Spot {
+            path,
+            position,
+            encoding,
+        });
+        view_for(alloc, &self.texts, programs, self.fresh.take(), spot)
+    }
+
+    /// The programs of a file, and what their names stand for.
+    fn look_at<F: Folder>(
+        &mut self,
+        alloc: Global,
+        folder: &F,
+        path: &str,
+        reach: Reach,
+        focus: Option<Position>,
+    ) -> Result<Held, AllocError> {
+        let mut programs = self.programs_of(alloc, folder, path, reach)?;
+        let count = programs.len();
+        self.add_spare(alloc, folder, path, reach, &mut programs)?;
+        let view = self.view_at(alloc, &programs, path, focus)?;
+        programs.truncate(count);
+        Ok(Held {
+            path: String::from_str(alloc, path)?,
+            reach,
+            focus,
+            programs,
+            view,
+        })
+    }
+
     /// Looks at the names of the programs of a file, unless they are known. If a place is asked about, the names inside of other
     /// procedures may be left out until `prepare`. What was known before is let go first.
     pub(crate) fn hold<F: Folder>(
@@ -220,32 +304,16 @@ impl Server {
         folder: &F,
         path: &str,
         reach: Reach,
-        position: Option<Position>,
+        focus: Option<Position>,
     ) -> Result<(), AllocError> {
-        if self.is_held(path, reach, position) {
+        if self.is_held(path, reach, focus) {
             return Ok(());
         }
         self.held = None;
-        let fresh = self.fresh.take();
-        let (mut programs, count) = self.programs_and_spare(alloc, folder, path, reach)?;
-        let encoding = self.encoding;
-        let spot = position.map(|position| Spot {
-            path,
-            position,
-            encoding,
-        });
-        let view = view_for(alloc, &self.texts, &programs, fresh, spot)?;
-        programs.truncate(count);
-        if position.is_some() {
+        self.held = Some(self.look_at(alloc, folder, path, reach, focus)?);
+        if focus.is_some() {
             self.latest = Some(String::from_str(alloc, path)?);
         }
-        self.held = Some(Held {
-            path: String::from_str(alloc, path)?,
-            reach,
-            focus: position,
-            programs,
-            view,
-        });
         Ok(())
     }
 
@@ -258,7 +326,7 @@ impl Server {
     }
 
     /// Programs of which nothing is refused: none, if it is not known yet, or if something is refused of one of them.
-    fn built<'a>(&self, programs: &'a [Program]) -> &'a [Program] {
+    fn built_programs<'a>(&self, programs: &'a [Program]) -> &'a [Program] {
         if self.is_due || programs.iter().any(|it| self.is_refused(it)) {
             &[]
         } else {
@@ -266,37 +334,38 @@ impl Server {
         }
     }
 
-    /// What is asked about: a byte of a file of the programs that are held.
-    pub(crate) fn ask_of<'a>(
-        &'a self,
-        alloc: Global,
-        held: &'a Held,
-        place: Option<&Value>,
-    ) -> Option<Ask<'a>> {
+    /// What is asked about: a byte of the file that is held. None if it is not there.
+    fn ask_of(&self, alloc: Global, place: Option<Position>) -> Option<Ask<'_>> {
+        let held = self.held.as_ref()?;
         let file = held.view.file_number(held.path.as_str())?;
-        let offset = match place {
-            Some(object) => {
-                let position = position_of(object)?;
-                held.view
-                    .files
-                    .get(file)?
-                    .now
-                    .offset_of(position, self.encoding)
-            }
-            None => 0,
-        };
+        let now = &held.view.files.get(file)?.now;
         Some(Ask {
             alloc,
             view: &held.view,
-            built: self.built(&held.programs),
+            built: self.built_programs(&held.programs),
             texts: &self.texts,
             file,
-            offset,
+            offset: place.map_or(0, |it| now.offset_of(it, self.encoding)),
             encoding: self.encoding,
         })
     }
 
-    /// The names of the modules that a file may import.
+    /// Adds the names of the modules that a file may import.
+    fn add_known<F: Folder>(
+        &self,
+        alloc: Global,
+        folder: &F,
+        path: &str,
+        modules: &mut Vec<String>,
+    ) -> Result<(), AllocError> {
+        add_listed(alloc, folder, folder_of(path), modules)?;
+        for library in &self.setting.libraries {
+            add_library(alloc, folder, library.as_str(), modules)?;
+        }
+        Ok(())
+    }
+
+    /// The names of the modules that a file may import, in order, each once.
     fn modules_for<F: Folder>(
         &self,
         alloc: Global,
@@ -304,41 +373,35 @@ impl Server {
         path: &str,
     ) -> Result<Vec<String>, AllocError> {
         let mut modules = Vec::new(alloc);
-        add_modules(alloc, &folder.list(alloc, folder_of(path))?, &mut modules)?;
-        for library in &self.setting.libraries {
-            let mut front = String::from_str(alloc, library.as_str())?;
-            if !front.ends_with('/') {
-                front.push('/')?;
-            }
-            add_modules(alloc, &folder.list(alloc, front.as_str())?, &mut modules)?;
-        }
+        self.add_known(alloc, folder, path, &mut modules)?;
         modules.sort()?;
         modules.dedup();
         Ok(modules)
     }
 
-    /// What is answered about a text, or about a place of one.
+    /// Writes what is answered about a text, or about a place of one.
     fn text_request<F: Folder>(
         &mut self,
         alloc: Global,
         folder: &F,
+        path: &str,
         call: &Call,
+        json: &mut Json,
     ) -> Result<Reply, AllocError> {
-        let Some(path) = path_in(alloc, &call.params)? else {
-            return Reply::no_params(alloc);
-        };
-        let place = call.params.get("position");
-        if is_of_place(call.method) && place.and_then(position_of).is_none() {
-            return Reply::no_params(alloc);
+        let position = call.params.get("position").and_then(position_of);
+        if is_of_place(call.method) && position.is_none() {
+            return Ok(Reply::no_params());
         }
-        let reach = reach_of(call.method, self.has_tree(path.as_str()));
-        let position = place
-            .filter(|_| is_of_name(call.method))
-            .and_then(position_of);
-        self.hold(alloc, folder, path.as_str(), reach, position)?;
-        let mut json = Json::new(alloc);
-        self.put_held(alloc, folder, call, &mut json)?;
-        Reply::written(json)
+        let place = if is_of_place(call.method) {
+            position
+        } else {
+            None
+        };
+        let focus = if is_of_name(call.method) { place } else { None };
+        let reach = reach_of(call.method, self.has_tree(path));
+        self.hold(alloc, folder, path, reach, focus)?;
+        self.put_held(alloc, folder, call, place, json)?;
+        Ok(Reply::Written)
     }
 
     /// Writes what is answered about the file that is held, or about a place of it. Null if it is not there.
@@ -347,32 +410,29 @@ impl Server {
         alloc: Global,
         folder: &F,
         call: &Call,
+        place: Option<Position>,
         json: &mut Json,
     ) -> Result<(), AllocError> {
-        let place = call.params.get("position");
-        let place = place.filter(|_| is_of_place(call.method));
-        let Some(held) = &self.held else {
-            json.null();
-            return Ok(());
-        };
-        let Some(ask) = self.ask_of(alloc, held, place) else {
-            json.null();
-            return Ok(());
-        };
-        if call.method == Method::Completion {
-            return self.put_completion(folder, held.path.as_str(), &ask, json);
+        match self.ask_of(alloc, place) {
+            Some(ask) if call.method == Method::Completion => {
+                self.put_completion(folder, &ask, json)
+            }
+            Some(ask) => put_answer(&ask, call.method, &call.params, json),
+            None => {
+                json.null();
+                Ok(())
+            }
         }
-        put_answer(&ask, call.method, &call.params, json)
     }
 
     /// Writes what may stand at a place of a file.
     fn put_completion<F: Folder>(
         &self,
         folder: &F,
-        path: &str,
         ask: &Ask<'_>,
         json: &mut Json,
     ) -> Result<(), AllocError> {
+        let path = ask.here().map_or("", |it| it.path.as_str());
         let modules = self.modules_for(ask.alloc, folder, path)?;
         let choice = Choice {
             modules: &modules,
@@ -381,15 +441,16 @@ impl Server {
         completion(ask, &choice, json)
     }
 
-    /// The declarations of all open programs whose names have some letters in them.
+    /// Writes the declarations of all open programs whose names have some letters in them.
     fn workspace_symbols<F: Folder>(
         &self,
         alloc: Global,
         folder: &F,
         params: &Value,
+        json: &mut Json,
     ) -> Result<Reply, AllocError> {
         let Some(query) = text_at(params, "/query") else {
-            return Reply::no_params(alloc);
+            return Ok(Reply::no_params());
         };
         let programs = roots_of(alloc, &self.texts, folder, &self.setting)?;
         let view = view_of(alloc, &self.texts, &programs)?;
@@ -402,8 +463,51 @@ impl Server {
             offset: 0,
             encoding: self.encoding,
         };
-        let mut json = Json::new(alloc);
-        workspace_symbols(&ask, query.as_bytes(), &mut json);
-        Reply::written(json)
+        workspace_symbols(&ask, query.as_bytes(), json);
+        Ok(Reply::Written)
+    }
+
+    /// Writes the edits that give the thing at a place another name, or answers why there are none.
+    fn rename<R: AllocGlobal + Threads + Sync, F: Folder>(
+        &mut self,
+        rt: &R,
+        folder: &F,
+        path: &str,
+        params: &Value,
+        json: &mut Json,
+    ) -> Result<Reply, AllocError> {
+        let place = params.get("position").and_then(position_of);
+        let (Some(place), Some(new)) = (place, text_at(params, "/newName")) else {
+            return Ok(Reply::no_params());
+        };
+        if !is_name(rt.alloc(), new.as_bytes())? {
+            return Ok(Reply::Failed(ErrorCode::RequestFailed, "this is no name of the language"));
+        }
+        self.hold(rt.alloc(), folder, path, Reach::Folder, None)?;
+        self.put_renaming(rt, place, new.as_bytes(), json)
+    }
+
+    /// Writes the edits of the programs that are held, or answers why there are none. Null if the file is not there.
+    fn put_renaming<R: AllocGlobal + Threads + Sync>(
+        &self,
+        rt: &R,
+        place: Position,
+        new: &[u8],
+        json: &mut Json,
+    ) -> Result<Reply, AllocError> {
+        let ask = self.ask_of(rt.alloc(), Some(place));
+        let (Some(held), Some(ask)) = (self.held.as_ref(), ask) else {
+            return Ok(Reply::null(json));
+        };
+        let renaming = Renaming {
+            ask,
+            programs: &held.programs,
+            setting: &self.setting,
+            new,
+        };
+        match renaming.put(rt, json)? {
+            Some(words) => Ok(Reply::Failed(ErrorCode::RequestFailed, words)),
+            None => Ok(Reply::Written),
+        }
     }
 }

@@ -105,62 +105,52 @@ pub struct Answer {
     pub end: Option<u8>,
 }
 
-/// What is answered to a request.
-#[derive(Drop)]
+/// What becomes of a request.
+#[derive(Clone, Copy)]
 pub(crate) enum Reply {
-    /// A text of JSON.
-    Result(Vec<u8>),
-    Error(ErrorCode, String),
+    /// Its result is written.
+    Written,
+    /// It is not met. A sentence says why.
+    Failed(ErrorCode, &'static str),
 }
 
 impl Reply {
-    /// The result that was written.
-    pub(crate) fn written(json: Json) -> Result<Reply, AllocError> {
-        Ok(Reply::Result(json.finish()?))
-    }
-
-    /// That there is nothing to tell.
-    pub(crate) fn null(alloc: Global) -> Result<Reply, AllocError> {
-        Ok(Reply::Result(Vec::from_slice(alloc, b"null")?))
-    }
-
-    /// An error with a sentence.
-    pub(crate) fn failed(alloc: Global, code: ErrorCode, words: &str) -> Result<Reply, AllocError> {
-        Ok(Reply::Error(code, String::from_str(alloc, words)?))
-    }
-
-    /// That a request lacks what it is asked of.
-    pub(crate) fn no_params(alloc: Global) -> Result<Reply, AllocError> {
-        Reply::failed(
-            alloc,
+    /// A request lacks what it is asked of.
+    pub(crate) fn no_params() -> Reply {
+        Reply::Failed(
             ErrorCode::InvalidParams,
             "the params of this request lack what it is asked of",
         )
     }
-}
 
-/// The body of a reply.
-fn body_of(alloc: Global, id: &Value, reply: Reply) -> Result<Vec<u8>, AllocError> {
-    match reply {
-        Reply::Result(text) => result_body(alloc, id, &text),
-        Reply::Error(code, words) => error_body(alloc, id, code, words.as_str()),
+    /// There is nothing to tell.
+    pub(crate) fn null(json: &mut Json) -> Reply {
+        json.null();
+        Reply::Written
     }
 }
 
 impl Answer {
-    /// Nothing goes back.
-    fn nothing(alloc: Global) -> Answer {
-        Answer {
-            bodies: Vec::new(alloc),
-            end: None,
-        }
+    /// These bodies go back.
+    fn of(bodies: Vec<Vec<u8>>) -> Answer {
+        Answer { bodies, end: None }
     }
 
-    /// A body goes back.
-    fn of(alloc: Global, body: Vec<u8>) -> Result<Answer, AllocError> {
-        let mut answer = Answer::nothing(alloc);
-        answer.bodies.push(body)?;
-        Ok(answer)
+    /// Nothing goes back.
+    fn nothing(alloc: Global) -> Answer {
+        Answer::of(Vec::new(alloc))
+    }
+
+    /// A message is refused, with a sentence.
+    fn refusal(
+        alloc: Global,
+        id: &Value,
+        code: ErrorCode,
+        words: &str,
+    ) -> Result<Answer, AllocError> {
+        let mut bodies = Vec::new(alloc);
+        bodies.push(error_body(alloc, id, code, words)?)?;
+        Ok(Answer::of(bodies))
     }
 }
 
@@ -186,8 +176,7 @@ impl Server {
 
     /// What is answered to bytes of a stream that are no message.
     pub fn answer_broken(&self, alloc: Global, fault: FrameFault) -> Result<Answer, AllocError> {
-        let body = error_body(alloc, &Value::Null, ErrorCode::ParseError, fault.words())?;
-        Answer::of(alloc, body)
+        Answer::refusal(alloc, &Value::Null, ErrorCode::ParseError, fault.words())
     }
 
     /// The status with which a server ends if no more messages come.
@@ -213,7 +202,7 @@ impl Server {
             Incoming::Notification(call) => self.note(rt, folder, &call),
             Incoming::Response => Ok(Answer::nothing(alloc)),
             Incoming::Invalid(Invalid { id, code, words }) => {
-                Answer::of(alloc, error_body(alloc, &id, code, words)?)
+                Answer::refusal(alloc, &id, code, words)
             }
         }
     }
@@ -225,51 +214,74 @@ impl Server {
         folder: &F,
         call: &Call,
     ) -> Result<Answer, AllocError> {
-        let alloc = rt.alloc();
-        let mut answer = Answer::nothing(alloc);
-        if call.method == Method::Shutdown {
-            answer.bodies = self.settle(rt, folder)?;
-        }
-        let reply = self.reply(rt, folder, call)?;
-        answer.bodies.push(body_of(alloc, &call.id, reply)?)?;
-        Ok(answer)
+        let mut bodies = match call.method {
+            Method::Shutdown => self.settle(rt, folder)?,
+            _ => Vec::new(rt.alloc()),
+        };
+        bodies.push(self.body_for(rt, folder, call)?)?;
+        Ok(Answer::of(bodies))
     }
 
-    /// What is answered to a request, as far as the session is.
+    /// The body that answers a request.
+    fn body_for<R: AllocGlobal + Threads + Sync, F: Folder>(
+        &mut self,
+        rt: &R,
+        folder: &F,
+        call: &Call,
+    ) -> Result<Vec<u8>, AllocError> {
+        let mut json = Json::new(rt.alloc());
+        match self.reply(rt, folder, call, &mut json)? {
+            Reply::Written => result_body(rt.alloc(), &call.id, &json.finish()?),
+            Reply::Failed(code, words) => error_body(rt.alloc(), &call.id, code, words),
+        }
+    }
+
+    /// Writes what is answered to a request, as far as the session is.
     fn reply<R: AllocGlobal + Threads + Sync, F: Folder>(
         &mut self,
         rt: &R,
         folder: &F,
         call: &Call,
+        json: &mut Json,
     ) -> Result<Reply, AllocError> {
-        let alloc = rt.alloc();
-        match (self.stage, call.method) {
-            (Stage::Fresh, Method::Initialize) => self.begin(alloc, folder, &call.params),
-            (Stage::Fresh, _) => Reply::failed(
-                alloc,
+        match self.stage {
+            Stage::Fresh if call.method == Method::Initialize => {
+                self.begin(rt.alloc(), folder, &call.params, json)
+            }
+            Stage::Fresh => Ok(Reply::Failed(
                 ErrorCode::ServerNotInitialized,
                 "the server waits for initialize",
-            ),
-            (Stage::Stopped, _) => Reply::failed(
-                alloc,
+            )),
+            Stage::Running => self.running_reply(rt, folder, call, json),
+            Stage::Stopped => Ok(Reply::Failed(
                 ErrorCode::InvalidRequest,
                 "the server is shut down",
-            ),
-            (Stage::Running, Method::Initialize) => Reply::failed(
-                alloc,
+            )),
+        }
+    }
+
+    /// Writes what is answered to a request while the session runs.
+    fn running_reply<R: AllocGlobal + Threads + Sync, F: Folder>(
+        &mut self,
+        rt: &R,
+        folder: &F,
+        call: &Call,
+        json: &mut Json,
+    ) -> Result<Reply, AllocError> {
+        match call.method {
+            Method::Initialize => Ok(Reply::Failed(
                 ErrorCode::InvalidRequest,
                 "the server is initialized already",
-            ),
-            (Stage::Running, Method::Shutdown) => {
+            )),
+            Method::Shutdown => {
                 self.stage = Stage::Stopped;
-                Reply::null(alloc)
+                Ok(Reply::null(json))
             }
-            (Stage::Running, _) if self.cancelled.contains(&call.id) => Reply::failed(
-                alloc,
+            _ if self.cancelled.contains(&call.id) => Ok(Reply::Failed(
                 ErrorCode::RequestCancelled,
                 "the request was cancelled",
-            ),
-            (Stage::Running, _) => self.request(rt, folder, call),
+            )),
+            _ => self.request(rt, folder, call, json),
         }
     }
 
@@ -279,15 +291,15 @@ impl Server {
         alloc: Global,
         folder: &F,
         params: &Value,
+        json: &mut Json,
     ) -> Result<Reply, AllocError> {
         self.stage = Stage::Running;
         self.encoding = encoding_of(params);
         self.has_snippets = has_snippets(params);
         self.makes_files = makes_files(params);
         self.explanations = explanations_for(alloc, folder, &self.setting.libraries, params)?;
-        let mut json = Json::new(alloc);
-        put_capabilities(self.encoding, &mut json);
-        Reply::written(json)
+        put_capabilities(self.encoding, json);
+        Ok(Reply::Written)
     }
 
     /// Takes a notification.
@@ -297,16 +309,18 @@ impl Server {
         folder: &F,
         call: &Call,
     ) -> Result<Answer, AllocError> {
-        let mut answer = Answer::nothing(rt.alloc());
         if call.method == Method::Exit {
-            answer.bodies = self.settle(rt, folder)?;
-            answer.end = Some(self.status_at_end());
-        } else if self.stage == Stage::Running && self.take_change(rt.alloc(), call)? {
+            return Ok(Answer {
+                bodies: self.settle(rt, folder)?,
+                end: Some(self.status_at_end()),
+            });
+        }
+        if self.stage == Stage::Running && self.take_change(rt.alloc(), call)? {
             self.held = None;
             self.is_due = true;
             self.latest = path_in(rt.alloc(), &call.params)?;
         }
-        Ok(answer)
+        Ok(Answer::nothing(rt.alloc()))
     }
 
     /// Takes what a notification says of texts. Whether what is refused may be other then.

@@ -37,8 +37,15 @@ fn name_of(encoding: Encoding) -> &'static str {
     }
 }
 
-/// Writes texts as a list.
-fn put_texts(texts: &[&str], json: &mut Json) {
+/// Begins an object that is a member.
+fn begin_member(name: &str, json: &mut Json) {
+    json.name(name);
+    json.begin_object();
+}
+
+/// Writes a member that is a list of texts.
+fn put_texts(name: &str, texts: &[&str], json: &mut Json) {
+    json.name(name);
     json.begin_list();
     for text in texts {
         json.words(*text);
@@ -48,15 +55,11 @@ fn put_texts(texts: &[&str], json: &mut Json) {
 
 /// Writes the member that says how the tokens of a text are told.
 fn put_semantic(json: &mut Json) {
-    json.name("semanticTokensProvider");
-    json.begin_object();
+    begin_member("semanticTokensProvider", json);
     json.flag_member("full", true);
-    json.name("legend");
-    json.begin_object();
-    json.name("tokenModifiers");
-    put_texts(&TOKEN_MODIFIERS, json);
-    json.name("tokenTypes");
-    put_texts(&TOKEN_TYPES, json);
+    begin_member("legend", json);
+    put_texts("tokenModifiers", &TOKEN_MODIFIERS, json);
+    put_texts("tokenTypes", &TOKEN_TYPES, json);
     json.end_object();
     json.end_object();
 }
@@ -75,24 +78,24 @@ const PLAIN_CAPABILITIES: [&str; 10] = [
     "workspaceSymbolProvider",
 ];
 
-/// Writes a member that says behind which letters an editor asks.
-fn put_triggers(name: &str, letters: &[&str], json: &mut Json) {
-    json.name(name);
-    json.begin_object();
-    json.name("triggerCharacters");
-    put_texts(letters, json);
+/// Writes a member that is an object with a list of texts.
+fn put_provider(name: &str, member: &str, texts: &[&str], json: &mut Json) {
+    begin_member(name, json);
+    put_texts(member, texts, json);
     json.end_object();
 }
+
+/// The member that says behind which letters an editor asks.
+const TRIGGERS: &str = "triggerCharacters";
 
 /// Writes what the server can do with names.
 fn put_name_capabilities(json: &mut Json) {
     for name in PLAIN_CAPABILITIES {
         json.flag_member(name, true);
     }
-    put_triggers("completionProvider", &["."], json);
-    put_triggers("signatureHelpProvider", &["(", ","], json);
-    json.name("renameProvider");
-    json.begin_object();
+    put_provider("completionProvider", TRIGGERS, &["."], json);
+    put_provider("signatureHelpProvider", TRIGGERS, &["(", ","], json);
+    begin_member("renameProvider", json);
     json.flag_member("prepareProvider", true);
     json.end_object();
     put_semantic(json);
@@ -100,15 +103,10 @@ fn put_name_capabilities(json: &mut Json) {
 
 /// Writes what the server can do with texts.
 fn put_text_capabilities(encoding: Encoding, json: &mut Json) {
-    json.name("codeActionProvider");
-    json.begin_object();
-    json.name("codeActionKinds");
-    put_texts(&["quickfix"], json);
-    json.end_object();
+    put_provider("codeActionProvider", "codeActionKinds", &["quickfix"], json);
     json.flag_member("documentFormattingProvider", true);
     json.words_member("positionEncoding", name_of(encoding));
-    json.name("textDocumentSync");
-    json.begin_object();
+    begin_member("textDocumentSync", json);
     json.number_member("change", INCREMENTAL);
     json.flag_member("openClose", true);
     json.flag_member("save", true);
@@ -118,13 +116,11 @@ fn put_text_capabilities(encoding: Encoding, json: &mut Json) {
 /// Writes what the server can do, and what it is.
 pub fn put_capabilities(encoding: Encoding, json: &mut Json) {
     json.begin_object();
-    json.name("capabilities");
-    json.begin_object();
+    begin_member("capabilities", json);
     put_name_capabilities(json);
     put_text_capabilities(encoding, json);
     json.end_object();
-    json.name("serverInfo");
-    json.begin_object();
+    begin_member("serverInfo", json);
     json.words_member("name", NAME);
     json.end_object();
     json.end_object();

@@ -1,7 +1,7 @@
 //! What waits until the messages that came together are taken.
 
 use crate::server::{Reach, Server};
-use serve_messages::{Incoming, Method, read_message};
+use serve_messages::{Call, Incoming, Method, read_message};
 use serve_sessions::Folder;
 use std::alloc::{AllocError, Global};
 use std::thread::Threads;
@@ -16,9 +16,14 @@ impl Server {
         if message.len() > MOST_BYTES {
             return Ok(());
         }
-        let Incoming::Notification(call) = read_message(alloc, message)? else {
-            return Ok(());
-        };
+        match read_message(alloc, message)? {
+            Incoming::Notification(call) => self.cancel(&call),
+            _ => Ok(()),
+        }
+    }
+
+    /// Takes notice of the request that is not wanted any more, if a notification names one.
+    fn cancel(&mut self, call: &Call) -> Result<(), AllocError> {
         if call.method == Method::Cancel {
             if let Some(id) = call.params.get("id") {
                 self.cancelled.push(id.clone()?)?;

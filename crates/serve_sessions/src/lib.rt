@@ -10,7 +10,6 @@ pub use changes::{change_text, close_text, open_text, path_in};
 pub use explanations::{Explanations, explanations_for};
 pub use params::{position_of, range_of, text_at};
 pub use serve_programs::{
-    FileView, Folder, Fresh, Mark, Program, Setting, Severity, Shown, Spot, View, all_shown,
-    file_of, folder_of, length_at, programs_around, programs_with, read_text, refusals_of,
-    roots_of, spare_of, view_for, view_of,
+    Folder, Fresh, Program, Setting, Severity, Shown, Spot, View, all_shown, folder_of, length_at,
+    programs_around, programs_with, read_text, refusals_of, roots_of, spare_of, view_for, view_of,
 };
