@@ -1,5 +1,5 @@
-//! The one tool for people: `m2 run`, `m2 build`, `m2 compile`, `m2 link`, `m2 graph`, `m2 check`, `m2 fmt`, `m2 doc`,
-//! `m2 show`, `m2 explain` and `m2 new`.
+//! The one tool for people: `m2 run`, `m2 build`, `m2 compile`, `m2 link`, `m2 graph`, `m2 check`, `m2 test`, `m2 debug`,
+//! `m2 lsp`, `m2 input`, `m2 fmt`, `m2 doc`, `m2 show`, `m2 explain` and `m2 new`.
 //!
 //! The words of the command line are read first. Then the modules that a program imports are found in folders, and the whole
 //! is built in memory. `run` executes what was built, `build` writes it into a folder, and `check` does neither. What is
